@@ -1,0 +1,1 @@
+// The layout of the core's memory: definitions and laws only.

@@ -1,0 +1,57 @@
+-- Several words at once: storing a list of words from an address on, and a table as a list of rows.
+use mathlib.Core.Path.{_≡_, refl, ap, sym, _∙_}
+use mathlib.Core.Bool.{Bool, true, false}
+use mathlib.Core.List.{List, [], _∷_}
+use Prim.Native.Nat.{ℕ, zero, suc, _+_, _*_, _<_}
+use native.Mathlib.Nat.{le-of-suc-le-suc, add-comm, zero-mul, suc-mul}
+use native.Mathlib.Omega.{arith}
+use lib.Dec.{eqb}
+use lib.ListN.{getD, set, drop, length}
+use lib.Seq.{drop-drop}
+use Rattle.words.specs.Words.{load, store, size, pick}
+
+-- the memory with the words ws from address a on
+unfoldable pub storeAll : List ℕ → ℕ → List ℕ → List ℕ
+storeAll [] a ws = []
+storeAll (x ∷ m) zero [] = x ∷ m
+storeAll (x ∷ m) zero (w ∷ ws) = w ∷ storeAll m zero ws
+storeAll (x ∷ m) (suc a) ws = x ∷ storeAll m a ws
+
+pub store-none : (m : List ℕ) (a : ℕ) → storeAll m a [] ≡ m
+unfolding storeAll
+store-none [] a = refl
+store-none (x ∷ m) zero = refl
+store-none (x ∷ m) (suc a) = ap (λ (l : List ℕ). x ∷ l) (store-none m a)
+
+-- storing several words is storing the first and then the others behind it
+pub store-more : (m : List ℕ) (a w : ℕ) (ws : List ℕ) → storeAll m a (w ∷ ws) ≡ storeAll (store m a w) (suc a) ws
+unfolding storeAll store
+store-more [] a w ws = refl
+store-more (x ∷ m) zero w ws = refl
+store-more (x ∷ m) (suc a) w ws = ap (λ (l : List ℕ). x ∷ l) (store-more m a w ws)
+
+pub size-storeAll : (m : List ℕ) (a : ℕ) (ws : List ℕ) → size (storeAll m a ws) ≡ size m
+unfolding storeAll size
+size-storeAll [] a ws = refl
+size-storeAll (x ∷ m) zero [] = refl
+size-storeAll (x ∷ m) zero (w ∷ ws) = ap suc (size-storeAll m zero ws)
+size-storeAll (x ∷ m) (suc a) ws = ap suc (size-storeAll m a ws)
+
+-- n rows of w words each: row i is the list from its first word on
+unfoldable pub rows : ℕ → ℕ → List ℕ → List (List ℕ)
+rows w zero r = []
+rows w (suc n) r = let rest = rows w n (drop w r) in r ∷ rest
+
+pub row-at : (w n : ℕ) (r : List ℕ) (i : ℕ) → i < n → getD (rows w n r) i [] ≡ drop (i * w) r
+unfolding rows
+row-at w zero r i h = let z : ⊥ = omega arith in absurd z
+row-at w (suc n) r zero h = ap (λ (k : ℕ). drop k r) (sym (zero-mul w))
+row-at w (suc n) r (suc i) h =
+    row-at w n (drop w r) i (le-of-suc-le-suc h)
+    ∙ drop-drop (i * w) w r
+    ∙ ap (λ (k : ℕ). drop k r) (add-comm w (i * w) ∙ sym (suc-mul i w))
+
+-- how often s stands in a list
+unfoldable pub occurrences : ℕ → List ℕ → ℕ
+occurrences s [] = 0
+occurrences s (x ∷ xs) = pick (eqb x s) 1 0 + occurrences s xs

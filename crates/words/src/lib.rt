@@ -1,0 +1,1 @@
+// Lists of words: definitions and laws only.
