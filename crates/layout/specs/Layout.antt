@@ -68,24 +68,24 @@ count s = segment s 1
 abbrev pub next : ℕ → Field
 next s = segment s 2
 
--- A TASK
-abbrev pub status : ℕ → Field
-status t = task t 0
+-- A TASK: the places of the words of its record
+abbrev pub STATUS : ℕ
+STATUS = 0
 
-abbrev pub rights : ℕ → Field
-rights t = task t 1
+abbrev pub RIGHTS : ℕ
+RIGHTS = 1
 
-abbrev pub parent : ℕ → Field
-parent t = task t 2
+abbrev pub PARENT : ℕ
+PARENT = 2
 
-abbrev pub older : ℕ → Field
-older t = task t 3
+abbrev pub OLDER : ℕ
+OLDER = 3
 
-abbrev pub younger : ℕ → Field
-younger t = task t 4
+abbrev pub YOUNGER : ℕ
+YOUNGER = 4
 
-abbrev pub youngest : ℕ → Field
-youngest t = task t 5
+abbrev pub YOUNGEST : ℕ
+YOUNGEST = 5
 
 -- the states of a record
 abbrev pub FREE : ℕ

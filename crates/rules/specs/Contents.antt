@@ -1,0 +1,117 @@
+-- What the memory rules look at: the numbers of the opening, the two stacks of free things, the records of tasks and
+-- segments; and the lists that are made from them.
+use mathlib.Core.Path.{_≡_, refl, ap, sym, _∙_, fun-ext}
+use mathlib.Core.Bool.{Bool, true, false, not}
+use mathlib.Core.List.{List, [], _∷_, _++_}
+use Prim.Native.Nat.{ℕ, zero, suc, _+_, _*_, _<_}
+use lib.Dec.{leb, ltb, eqb}
+use lib.ListN.{getD, drop, take}
+use lib.Seq.{drop-drop}
+use borrow.Author.Tests.{ltb-true}
+use Rattle.words.specs.Words.{load, pick, pick-true, pick-false, either}
+use Rattle.words.specs.Blocks.{rows, row-at, occurrences}
+use Rattle.layout.specs.Layout.{NONE, NL, STATUS, UNFINISHED, lengthWord, numberWord, freeSegments, freeTasks, read, recordOf}
+
+pub record Contents : Type 0 where
+  -- the length L of a segment, and the number of segments opened
+  pub length : ℕ
+  pub number : ℕ
+  -- the entries of the stacks, the one used last in front
+  pub free : List ℕ
+  pub idle : List ℕ
+  -- the record of segment s, the record of task t: the words from its first on
+  pub segs : ℕ → List ℕ
+  pub recs : ℕ → List ℕ
+
+-- the record of segment s
+unfoldable pub segmentOf : List ℕ → ℕ → List ℕ
+segmentOf m s = drop (448 + s * 4) m
+
+abbrev pub decode : List ℕ → Contents
+decode m =
+    record
+    { length = read m lengthWord
+    ; number = read m numberWord
+    ; free = take (read m freeSegments) (drop 64 m)
+    ; idle = take (read m freeTasks) (drop 320 m)
+    ; segs = segmentOf m
+    ; recs = recordOf m }
+
+-- The same through tables, so that the checker computes a record in few steps.
+unfoldable pub look : List (List ℕ) → ℕ → (ℕ → List ℕ) → ℕ → List ℕ
+look table n f i = pick (ltb i n) (getD table i []) (f i)
+
+unfoldable pub scan : List ℕ → Contents
+scan m =
+    let segments = rows 4 256 (drop 448 m) in
+    let tasks = rows 48 128 (drop 1472 m) in
+    record
+    { length = read m lengthWord
+    ; number = read m numberWord
+    ; free = take (read m freeSegments) (drop 64 m)
+    ; idle = take (read m freeTasks) (drop 320 m)
+    ; segs = look segments 256 (segmentOf m)
+    ; recs = look tasks 128 (recordOf m) }
+
+look-same : (w n a : ℕ) (m : List ℕ) (i : ℕ) → look (rows w n (drop a m)) n (λ j. drop (a + j * w) m) i ≡ drop (a + i * w) m
+unfolding look
+look-same w n a m i = go (ltb i n) refl
+  where
+    go : (b : Bool) → ltb i n ≡ b → pick b (getD (rows w n (drop a m)) i []) (drop (a + i * w) m) ≡ drop (a + i * w) m
+    go true e = pick-true _ _ ∙ row-at w n (drop a m) i (ltb-true i n e) ∙ drop-drop (i * w) a m
+    go false e = pick-false _ _
+
+pub scan-decodes : (m : List ℕ) → scan m ≡ decode m
+unfolding scan segmentOf recordOf
+scan-decodes m = λ i. record
+    { length = read m lengthWord
+    ; number = read m numberWord
+    ; free = take (read m freeSegments) (drop 64 m)
+    ; idle = take (read m freeTasks) (drop 320 m)
+    ; segs = λ s. look-same 4 256 448 m s i
+    ; recs = λ t. look-same 48 128 1472 m t i }
+
+-- word k of the record of task t, and of segment s
+unfoldable pub word : Contents → ℕ → ℕ → ℕ
+word c t k = load (c .recs t) k
+
+unfoldable pub part : Contents → ℕ → ℕ → ℕ
+part c s k = load (c .segs s) k
+
+-- the first n words of r that are segments, no mark
+unfoldable pub locals : ℕ → List ℕ → List ℕ
+locals zero r = []
+locals (suc n) r = pick (ltb (load r 0) NL) (load r 0 ∷ locals n (drop 1 r)) (locals n (drop 1 r))
+
+-- the local heads, and the local tails, of all views of the tasks ts
+unfoldable pub heads : Contents → List ℕ → List ℕ
+heads c [] = []
+heads c (t ∷ ts) = locals 16 (drop 16 (c .recs t)) ++ heads c ts
+
+unfoldable pub tails : Contents → List ℕ → List ℕ
+tails c [] = []
+tails c (t ∷ ts) = locals 12 (drop 32 (c .recs t)) ++ tails c ts
+
+-- of the tasks ts those that have the queue view of q
+unfoldable pub owners : Contents → ℕ → List ℕ → List ℕ
+owners c q [] = []
+owners c q (t ∷ ts) = pick (eqb (word c t (16 + q)) NONE) (owners c q ts) (t ∷ owners c q ts)
+
+-- the tasks that have views: the top, finished or not, and the unfinished ones; of the n tasks from t on
+unfoldable pub holdersFrom : Contents → ℕ → ℕ → List ℕ
+holdersFrom c zero t = []
+holdersFrom c (suc n) t =
+    pick (either (eqb t 0) (eqb (word c t STATUS) UNFINISHED)) (t ∷ holdersFrom c n (t + 1)) (holdersFrom c n (t + 1))
+
+unfoldable pub holders : Contents → List ℕ
+holders c = holdersFrom c 128 0
+
+-- the nexts of the held segments among the n segments from s on
+unfoldable pub nextsFrom : Contents → ℕ → ℕ → List ℕ
+nextsFrom c zero s = []
+nextsFrom c (suc n) s =
+    pick (either (not (eqb (occurrences s (c .free)) 0)) (eqb (part c s 2) NONE)) (nextsFrom c n (s + 1))
+    (part c s 2 ∷ nextsFrom c n (s + 1))
+
+unfoldable pub nexts : Contents → List ℕ
+nexts c = nextsFrom c (c .number) 0

@@ -1,0 +1,1 @@
+// The memory rules: definitions and laws only.
