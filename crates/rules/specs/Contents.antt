@@ -9,7 +9,8 @@ use lib.ListN.{getD, drop, take}
 use lib.Seq.{drop-drop}
 use borrow.Author.Tests.{ltb-true}
 use Rattle.words.specs.Words.{load, pick, pick-true, pick-false, either}
-use Rattle.words.specs.Blocks.{rows, row-at, occurrences}
+use Rattle.words.specs.Blocks.{rows, row-at}
+use Rattle.lists.specs.Counting.{occurrences}
 use Rattle.layout.specs.Layout.{NONE, NL, STATUS, UNFINISHED, lengthWord, numberWord, freeSegments, freeTasks, read, recordOf}
 
 pub record Contents : Type 0 where
@@ -29,13 +30,14 @@ segmentOf m s = drop (448 + s * 4) m
 
 abbrev pub decode : List ℕ → Contents
 decode m =
-    record
-    { length = read m lengthWord
-    ; number = read m numberWord
-    ; free = take (read m freeSegments) (drop 64 m)
-    ; idle = take (read m freeTasks) (drop 320 m)
-    ; segs = segmentOf m
-    ; recs = recordOf m }
+    record {
+      length = read m lengthWord;
+      number = read m numberWord;
+      free = take (read m freeSegments) (drop 64 m);
+      idle = take (read m freeTasks) (drop 320 m);
+      segs = segmentOf m;
+      recs = recordOf m;
+    }
 
 -- The same through tables, so that the checker computes a record in few steps.
 unfoldable pub look : List (List ℕ) → ℕ → (ℕ → List ℕ) → ℕ → List ℕ
@@ -45,13 +47,14 @@ unfoldable pub scan : List ℕ → Contents
 scan m =
     let segments = rows 4 256 (drop 448 m) in
     let tasks = rows 48 128 (drop 1472 m) in
-    record
-    { length = read m lengthWord
-    ; number = read m numberWord
-    ; free = take (read m freeSegments) (drop 64 m)
-    ; idle = take (read m freeTasks) (drop 320 m)
-    ; segs = look segments 256 (segmentOf m)
-    ; recs = look tasks 128 (recordOf m) }
+    record {
+      length = read m lengthWord;
+      number = read m numberWord;
+      free = take (read m freeSegments) (drop 64 m);
+      idle = take (read m freeTasks) (drop 320 m);
+      segs = look segments 256 (segmentOf m);
+      recs = look tasks 128 (recordOf m);
+    }
 
 look-same : (w n a : ℕ) (m : List ℕ) (i : ℕ) → look (rows w n (drop a m)) n (λ j. drop (a + j * w) m) i ≡ drop (a + i * w) m
 unfolding look
@@ -63,13 +66,14 @@ look-same w n a m i = go (ltb i n) refl
 
 pub scan-decodes : (m : List ℕ) → scan m ≡ decode m
 unfolding scan segmentOf recordOf
-scan-decodes m = λ i. record
-    { length = read m lengthWord
-    ; number = read m numberWord
-    ; free = take (read m freeSegments) (drop 64 m)
-    ; idle = take (read m freeTasks) (drop 320 m)
-    ; segs = λ s. look-same 4 256 448 m s i
-    ; recs = λ t. look-same 48 128 1472 m t i }
+scan-decodes m = λ i. record {
+  length = read m lengthWord;
+  number = read m numberWord;
+  free = take (read m freeSegments) (drop 64 m);
+  idle = take (read m freeTasks) (drop 320 m);
+  segs = λ s. look-same 4 256 448 m s i;
+  recs = λ t. look-same 48 128 1472 m t i;
+}
 
 -- word k of the record of task t, and of segment s
 unfoldable pub word : Contents → ℕ → ℕ → ℕ

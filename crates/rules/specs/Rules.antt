@@ -6,7 +6,7 @@ use mathlib.Core.List.{List, [], _∷_}
 use mathlib.Core.Logic.{_⊎_}
 use Prim.Native.Nat.{ℕ, zero, suc, _+_, _*_, _%_, _<_, _≤_}
 use lib.ListN.{length}
-use Rattle.words.specs.Blocks.{occurrences}
+use Rattle.lists.specs.Counting.{occurrences}
 use Rattle.layout.specs.Layout.{NONE, NL, FREE, UNFINISHED, FINISHED, STATUS, RIGHTS, PARENT, OLDER, YOUNGER, YOUNGEST}
 use Rattle.tree.specs.Rights.{uses, subset}
 use Rattle.rules.specs.Contents.{Contents, word, part, heads, tails, owners, holders, nexts}

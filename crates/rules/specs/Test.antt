@@ -3,8 +3,10 @@ use mathlib.Core.Bool.{Bool, true, false, not}
 use mathlib.Core.List.{List, [], _∷_, _++_}
 use Prim.Native.Nat.{ℕ, zero, suc, _+_, _-_, _*_, _%_}
 use lib.Dec.{leb, ltb, eqb}
-use lib.ListN.{length, drop, replicate}
-use Rattle.words.specs.Words.{load, store, pick, both, either}
+use lib.ListN.{length, drop}
+use Rattle.words.specs.Words.{pick, both, either}
+use Rattle.lists.specs.Tests.{each, upto, eachWord}
+use Rattle.lists.specs.Distinct.{distinct}
 use Rattle.layout.specs.Layout.{NONE, NL, FREE, UNFINISHED, FINISHED, STATUS, RIGHTS, PARENT, OLDER, YOUNGER, YOUNGEST, CHILDREN, USER, RIGHT}
 use Rattle.tree.specs.Rights.{uses, subset, eachQueue}
 use Rattle.tree.specs.Tour.{tour, met, after}
@@ -12,29 +14,6 @@ use Rattle.rules.specs.Contents.{Contents, scan, word, part, heads, tail
 
 unfoldable pub within : ℕ → ℕ → ℕ → Bool
 within a x b = both (leb a x) (leb x b)
-
--- f holds of each number of a list
-unfoldable pub each : (ℕ → Bool) → List ℕ → Bool
-each f [] = true
-each f (x ∷ xs) = let rest = each f xs in both (f x) rest
-
--- f holds of each of the n numbers from i on
-unfoldable pub upto : (ℕ → Bool) → ℕ → ℕ → Bool
-upto f zero i = true
-upto f (suc n) i = let rest = upto f n (i + 1) in both (f i) rest
-
--- f i w holds of each of n words: of the first with i, of the next with i + 1, and so on
-unfoldable pub eachWord : (ℕ → ℕ → Bool) → ℕ → ℕ → List ℕ → Bool
-eachWord f zero i r = true
-eachWord f (suc n) i r = let rest = eachWord f n (i + 1) (drop 1 r) in both (f i (load r 0)) rest
-
--- the numbers of a list are below n, none of them stands in it twice, and none was marked in d
-unfoldable pub fresh : ℕ → List ℕ → List ℕ → Bool
-fresh n [] d = true
-fresh n (x ∷ xs) d = let rest = fresh n xs (store d x 1) in both (ltb x n) (both (eqb (load d x) 0) rest)
-
-unfoldable pub distinct : ℕ → List ℕ → Bool
-distinct n xs = fresh n xs (replicate 256 0)
 
 -- "L is 1 to 64, segments 4 to 256, and L times segments is at most 8,192"
 unfoldable pub inRange : ℕ → ℕ → Bool

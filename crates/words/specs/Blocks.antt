@@ -1,14 +1,12 @@
 -- Several words at once: storing a list of words from an address on, and a table as a list of rows.
 use mathlib.Core.Path.{_≡_, refl, ap, sym, _∙_}
-use mathlib.Core.Bool.{Bool, true, false}
 use mathlib.Core.List.{List, [], _∷_}
 use Prim.Native.Nat.{ℕ, zero, suc, _+_, _*_, _<_}
 use native.Mathlib.Nat.{le-of-suc-le-suc, add-comm, zero-mul, suc-mul}
 use native.Mathlib.Omega.{arith}
-use lib.Dec.{eqb}
-use lib.ListN.{getD, set, drop, length}
+use lib.ListN.{getD, drop}
 use lib.Seq.{drop-drop}
-use Rattle.words.specs.Words.{load, store, size, pick}
+use Rattle.words.specs.Words.{store, size}
 
 -- the memory with the words ws from address a on
 unfoldable pub storeAll : List ℕ → ℕ → List ℕ → List ℕ
@@ -50,8 +48,3 @@ row-at w (suc n) r (suc i) h =
     row-at w n (drop w r) i (le-of-suc-le-suc h)
     ∙ drop-drop (i * w) w r
     ∙ ap (λ (k : ℕ). drop k r) (add-comm w (i * w) ∙ sym (suc-mul i w))
-
--- how often s stands in a list
-unfoldable pub occurrences : ℕ → List ℕ → ℕ
-occurrences s [] = 0
-occurrences s (x ∷ xs) = pick (eqb x s) 1 0 + occurrences s xs

@@ -1,0 +1,1 @@
+// Lists of numbers: definitions and laws only.
