@@ -1,0 +1,1 @@
+// The outcome of every core call: definitions and laws only.
