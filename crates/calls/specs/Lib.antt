@@ -1,1 +1,11 @@
 pub mod Open
+pub mod Segments
+pub mod Views
+pub mod Waits
+pub mod Spawn
+pub mod Push
+pub mod Find
+pub mod Sync
+pub mod Finish
+pub mod Left
+pub mod Calls

@@ -50,8 +50,8 @@ unfoldable pub opened : ℕ → ℕ → List ℕ
 opened l n = topped (segmented (stacked n (storeAll (replicate WORDS 0) 0 (l ∷ n ∷ (n - 4) ∷ 127 ∷ []))))
 
 -- "Open tests 1, 3."
-unfoldable pub open' : List ℕ → ℕ → ℕ → Outcome
-open' m l n =
+unfoldable pub openOutcome : List ℕ → ℕ → ℕ → Outcome
+openOutcome m l n =
     pick (not (eqb (size m) WORDS)) (outcome (Refused 1) m)
     (pick (not (inRange l n)) (outcome (Refused 3) m)
     (outcome (Moved 0) (opened l n)))

@@ -1,0 +1,45 @@
+-- The core's calls as data, and the outcome of each.
+use mathlib.Core.List.{List, [], _∷_}
+use Prim.Native.Nat.{ℕ}
+use Rattle.answers.specs.declared.Answer.{Answer}
+use Rattle.answers.specs.Answers.{Outcome, outcome, answerOf, wordsOf}
+use Rattle.calls.specs.Open.{openOutcome}
+use Rattle.calls.specs.Spawn.{spawnOutcome}
+use Rattle.calls.specs.Push.{pushOutcome}
+use Rattle.calls.specs.Find.{popOutcome, testOutcome}
+use Rattle.calls.specs.Sync.{syncOutcome}
+use Rattle.calls.specs.Finish.{finishOutcome}
+use Rattle.calls.specs.Left.{leftOutcome}
+
+-- "Core calls: open, spawn (rights), push (queue, value), pop (queue), test (queue), sync, finish, left (queue, index).
+-- All but open and left name the task first."
+pub data Call : Type 0 where
+  open-call : ℕ → ℕ → Call
+  spawn-call : ℕ → ℕ → Call
+  push-call : ℕ → ℕ → ℕ → Call
+  pop-call : ℕ → ℕ → Call
+  test-call : ℕ → ℕ → Call
+  sync-call : ℕ → Call
+  finish-call : ℕ → Call
+  left-call : ℕ → ℕ → Call
+
+-- what a call gives on the words m
+unfoldable pub outcomeOf : Call → List ℕ → Outcome
+outcomeOf (open-call l n) m = openOutcome m l n
+outcomeOf (spawn-call t r) m = spawnOutcome m t r
+outcomeOf (push-call t q v) m = pushOutcome m t q v
+outcomeOf (pop-call t q) m = popOutcome m t q
+outcomeOf (test-call t q) m = testOutcome m t q
+outcomeOf (sync-call t) m = syncOutcome m t
+outcomeOf (finish-call t) m = finishOutcome m t
+outcomeOf (left-call q i) m = leftOutcome m q i
+
+-- the words after a list of calls
+unfoldable pub wordsAfter : List Call → List ℕ → List ℕ
+wordsAfter [] m = m
+wordsAfter (a ∷ rest) m = wordsAfter rest (wordsOf (outcomeOf a m))
+
+-- the answers to a list of calls
+unfoldable pub answersTo : List Call → List ℕ → List Answer
+answersTo [] m = []
+answersTo (a ∷ rest) m = answerOf (outcomeOf a m) ∷ answersTo rest (wordsOf (outcomeOf a m))
