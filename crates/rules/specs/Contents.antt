@@ -85,7 +85,7 @@ part c s k = load (c .segs s) k
 -- the first n words of r that are segments, no mark
 unfoldable pub locals : ℕ → List ℕ → List ℕ
 locals zero r = []
-locals (suc n) r = pick (ltb (load r 0) NL) (load r 0 ∷ locals n (drop 1 r)) (locals n (drop 1 r))
+locals (suc n) r = let rest = locals n (drop 1 r) in pick (ltb (load r 0) NL) (load r 0 ∷ rest) rest
 
 -- the local heads, and the local tails, of all views of the tasks ts
 unfoldable pub heads : Contents → List ℕ → List ℕ
@@ -99,13 +99,14 @@ tails c (t ∷ ts) = locals 12 (drop 32 (c .recs t)) ++ tails c ts
 -- of the tasks ts those that have the queue view of q
 unfoldable pub owners : Contents → ℕ → List ℕ → List ℕ
 owners c q [] = []
-owners c q (t ∷ ts) = pick (eqb (word c t (16 + q)) NONE) (owners c q ts) (t ∷ owners c q ts)
+owners c q (t ∷ ts) = let rest = owners c q ts in pick (eqb (word c t (16 + q)) NONE) rest (t ∷ rest)
 
 -- the tasks that have views: the top, finished or not, and the unfinished ones; of the n tasks from t on
 unfoldable pub holdersFrom : Contents → ℕ → ℕ → List ℕ
 holdersFrom c zero t = []
 holdersFrom c (suc n) t =
-    pick (either (eqb t 0) (eqb (word c t STATUS) UNFINISHED)) (t ∷ holdersFrom c n (t + 1)) (holdersFrom c n (t + 1))
+    let rest = holdersFrom c n (t + 1) in
+    pick (either (eqb t 0) (eqb (word c t STATUS) UNFINISHED)) (t ∷ rest) rest
 
 unfoldable pub holders : Contents → List ℕ
 holders c = holdersFrom c 128 0
@@ -114,8 +115,8 @@ holders c = holdersFrom c 128 0
 unfoldable pub nextsFrom : Contents → ℕ → ℕ → List ℕ
 nextsFrom c zero s = []
 nextsFrom c (suc n) s =
-    pick (either (not (eqb (occurrences s (c .free)) 0)) (eqb (part c s 2) NONE)) (nextsFrom c n (s + 1))
-    (part c s 2 ∷ nextsFrom c n (s + 1))
+    let rest = nextsFrom c n (s + 1) in
+    pick (either (not (eqb (occurrences s (c .free)) 0)) (eqb (part c s 2) NONE)) rest (part c s 2 ∷ rest)
 
 unfoldable pub nexts : Contents → List ℕ
 nexts c = nextsFrom c (c .number) 0

@@ -114,15 +114,17 @@ heldTest c hs es =
 unfoldable pub viewTests : Contents → List ℕ → Bool
 viewTests c xs =
     let ts = met xs in
-    both (each (viewsTest c) ts) (both (orderTest c xs) (both (ownersTest c ts)
-    (both (upto (segmentTest c) (c .number) 0) (heldTest c (heads c ts) (tails c ts)))))
+    let hs = heads c ts in
+    let es = tails c ts in
+    both (each (viewsTest c) ts) (both (orderTest c xs) (both (ownersTest c ts) (both (upto (segmentTest c) (c .number) 0) (heldTest c hs es))))
 
 unfoldable pub test : Contents → Bool
 test c =
     let k = 2 * (128 - length (c .idle)) in
+    let xs = tour k (c .recs) 0 in
     both (inRange (c .length) (c .number)) (both (leb (length (c .free)) (c .number))
-    (both (topTest c) (both (idleTest c) (both (treeTest c k 0) (viewTests c (tour k (c .recs) 0))))))
+    (both (topTest c) (both (idleTest c) (both (treeTest c k 0) (viewTests c xs)))))
 
 -- the memory rules hold of the words m
 unfoldable pub rulesHold : List ℕ → Bool
-rulesHold m = test (scan m)
+rulesHold m = let c = scan m in test c

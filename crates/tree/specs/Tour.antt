@@ -41,7 +41,7 @@ tour (suc k) recs x = let rest = tour k recs (after recs x) in pick (leb END x) 
 -- the tasks that are met, of a list of marks
 unfoldable pub met : List ℕ → List ℕ
 met [] = []
-met (x ∷ xs) = pick (ltb x 128) (x ∷ met xs) (met xs)
+met (x ∷ xs) = let rest = met xs in pick (ltb x 128) (x ∷ rest) rest
 
 -- the first of at most k marks from x on that f holds of; END where there is none
 unfoldable pub seek : ℕ → (ℕ → Bool) → (ℕ → List ℕ) → ℕ → ℕ
