@@ -14,7 +14,7 @@ use Rattle.answers.specs.declared.Answer.{Answer}
 use Rattle.answers.specs.Answers.{Outcome, outcome, answerOf, wordsOf, statusOf, valueOf}
 use Rattle.tree.specs.Rights.{bits, pushes, pops, uses, eachQueue, someQueue, sharesPop, subset}
 use Rattle.tree.specs.Tour.{leaving, entering, after, tour, met, seek, sibling, oldest}
-use Rattle.rules.specs.Contents.{segmentOf, look, scan, word, part, locals, heads, tails, owners}
+use Rattle.rules.specs.Contents.{segmentOf, tables, look, scan, word, part, locals, heads, tails, owners}
 use Rattle.rules.specs.Test.{within, inRange, topTest, idleTest, kin, linkTest, treeTest, viewWord, viewsTest, marked, passed, passedAt, orderAt, orderOf, orderTest, ownersTest, segmentTest, chain, chains, heldTest, viewTests, test, rulesHold}
 use Rattle.calls.specs.Open.{down, stacked, segmented, topped, opened, openOutcome}
 use Rattle.calls.specs.Segments.{place, valueAt, stored, dropped, noneFree, nextFree, taken, released, indexOf, headIndex, linkedBy, renamed, linked}
@@ -45,5 +45,5 @@ lent = replicate WORDS 7
 
 -- the same, with every definition open, so that it can be computed
 unfoldable pub right : List Row → Bool
-unfolding load store size pick both either storeAll rows one occurrences each upto eachWord fresh distinct address read write recordOf answerOf wordsOf statusOf valueOf bits pushes pops uses eachQueue someQueue sharesPop subset leaving entering after tour met seek sibling oldest segmentOf look scan word part locals heads tails owners within inRange topTest idleTest kin linkTest treeTest viewWord viewsTest marked passed passedAt orderAt orderOf orderTest ownersTest segmentTest chain chains heldTest viewTests test rulesHold down stacked segmented topped opened openOutcome place valueAt stored dropped noneFree nextFree taken released indexOf headIndex linkedBy renamed linked viewOf isEmpty headOf tailOf reducible frees behind reduced setView joined merged taskAt kindAt takesPart standsAt justBefore returnedTo tested rightsOf unfinished blocked childPops hasChild pusherBefore forQueues passedUser passedQueue keptUser keptQueue childViews passedOn childMade spawned spawnTested spawnOutcome pushedApart pushedBehind pushed pushTested pushOutcome hasValue finding popped popGives testGives popAllowed popTested testTested popOutcome testOutcome syncs syncedQueue synced whenReduced syncTested syncOutcome returned finishes viewsReturned heir queueReturned finishedQueue unlinked recordFreed finished topFinished finishTested finishOutcome queued leftTested leftOutcome outcomeOf answers
+unfolding load store size pick both either storeAll rows one occurrences each upto eachWord fresh distinct address read write recordOf answerOf wordsOf statusOf valueOf bits pushes pops uses eachQueue someQueue sharesPop subset leaving entering after tour met seek sibling oldest segmentOf tables look scan word part locals heads tails owners within inRange topTest idleTest kin linkTest treeTest viewWord viewsTest marked passed passedAt orderAt orderOf orderTest ownersTest segmentTest chain chains heldTest viewTests test rulesHold down stacked segmented topped opened openOutcome place valueAt stored dropped noneFree nextFree taken released indexOf headIndex linkedBy renamed linked viewOf isEmpty headOf tailOf reducible frees behind reduced setView joined merged taskAt kindAt takesPart standsAt justBefore returnedTo tested rightsOf unfinished blocked childPops hasChild pusherBefore forQueues passedUser passedQueue keptUser keptQueue childViews passedOn childMade spawned spawnTested spawnOutcome pushedApart pushedBehind pushed pushTested pushOutcome hasValue finding popped popGives testGives popAllowed popTested testTested popOutcome testOutcome syncs syncedQueue synced whenReduced syncTested syncOutcome returned finishes viewsReturned heir queueReturned finishedQueue unlinked recordFreed finished topFinished finishTested finishOutcome queued leftTested leftOutcome outcomeOf answers
 right rows = answers rows lent

@@ -3,7 +3,9 @@
 use mathlib.Core.Path.{_≡_, refl, ap, sym, _∙_, fun-ext}
 use mathlib.Core.Bool.{Bool, true, false, not}
 use mathlib.Core.List.{List, [], _∷_, _++_}
-use Prim.Native.Nat.{ℕ, zero, suc, _+_, _*_, _<_}
+use Prim.Native.Nat.{ℕ, zero, suc, _+_, _*_, _/_, _%_, _<_}
+use native.Mathlib.Nat.{le-of-suc-le-suc, add-comm, add-mul, mul-assoc, zero-mul, suc-mul}
+use native.Mathlib.Omega.{arith}
 use lib.Dec.{leb, ltb, eqb}
 use lib.ListN.{getD, drop, take}
 use lib.Seq.{drop-drop}
@@ -39,41 +41,63 @@ decode m =
       recs = recordOf m;
     }
 
--- The same through tables, so that the checker computes a record in few steps.
-unfoldable pub look : List (List ℕ) → ℕ → (ℕ → List ℕ) → ℕ → List ℕ
-look table n f i = pick (ltb i n) (getD table i []) (f i)
+-- The same through tables of 16 records each, so that the checker finds a record in few steps.
+unfoldable pub tables : ℕ → ℕ → List ℕ → List (List (List ℕ))
+tables w zero r = []
+tables w (suc n) r = let rest = tables w n (drop (16 * w) r) in let table = rows w 16 r in table ∷ rest
+
+unfoldable pub look : ℕ → List (List (List ℕ)) → (ℕ → List ℕ) → ℕ → List ℕ
+look n found f i = pick (ltb i (16 * n)) (getD (getD found (i / 16) []) (i % 16) []) (f i)
 
 unfoldable pub scan : List ℕ → Contents
 scan m =
-    let segments = rows 4 256 (drop 448 m) in
-    let tasks = rows 48 128 (drop 1472 m) in
-    record {
-      length = read m lengthWord;
-      number = read m numberWord;
-      free = take (read m freeSegments) (drop 64 m);
-      idle = take (read m freeTasks) (drop 320 m);
-      segs = look segments 256 (segmentOf m);
-      recs = look tasks 128 (recordOf m);
-    }
+    let segments = tables 4 16 (drop 448 m) in
+    let tasks = tables 48 8 (drop 1472 m) in
+    record
+    { length = read m lengthWord
+    ; number = read m numberWord
+    ; free = take (read m freeSegments) (drop 64 m)
+    ; idle = take (read m freeTasks) (drop 320 m)
+    ; segs = look 16 segments (segmentOf m)
+    ; recs = look 8 tasks (recordOf m) }
 
-look-same : (w n a : ℕ) (m : List ℕ) (i : ℕ) → look (rows w n (drop a m)) n (λ j. drop (a + j * w) m) i ≡ drop (a + i * w) m
+table-at : (w n : ℕ) (r : List ℕ) (i : ℕ) → i < n → getD (tables w n r) i [] ≡ rows w 16 (drop (i * (16 * w)) r)
+unfolding tables
+table-at w zero r i h = let z : ⊥ = omega arith in absurd z
+table-at w (suc n) r zero h = ap (λ (k : ℕ). rows w 16 (drop k r)) (sym (zero-mul (16 * w)))
+table-at w (suc n) r (suc i) h =
+    table-at w n (drop (16 * w) r) i (le-of-suc-le-suc h)
+    ∙ ap (rows w 16) (drop-drop (i * (16 * w)) (16 * w) r ∙ ap (λ (k : ℕ). drop k r) (add-comm (16 * w) (i * (16 * w)) ∙ sym (suc-mul i (16 * w))))
+
+look-same : (w n a : ℕ) (m : List ℕ) (i : ℕ) → look n (tables w n (drop a m)) (λ j. drop (a + j * w) m) i ≡ drop (a + i * w) m
 unfolding look
-look-same w n a m i = go (ltb i n) refl
+look-same w n a m i = go (ltb i (16 * n)) refl
   where
-    go : (b : Bool) → ltb i n ≡ b → pick b (getD (rows w n (drop a m)) i []) (drop (a + i * w) m) ≡ drop (a + i * w) m
-    go true e = pick-true _ _ ∙ row-at w n (drop a m) i (ltb-true i n e) ∙ drop-drop (i * w) a m
+    split : i / 16 * (16 * w) + i % 16 * w ≡ i * w
+    split =
+        ap (λ (k : ℕ). k + i % 16 * w) (sym (mul-assoc (i / 16) 16 w))
+        ∙ sym (add-mul (i / 16 * 16) (i % 16) w)
+        ∙ ap (λ (k : ℕ). k * w) (let z : i / 16 * 16 + i % 16 ≡ i = omega arith in z)
+    found : i < 16 * n → getD (getD (tables w n (drop a m)) (i / 16) []) (i % 16) [] ≡ drop (a + i * w) m
+    found h =
+        ap (λ (l : List (List ℕ)). getD l (i % 16) []) (table-at w n (drop a m) (i / 16) (omega arith))
+        ∙ row-at w 16 (drop (i / 16 * (16 * w)) (drop a m)) (i % 16) (omega arith)
+        ∙ drop-drop (i % 16 * w) (i / 16 * (16 * w)) (drop a m)
+        ∙ drop-drop (i / 16 * (16 * w) + i % 16 * w) a m
+        ∙ ap (λ (k : ℕ). drop (a + k) m) split
+    go : (b : Bool) → ltb i (16 * n) ≡ b → pick b (getD (getD (tables w n (drop a m)) (i / 16) []) (i % 16) []) (drop (a + i * w) m) ≡ drop (a + i * w) m
+    go true e = pick-true _ _ ∙ found (ltb-true i (16 * n) e)
     go false e = pick-false _ _
 
 pub scan-decodes : (m : List ℕ) → scan m ≡ decode m
 unfolding scan segmentOf recordOf
-scan-decodes m = λ i. record {
-  length = read m lengthWord;
-  number = read m numberWord;
-  free = take (read m freeSegments) (drop 64 m);
-  idle = take (read m freeTasks) (drop 320 m);
-  segs = λ s. look-same 4 256 448 m s i;
-  recs = λ t. look-same 48 128 1472 m t i;
-}
+scan-decodes m = λ i. record
+    { length = read m lengthWord
+    ; number = read m numberWord
+    ; free = take (read m freeSegments) (drop 64 m)
+    ; idle = take (read m freeTasks) (drop 320 m)
+    ; segs = λ s. look-same 4 16 448 m s i
+    ; recs = λ t. look-same 48 8 1472 m t i }
 
 -- word k of the record of task t, and of segment s
 unfoldable pub word : Contents → ℕ → ℕ → ℕ
