@@ -1,11 +1,17 @@
 -- More of sums over the numbers below a limit: from the first on, term by term against another sum, one place alone.
 use mathlib.Core.Path.{_≡_, refl, ap, sym, _∙_}
+use mathlib.Core.List.{List, [], _∷_}
 use mathlib.Core.Logic.{_⊎_, inl, inr, ⊎-elim}
 use Prim.Native.Nat.{ℕ, zero, suc, _+_, _*_, _<_, _≤_}
 use native.Mathlib.Omega.{arith}
 use native.Mathlib.Nat.{le-of-suc-le-suc, eq-or-lt-of-le}
 use lib.Dec.{eqb}
-use Rattle.lists.specs.Counting.{one, total, equal?, one-yes, one-no, total-ext, total-at}
+use Rattle.lists.specs.Counting.{one, over, total, equal?, one-yes, one-no, total-ext, total-at}
+
+pub over-zero : (xs : List ℕ) → over xs (λ y. 0) ≡ 0
+unfolding over
+over-zero [] = refl
+over-zero (x ∷ xs) = let a = over-zero xs in omega (arith, a)
 
 -- a sum that begins with its first term
 pub total-first : (n : ℕ) (f : ℕ → ℕ) → total (suc n) f ≡ f 0 + total n (λ y. f (suc y))

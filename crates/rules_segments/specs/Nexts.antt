@@ -1,0 +1,66 @@
+-- How often a segment is the next of a held one.
+use mathlib.Core.Path.{_≡_, refl, ap, sym, _∙_}
+use mathlib.Core.Bool.{Bool, true, false, not}
+use mathlib.Core.List.{List, [], _∷_}
+use mathlib.Core.Logic.{_⊎_, ⊎-elim}
+use Prim.Native.Nat.{ℕ, zero, suc, _+_, _*_, _<_}
+use native.Mathlib.Omega.{arith}
+use lib.Dec.{eqb}
+use borrow.Author.Tests.{eq-eqb, ne-eqb}
+use Rattle.words.specs.Words.{pick, pass, halt, either, true-left, true-right}
+use Rattle.lists.specs.Counting.{one, occurrences, total, equal?, one-yes, one-no, occurs-cons, occurs-nil, total-ext}
+use Rattle.lists.specs.Sums.{total-first}
+use Rattle.layout.specs.Layout.{NONE}
+use Rattle.rules.specs.Contents.{Contents, part, nexts, nextsFrom}
+use Rattle.rules_segments.specs.Chains.{follows}
+
+-- 1 where y is held, among the segments opened
+abbrev pub held : Contents → ℕ → ℕ
+held c y = one (eqb (occurrences y (c .free)) 0)
+
+neither : {a b : Bool} → a ≡ false → b ≡ false → either a b ≡ false
+unfolding either
+neither e f = pass true e f
+
+dropped : (a b k : ℕ) → a ≡ 0 → k ≡ a * b + k
+dropped a b k e = sym (ap (λ (x : ℕ). x * b + k) e ∙ (let z : 0 * b + k ≡ k = omega arith in z))
+
+kept : (a b k : ℕ) → a ≡ 1 → b + k ≡ a * b + k
+kept a b k e = sym (ap (λ (x : ℕ). x * b + k) e ∙ (let z : 1 * b + k ≡ b + k = omega arith in z))
+
+module _ (c : Contents) (s : ℕ) (some : s ≡ NONE → ⊥) where
+  next-count : (i : ℕ) (r : List ℕ)
+      → occurrences s (pick (either (not (eqb (occurrences i (c .free)) 0)) (eqb (part c i 2) NONE)) r (part c i 2 ∷ r))
+      ≡ held c i * follows c s i + occurrences s r
+  next-count i r =
+      ⊎-elim
+      (λ here.
+      ⊎-elim
+      (λ last.
+      ap (occurrences s) (halt _ _ (true-right _ (eq-eqb _ _ last)))
+      ∙ (let a = one-no (part c i 2) s (λ q. some (sym q ∙ last)) in let z : occurrences s r ≡ follows c s i + occurrences s r = omega (arith, a) in z)
+      ∙ kept _ (follows c s i) (occurrences s r) (one-yes _ _ here))
+      (λ more.
+      ap (occurrences s) (pass _ (neither (ap not (eq-eqb _ _ here)) (ne-eqb _ _ more)) refl)
+      ∙ occurs-cons (part c i 2) s r
+      ∙ kept _ (follows c s i) (occurrences s r) (one-yes _ _ here))
+      (equal? (part c i 2) NONE))
+      (λ gone. ap (occurrences s) (halt _ _ (true-left _ (ap not (ne-eqb _ _ gone)))) ∙ dropped _ (follows c s i) (occurrences s r) (one-no _ _ gone))
+      (equal? (occurrences i (c .free)) 0)
+
+  nexts-from : (n i : ℕ) → occurrences s (nextsFrom c n i) ≡ total n (λ y. held c (i + y) * follows c s (i + y))
+  unfolding nextsFrom
+  nexts-from zero i = occurs-nil s ∙ (unfold total in refl)
+  nexts-from (suc n) i =
+      next-count i (nextsFrom c n (i + 1))
+      ∙ ap (λ (k : ℕ). held c i * follows c s i + k) (nexts-from n (i + 1))
+      ∙ ap (λ (k : ℕ). held c i * follows c s i + k) (total-ext n _ _ (λ y l. ap here (let z : i + 1 + y ≡ i + suc y = omega arith in z)))
+      ∙ ap (λ (k : ℕ). here k + total n (λ y. here (i + suc y))) (let z : i ≡ i + 0 = omega arith in z)
+      ∙ sym (total-first n (λ y. here (i + y)))
+    where
+      here : ℕ → ℕ
+      here y = held c y * follows c s y
+
+  pub nexts-count : occurrences s (nexts c) ≡ total (c .number) (λ y. held c y * follows c s y)
+  unfolding nexts
+  nexts-count = nexts-from (c .number) 0 ∙ total-ext (c .number) _ _ (λ y l. ap (λ (k : ℕ). held c k * follows c s k) (let z : 0 + y ≡ y = omega arith in z))
