@@ -1,2 +1,4 @@
 pub mod Chains
 pub mod Nexts
+pub mod Parted
+pub mod Tested
