@@ -46,6 +46,15 @@ total-some (suc n) f h = go (f n) refl (total-some n f)
     go zero e ih = let w = ih (omega (arith, e, h)) in let l = w .1 in (w .0, omega (arith, l), w .2)
     go (suc k) e ih = (n, omega arith, omega (arith, e))
 
+pub total-term : (n : ℕ) (f : ℕ → ℕ) (y : ℕ) → y < n → f y ≤ total n f
+unfolding total
+total-term zero f y l = let z : ⊥ = omega arith in absurd z
+total-term (suc n) f y l =
+    ⊎-elim
+    (λ q. let a = ap f q in omega (arith, a))
+    (λ p. let a = total-term n f y p in omega (arith, a))
+    (eq-or-lt-of-le (le-of-suc-le-suc l))
+
 -- Where the sum is 1 and the term of x is 1, it is the only one.
 pub total-alone : (n x : ℕ) (f : ℕ → ℕ) → x < n → total n f ≡ 1 → f x ≡ 1 → (y : ℕ) → y < n → f y ≡ one (eqb x y)
 total-alone n x f h e m y l = sym (total-tight n (λ z. one (eqb x z)) f (λ z k. under z) (mine ∙ sym e) y l)

@@ -69,37 +69,38 @@ module _ (c : Contents) where
       step : Ends k (part c h 2) → Ends (suc k) h
       step w = let l = w .1 in (suc (w .0), omega (arith, l), w .2)
 
+  -- what is not the first of a chain is in its rest
+  pub chain-behind : (k h s : ℕ) → (h ≡ s → ⊥) → 0 < occurrences s (chain c (suc k) h)
+      → (part c h 2 ≡ NONE → ⊥) × (0 < occurrences s (chain c k (part c h 2)))
+  chain-behind k h s q p = (more, behind)
+    where
+      more : part c h 2 ≡ NONE → ⊥
+      more z =
+          let a = ap (occurrences s) (chain-last k h z) in
+          let b = occurs-past h s [] q in
+          let d = occurs-nil s in
+          omega (arith, a, b, d, p)
+
+      behind : 0 < occurrences s (chain c k (part c h 2))
+      behind = let a = ap (occurrences s) (chain-more k h more) in let b = occurs-past h s (chain c k (part c h 2)) q in omega (arith, a, b, p)
+
   -- from each segment of a chain that ends one comes to the end
   chain-ends : (k h s : ℕ) → occurrences NONE (chain c k h) ≡ 0 → 0 < occurrences s (chain c k h) → Ends k s
   chain-ends zero h s e p = absurd (chain-short h e)
   chain-ends (suc k) h s e p =
       ⊎-elim
       (λ q. rw q at (chain-end (suc k) h e))
-      (λ q.
-      ⊎-elim
-      (λ z. absurd (alone q z))
-      (λ z. longer (chain-ends k (part c h 2) s (chain-rest k h z e) (behind q z)))
-      (equal? (part c h 2) NONE))
+      (λ q. let w = chain-behind k h s q p in longer (chain-ends k (part c h 2) s (chain-rest k h (w .0) e) (w .1)))
       (equal? h s)
     where
-      alone : (h ≡ s → ⊥) → part c h 2 ≡ NONE → ⊥
-      alone q z =
-          let a = ap (occurrences s) (chain-last k h z) in
-          let b = occurs-past h s [] q in
-          let d = occurs-nil s in
-          omega (arith, a, b, d, p)
-
-      behind : (h ≡ s → ⊥) → (part c h 2 ≡ NONE → ⊥) → 0 < occurrences s (chain c k (part c h 2))
-      behind q z = let a = ap (occurrences s) (chain-more k h z) in let b = occurs-past h s (chain c k (part c h 2)) q in omega (arith, a, b, p)
-
       longer : Ends k s → Ends (suc k) s
       longer w = let l = w .1 in (w .0, omega (arith, l), w .2)
 
-  chains-nil : (s : ℕ) → occurrences s (chains c []) ≡ 0
+  pub chains-nil : (s : ℕ) → occurrences s (chains c []) ≡ 0
   unfolding chains
   chains-nil s = occurs-nil s
 
-  chains-parts : (h s : ℕ) (hs : List ℕ) → occurrences s (chains c (h ∷ hs)) ≡ occurrences s (chain c (c .number) h) + occurrences s (chains c hs)
+  pub chains-parts : (h s : ℕ) (hs : List ℕ) → occurrences s (chains c (h ∷ hs)) ≡ occurrences s (chain c (c .number) h) + occurrences s (chains c hs)
   unfolding chains
   chains-parts h s hs = occurs-append s (chain c (c .number) h) (chains c hs)
 
@@ -115,7 +116,8 @@ module _ (c : Contents) where
       let f = chains-names hs s (omega (arith, e0, e)) in
       omega (arith, a, b, d, f)
 
-  chains-first : (hs : List ℕ) → occurrences NONE (chains c hs) ≡ 0 → occurrences NONE hs ≡ 0
+  -- no head is NONE
+  pub chains-first : (hs : List ℕ) → occurrences NONE (chains c hs) ≡ 0 → occurrences NONE hs ≡ 0
   unfolding occurrences
   chains-first [] e = refl
   chains-first (h ∷ hs) e =

@@ -2,3 +2,4 @@ pub mod Chains
 pub mod Nexts
 pub mod Parted
 pub mod Tested
+pub mod FromTest

@@ -22,11 +22,11 @@ neither : {a b : Bool} → a ≡ false → b ≡ false → either a b ≡ false
 unfolding either
 neither e f = pass true e f
 
-dropped : (a b k : ℕ) → a ≡ 0 → k ≡ a * b + k
-dropped a b k e = sym (ap (λ (x : ℕ). x * b + k) e ∙ (let z : 0 * b + k ≡ k = omega arith in z))
+pub held-times : (c : Contents) (y k : ℕ) → occurrences y (c .free) ≡ 0 → held c y * k ≡ k
+held-times c y k e = ap (λ (x : ℕ). x * k) (one-yes _ 0 e) ∙ (let z : 1 * k ≡ k = omega arith in z)
 
-kept : (a b k : ℕ) → a ≡ 1 → b + k ≡ a * b + k
-kept a b k e = sym (ap (λ (x : ℕ). x * b + k) e ∙ (let z : 1 * b + k ≡ b + k = omega arith in z))
+pub free-times : (c : Contents) (y k : ℕ) → (occurrences y (c .free) ≡ 0 → ⊥) → held c y * k ≡ 0
+free-times c y k e = ap (λ (x : ℕ). x * k) (one-no _ 0 e) ∙ (let z : 0 * k ≡ 0 = omega arith in z)
 
 module _ (c : Contents) (s : ℕ) (some : s ≡ NONE → ⊥) where
   next-count : (i : ℕ) (r : List ℕ)
@@ -37,15 +37,19 @@ module _ (c : Contents) (s : ℕ) (some : s ≡ NONE → ⊥) where
       (λ here.
       ⊎-elim
       (λ last.
-      ap (occurrences s) (halt _ _ (true-right _ (eq-eqb _ _ last)))
-      ∙ (let a = one-no (part c i 2) s (λ q. some (sym q ∙ last)) in let z : occurrences s r ≡ follows c s i + occurrences s r = omega (arith, a) in z)
-      ∙ kept _ (follows c s i) (occurrences s r) (one-yes _ _ here))
+      let a = ap (occurrences s) (halt _ _ (true-right _ (eq-eqb _ _ last))) in
+      let b = one-no (part c i 2) s (λ q. some (sym q ∙ last)) in
+      let d = held-times c i (follows c s i) here in
+      a ∙ (let z : occurrences s r ≡ held c i * follows c s i + occurrences s r = omega (arith, b, d) in z))
       (λ more.
-      ap (occurrences s) (pass _ (neither (ap not (eq-eqb _ _ here)) (ne-eqb _ _ more)) refl)
-      ∙ occurs-cons (part c i 2) s r
-      ∙ kept _ (follows c s i) (occurrences s r) (one-yes _ _ here))
+      let a = ap (occurrences s) (pass _ (neither (ap not (eq-eqb _ _ here)) (ne-eqb _ _ more)) refl) in
+      let b = held-times c i (follows c s i) here in
+      a ∙ occurs-cons (part c i 2) s r ∙ ap (λ (k : ℕ). k + occurrences s r) (sym b))
       (equal? (part c i 2) NONE))
-      (λ gone. ap (occurrences s) (halt _ _ (true-left _ (ap not (ne-eqb _ _ gone)))) ∙ dropped _ (follows c s i) (occurrences s r) (one-no _ _ gone))
+      (λ gone.
+      let a = ap (occurrences s) (halt _ _ (true-left _ (ap not (ne-eqb _ _ gone)))) in
+      let b = free-times c i (follows c s i) gone in
+      a ∙ (let z : occurrences s r ≡ held c i * follows c s i + occurrences s r = omega (arith, b) in z))
       (equal? (occurrences i (c .free)) 0)
 
   nexts-from : (n i : ℕ) → occurrences s (nextsFrom c n i) ≡ total n (λ y. held c (i + y) * follows c s (i + y))
