@@ -1,9 +1,10 @@
 -- The chains of segments from the heads: what stands in them, and how often.
 use mathlib.Core.Path.{_≡_, refl, ap, sym, _∙_}
-use mathlib.Core.List.{List, [], _∷_, _++_}
-use mathlib.Core.Logic.{_⊎_, ⊎-elim}
-use Prim.Native.Nat.{ℕ, zero, suc, _+_, _*_, _<_, _≤_}
+use mathlib.Core.List.{List, [], _∷_}
+use mathlib.Core.Logic.{⊎-elim}
+use Prim.Native.Nat.{ℕ, zero, suc, _+_, _<_, _≤_}
 use native.Mathlib.Omega.{arith}
+use native.Mathlib.Nat.{eq-zero-or-pos}
 use lib.Dec.{eqb}
 use lib.ListN.{length}
 use borrow.Author.Tests.{eq-eqb, ne-eqb}
@@ -14,6 +15,10 @@ use Rattle.layout.specs.Layout.{NONE}
 use Rattle.rules.specs.Contents.{Contents, part}
 use Rattle.rules.specs.Rules.{walk}
 use Rattle.rules.specs.Test.{chain, chains}
+
+-- a segment opened is not the mark for none
+pub not-none : (c : Contents) (s : ℕ) → c .number ≤ 256 → s < c .number → s ≡ NONE → ⊥
+not-none c s small l q = omega (arith, small, l, q)
 
 -- 1 where s follows y
 abbrev pub follows : Contents → ℕ → ℕ → ℕ
@@ -145,12 +150,10 @@ module _ (c : Contents) where
   -- each segment of theirs comes to the end
   pub chains-end : (hs : List ℕ) (s : ℕ) → occurrences NONE (chains c hs) ≡ 0 → 0 < occurrences s (chains c hs) → Ends (c .number) s
   chains-end [] s e p = let a = chains-nil s in let z : ⊥ = omega (arith, a, p) in absurd z
-  chains-end (h ∷ hs) s e p = go (occurrences s (chain c (c .number) h)) refl (chains-end hs s)
-    where
-      e0 : (occurrences NONE (chain c (c .number) h) ≡ 0) × (occurrences NONE (chains c hs) ≡ 0)
-      e0 = let a = chains-parts h NONE hs in (omega (arith, a, e), omega (arith, a, e))
-
-      go : (k : ℕ) → occurrences s (chain c (c .number) h) ≡ k
-          → (occurrences NONE (chains c hs) ≡ 0 → 0 < occurrences s (chains c hs) → Ends (c .number) s) → Ends (c .number) s
-      go zero q ih = ih (e0 .1) (let a = chains-parts h s hs in omega (arith, a, p, q))
-      go (suc k) q ih = chain-ends (c .number) h s (e0 .0) (omega (arith, q))
+  chains-end (h ∷ hs) s e p =
+      let a = chains-parts h NONE hs in
+      let b = chains-parts h s hs in
+      ⊎-elim
+      (λ q. chains-end hs s (omega (arith, a, e)) (omega (arith, b, p, q)))
+      (λ q. chain-ends (c .number) h s (omega (arith, a, e)) q)
+      (eq-zero-or-pos (occurrences s (chain c (c .number) h)))

@@ -1,22 +1,20 @@
 -- The rules of segments from their tests.
 use mathlib.Core.Path.{_≡_, refl, ap, sym, _∙_}
-use mathlib.Core.Bool.{Bool, true}
 use mathlib.Core.List.{List, _++_}
-use mathlib.Core.Logic.{_⊎_, inl, inr, ⊎-elim}
-use Prim.Native.Nat.{ℕ, zero, suc, _+_, _*_, _<_, _≤_}
+use mathlib.Core.Logic.{⊎-elim}
+use Prim.Native.Nat.{ℕ, _+_, _*_, _<_, _≤_}
 use native.Mathlib.Omega.{arith}
-use lib.Dec.{leb, eqb}
+use native.Mathlib.Nat.{eq-zero-or-pos}
 use lib.ListN.{length, length-append}
-use borrow.Author.Tests.{leb-true}
-use Rattle.lists.specs.Counting.{one, occurrences, total, equal?, one-yes, one-no, occurs-append, total-ext, length-total, all-one}
+use Rattle.lists.specs.Counting.{occurrences, equal?, one-yes, one-no, occurs-append, length-total, all-one}
 use Rattle.lists.specs.Sums.{total-tight}
 use Rattle.layout.specs.Layout.{NONE}
 use Rattle.rules.specs.Contents.{Contents, part, nexts}
 use Rattle.rules.specs.Rules.{SegmentRules, Held, Free}
 use Rattle.rules.specs.Test.{chains}
-use Rattle.rules_segments.specs.Chains.{follows, chains-first, chains-end}
+use Rattle.rules_segments.specs.Chains.{not-none, follows, chains-first, chains-end}
 use Rattle.rules_segments.specs.Nexts.{held, held-times}
-use Rattle.rules_segments.specs.Parted.{Parted, parted-held, parted-names, parted-lasts}
+use Rattle.rules_segments.specs.Parted.{Parted, parted-names, parted-lasts}
 use Rattle.rules_segments.specs.Tested.{Sound, Tested}
 
 module _ (c : Contents) (hs es : List ℕ) (small : c .number ≤ 256) (t : Tested c hs es) where
@@ -38,20 +36,13 @@ module _ (c : Contents) (hs es : List ℕ) (small : c .number ≤ 256) (t : Test
   parted : Parted c hs
   parted =
       record {
-        ends = none (occurrences NONE (chains c hs)) (chains-below NONE);
+        ends = ⊎-elim (λ q. q) (λ p. absurd (not-none c NONE small (chains-below NONE p) refl)) (eq-zero-or-pos (occurrences NONE (chains c hs)));
         below = chains-below;
         once = λ s l. sym (parts s) ∙ each-once s l;
       }
-    where
-      none : (k : ℕ) → (0 < k → NONE < c .number) → k ≡ 0
-      none zero f = refl
-      none (suc k) f = let q = f (omega arith) in let z : ⊥ = omega (arith, q, small) in absurd z
-
-  some : (s : ℕ) → s < c .number → s ≡ NONE → ⊥
-  some s l q = omega (arith, l, q, small)
 
   names : (s : ℕ) → s < c .number → occurrences s (chains c hs) ≡ occurrences s hs + occurrences s (nexts c)
-  names s l = parted-names c hs parted s (some s l)
+  names s l = parted-names c hs parted s (not-none c s small l)
 
   pub heads-below : (s : ℕ) → 0 < occurrences s hs → s < c .number
   heads-below s p =
@@ -69,17 +60,17 @@ module _ (c : Contents) (hs es : List ℕ) (small : c .number ≤ 256) (t : Test
       total-tight (c .number) (λ s. occurrences s es) (λ s. held c s * follows c NONE s) (λ s l. few s)
       (sym (length-total (c .number) es tails-below) ∙ t .many ∙ sym (parted-lasts c hs parted))
     where
-      go : (s k : ℕ) → occurrences s es ≡ k → occurrences s es ≤ held c s * follows c NONE s
-      go s zero e = omega (arith, e)
-      go s (suc k) e =
+      few : (s : ℕ) → occurrences s es ≤ held c s * follows c NONE s
+      few s =
+          ⊎-elim
+          (λ q. omega (arith, q))
+          (λ p.
           let a = ends s in
           let b = t .ends .once s in
-          let d = held-times c s (follows c NONE s) (omega (arith, a, b, e)) in
-          let f = one-yes (part c s 2) NONE (t .lasts s (omega (arith, e))) in
-          omega (arith, a, b, d, e, f)
-
-      few : (s : ℕ) → occurrences s es ≤ held c s * follows c NONE s
-      few s = go s (occurrences s es) refl
+          let d = held-times c s (follows c NONE s) (omega (arith, a, b, p)) in
+          let f = one-yes (part c s 2) NONE (t .lasts s p) in
+          omega (arith, a, b, d, f))
+          (eq-zero-or-pos (occurrences s es))
 
   pub tested-rules : length (c .free) ≤ c .number → ((s : ℕ) → s < c .number → Sound c s) → SegmentRules c hs es
   tested-rules few sound =

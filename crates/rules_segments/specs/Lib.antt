@@ -3,3 +3,5 @@ pub mod Nexts
 pub mod Parted
 pub mod Tested
 pub mod FromTest
+pub mod FromRules
+pub mod Segments

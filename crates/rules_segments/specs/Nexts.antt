@@ -1,10 +1,11 @@
 -- How often a segment is the next of a held one.
 use mathlib.Core.Path.{_≡_, refl, ap, sym, _∙_}
 use mathlib.Core.Bool.{Bool, true, false, not}
-use mathlib.Core.List.{List, [], _∷_}
-use mathlib.Core.Logic.{_⊎_, ⊎-elim}
+use mathlib.Core.List.{List, _∷_}
+use mathlib.Core.Logic.{⊎-elim}
 use Prim.Native.Nat.{ℕ, zero, suc, _+_, _*_, _<_}
 use native.Mathlib.Omega.{arith}
+use native.Mathlib.Nat.{eq-zero-or-pos}
 use lib.Dec.{eqb}
 use borrow.Author.Tests.{eq-eqb, ne-eqb}
 use Rattle.words.specs.Words.{pick, pass, halt, either, true-left, true-right}
@@ -25,8 +26,8 @@ neither e f = pass true e f
 pub held-times : (c : Contents) (y k : ℕ) → occurrences y (c .free) ≡ 0 → held c y * k ≡ k
 held-times c y k e = ap (λ (x : ℕ). x * k) (one-yes _ 0 e) ∙ (let z : 1 * k ≡ k = omega arith in z)
 
-pub free-times : (c : Contents) (y k : ℕ) → (occurrences y (c .free) ≡ 0 → ⊥) → held c y * k ≡ 0
-free-times c y k e = ap (λ (x : ℕ). x * k) (one-no _ 0 e) ∙ (let z : 0 * k ≡ 0 = omega arith in z)
+pub free-times : (c : Contents) (y k : ℕ) → 0 < occurrences y (c .free) → held c y * k ≡ 0
+free-times c y k p = ap (λ (x : ℕ). x * k) (one-no (occurrences y (c .free)) 0 (λ q. omega (arith, q, p))) ∙ (let z : 0 * k ≡ 0 = omega arith in z)
 
 module _ (c : Contents) (s : ℕ) (some : s ≡ NONE → ⊥) where
   next-count : (i : ℕ) (r : List ℕ)
@@ -47,10 +48,10 @@ module _ (c : Contents) (s : ℕ) (some : s ≡ NONE → ⊥) where
       a ∙ occurs-cons (part c i 2) s r ∙ ap (λ (k : ℕ). k + occurrences s r) (sym b))
       (equal? (part c i 2) NONE))
       (λ gone.
-      let a = ap (occurrences s) (halt _ _ (true-left _ (ap not (ne-eqb _ _ gone)))) in
+      let a = ap (occurrences s) (halt _ _ (true-left _ (ap not (ne-eqb (occurrences i (c .free)) 0 (λ q. omega (arith, q, gone)))))) in
       let b = free-times c i (follows c s i) gone in
       a ∙ (let z : occurrences s r ≡ held c i * follows c s i + occurrences s r = omega (arith, b) in z))
-      (equal? (occurrences i (c .free)) 0)
+      (eq-zero-or-pos (occurrences i (c .free)))
 
   nexts-from : (n i : ℕ) → occurrences s (nextsFrom c n i) ≡ total n (λ y. held c (i + y) * follows c s (i + y))
   unfolding nextsFrom

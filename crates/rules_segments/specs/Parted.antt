@@ -1,13 +1,13 @@
 -- The free segments and the chains have each segment once: the test and the rules each say so, and what follows from it.
 use mathlib.Core.Path.{_≡_, refl, ap, sym, _∙_}
 use mathlib.Core.List.{List}
-use Prim.Native.Nat.{ℕ, zero, suc, _+_, _*_, _<_, _≤_}
+use Prim.Native.Nat.{ℕ, zero, suc, _+_, _*_, _<_}
 use native.Mathlib.Omega.{arith}
 use lib.Dec.{eqb}
 use lib.ListN.{length}
-use Rattle.lists.specs.Counting.{one, occurrences, over, total, one-yes, one-no, total-ext, exchange}
+use Rattle.lists.specs.Counting.{one, occurrences, total, one-yes, one-no, total-ext, exchange}
 use Rattle.layout.specs.Layout.{NONE}
-use Rattle.rules.specs.Contents.{Contents, part, nexts}
+use Rattle.rules.specs.Contents.{Contents, nexts}
 use Rattle.rules.specs.Test.{chains}
 use Rattle.rules_segments.specs.Chains.{follows, chains-named, chains-lasts}
 use Rattle.rules_segments.specs.Nexts.{held, nexts-count}

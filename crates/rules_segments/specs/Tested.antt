@@ -1,16 +1,16 @@
 -- What the tests of segments say, both ways.
-use mathlib.Core.Path.{_≡_, refl, ap, sym, _∙_}
-use mathlib.Core.Bool.{Bool, true, false, not}
+use mathlib.Core.Path.{_≡_, ap}
+use mathlib.Core.Bool.{true, not}
 use mathlib.Core.List.{List, _++_}
-use mathlib.Core.Logic.{_⊎_, inl, inr, ⊎-elim}
-use Prim.Native.Nat.{ℕ, zero, suc, _+_, _<_, _≤_}
+use mathlib.Core.Logic.{inl, inr, ⊎-elim}
+use Prim.Native.Nat.{ℕ, _+_, _<_, _≤_}
 use native.Mathlib.Omega.{arith}
-use lib.Dec.{leb, ltb, eqb}
+use lib.Dec.{ltb, eqb}
 use lib.ListN.{length}
 use borrow.Author.Tests.{ltb-true, lt-ltb, leb-true, le-leb, eqb-true, eq-eqb, ne-eqb, eqb-false, not-true}
 use Rattle.words.specs.Words.{both-true, true-both, either, either-true, true-left, true-right}
 use Rattle.lists.specs.Counting.{occurrences, equal?}
-use Rattle.lists.specs.Tests.{each, each-says, says-each, upto, upto-says, says-upto}
+use Rattle.lists.specs.Tests.{each-says, says-each, upto, upto-says, says-upto}
 use Rattle.lists.specs.Distinct.{Distinct, distinct-says, says-distinct}
 use Rattle.layout.specs.Layout.{NONE}
 use Rattle.rules.specs.Contents.{Contents, part}
