@@ -95,7 +95,7 @@ total-plus zero f g = refl
 total-plus (suc n) f g = let a = total-plus n f g in omega (arith, a)
 
 -- only the term of x counts
-total-at : (n x : ℕ) (g : ℕ → ℕ) → x < n → total n (λ y. one (eqb x y) * g y) ≡ g x
+pub total-at : (n x : ℕ) (g : ℕ → ℕ) → x < n → total n (λ y. one (eqb x y) * g y) ≡ g x
 unfolding total
 total-at zero x g h = let z : ⊥ = omega arith in absurd z
 total-at (suc n) x g h =

@@ -1,7 +1,7 @@
 -- The test that the numbers of a list are below a limit and none stands there twice, by marks in a scratch list.
 use mathlib.Core.Path.{_≡_, refl, ap, sym, _∙_}
 use mathlib.Core.Bool.{Bool, true, false}
-use mathlib.Core.List.{List, [], _∷_}
+use mathlib.Core.List.{List, [], _∷_, _++_}
 use mathlib.Core.Logic.{_⊎_, ⊎-elim}
 use Prim.Native.Nat.{ℕ, zero, suc, _+_, _<_, _≤_}
 use native.Mathlib.Omega.{arith}
@@ -9,7 +9,7 @@ use lib.Dec.{ltb, eqb}
 use lib.ListN.{replicate, length-replicate}
 use borrow.Author.Tests.{ltb-true, eqb-true, eq-eqb, lt-ltb}
 use Rattle.words.specs.Words.{load, store, size, size-store, load-same, load-other, both, both-true, true-both}
-use Rattle.lists.specs.Counting.{occurrences, equal?, occurs-nil, occurs-here, occurs-past}
+use Rattle.lists.specs.Counting.{occurrences, equal?, occurs-nil, occurs-here, occurs-past, occurs-append}
 
 -- the numbers of a list are below n, none stands in it twice, and none was marked in d
 unfoldable pub fresh : ℕ → List ℕ → List ℕ → Bool
@@ -93,3 +93,19 @@ module _ (n : ℕ) where
   pub says-distinct : (xs : List ℕ) → n ≤ 256 → Distinct xs → distinct n xs ≡ true
   unfolding distinct size
   says-distinct xs g h = says-fresh xs (replicate 256 0) (rw length-replicate g) (h .below) (λ s. let a = zeros 256 s in let b = h .once s in omega (arith, a, b))
+
+  -- two lists, one behind the other
+  pub distinct-append : (xs ys : List ℕ) → ((s : ℕ) → 0 < occurrences s xs → s < n) → ((s : ℕ) → 0 < occurrences s ys → s < n)
+      → ((s : ℕ) → s < n → occurrences s xs + occurrences s ys ≤ 1) → Distinct (xs ++ ys)
+  distinct-append xs ys a b once = record { below = λ s. below s (occurrences s xs) refl; once = λ s. few s (occurrences s (xs ++ ys)) refl }
+    where
+      below : (s k : ℕ) → occurrences s xs ≡ k → 0 < occurrences s (xs ++ ys) → s < n
+      below s zero e p = b s (let q = occurs-append s xs ys in omega (arith, q, e, p))
+      below s (suc k) e p = a s (omega (arith, e))
+
+      few : (s k : ℕ) → occurrences s (xs ++ ys) ≡ k → occurrences s (xs ++ ys) ≤ 1
+      few s zero e = omega (arith, e)
+      few s (suc k) e =
+          let q = occurs-append s xs ys in
+          let r = once s (below s (occurrences s xs) refl (omega (arith, e))) in
+          omega (arith, q, r)

@@ -1,0 +1,1 @@
+// Segments: the test and the rules say the same; laws only.
