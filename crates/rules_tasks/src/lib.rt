@@ -1,0 +1,1 @@
+// Tasks: the test and the rules say the same; laws only.
