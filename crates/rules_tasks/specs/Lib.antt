@@ -1,2 +1,4 @@
 pub mod Marks
 pub mod Tours
+pub mod Reached
+pub mod Pairs
