@@ -2,3 +2,5 @@ pub mod Marks
 pub mod Tours
 pub mod Reached
 pub mod Pairs
+pub mod Tested
+pub mod Visits
