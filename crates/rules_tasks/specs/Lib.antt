@@ -4,3 +4,4 @@ pub mod Reached
 pub mod Pairs
 pub mod Tested
 pub mod Visits
+pub mod Rings
