@@ -5,3 +5,4 @@ pub mod Pairs
 pub mod Tested
 pub mod Visits
 pub mod Rings
+pub mod FromTest
