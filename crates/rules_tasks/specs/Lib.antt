@@ -6,3 +6,4 @@ pub mod Tested
 pub mod Visits
 pub mod Rings
 pub mod FromTest
+pub mod Leads
