@@ -7,3 +7,4 @@ pub mod Visits
 pub mod Rings
 pub mod FromTest
 pub mod Leads
+pub mod FromRules

@@ -77,6 +77,18 @@ module _ (c : Contents) where
   unfolding entering leaving
   leaves p u e l = pass _ (le-ltb u 128 (omega (arith, e))) (halt _ _ (lt-ltb p 128 l))
 
+  pub after-childless : (t : ℕ) → t < 128 → word c t YOUNGEST ≡ NONE → after (c .recs) t ≡ 128 + t
+  after-childless t l q = after-met t l ∙ leaves t (word c t YOUNGEST) q l
+
+  pub after-parent : (t : ℕ) → t < 128 → word c t YOUNGEST < 128 → after (c .recs) t ≡ word c t YOUNGEST
+  after-parent t l h = after-met t l ∙ enters t (word c t YOUNGEST) h
+
+  pub after-oldest : (t : ℕ) → word c t PARENT < 128 → word c t OLDER ≡ NONE → after (c .recs) (128 + t) ≡ 128 + word c t PARENT
+  after-oldest t l q = after-left t ∙ leaves (word c t PARENT) (word c t OLDER) q l
+
+  pub after-younger : (t : ℕ) → word c t OLDER < 128 → after (c .recs) (128 + t) ≡ word c t OLDER
+  after-younger t h = after-left t ∙ enters (word c t PARENT) (word c t OLDER) h
+
   -- past the end
   pub after-top : word c 0 PARENT ≡ NONE → word c 0 OLDER ≡ NONE → after (c .recs) 128 ≡ 256
   unfolding entering leaving
@@ -123,19 +135,19 @@ module _ (c : Contents) where
       → ((word c t YOUNGEST ≡ NONE) × (after (c .recs) t ≡ 128 + t)) ⊎ (Kin (word c t YOUNGEST) t NONE × (after (c .recs) t ≡ word c t YOUNGEST))
   met-on k t l e =
       ⊎-elim
-      (λ q. inl (q, after-met t l ∙ leaves t (word c t YOUNGEST) q l))
-      (λ w. inr (w, after-met t l ∙ enters t (word c t YOUNGEST) (w .below)))
+      (λ q. inl (q, after-childless t l q))
+      (λ w. inr (w, after-parent t l (w .below)))
       (kin-says _ _ _ (sym (link-met t l) ∙ step-tree k t (λ q. omega (arith, q, l)) e .0))
 
   pub met-none : (k t : ℕ) → t < 128 → word c t YOUNGEST ≡ NONE → treeTest c k (128 + t) ≡ true → treeTest c (suc k) t ≡ true
   met-none k t l q e =
       tree-step k t (λ z. omega (arith, z, l)) (link-met t l ∙ none-kin _ _ _ q)
-      (ap (treeTest c k) (after-met t l ∙ leaves t (word c t YOUNGEST) q l) ∙ e)
+      (ap (treeTest c k) (after-childless t l q) ∙ e)
 
   pub met-child : (k t : ℕ) → t < 128 → Kin (word c t YOUNGEST) t NONE → treeTest c k (word c t YOUNGEST) ≡ true → treeTest c (suc k) t ≡ true
   met-child k t l w e =
       tree-step k t (λ z. omega (arith, z, l)) (link-met t l ∙ says-kin _ _ _ w)
-      (ap (treeTest c k) (after-met t l ∙ enters t (word c t YOUNGEST) (w .below)) ∙ e)
+      (ap (treeTest c k) (after-parent t l (w .below)) ∙ e)
 
   -- where a task other than the top is left: its older sibling is met next, or its parent is left
   pub left-on : (k t : ℕ) → 0 < t → word c t PARENT < 128 → treeTest c (suc k) (128 + t) ≡ true
@@ -143,20 +155,20 @@ module _ (c : Contents) where
       ⊎ (Kin (word c t OLDER) (word c t PARENT) t × (after (c .recs) (128 + t) ≡ word c t OLDER))
   left-on k t n l e =
       ⊎-elim
-      (λ q. inl (q, after-left t ∙ leaves (word c t PARENT) (word c t OLDER) q l))
-      (λ w. inr (w, after-left t ∙ enters (word c t PARENT) (word c t OLDER) (w .below)))
+      (λ q. inl (q, after-oldest t l q))
+      (λ w. inr (w, after-younger t (w .below)))
       (kin-says _ _ _ (sym (link-left t) ∙ step-tree k (128 + t) (λ q. omega (arith, q, n)) e .0))
 
   pub left-none : (k t : ℕ) → 0 < t → word c t PARENT < 128 → word c t OLDER ≡ NONE → treeTest c k (128 + word c t PARENT) ≡ true
       → treeTest c (suc k) (128 + t) ≡ true
   left-none k t n l q e =
       tree-step k (128 + t) (λ z. omega (arith, z, n)) (link-left t ∙ none-kin _ _ _ q)
-      (ap (treeTest c k) (after-left t ∙ leaves (word c t PARENT) (word c t OLDER) q l) ∙ e)
+      (ap (treeTest c k) (after-oldest t l q) ∙ e)
 
   pub left-older : (k t : ℕ) → 0 < t → Kin (word c t OLDER) (word c t PARENT) t → treeTest c k (word c t OLDER) ≡ true → treeTest c (suc k) (128 + t) ≡ true
   left-older k t n w e =
       tree-step k (128 + t) (λ z. omega (arith, z, n)) (link-left t ∙ says-kin _ _ _ w)
-      (ap (treeTest c k) (after-left t ∙ enters (word c t PARENT) (word c t OLDER) (w .below)) ∙ e)
+      (ap (treeTest c k) (after-younger t (w .below)) ∙ e)
 
   -- THE TOUR at one mark
   pub tour-cons : (k x : ℕ) → x < 256 → tour (suc k) (c .recs) x ≡ x ∷ tour k (c .recs) (after (c .recs) x)

@@ -7,7 +7,8 @@ use Prim.Native.Nat.{ℕ, zero, suc, _+_, _*_, _<_, _≤_}
 use native.Mathlib.Omega.{arith}
 use native.Mathlib.Nat.{eq-zero-or-pos}
 use lib.ListN.{length}
-use Rattle.lists.specs.Counting.{occurrences, equal?, occurs-nil, occurs-here, occurs-past}
+use Rattle.lists.specs.Counting.{occurrences, equal?, occurs-nil, occurs-cons, occurs-here, occurs-past, length-total, total-ones}
+use Rattle.lists.specs.Sums.{total-le}
 use Rattle.tree.specs.Tour.{after, tour}
 use Rattle.rules.specs.Contents.{Contents}
 use Rattle.rules.specs.Test.{treeTest}
@@ -101,6 +102,52 @@ module _ (c : Contents) where
             absurd z)
             (eq-zero-or-pos (occurrences y (marks k (after (c .recs) x)))))
             (equal? x 128)
+
+    -- its first mark, and the mark after one of its marks
+    pub tour-first : (k x : ℕ) → P k x → treeTest c k x ≡ true → 0 < occurrences x (marks k x)
+    tour-first zero x p e = absurd (tree-none c x e)
+    tour-first (suc k) x p e =
+        let a = ap (occurrences x) (tour-cons c k x (range (suc k) x p)) in
+        let b = occurs-here x x (marks k (after (c .recs) x)) refl in
+        omega (arith, a, b)
+
+    pub tour-after : (k x : ℕ) → P k x → treeTest c k x ≡ true → (y : ℕ) → (y ≡ 128 → ⊥) → 0 < occurrences y (marks k x)
+        → 0 < occurrences (after (c .recs) y) (marks k x)
+    tour-after zero x p e y n h = absurd (tree-none c x e)
+    tour-after (suc k) x p e y n h =
+        ⊎-elim
+        (λ q.
+        let m : x ≡ 128 → ⊥ = λ z. n (sym q ∙ z) in
+        more (after (c .recs) y)
+        (subst (λ (z : ℕ). 0 < occurrences (after (c .recs) z) (marks k (after (c .recs) x))) q
+        (tour-first k (after (c .recs) x) (next k x p e m) (tree-rest c k x m e))))
+        (λ q.
+        ⊎-elim
+        (λ z. let a = ap (occurrences y) (last-marks k x z e) in let b = occurs-nil y in let d = behind q in let z : ⊥ = omega (arith, a, b, d) in absurd z)
+        (λ z. more (after (c .recs) y) (tour-after k (after (c .recs) x) (next k x p e z) (tree-rest c k x z e) y n (behind q)))
+        (equal? x 128))
+        (equal? x y)
+      where
+        behind : (x ≡ y → ⊥) → 0 < occurrences y (marks k (after (c .recs) x))
+        behind q =
+            let a = ap (occurrences y) (tour-cons c k x (range (suc k) x p)) in
+            let b = occurs-past x y (marks k (after (c .recs) x)) q in
+            omega (arith, a, b, h)
+
+        more : (z : ℕ) → 0 < occurrences z (marks k (after (c .recs) x)) → 0 < occurrences z (marks (suc k) x)
+        more z l =
+            let a = ap (occurrences z) (tour-cons c k x (range (suc k) x p)) in
+            let b = occurs-cons x z (marks k (after (c .recs) x)) in
+            omega (arith, a, b, l)
+
+    -- it has at most 256 marks
+    pub tour-most : (k x : ℕ) → P k x → treeTest c k x ≡ true → k ≤ 256
+    tour-most k x p e =
+        let a = tour-length k x p e in
+        let b = length-total 256 (marks k x) (λ y h. let w = tour-each k x p e y h in range (w .0) y (w .3)) in
+        let d = total-le 256 (λ y. occurrences y (marks k x)) (λ y. 1) (λ y l. tour-once k x p e y) in
+        let f = total-ones 256 (λ y. 1) (λ y l. refl) in
+        omega (arith, a, b, d, f)
 
     -- it goes no further
     pub tour-whole : after (c .recs) 128 ≡ 256 → (n k x : ℕ) → P k x → treeTest c k x ≡ true → marks (k + n) x ≡ marks k x
