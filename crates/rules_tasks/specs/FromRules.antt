@@ -138,3 +138,111 @@ module _ (c : Contents) (r : TaskRules c) where
       (λ q. subst (λ (y : ℕ). Before y) (sym q) (before-met t h (omega (arith, q, g))))
       (λ q. subst (λ (y : ℕ). Before y) (sym q) (before-left t h))
       s
+
+  behind : (k x : ℕ) → Mark x → treeTest c k x ≡ true → 0 < x
+      → (y : ℕ) × Mark y × (y ≡ 128 → ⊥) × (after (c .recs) y ≡ x) × (treeTest c (suc k) y ≡ true)
+  behind k x m e g =
+      let w = before x m g in
+      let f = mark-leads (w .0) (w .1) in
+      (w .0, w .1, w .2, w .3, one-more (w .0) (w .2) (w .3) (f .0) (f .1))
+    where
+      one-more : (y : ℕ) → (y ≡ 128 → ⊥) → after (c .recs) y ≡ x → (j : ℕ) → treeTest c j y ≡ true → treeTest c (suc k) y ≡ true
+      one-more y n q zero f = absurd (tree-none c y f)
+      one-more y n q (suc j) f =
+          let s = tree-same c j k x (ap (treeTest c j) (sym q) ∙ tree-rest c j y n f) e in
+          ap (λ (i : ℕ). treeTest c (suc i) y) (sym s) ∙ f
+
+  -- THE TOUR from the top, with as many marks as it has
+  first : Mark 0
+  first = (0, inl refl, inl refl)
+
+  size : ℕ
+  size = mark-leads 0 first .0
+
+  ends : treeTest c size 0 ≡ true
+  unfolding size
+  ends = mark-leads 0 first .1
+
+  abbrev marks : List ℕ
+  marks = tour size (c .recs) 0
+
+  abbrev Any : ℕ → ℕ → Type 0
+  Any k x = Mark x
+
+  -- it has each mark, since going back from one it comes to the first: further back there would be too many marks
+  all-marks : (n k x : ℕ) → Mark x → treeTest c k x ≡ true → 256 ≤ k + n → 0 < occurrences x marks
+  all-marks zero k x m e l =
+      ⊎-elim
+      (λ q. subst (λ (y : ℕ). 0 < occurrences y marks) (sym q) (tour-first c Any mark-range mark-next size 0 first ends))
+      (λ g.
+      let w = behind k x m e g in
+      let a = tour-most c Any mark-range mark-next (suc k) (w .0) (w .1) (w .4) in
+      let z : ⊥ = omega (arith, a, l) in
+      absurd z)
+      (eq-zero-or-pos x)
+  all-marks (suc n) k x m e l =
+      ⊎-elim
+      (λ q. subst (λ (y : ℕ). 0 < occurrences y marks) (sym q) (tour-first c Any mark-range mark-next size 0 first ends))
+      (λ g.
+      let w = behind k x m e g in
+      subst (λ (y : ℕ). 0 < occurrences y marks) (w .3)
+      (tour-after c Any mark-range mark-next size 0 first ends (w .0) (w .2) (all-marks n (suc k) (w .0) (w .1) (w .4) (omega (arith, l)))))
+      (eq-zero-or-pos x)
+
+  has : (x : ℕ) → Mark x → occurrences x marks ≡ 1
+  has x m =
+      let f = mark-leads x m in
+      let a = all-marks 256 (f .0) x m (f .1) (omega arith) in
+      let b = tour-once c Any mark-range mark-next size 0 first ends x in
+      omega (arith, a, b)
+
+  mark-of : (x : ℕ) → 0 < occurrences x marks → Mark x
+  mark-of x p = tour-each c Any mark-range mark-next size 0 first ends x p .3
+
+  -- and no other
+  has-not : (t x : ℕ) → t < 128 → (x ≡ t) ⊎ (x ≡ 128 + t) → (Holder c t → ⊥) → occurrences x marks ≡ 0
+  has-not t x l s n = ⊎-elim (λ q. q) (λ p. absurd (n (same s (mark-of x p)))) (eq-zero-or-pos (occurrences x marks))
+    where
+      same : (x ≡ t) ⊎ (x ≡ 128 + t) → Mark x → Holder c t
+      same s (u, h, d) =
+          let m = holder-below c r u h in
+          subst (λ (y : ℕ). Holder c y)
+          (⊎-elim
+          (λ a. ⊎-elim (λ b. omega (arith, a, b)) (λ b. omega (arith, a, b, l, m)) d)
+          (λ a. ⊎-elim (λ b. omega (arith, a, b, l, m)) (λ b. omega (arith, a, b)) d)
+          s)
+          h
+
+  two-held : (t : ℕ) → Holder c t → occurrences t (c .idle) ≡ 0 → pair marks (c .idle) t ≡ 2
+  two-held t h q = let a = has t (t, h, inl refl) in let b = has (128 + t) (t, h, inr refl) in omega (arith, a, b, q)
+
+  two : (t : ℕ) → t < 128 → pair marks (c .idle) t ≡ 2
+  two t l =
+      ⊎-elim
+      (λ q. two-held t (inl q) (⊎-elim (λ z. z) (λ p. let a = r .idle-below t p .0 in let z : ⊥ = omega (arith, a, q) in absurd z) (eq-zero-or-pos (occurrences t (c .idle)))))
+      (λ g.
+      ⊎-elim
+      (λ w. two-held t (inr (l, w .0)) (w .1))
+      (λ w.
+      let n : Holder c t → ⊥ = λ h. not-holder g (w .0) h in
+      let a = has-not t t l (inl refl) n in
+      let b = has-not t (128 + t) l (inr refl) n in
+      let d = w .1 in
+      omega (arith, a, b, d))
+      (r .record-status t g l))
+      (eq-zero-or-pos t)
+    where
+      not-holder : 0 < t → word c t STATUS ≡ FREE → Holder c t → ⊥
+      not-holder g s h = ⊎-elim (λ q. omega (arith, g, q)) (λ w. let q = w .1 in omega (arith, s, q)) h
+
+  full : size ≡ count c
+  full =
+      let a = pairs marks (c .idle) (λ x p. mark-range 0 x (mark-of x p)) (λ t p. r .idle-below t p .1) in
+      let b = total-ext 128 (pair marks (c .idle)) (λ t. 2) two in
+      let d = total-twos 128 in
+      let f = tour-length c Any mark-range mark-next size 0 first ends in
+      let g = r .idle-few in
+      omega (arith, a, b, d, f, g)
+
+  pub rules-tree : treeTest c (count c) 0 ≡ true
+  rules-tree = ap (λ (k : ℕ). treeTest c k 0) (sym full) ∙ ends
