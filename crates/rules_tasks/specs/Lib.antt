@@ -8,3 +8,5 @@ pub mod Rings
 pub mod FromTest
 pub mod Leads
 pub mod FromRules
+pub mod Holders
+pub mod Tasks

@@ -150,9 +150,9 @@ module _ (c : Contents) where
         omega (arith, a, b, d, f)
 
     -- it goes no further
-    pub tour-whole : after (c .recs) 128 ≡ 256 → (n k x : ℕ) → P k x → treeTest c k x ≡ true → marks (k + n) x ≡ marks k x
-    tour-whole out n zero x p e = absurd (tree-none c x e)
-    tour-whole out n (suc k) x p e =
+    pub tour-stops : after (c .recs) 128 ≡ 256 → (n k x : ℕ) → P k x → treeTest c k x ≡ true → marks (k + n) x ≡ marks k x
+    tour-stops out n zero x p e = absurd (tree-none c x e)
+    tour-stops out n (suc k) x p e =
         ap (λ (i : ℕ). marks i x) (let z : suc k + n ≡ suc (k + n) = omega arith in z)
         ∙ tour-cons c (k + n) x (range (suc k) x p)
         ∙ ap (λ (l : List ℕ). x ∷ l)
@@ -160,6 +160,6 @@ module _ (c : Contents) where
         (λ z.
         let a = ap (after (c .recs)) z ∙ out in
         tour-past c (k + n) (after (c .recs) x) (omega (arith, a)) ∙ sym (last-marks k x z e))
-        (λ z. tour-whole out n k (after (c .recs) x) (next k x p e z) (tree-rest c k x z e))
+        (λ z. tour-stops out n k (after (c .recs) x) (next k x p e z) (tree-rest c k x z e))
         (equal? x 128))
         ∙ sym (tour-cons c k x (range (suc k) x p))

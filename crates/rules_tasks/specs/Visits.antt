@@ -30,7 +30,7 @@ module _ (c : Contents) (idle : Idle c) (e : treeTest c (count c) 0 ≡ true) wh
   abbrev pub Met : ℕ → ℕ → Type 0
   Met = Reached c (count c)
 
-  start : Standing c (count c) (count c) 0
+  pub start : Standing c (count c) (count c) 0
   start = inl (top refl refl e)
 
   stands : (y : ℕ) → 0 < occurrences y marks → (j : ℕ) × (j ≤ count c) × (treeTest c j y ≡ true) × Standing c (count c) j y
