@@ -3,16 +3,14 @@ use mathlib.Core.Path.{_≡_, refl, ap, sym, _∙_, subst}
 use mathlib.Core.Bool.{true}
 use mathlib.Core.List.{List}
 use mathlib.Core.Logic.{_⊎_, inl, inr, ⊎-elim}
-use Prim.Native.Nat.{ℕ, zero, suc, _+_, _-_, _*_, _<_, _≤_}
+use Prim.Native.Nat.{ℕ, zero, suc, _+_, _<_, _≤_}
 use native.Mathlib.Omega.{arith}
 use native.Mathlib.Nat.{eq-zero-or-pos}
-use lib.ListN.{length}
-use Rattle.lists.specs.Counting.{occurrences, total, total-ext}
-use Rattle.lists.specs.Distinct.{Distinct}
+use Rattle.lists.specs.Counting.{occurrences, total-ext}
 use Rattle.layout.specs.Layout.{NONE, FREE, UNFINISHED, FINISHED, STATUS, PARENT, OLDER, YOUNGER, YOUNGEST}
 use Rattle.tree.specs.Tour.{after, tour}
 use Rattle.rules.specs.Contents.{Contents, word}
-use Rattle.rules.specs.Rules.{Unfinished, Holder, Child, TaskRules, walk}
+use Rattle.rules.specs.Rules.{Holder, TaskRules}
 use Rattle.rules.specs.Test.{treeTest}
 use Rattle.rules_tasks.specs.Marks.{tree-none, tree-rest, met-on, left-on, after-childless, after-parent, after-oldest, after-younger}
 use Rattle.rules_tasks.specs.Tested.{Top, Idle}
@@ -105,12 +103,11 @@ module _ (c : Contents) (r : TaskRules c) where
       (word c t PARENT, (word c t PARENT, inr u, inl refl), (λ z. omega (arith, z, b)), after-parent c (word c t PARENT) b (omega (arith, q, l)) ∙ q))
       (λ w.
       let q = w .1 in
-      let a = above c r _ _ (w .0) in
-      (
-      128 + word c t YOUNGER,
-      (word c t YOUNGER, inr (w .0 .1 .0), inr refl),
-      (λ z. omega (arith, z, a)),
-      after-younger c (word c t YOUNGER) (omega (arith, q, l)) ∙ q,
+      let a = above c r _ _ (w .0) in (
+        128 + word c t YOUNGER,
+        (word c t YOUNGER, inr (w .0 .1 .0), inr refl),
+        (λ z. omega (arith, z, a)),
+        after-younger c (word c t YOUNGER) (omega (arith, q, l)) ∙ q,
       ))
       (r .younger-linked t _ k)
 
@@ -123,12 +120,11 @@ module _ (c : Contents) (r : TaskRules c) where
       let m = r .no-sibling-ring _ t (w .0) in
       let v = oldest c r (m .0) _ t (w .0) (m .2) in
       let a = above c r _ _ (v .1) in
-      let p = v .1 .1 .1 in
-      (
-      128 + v .0,
-      (v .0, inr (v .1 .1 .0), inr refl),
-      (λ z. omega (arith, z, a)),
-      after-oldest c (v .0) (omega (arith, p, l)) (v .2) ∙ ap (λ (y : ℕ). 128 + y) p,
+      let p = v .1 .1 .1 in (
+        128 + v .0,
+        (v .0, inr (v .1 .1 .0), inr refl),
+        (λ z. omega (arith, z, a)),
+        after-oldest c (v .0) (omega (arith, p, l)) (v .2) ∙ ap (λ (y : ℕ). 128 + y) p,
       ))
       (down c r t h)
 

@@ -2,7 +2,7 @@
 use mathlib.Core.Path.{_≡_, refl, ap, sym, _∙_, subst}
 use mathlib.Core.Bool.{true}
 use mathlib.Core.Logic.{_⊎_, inl, inr, ⊎-elim}
-use Prim.Native.Nat.{ℕ, zero, suc, _+_, _-_, _*_, _<_, _≤_}
+use Prim.Native.Nat.{ℕ, _<_, _≤_}
 use native.Mathlib.Omega.{arith}
 use native.Mathlib.Nat.{eq-zero-or-pos}
 use Rattle.lists.specs.Counting.{occurrences, equal?}
@@ -14,7 +14,7 @@ use Rattle.rules.specs.Test.{treeTest}
 use Rattle.rules_tasks.specs.Marks.{Kin}
 use Rattle.rules_tasks.specs.Tested.{Top, Idle}
 use Rattle.rules_tasks.specs.Reached.{Reached, top, youngest, older, reached-holder}
-use Rattle.rules_tasks.specs.Visits.{count, Visit, Met, visit, holder-visit}
+use Rattle.rules_tasks.specs.Visits.{count, Visit, visit, holder-visit}
 use Rattle.rules_tasks.specs.Rings.{parent-visit, parent-below, down, along, siblings-end, parents-end}
 
 module _ (c : Contents) where
@@ -119,15 +119,17 @@ module _ (c : Contents) (first : Top c) (idle : Idle c) (e : treeTest c (count c
       let youngest = ⊎-elim inr (λ w. inl (child-below _ _ (w .0))) (youngest-linked t h) in
       ⊎-elim
       (λ q. (
-      inr (ap (λ (x : ℕ). word c x PARENT) q ∙ first .parent),
-      inr (ap (λ (x : ℕ). word c x OLDER) q ∙ first .older),
-      inr (ap (λ (x : ℕ). word c x YOUNGER) q ∙ first .younger),
-      youngest))
+        inr (ap (λ (x : ℕ). word c x PARENT) q ∙ first .parent),
+        inr (ap (λ (x : ℕ). word c x OLDER) q ∙ first .older),
+        inr (ap (λ (x : ℕ). word c x YOUNGER) q ∙ first .younger),
+        youngest,
+      ))
       (λ g. let k = child g in (
-      inl (parent-below c idle e t (holder-visit c idle e t h) g),
-      ⊎-elim inr (λ w. inl (child-below _ _ (w .0))) (older-linked t _ k),
-      ⊎-elim (λ w. inr (w .0)) (λ w. inl (child-below _ _ (w .0))) (younger-linked t _ k),
-      youngest))
+        inl (parent-below c idle e t (holder-visit c idle e t h) g),
+        ⊎-elim inr (λ w. inl (child-below _ _ (w .0))) (older-linked t _ k),
+        ⊎-elim (λ w. inr (w .0)) (λ w. inl (child-below _ _ (w .0))) (younger-linked t _ k),
+        youngest,
+      ))
       (eq-zero-or-pos t)
     where
       child : 0 < t → Child c (word c t PARENT) t

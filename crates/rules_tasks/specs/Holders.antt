@@ -1,19 +1,19 @@
 -- How often a task stands among the holders, and among the tasks that are met.
-use mathlib.Core.Path.{_≡_, refl, ap, sym, _∙_}
+use mathlib.Core.Path.{_≡_, refl, ap, _∙_}
 use mathlib.Core.Bool.{Bool, true, false}
 use mathlib.Core.List.{List, [], _∷_}
 use mathlib.Core.Logic.{_⊎_, inl, inr, ⊎-elim, _↔_}
-use Prim.Native.Nat.{ℕ, zero, suc, _+_, _-_, _<_, _≤_}
+use Prim.Native.Nat.{ℕ, zero, suc, _+_, _<_, _≤_}
 use native.Mathlib.Omega.{arith}
 use native.Mathlib.Nat.{eq-zero-or-pos}
-use lib.Dec.{ltb, eqb}
+use lib.Dec.{ltb}
 use borrow.Author.Tests.{lt-ltb, le-ltb, ltb-true, ltb-false, eq-eqb, ne-eqb}
-use Rattle.words.specs.Words.{pick, pass, halt, either, true-left, true-right}
+use Rattle.words.specs.Words.{pass, halt, either, true-left, true-right}
 use Rattle.lists.specs.Counting.{occurrences, equal?, occurs-nil, occurs-cons, occurs-here, occurs-past}
 use Rattle.layout.specs.Layout.{UNFINISHED, STATUS}
 use Rattle.tree.specs.Tour.{met}
 use Rattle.rules.specs.Contents.{Contents, word, holders, holdersFrom}
-use Rattle.rules.specs.Rules.{Unfinished, Holder}
+use Rattle.rules.specs.Rules.{Holder}
 
 -- a number is below a limit or not
 pub below? : (x n : ℕ) → (x < n) ⊎ (n ≤ x)

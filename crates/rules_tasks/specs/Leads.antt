@@ -2,12 +2,12 @@
 use mathlib.Core.Path.{_≡_, refl, ap, sym, _∙_, subst}
 use mathlib.Core.Bool.{true}
 use mathlib.Core.Logic.{_⊎_, inl, inr, ⊎-elim}
-use Prim.Native.Nat.{ℕ, zero, suc, _+_, _-_, _*_, _<_, _≤_}
+use Prim.Native.Nat.{ℕ, zero, suc, _+_, _<_, _≤_}
 use native.Mathlib.Omega.{arith}
 use native.Mathlib.Nat.{eq-zero-or-pos}
-use Rattle.layout.specs.Layout.{NONE, UNFINISHED, STATUS, RIGHTS, PARENT, OLDER, YOUNGER, YOUNGEST}
+use Rattle.layout.specs.Layout.{NONE, PARENT, OLDER, YOUNGER, YOUNGEST}
 use Rattle.rules.specs.Contents.{Contents, word}
-use Rattle.rules.specs.Rules.{Unfinished, Holder, Child, TaskRules, walk}
+use Rattle.rules.specs.Rules.{Holder, Child, TaskRules, walk}
 use Rattle.rules.specs.Test.{treeTest}
 use Rattle.rules_tasks.specs.Marks.{Kin, tree-last, met-none, met-child, left-none, left-older}
 

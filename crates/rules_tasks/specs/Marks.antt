@@ -1,13 +1,12 @@
 -- The marks of the tour: which mark comes after one, and what the test of the tree says at it, both ways.
-use mathlib.Core.Path.{_≡_, refl, ap, sym, _∙_, subst}
-use mathlib.Core.Bool.{Bool, true, false, false≢true}
-use mathlib.Core.List.{List, [], _∷_}
+use mathlib.Core.Path.{_≡_, refl, ap, sym, _∙_}
+use mathlib.Core.Bool.{true, false≢true}
+use mathlib.Core.List.{[], _∷_}
 use mathlib.Core.Logic.{_⊎_, inl, inr, ⊎-elim}
 use Prim.Native.Nat.{ℕ, zero, suc, _+_, _-_, _<_, _≤_}
 use native.Mathlib.Omega.{arith}
-use lib.Dec.{leb, ltb, eqb}
 use borrow.Author.Tests.{lt-ltb, le-ltb, leb-true, le-leb, lt-leb, eqb-true, eq-eqb, ne-eqb}
-use Rattle.words.specs.Words.{pick, pass, halt, both, both-true, true-both, either-true, true-left, true-right}
+use Rattle.words.specs.Words.{pass, halt, both-true, true-both, either-true, true-left, true-right}
 use Rattle.layout.specs.Layout.{NONE, UNFINISHED, STATUS, RIGHTS, PARENT, OLDER, YOUNGER, YOUNGEST}
 use Rattle.tree.specs.Rights.{subset}
 use Rattle.tree.specs.Tour.{after, entering, leaving, tour}

@@ -1,14 +1,13 @@
 -- How the tour came to a task: from its parent or from its younger sibling, which were met before.
-use mathlib.Core.Path.{_≡_, refl, ap, sym, _∙_, subst}
+use mathlib.Core.Path.{_≡_, ap, sym, _∙_, subst}
 use mathlib.Core.Bool.{true}
 use mathlib.Core.Logic.{_⊎_, inl, inr, ⊎-elim}
-use Prim.Native.Nat.{ℕ, zero, suc, _+_, _<_, _≤_}
+use Prim.Native.Nat.{ℕ, suc, _+_, _<_}
 use native.Mathlib.Omega.{arith}
-use native.Mathlib.Nat.{eq-zero-or-pos}
-use Rattle.layout.specs.Layout.{NONE, UNFINISHED, STATUS, PARENT, OLDER, YOUNGEST}
+use Rattle.layout.specs.Layout.{NONE, PARENT, OLDER, YOUNGEST}
 use Rattle.tree.specs.Tour.{after}
 use Rattle.rules.specs.Contents.{Contents, word}
-use Rattle.rules.specs.Rules.{Unfinished, Holder}
+use Rattle.rules.specs.Rules.{Holder}
 use Rattle.rules.specs.Test.{treeTest}
 use Rattle.rules_tasks.specs.Marks.{Kin, tree-rest, met-on, left-on}
 

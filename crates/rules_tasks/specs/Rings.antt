@@ -1,20 +1,20 @@
 -- From the tests: no ring of siblings and no ring of parents, since each step of either leads on in the tour.
-use mathlib.Core.Path.{_≡_, refl, ap, sym, _∙_, subst}
+use mathlib.Core.Path.{_≡_, ap, sym, _∙_}
 use mathlib.Core.Bool.{true}
 use mathlib.Core.Logic.{_⊎_, inl, inr, ⊎-elim}
-use Prim.Native.Nat.{ℕ, zero, suc, _+_, _-_, _*_, _<_, _≤_}
+use Prim.Native.Nat.{ℕ, zero, suc, _+_, _*_, _<_, _≤_}
 use native.Mathlib.Omega.{arith}
 use native.Mathlib.Nat.{eq-zero-or-pos}
-use Rattle.layout.specs.Layout.{NONE, UNFINISHED, STATUS, PARENT, OLDER, YOUNGER, YOUNGEST}
+use Rattle.layout.specs.Layout.{NONE, PARENT, OLDER, YOUNGEST}
 use Rattle.tree.specs.Tour.{after}
 use Rattle.rules.specs.Contents.{Contents, word}
-use Rattle.rules.specs.Rules.{Unfinished, Holder, walk}
+use Rattle.rules.specs.Rules.{Holder, walk}
 use Rattle.rules.specs.Test.{treeTest}
 use Rattle.rules_tasks.specs.Marks.{Kin, tree-none, tree-rest, met-on, left-on}
 use Rattle.rules_tasks.specs.Tested.{Idle}
 use Rattle.rules_tasks.specs.Tours.{tree-same}
 use Rattle.rules_tasks.specs.Reached.{reached-tree, reached-holder, reached-below, reached-parent}
-use Rattle.rules_tasks.specs.Visits.{count, Visit, Met, holder-visit}
+use Rattle.rules_tasks.specs.Visits.{count, Visit, holder-visit}
 
 module _ (c : Contents) (idle : Idle c) (e : treeTest c (count c) 0 ≡ true) where
   abbrev Visited : ℕ → Type 0

@@ -2,8 +2,8 @@
 use mathlib.Core.Path.{_≡_, refl, ap, sym, _∙_, subst}
 use mathlib.Core.Bool.{true}
 use mathlib.Core.List.{List, [], _∷_}
-use mathlib.Core.Logic.{_⊎_, inl, inr, ⊎-elim}
-use Prim.Native.Nat.{ℕ, zero, suc, _+_, _*_, _<_, _≤_}
+use mathlib.Core.Logic.{⊎-elim}
+use Prim.Native.Nat.{ℕ, zero, suc, _+_, _<_, _≤_}
 use native.Mathlib.Omega.{arith}
 use native.Mathlib.Nat.{eq-zero-or-pos}
 use lib.ListN.{length}
@@ -40,7 +40,7 @@ module _ (c : Contents) where
     pub tour-length : (k x : ℕ) → P k x → treeTest c k x ≡ true → length (marks k x) ≡ k
     tour-length zero x p e = absurd (tree-none c x e)
     tour-length (suc k) x p e =
-        ap length (tour-cons c k x (range (suc k) x p)) 
+        ap length (tour-cons c k x (range (suc k) x p))
         ∙ ap suc
         (⊎-elim
         (λ q. ap length (last-marks k x q e) ∙ sym (last-tree c k (rw q at e)))

@@ -1,18 +1,17 @@
 -- From the tests: the tour meets and leaves each task that is not on the stack of free ones, once.
-use mathlib.Core.Path.{_≡_, refl, ap, sym, _∙_, subst}
+use mathlib.Core.Path.{_≡_, refl, subst}
 use mathlib.Core.Bool.{true}
 use mathlib.Core.List.{List}
-use mathlib.Core.Logic.{_⊎_, inl, inr, ⊎-elim}
-use Prim.Native.Nat.{ℕ, zero, suc, _+_, _-_, _*_, _<_, _≤_}
+use mathlib.Core.Logic.{inl, inr, ⊎-elim}
+use Prim.Native.Nat.{ℕ, _+_, _-_, _*_, _<_, _≤_}
 use native.Mathlib.Omega.{arith}
 use native.Mathlib.Nat.{eq-zero-or-pos}
 use lib.ListN.{length}
-use Rattle.lists.specs.Counting.{occurrences, total}
+use Rattle.lists.specs.Counting.{occurrences}
 use Rattle.lists.specs.Sums.{total-tight}
-use Rattle.layout.specs.Layout.{FREE, UNFINISHED, STATUS}
 use Rattle.tree.specs.Tour.{tour}
-use Rattle.rules.specs.Contents.{Contents, word}
-use Rattle.rules.specs.Rules.{Unfinished, Holder}
+use Rattle.rules.specs.Contents.{Contents}
+use Rattle.rules.specs.Rules.{Holder}
 use Rattle.rules.specs.Test.{treeTest}
 use Rattle.rules_tasks.specs.Tested.{Idle}
 use Rattle.rules_tasks.specs.Tours.{tree-same, tour-length, tour-each, tour-once}
