@@ -1,0 +1,1 @@
+// Views: the test and the rules say the same; laws only.
