@@ -3,3 +3,4 @@ pub mod Holders
 pub mod Toured
 pub mod Order
 pub mod Marks
+pub mod Ends

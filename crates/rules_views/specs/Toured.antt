@@ -28,13 +28,13 @@ module _ (c : Contents) where
     pub held : (x : ℕ) → 0 < occurrences x xs → ((x < 128) × Holder c x) ⊎ ((128 ≤ x) × (x < 256) × Holder c (x - 128))
     pub left : (t : ℕ) → Holder c t → 0 < occurrences (128 + t) xs
 
-  over-heads : (s : ℕ) (ts : List ℕ) → occurrences s (heads c ts) ≡ over ts (λ t. occurrences s (locals 16 (drop 16 (c .recs t))))
+  pub over-heads : (s : ℕ) (ts : List ℕ) → occurrences s (heads c ts) ≡ over ts (λ t. occurrences s (locals 16 (drop 16 (c .recs t))))
   unfolding heads over
   over-heads s [] = occurs-nil s
   over-heads s (t ∷ ts) =
       let a = occurs-append s (locals 16 (drop 16 (c .recs t))) (heads c ts) in let b = over-heads s ts in omega (arith, a, b)
 
-  over-tails : (s : ℕ) (ts : List ℕ) → occurrences s (tails c ts) ≡ over ts (λ t. occurrences s (locals 12 (drop 32 (c .recs t))))
+  pub over-tails : (s : ℕ) (ts : List ℕ) → occurrences s (tails c ts) ≡ over ts (λ t. occurrences s (locals 12 (drop 32 (c .recs t))))
   unfolding tails over
   over-tails s [] = occurs-nil s
   over-tails s (t ∷ ts) =
