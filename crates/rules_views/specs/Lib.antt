@@ -4,3 +4,4 @@ pub mod Toured
 pub mod Order
 pub mod Marks
 pub mod Ends
+pub mod Tested
