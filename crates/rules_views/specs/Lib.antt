@@ -5,3 +5,4 @@ pub mod Order
 pub mod Marks
 pub mod Ends
 pub mod Tested
+pub mod FromTest

@@ -13,6 +13,7 @@ use borrow.Author.Tests.{ltb-true, lt-ltb}
 use Rattle.words.specs.Words.{load, pick, pass, halt}
 use Rattle.lists.specs.Counting.{occurrences, equal?, occurs-nil, occurs-cons, occurs-here, occurs-past, occurs-append}
 use Rattle.layout.specs.Layout.{NL}
+use Rattle.tree.specs.Tour.{met}
 use Rattle.rules.specs.Contents.{locals}
 
 -- x in front of r where b holds
@@ -28,6 +29,16 @@ pub picked-past : (b : Bool) (x s : ℕ) (r : List ℕ) → 0 < occurrences s r 
 unfolding pick
 picked-past true x s r p = let a = occurs-cons x s r in omega (arith, a, p)
 picked-past false x s r p = p
+
+-- a task met is a mark
+pub met-mark : (xs : List ℕ) (t : ℕ) → 0 < occurrences t (met xs) → 0 < occurrences t xs
+unfolding met
+met-mark [] t p = p
+met-mark (x ∷ xs) t p =
+    ⊎-elim
+    (λ w. let a = occurs-here x t xs (w .1) in omega (arith, a))
+    (λ q. let a = met-mark xs t q in let b = occurs-cons x t xs in omega (arith, a, b))
+    (picked _ x t (met xs) p)
 
 pub load-drop : (r : List ℕ) (i j : ℕ) → load (drop i r) j ≡ load r (i + j)
 unfolding load

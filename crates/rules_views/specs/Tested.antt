@@ -34,6 +34,10 @@ pub queue-each : (f : ℕ → Bool) → ((q : ℕ) → q < 4 → f q ≡ true) �
 unfolding eachQueue
 queue-each f h = true-both (h 0 (omega arith)) (true-both (h 1 (omega arith)) (true-both (h 2 (omega arith)) (h 3 (omega arith))))
 
+-- below a limit or not
+pub split : (i n : ℕ) → (i < n) ⊎ (n ≤ i)
+split i n = ⊎-elim (λ a. inr (leb-true n i a)) (λ a. inl (leb-false n i a)) (yes-no (leb n i))
+
 -- one word
 module _ (r i w : ℕ) where
   pub word-none : viewWord r i w ≡ true → uses r (i % 4) ≡ false → w ≡ NONE
@@ -56,12 +60,9 @@ module _ (r i w : ℕ) where
   unfolding viewWord
   word-right f g =
       ⊎-elim
-      (λ u. halt _ _ u ∙ ⊎-elim (λ l. true-right _ (ap not (ne-eqb w NL (g l)))) (λ l. true-left _ (le-leb 4 i l)) below)
+      (λ u. halt _ _ u ∙ ⊎-elim (λ l. true-right _ (ap not (ne-eqb w NL (g l)))) (λ l. true-left _ (le-leb 4 i l)) (split i 4))
       (λ u. pass _ u (eq-eqb w NONE (f u)))
       (yes-no (uses r (i % 4)))
-    where
-      below : (i < 4) ⊎ (4 ≤ i)
-      below = ⊎-elim (λ a. inr (leb-true 4 i a)) (λ a. inl (leb-false 4 i a)) (yes-no (leb 4 i))
 
 -- all view words of all holders
 module _ (c : Contents) (xs : List ℕ) (v : Toured c xs) where
