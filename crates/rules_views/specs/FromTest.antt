@@ -1,22 +1,21 @@
 -- The rules of views from their tests.
 use mathlib.Core.Path.{_≡_, refl, ap, sym, _∙_}
-use mathlib.Core.Bool.{Bool, true, false}
+use mathlib.Core.Bool.{true, false}
 use mathlib.Core.List.{List, []}
 use mathlib.Core.Logic.{_⊎_, inl, inr, ⊎-elim}
-use Prim.Native.Nat.{ℕ, zero, suc, _+_, _-_, _*_, _/_, _%_, _<_, _≤_}
+use Prim.Native.Nat.{ℕ, _+_, _-_, _*_, _%_, _<_, _≤_}
 use native.Mathlib.Omega.{arith}
 use native.Mathlib.Nat.{eq-or-lt-of-le}
-use lib.Dec.{ltb, eqb}
+use lib.Dec.{eqb}
 use lib.ListN.{length}
 use borrow.Author.Tests.{eqb-true, lt-ltb, le-ltb}
-use Rattle.words.specs.Words.{pick, pick-true}
-use Rattle.lists.specs.Counting.{occurrences, equal?}
+use Rattle.lists.specs.Counting.{occurrences}
 use Rattle.lists.specs.Tests.{each}
 use Rattle.layout.specs.Layout.{NONE, NL, RIGHTS, CHILDREN, USER, RIGHT}
 use Rattle.tree.specs.Rights.{uses}
 use Rattle.tree.specs.Tour.{MARKS, tour, met}
 use Rattle.rules.specs.Contents.{Contents, word, heads, tails, owners, holders}
-use Rattle.rules.specs.Views.{View, views, viewsOf, Joined}
+use Rattle.rules.specs.Views.{views, viewsOf, Joined}
 use Rattle.rules.specs.Rules.{Holder, Link, Edge, ViewRules}
 use Rattle.rules.specs.Test.{viewsTest, orderOf, orderTest, ownersTest}
 use Rattle.rules_views.specs.Members.{met-mark}
@@ -24,7 +23,7 @@ use Rattle.rules_views.specs.Holders.{holder-below}
 use Rattle.rules_views.specs.Toured.{Toured, same-owners, holder-met}
 use Rattle.rules_views.specs.Order.{Pair, marked-yes, state, state-nil, state-joined}
 use Rattle.rules_views.specs.Marks.{yes-no, PairAt, Fine, order-fine, order-state}
-use Rattle.rules_views.specs.Ends.{Opened, Fit, heads-fit, tails-fit}
+use Rattle.rules_views.specs.Ends.{Opened, heads-fit, tails-fit}
 use Rattle.rules_views.specs.Tested.{each-queue, split, word-none, word-head, words-say}
 
 -- a word is a segment, NL or NONE

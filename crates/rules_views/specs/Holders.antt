@@ -1,7 +1,6 @@
 -- The list of the holders has each holder, and no other task.
-use mathlib.Core.Path.{_≡_, refl, ap, sym, _∙_}
-use mathlib.Core.Bool.{Bool, true, false}
-use mathlib.Core.List.{List, [], _∷_}
+use mathlib.Core.Path.{_≡_, ap, _∙_}
+use mathlib.Core.Bool.{true}
 use mathlib.Core.Logic.{_⊎_, inl, inr, ⊎-elim}
 use Prim.Native.Nat.{ℕ, zero, suc, _+_, _<_, _≤_}
 use native.Mathlib.Omega.{arith}
@@ -32,10 +31,13 @@ module _ (c : Contents) where
   holder-from zero i t m l h = let z : ⊥ = omega arith in absurd z
   holder-from (suc n) i t m l h =
       ⊎-elim
-      (λ e. picked-here _ i t (holdersFrom c n (i + 1)) (mine (⊎-elim (λ z. inl (e ∙ z)) (λ u. inr (let b = u .0 in omega (arith, b, e), ap (λ (k : ℕ). word c k STATUS) e ∙ u .1)) h)) e)
+      (λ e. picked-here _ i t (holdersFrom c n (i + 1)) (mine (same e)) e)
       (λ q. picked-past _ i t (holdersFrom c n (i + 1)) (holder-from n (i + 1) t (omega arith) (omega arith) h))
       (equal? i t)
     where
+      same : i ≡ t → Holder c i
+      same e = ⊎-elim (λ z. inl (e ∙ z)) (λ u. inr (let b = u .0 in omega (arith, b, e), ap (λ (k : ℕ). word c k STATUS) e ∙ u .1)) h
+
       mine : Holder c i → either (eqb i 0) (eqb (word c i STATUS) UNFINISHED) ≡ true
       mine w = ⊎-elim (λ e. true-left _ (eq-eqb _ _ e)) (λ u. true-right _ (eq-eqb _ _ (u .1))) w
 

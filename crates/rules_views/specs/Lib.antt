@@ -6,3 +6,5 @@ pub mod Marks
 pub mod Ends
 pub mod Tested
 pub mod FromTest
+pub mod FromRules
+pub mod Views

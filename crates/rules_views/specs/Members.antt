@@ -1,17 +1,16 @@
 -- What stands in a list that is made by a test for each of its members, and in the local words of a record.
 use mathlib.Core.Path.{_≡_, refl, ap, sym, _∙_}
 use mathlib.Core.Bool.{Bool, true, false}
-use mathlib.Core.List.{List, [], _∷_, _++_}
+use mathlib.Core.List.{List, [], _∷_}
 use mathlib.Core.Logic.{_⊎_, inl, inr, ⊎-elim}
 use Prim.Native.Nat.{ℕ, zero, suc, _+_, _<_}
 use native.Mathlib.Omega.{arith}
-use native.Mathlib.Nat.{eq-zero-or-pos}
 use lib.Dec.{ltb}
 use lib.ListN.{drop}
 use lib.Seq.{getD-drop}
 use borrow.Author.Tests.{ltb-true, lt-ltb}
-use Rattle.words.specs.Words.{load, pick, pass, halt}
-use Rattle.lists.specs.Counting.{occurrences, equal?, occurs-nil, occurs-cons, occurs-here, occurs-past, occurs-append}
+use Rattle.words.specs.Words.{load, pick, halt}
+use Rattle.lists.specs.Counting.{occurrences, equal?, occurs-nil, occurs-cons, occurs-here, occurs-past}
 use Rattle.layout.specs.Layout.{NL}
 use Rattle.tree.specs.Tour.{met}
 use Rattle.rules.specs.Contents.{locals}

@@ -1,16 +1,14 @@
 -- What the tests of view words and of queues say, both ways.
 use mathlib.Core.Path.{_≡_, refl, ap, sym, _∙_}
-use mathlib.Core.Bool.{Bool, true, false, not, false≢true}
+use mathlib.Core.Bool.{Bool, true, false, not}
 use mathlib.Core.List.{List}
 use mathlib.Core.Logic.{_⊎_, inl, inr, ⊎-elim}
 use Prim.Native.Nat.{ℕ, zero, suc, _+_, _%_, _<_, _≤_}
 use native.Mathlib.Omega.{arith}
-use native.Mathlib.Nat.{eq-or-lt-of-le}
 use lib.Dec.{leb, eqb}
 use lib.ListN.{drop}
 use borrow.Author.Tests.{leb-true, leb-false, le-leb, eqb-true, eq-eqb, ne-eqb, eqb-false, not-true}
 use Rattle.words.specs.Words.{load, pass, halt, both-true, true-both, either, either-true, true-left, true-right}
-use Rattle.lists.specs.Counting.{occurrences}
 use Rattle.lists.specs.Tests.{each, each-says, says-each, eachWord-says, says-eachWord}
 use Rattle.layout.specs.Layout.{NONE, NL, RIGHTS}
 use Rattle.tree.specs.Rights.{uses, eachQueue}
