@@ -55,7 +55,7 @@ module _ (c : Contents) where
       let b = both-true _ _ (a .1) in
       let d = both-true _ _ (b .1) in
       let f = both-true _ _ (d .1) in
-      record { words = a .0; order = b .0; owned = d .0; segs = f .0; holding = f .1; }
+      record { words = a .0; order = b .0; owned = d .0; segs = f .0; holding = f .1 }
 
   says-seen : (xs : List ℕ) → Seen xs → viewTests c xs ≡ true
   unfolding viewTests
@@ -78,7 +78,7 @@ module _ (c : Contents) where
       let d = both-true _ _ (b .1) in
       let f = both-true _ _ (d .1) in
       let g = both-true _ _ (f .1) in
-      record { range = a .0; room = b .0; top = d .0; free = f .0; tree = g .0; seen = seen-says toured (g .1); }
+      record { range = a .0; room = b .0; top = d .0; free = f .0; tree = g .0; seen = seen-says toured (g .1) }
 
   pub says-test : Passed → test c ≡ true
   unfolding test

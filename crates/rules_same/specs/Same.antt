@@ -52,15 +52,15 @@ module _ (tasks-say : (c : Contents) → topTest c ≡ true → idleTest c ≡ t
         let es = tails c (met xs) in
         let w = says-views c xs v few (r .views-right) in
         let g =
-            says-segments c hs es few
-            (rules-by-counts c (heads c (holders c)) (tails c (holders c)) hs es (same-heads c xs v) (same-tails c xs v) (r .segments)) (w .3) (w .4) in
+        says-segments c hs es few
+        (rules-by-counts c (heads c (holders c)) (tails c (holders c)) hs es (same-heads c xs v) (same-tails c xs v) (r .segments)) (w .3) (w .4) in
         record {
           range = says-opening c (r .opening);
           room = g .0;
           top = k .0;
           free = k .1;
           tree = k .2;
-          seen = record { words = w .0; order = w .1; owned = w .2; segs = g .1; holding = g .2; };
+          seen = record { words = w .0; order = w .1; owned = w .2; segs = g .1; holding = g .2 };
         }
 
     pub rules-same : (test c ≡ true) ↔ Rules c
