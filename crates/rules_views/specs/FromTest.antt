@@ -86,19 +86,16 @@ module _ (c : Contents) (small : (t i : ℕ) → word c t i ≤ NONE) (xs : List
   pair : (t i : ℕ) → Holder c t → i < 12 → uses (word c t RIGHTS) (i % 4) ≡ true → Pair (word c t (20 + i)) (word c t (32 + i))
   pair t i h l u =
       ⊎-elim
-      (λ a.
-      same-pair (ap (word c t) (let z : 20 + CHILDREN * 4 + i % 4 ≡ 20 + i = omega arith in z)) (ap (word c t) (let z : 32 + CHILDREN * 4 + i % 4 ≡ 32 + i = omega arith in z))
-      (pair-left t (i % 4) h (omega arith) u))
+      (λ a. here CHILDREN (omega arith) (pair-left t (i % 4) h (omega arith) u))
       (λ a.
       ⊎-elim
-      (λ b.
-      same-pair (ap (word c t) (let z : 20 + USER * 4 + i % 4 ≡ 20 + i = omega arith in z)) (ap (word c t) (let z : 32 + USER * 4 + i % 4 ≡ 32 + i = omega arith in z))
-      (pair-met t (i % 4) h (omega arith) u .0))
-      (λ b.
-      same-pair (ap (word c t) (let z : 20 + RIGHT * 4 + i % 4 ≡ 20 + i = omega arith in z)) (ap (word c t) (let z : 32 + RIGHT * 4 + i % 4 ≡ 32 + i = omega arith in z))
-      (pair-met t (i % 4) h (omega arith) u .1))
+      (λ b. here USER (omega arith) (pair-met t (i % 4) h (omega arith) u .0))
+      (λ b. here RIGHT (omega arith) (pair-met t (i % 4) h (omega arith) u .1))
       (split i 8))
       (split i 4)
+    where
+      here : (k : ℕ) → k * 4 + i % 4 ≡ i → PairAt c (i % 4) t k → Pair (word c t (20 + i)) (word c t (32 + i))
+      here k e w = same-pair (ap (word c t) (omega (arith, e))) (ap (word c t) (omega (arith, e))) w
 
   -- an end that is not NONE
   edge : (w : ℕ) → w ≤ NONE → (w ≡ NONE → ⊥) → (w < NL → w < c .number) → Edge (c .number) w
