@@ -15,7 +15,7 @@ use Rattle.rules_tasks.specs.Marks.{after-top}
 use Rattle.rules_tasks.specs.Tours.{tour-stops}
 use Rattle.rules_tasks.specs.Reached.{Standing, standing-range, standing-next, reached-holder}
 use Rattle.rules_tasks.specs.Tested.{top-says, says-top, idle-says, says-idle}
-use Rattle.rules_tasks.specs.Visits.{count, start, busy, met-once, met-reached, left-reached, marks-below}
+use Rattle.rules_tasks.specs.Visits.{count, start, busy, met-once, left-once, holder-below, met-reached, left-reached, marks-below}
 use Rattle.rules_tasks.specs.FromTest.{tested-rules}
 use Rattle.rules_tasks.specs.FromRules.{rules-top, rules-idle, rules-tree}
 use Rattle.rules_tasks.specs.Holders.{below?, met-count, met-below, holder-once, holders-hold, holder?}
@@ -69,3 +69,9 @@ module _ (c : Contents) where
         let w = left-reached c (idle-says c b) e (x - 128) (subst (λ (y : ℕ). 0 < occurrences y (tour (count c) (c .recs) 0)) q p) in
         inr (l, marks-below c (idle-says c b) e x p, reached-holder c (count c) (w .2) (x - 128) (w .4)))
         (below? x 128)
+
+    pub holders-left : (t : ℕ) → Holder c t → 0 < occurrences (128 + t) (tour (2 * (128 - length (c .idle))) (c .recs) 0)
+    holders-left t h =
+        let i = idle-says c b in
+        let a = left-once c i e t (holder-below c i e t h) (busy c i e t h) in
+        omega (arith, a)

@@ -107,7 +107,7 @@ module _ (c : Contents) (idle : Idle c) (e : treeTest c (count c) 0 ≡ true) wh
   pub met-once : (t : ℕ) → t < 128 → occurrences t (c .idle) ≡ 0 → occurrences t marks ≡ 1
   met-once t l q = let a = two t l in let b = marks-once t in let d = marks-once (128 + t) in omega (arith, a, b, d, q)
 
-  left-once : (t : ℕ) → t < 128 → occurrences t (c .idle) ≡ 0 → occurrences (128 + t) marks ≡ 1
+  pub left-once : (t : ℕ) → t < 128 → occurrences t (c .idle) ≡ 0 → occurrences (128 + t) marks ≡ 1
   left-once t l q = let a = two t l in let b = marks-once t in let d = marks-once (128 + t) in omega (arith, a, b, d, q)
 
   -- t is met where i marks are left, and left where j are
