@@ -1,6 +1,9 @@
 -- Document 01's number and value for each case of an answer.
+use mathlib.Core.Bool.{Bool}
 use mathlib.Core.List.{List}
 use Prim.Native.Nat.{ℕ}
+use lib.Dec.{eqb}
+use Rattle.words.specs.Words.{both}
 use Rattle.answers.specs.declared.Answer.{Answer}
 use Rattle.answers.specs.declared.Answer.the-variants.{Moved, Empty, NotEmpty, Waits, Refused}
 
@@ -30,3 +33,7 @@ valueOf Empty = 0
 valueOf NotEmpty = 0
 valueOf Waits = 0
 valueOf (Refused k) = 0
+
+-- two answers have the same number and the same value
+unfoldable pub sameAnswer : Answer → Answer → Bool
+sameAnswer a b = both (eqb (statusOf a) (statusOf b)) (eqb (valueOf a) (valueOf b))

@@ -8,4 +8,6 @@ pub mod Find
 pub mod Sync
 pub mod Finish
 pub mod Left
-pub mod Calls
+pub mod Outcomes
+pub mod Table
+pub mod Cases

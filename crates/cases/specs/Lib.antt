@@ -1,2 +1,6 @@
-pub mod Table
-pub mod Cases
+pub mod Rows
+pub mod Starred
+pub mod Traps
+pub mod Waiting
+pub mod Refused
+pub mod Joining

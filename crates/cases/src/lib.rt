@@ -1,1 +1,1 @@
-// Worked cases, computed on the definitions.
+// Cases: calls and the answers that they must get.

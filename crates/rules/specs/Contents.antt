@@ -53,13 +53,14 @@ unfoldable pub scan : List ℕ → Contents
 scan m =
     let segments = tables 4 16 (drop 448 m) in
     let tasks = tables 48 8 (drop 1472 m) in
-    record
-    { length = read m lengthWord
-    ; number = read m numberWord
-    ; free = take (read m freeSegments) (drop 64 m)
-    ; idle = take (read m freeTasks) (drop 320 m)
-    ; segs = look 16 segments (segmentOf m)
-    ; recs = look 8 tasks (recordOf m) }
+    record {
+      length = read m lengthWord;
+      number = read m numberWord;
+      free = take (read m freeSegments) (drop 64 m);
+      idle = take (read m freeTasks) (drop 320 m);
+      segs = look 16 segments (segmentOf m);
+      recs = look 8 tasks (recordOf m);
+    }
 
 table-at : (w n : ℕ) (r : List ℕ) (i : ℕ) → i < n → getD (tables w n r) i [] ≡ rows w 16 (drop (i * (16 * w)) r)
 unfolding tables
@@ -78,6 +79,7 @@ look-same w n a m i = go (ltb i (16 * n)) refl
         ap (λ (k : ℕ). k + i % 16 * w) (sym (mul-assoc (i / 16) 16 w))
         ∙ sym (add-mul (i / 16 * 16) (i % 16) w)
         ∙ ap (λ (k : ℕ). k * w) (let z : i / 16 * 16 + i % 16 ≡ i = omega arith in z)
+
     found : i < 16 * n → getD (getD (tables w n (drop a m)) (i / 16) []) (i % 16) [] ≡ drop (a + i * w) m
     found h =
         ap (λ (l : List (List ℕ)). getD l (i % 16) []) (table-at w n (drop a m) (i / 16) (omega arith))
@@ -85,19 +87,21 @@ look-same w n a m i = go (ltb i (16 * n)) refl
         ∙ drop-drop (i % 16 * w) (i / 16 * (16 * w)) (drop a m)
         ∙ drop-drop (i / 16 * (16 * w) + i % 16 * w) a m
         ∙ ap (λ (k : ℕ). drop (a + k) m) split
+
     go : (b : Bool) → ltb i (16 * n) ≡ b → pick b (getD (getD (tables w n (drop a m)) (i / 16) []) (i % 16) []) (drop (a + i * w) m) ≡ drop (a + i * w) m
     go true e = pick-true _ _ ∙ found (ltb-true i (16 * n) e)
     go false e = pick-false _ _
 
 pub scan-decodes : (m : List ℕ) → scan m ≡ decode m
 unfolding scan segmentOf recordOf
-scan-decodes m = λ i. record
-    { length = read m lengthWord
-    ; number = read m numberWord
-    ; free = take (read m freeSegments) (drop 64 m)
-    ; idle = take (read m freeTasks) (drop 320 m)
-    ; segs = λ s. look-same 4 16 448 m s i
-    ; recs = λ t. look-same 48 8 1472 m t i }
+scan-decodes m = λ i. record {
+  length = read m lengthWord;
+  number = read m numberWord;
+  free = take (read m freeSegments) (drop 64 m);
+  idle = take (read m freeTasks) (drop 320 m);
+  segs = λ s. look-same 4 16 448 m s i;
+  recs = λ t. look-same 48 8 1472 m t i;
+}
 
 -- word k of the record of task t, and of segment s
 unfoldable pub word : Contents → ℕ → ℕ → ℕ

@@ -1,8 +1,9 @@
--- The core's calls as data, and the outcome of each.
+-- The outcome of each of the core's calls.
 use mathlib.Core.List.{List, [], _∷_}
 use Prim.Native.Nat.{ℕ}
 use Rattle.answers.specs.declared.Answer.{Answer}
 use Rattle.answers.specs.Answers.{Outcome, outcome, answerOf, wordsOf}
+use Rattle.answers.specs.Calls.{Call, open-call, spawn-call, push-call, pop-call, test-call, sync-call, finish-call, left-call}
 use Rattle.calls.specs.Open.{openOutcome}
 use Rattle.calls.specs.Spawn.{spawnOutcome}
 use Rattle.calls.specs.Push.{pushOutcome}
@@ -10,18 +11,6 @@ use Rattle.calls.specs.Find.{popOutcome, testOutcome}
 use Rattle.calls.specs.Sync.{syncOutcome}
 use Rattle.calls.specs.Finish.{finishOutcome}
 use Rattle.calls.specs.Left.{leftOutcome}
-
--- "Core calls: open, spawn (rights), push (queue, value), pop (queue), test (queue), sync, finish, left (queue, index).
--- All but open and left name the task first."
-pub data Call : Type 0 where
-  open-call : ℕ → ℕ → Call
-  spawn-call : ℕ → ℕ → Call
-  push-call : ℕ → ℕ → ℕ → Call
-  pop-call : ℕ → ℕ → Call
-  test-call : ℕ → ℕ → Call
-  sync-call : ℕ → Call
-  finish-call : ℕ → Call
-  left-call : ℕ → ℕ → Call
 
 -- what a call gives on the words m
 unfoldable pub outcomeOf : Call → List ℕ → Outcome

@@ -1,0 +1,14 @@
+-- The core's calls as data.
+use Prim.Native.Nat.{ℕ}
+
+-- "Core calls: open, spawn (rights), push (queue, value), pop (queue), test (queue), sync, finish, left (queue, index).
+-- All but open and left name the task first."
+pub data Call : Type 0 where
+  open-call : ℕ → ℕ → Call
+  spawn-call : ℕ → ℕ → Call
+  push-call : ℕ → ℕ → ℕ → Call
+  pop-call : ℕ → ℕ → Call
+  test-call : ℕ → ℕ → Call
+  sync-call : ℕ → Call
+  finish-call : ℕ → Call
+  left-call : ℕ → ℕ → Call

@@ -1,0 +1,5 @@
+pub mod Steps
+pub mod Waits
+pub mod Finding
+pub mod Ordered
+pub mod Cases

@@ -1,0 +1,1 @@
+// Program order: definitions and laws only.
