@@ -63,6 +63,10 @@ unfoldable pub computed : Case → List ℕ → Option (List ℕ)
 unfolding load store size pick both either storeAll rows one occurrences each upto eachWord fresh distinct address read write recordOf answerOf wordsOf statusOf valueOf sameAnswer bits pushes pops uses eachQueue someQueue sharesPop subset leaving entering after tour met seek sibling oldest segmentOf tables look scan word part locals heads tails owners within inRange topTest idleTest kin linkTest treeTest viewWord viewsTest marked passed passedAt orderAt orderOf orderTest ownersTest segmentTest chain chains heldTest viewTests test rulesHold down stacked segmented topped opened openOutcome place valueAt stored dropped noneFree nextFree taken released indexOf headIndex linkedBy renamed linked viewOf isEmpty headOf tailOf reducible frees behind reduced setView joined merged taskAt kindAt takesPart standsAt justBefore returnedTo tested rightsOf unfinished blocked childPops hasChild pusherBefore forQueues passedUser passedQueue keptUser keptQueue childViews passedOn childMade spawned spawnTested spawnOutcome pushedApart pushedBehind pushed pushTested pushOutcome hasValue finding popped popGives testGives popAllowed popTested testTested popOutcome testOutcome syncs syncedQueue synced whenReduced syncTested syncOutcome returned finishes viewsReturned heir queueReturned finishedQueue unlinked recordFreed finished topFinished finishTested finishOutcome queued leftTested leftOutcome outcomeOf tried
 computed c m = tried c m
 
+pub computes : (c : Case) (m : List ℕ) → computed c m ≡ tried c m
+unfolding computed
+computes c m = refl
+
 unfoldable pub right : List ℕ → Case → Bool
 unfolding computed isSome
 right m c = isSome (computed c m)

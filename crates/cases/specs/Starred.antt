@@ -1,5 +1,6 @@
--- The starred cases of document 01 that concern the core. (The 127 children are a crate of their own.)
-use mathlib.Core.List.{List, [], _∷_}
+-- The starred cases of document 01 that concern the core.
+use mathlib.Core.List.{List, [], _∷_, _++_}
+use Prim.Native.Nat.{ℕ, zero, suc, _+_}
 use Rattle.answers.specs.declared.Answer.the-variants.{Moved, Empty, NotEmpty, Waits, Refused}
 use Rattle.answers.specs.Calls.{open-call, spawn-call, push-call, pop-call, test-call, sync-call, finish-call, left-call}
 use Rattle.cases.specs.Rows.{Case, row}
@@ -11,6 +12,15 @@ oneSegment = row (open-call 1 4) (Moved 0) ∷ row (push-call 0 0 5) (Moved 5) �
 -- "L = 64 opens with 128 segments, not 129."
 abbrev pub longest : Case
 longest = row (open-call 64 129) (Refused 3) ∷ row (open-call 64 128) (Moved 0) ∷ row (push-call 0 3 5) (Moved 5) ∷ []
+
+-- n children of the top, from number i on
+unfoldable pub children : ℕ → ℕ → Case
+children zero i = []
+children (suc n) i = row (spawn-call 0 0) (Moved i) ∷ children n (i + 1)
+
+-- "The 127th child moves." 8: "a 128th child of the top"
+abbrev pub manyChildren : Case
+manyChildren = row (open-call 1 4) (Moved 0) ∷ (children 127 1 ++ (row (spawn-call 0 0) (Refused 8) ∷ []))
 
 -- "Test on a new queue: empty."
 abbrev pub newQueue : Case

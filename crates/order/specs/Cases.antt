@@ -6,7 +6,7 @@ use Rattle.words.specs.Words.{pick, both, either}
 use Rattle.answers.specs.Answers.{statusOf, valueOf, sameAnswer}
 use Rattle.tree.specs.Rights.{bits, pushes, pops, eachQueue, someQueue, sharesPop, subset}
 use Rattle.cases.specs.Rows.{Case, Row, row}
-use Rattle.cases.specs.Starred.{oneSegment, longest, newQueue, fullRun, noPush, laterPush, moreRights}
+use Rattle.cases.specs.Starred.{oneSegment, longest, children, manyChildren, newQueue, fullRun, noPush, laterPush, moreRights}
 use Rattle.cases.specs.Traps.{parentPush, reachable, hidden}
 use Rattle.cases.specs.Waiting.{olderSibling, waitBeforeNine, childPopping, pushersBefore, leftLater}
 use Rattle.cases.specs.Refused.{notAllowed}
@@ -27,10 +27,10 @@ allFollow (c ∷ cs) = let more = allFollow cs in both (follows c begin) more
 
 abbrev pub table : List Case
 table =
-    oneSegment ∷ longest ∷ newQueue ∷ fullRun ∷ noPush ∷ laterPush ∷ moreRights ∷ parentPush ∷ reachable ∷ hidden
+    oneSegment ∷ longest ∷ manyChildren ∷ newQueue ∷ fullRun ∷ noPush ∷ laterPush ∷ moreRights ∷ parentPush ∷ reachable ∷ hidden
     ∷ olderSibling ∷ waitBeforeNine ∷ childPopping ∷ pushersBefore ∷ leftLater ∷ notAllowed
     ∷ ring ∷ localHead ∷ emptyFreed ∷ stillNine ∷ queueView ∷ numbers ∷ []
 
 pub table-follows : allFollow table ≡ true
-unfolding pick both either statusOf valueOf sameAnswer bits pushes pops eachQueue someQueue sharesPop subset nameOf numberOf rightsOf begin made moved advance counted noted sameName isChild isOlder someSpot unfinished somePair blocked childPops hasChild before later stepped passes runs found finding valueNumber pendingOf leftOver rightsAt spots forTask forQueue popAnswer testAnswer leftAnswer ordered follows allFollow
+unfolding pick both either statusOf valueOf sameAnswer bits pushes pops eachQueue someQueue sharesPop subset nameOf numberOf rightsOf begin made moved advance counted noted sameName isChild isOlder someSpot unfinished somePair blocked childPops hasChild before later stepped passes runs found finding valueNumber pendingOf leftOver rightsAt spots forTask forQueue popAnswer testAnswer leftAnswer ordered follows allFollow children
 table-follows = refl
