@@ -10,7 +10,7 @@ use Rattle.cases.specs.Waiting.{olderSibling, waitBeforeNine, childPopping, pus
 use Rattle.cases.specs.Refused.{unopened, notAllowed}
 use Rattle.cases.specs.Joining.{ring, localHead, emptyFreed, stillNine, queueView, numbers}
 use Rattle.calls.specs.Table.{lent, isSome, computes, right}
-use Rattle.calls_wide.specs.Wide.{many-children}
+use Rattle.calls_wider.specs.Wide.{many-children}
 use Rattle.calls.specs.Cases.{parent-push-right, hidden-right, local-head-right, no-push-right, not-allowed-right}
 
 abbrev pub table : List Case

@@ -1,2 +1,2 @@
 pub mod Memory
-pub mod Wide
+pub mod Half

@@ -1,1 +1,1 @@
-// The case of 127 children: definitions and a computed table only.
+// The case of 127 children: its memory and its first half.

@@ -122,10 +122,12 @@ module _ (c : Contents) where
       more : (t < s + 1 + n) × Holds t → (t < s + suc n) × Holds t
       more w = let l = w .0 in (omega (arith, l), w .1)
 
+  pub holder-below : (t : ℕ) → Holder c t → t < 128
+  holder-below t h = ⊎-elim (λ q. omega (arith, q)) (λ w. w .0) h
+
   pub holder-once : (t : ℕ) → Holder c t → occurrences t (holders c) ≡ 1
   unfolding holders
-  holder-once t h =
-      from-held 128 0 t (omega arith) (⊎-elim (λ q. omega (arith, q)) (λ w. let l = w .0 in omega (arith, l)) h) (⊎-elim inl (λ w. inr (w .1)) h)
+  holder-once t h = let l = holder-below t h in from-held 128 0 t (omega arith) (omega (arith, l)) (⊎-elim inl (λ w. inr (w .1)) h)
 
   pub holders-hold : (t : ℕ) → 0 < occurrences t (holders c) → (t < 128) × Holder c t
   unfolding holders

@@ -1,5 +1,4 @@
 pub mod Members
-pub mod Holders
 pub mod Toured
 pub mod Order
 pub mod Marks

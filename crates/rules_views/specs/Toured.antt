@@ -13,7 +13,7 @@ use Rattle.layout.specs.Layout.{NONE}
 use Rattle.tree.specs.Tour.{MARKS, tour, met}
 use Rattle.rules.specs.Contents.{Contents, word, locals, heads, tails, owners, holders}
 use Rattle.rules.specs.Rules.{Holder}
-use Rattle.rules_views.specs.Holders.{holder-below, holds-holder, holder-held}
+use Rattle.rules_tasks.specs.Holders.{holder-once, holders-hold}
 
 counted : (b : Bool) (t : ℕ) (r : List ℕ) → length (pick b r (t ∷ r)) ≡ pick b 0 1 + length r
 unfolding pick
@@ -47,7 +47,7 @@ module _ (c : Contents) where
 
   module _ (xs : List ℕ) (w : Toured xs) where
     same-over : (g : ℕ → ℕ) → over (met xs) g ≡ over (holders c) g
-    same-over g = over-same 128 (met xs) (holders c) g (w .same) (λ t p. holder-below c t (holds-holder c t p))
+    same-over g = over-same 128 (met xs) (holders c) g (w .same) (λ t p. holders-hold c t p .0)
 
     pub same-heads : (s : ℕ) → occurrences s (heads c (met xs)) ≡ occurrences s (heads c (holders c))
     same-heads s = over-heads s (met xs) ∙ same-over _ ∙ sym (over-heads s (holders c))
@@ -59,7 +59,7 @@ module _ (c : Contents) where
     same-owners q = over-owners q (met xs) ∙ same-over _ ∙ sym (over-owners q (holders c))
 
     pub holder-met : (t : ℕ) → Holder c t → 0 < occurrences t (met xs)
-    holder-met t h = let a = holder-held c t h in let b = w .same t in omega (arith, a, b)
+    holder-met t h = let a = holder-once c t h in let b = w .same t in omega (arith, a, b)
 
     pub met-holder : (t : ℕ) → 0 < occurrences t (met xs) → Holder c t
-    met-holder t p = holds-holder c t (let b = w .same t in omega (arith, b, p))
+    met-holder t p = holders-hold c t (let b = w .same t in omega (arith, b, p)) .1

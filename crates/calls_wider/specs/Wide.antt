@@ -5,29 +5,14 @@ use mathlib.Core.List.{List, [], _∷_, _++_}
 use mathlib.Core.Option.{Option, some}
 use Prim.Native.Nat.{ℕ}
 use Rattle.words.specs.Words.{pick}
-use Rattle.answers.specs.declared.Answer.the-variants.{Moved, Refused}
-use Rattle.answers.specs.Calls.{open-call, spawn-call}
+use Rattle.answers.specs.declared.Answer.the-variants.{Refused}
+use Rattle.answers.specs.Calls.{spawn-call}
 use Rattle.cases.specs.Rows.{Case, row}
 use Rattle.cases.specs.Starred.{children, manyChildren}
 use Rattle.calls.specs.Open.{down}
-use Rattle.calls.specs.Table.{lent, tried, tried-more, computed, computes}
+use Rattle.calls.specs.Table.{lent, tried, computed, computes}
 use Rattle.calls_wide.specs.Memory.{orNone, topRecord, childRecord, childRecords, segments, wide}
-
--- The checker computes the case in five parts; each begins where the one before ends.
-abbrev opening : Case
-opening = row (open-call 1 4) (Moved 0) ∷ []
-
-part-0 : computed opening lent ≡ some (wide 0)
-unfolding computed pick down wide orNone topRecord childRecord childRecords segments
-part-0 = refl
-
-part-1 : computed (children 32 1) (wide 0) ≡ some (wide 32)
-unfolding computed pick down wide orNone topRecord childRecord childRecords segments children
-part-1 = refl
-
-part-2 : computed (children 32 33) (wide 32) ≡ some (wide 64)
-unfolding computed pick down wide orNone topRecord childRecord childRecords segments children
-part-2 = refl
+use Rattle.calls_wide.specs.Half.{opening, joined, first-half}
 
 part-3 : computed (children 32 65) (wide 64) ≡ some (wide 96)
 unfolding computed pick down wide orNone topRecord childRecord childRecords segments children
@@ -44,16 +29,10 @@ same-calls : manyChildren ≡ parts
 unfolding children
 same-calls = refl
 
--- one part more
-joined : (c d : Case) (m n : List ℕ) → computed c m ≡ some n → tried (c ++ d) m ≡ tried d n
-joined c d m n e = tried-more c d m n (sym (computes c m) ∙ e)
-
 -- each call gets its answer
 pub many-children : tried manyChildren lent ≡ some (wide 127)
 many-children =
     ap (λ (c : Case). tried c lent) same-calls
-    ∙ joined opening _ lent (wide 0) part-0
-    ∙ joined (children 32 1) _ (wide 0) (wide 32) part-1
-    ∙ joined (children 32 33) _ (wide 32) (wide 64) part-2
+    ∙ first-half (children 32 65 ++ (children 31 97 ++ (row (spawn-call 0 0) (Refused 8) ∷ [])))
     ∙ joined (children 32 65) _ (wide 64) (wide 96) part-3
     ∙ (sym (computes _ (wide 96)) ∙ part-4)

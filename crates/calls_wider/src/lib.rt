@@ -1,0 +1,1 @@
+// The case of 127 children: its second half.
