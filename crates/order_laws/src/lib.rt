@@ -1,0 +1,1 @@
+// Program order: what the list of steps and spots means; laws only.
