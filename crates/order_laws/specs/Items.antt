@@ -1,0 +1,144 @@
+-- What is said of a list of items: what stands in it, the steps of a task, its children, its spots.
+use mathlib.Core.Path.{_≡_, refl, ap, sym, _∙_}
+use mathlib.Core.Bool.{Bool, true, false, false≢true}
+use mathlib.Core.List.{List, [], _∷_, _++_}
+use mathlib.Core.Logic.{_⊎_, inl, inr, ⊎-elim}
+use Prim.Native.Nat.{ℕ, _+_, _<_, _≤_}
+use native.Mathlib.Omega.{arith}
+use Rattle.words.specs.Words.{pick, pass, halt, either}
+use Rattle.lists.specs.Counting.{one}
+use Rattle.order.specs.Steps.{Name, Task, Item, step, spot, Act, spawns, pushes, pops, tests, syncs, finishes, nameOf}
+use Rattle.order.specs.Waits.{sameName, someSpot}
+use Rattle.order_laws.specs.Names.{same-yes, same-no}
+
+-- x stands in a list
+abbrev pub In : Item → List Item → Type 0
+In x [] = ⊥
+In x (y ∷ ys) = (x ≡ y) ⊎ In x ys
+
+-- the name of the task that an item is of
+unfoldable pub whose : Item → Name
+whose (step p a) = p
+whose (spot s) = nameOf s
+
+-- the steps of the task named p
+unfoldable pub stepsOf : Name → List Item → List Act
+stepsOf p [] = []
+stepsOf p (step q a ∷ xs) = let rest = stepsOf p xs in pick (sameName q p) (a ∷ rest) rest
+stepsOf p (spot s ∷ xs) = stepsOf p xs
+
+-- how many of some steps are spawns
+unfoldable pub spawnsIn : List Act → ℕ
+spawnsIn [] = 0
+spawnsIn (spawns c r ∷ acts) = 1 + spawnsIn acts
+spawnsIn (pushes q v ∷ acts) = spawnsIn acts
+spawnsIn (pops q ∷ acts) = spawnsIn acts
+spawnsIn (tests q ∷ acts) = spawnsIn acts
+spawnsIn (syncs ∷ acts) = spawnsIn acts
+spawnsIn (finishes ∷ acts) = spawnsIn acts
+
+-- how many children the task named p has made: their names are 0 ∷ p, 1 ∷ p, and so on
+unfoldable pub childrenOf : Name → List Item → ℕ
+childrenOf p xs = spawnsIn (stepsOf p xs)
+
+-- how many spots are of tasks such that f holds
+unfoldable pub spotsBy : (Task → Bool) → List Item → ℕ
+spotsBy f [] = 0
+spotsBy f (step p a ∷ xs) = spotsBy f xs
+spotsBy f (spot s ∷ xs) = one (f s) + spotsBy f xs
+
+pub in-left : (x : Item) (xs ys : List Item) → In x xs → In x (xs ++ ys)
+in-left x [] ys h = absurd h
+in-left x (z ∷ xs) ys (inl e) = inl e
+in-left x (z ∷ xs) ys (inr h) = inr (in-left x xs ys h)
+
+pub in-right : (x : Item) (xs ys : List Item) → In x ys → In x (xs ++ ys)
+in-right x [] ys h = h
+in-right x (z ∷ xs) ys h = inr (in-right x xs ys h)
+
+pub in-parts : (x : Item) (xs ys : List Item) → In x (xs ++ ys) → In x xs ⊎ In x ys
+in-parts x [] ys h = inr h
+in-parts x (z ∷ xs) ys (inl e) = inl (inl e)
+in-parts x (z ∷ xs) ys (inr h) = ⊎-elim (λ i. inl (inr i)) (λ i. inr i) (in-parts x xs ys h)
+
+-- what stands in a list parts it
+pub in-split : (x : Item) (xs : List Item) → In x xs → (before : List Item) × (behind : List Item) × (xs ≡ before ++ x ∷ behind)
+in-split x [] h = absurd h
+in-split x (z ∷ xs) (inl e) = ([], xs, ap (λ (y : Item). y ∷ xs) (sym e))
+in-split x (z ∷ xs) (inr h) = let w = in-split x xs h in (z ∷ w .0, w .1, ap (λ (l : List Item). z ∷ l) (w .2))
+
+pub steps-here : (p : Name) (a : Act) (xs : List Item) → stepsOf p (step p a ∷ xs) ≡ a ∷ stepsOf p xs
+unfolding stepsOf
+steps-here p a xs = halt _ _ (same-yes p p refl)
+
+pub steps-past : (p q : Name) (a : Act) (xs : List Item) → (q ≡ p → ⊥) → stepsOf p (step q a ∷ xs) ≡ stepsOf p xs
+unfolding stepsOf
+steps-past p q a xs n = pass _ (same-no q p n) refl
+
+pub steps-append : (p : Name) (xs ys : List Item) → stepsOf p (xs ++ ys) ≡ stepsOf p xs ++ stepsOf p ys
+unfolding stepsOf pick
+steps-append p [] ys = refl
+steps-append p (spot s ∷ xs) ys = steps-append p xs ys
+steps-append p (step q a ∷ xs) ys = go (sameName q p) (steps-append p xs ys)
+  where
+    go : (b : Bool) → stepsOf p (xs ++ ys) ≡ stepsOf p xs ++ stepsOf p ys
+        → pick b (a ∷ stepsOf p (xs ++ ys)) (stepsOf p (xs ++ ys)) ≡ pick b (a ∷ stepsOf p xs) (stepsOf p xs) ++ stepsOf p ys
+    go true e = ap (λ (l : List Act). a ∷ l) e
+    go false e = e
+
+-- a task of which no item is there has no steps there
+pub steps-none : (p : Name) (xs : List Item) → ((x : Item) → In x xs → whose x ≡ p → ⊥) → stepsOf p xs ≡ []
+unfolding stepsOf whose
+steps-none p [] h = refl
+steps-none p (spot s ∷ xs) h = steps-none p xs (λ x i. h x (inr i))
+steps-none p (step q a ∷ xs) h = pass _ (same-no q p (h (step q a) (inl refl))) (steps-none p xs (λ x i. h x (inr i)))
+
+spawns-append : (acts more : List Act) → spawnsIn (acts ++ more) ≡ spawnsIn acts + spawnsIn more
+unfolding spawnsIn
+spawns-append [] more = omega arith
+spawns-append (spawns c r ∷ acts) more = let a = spawns-append acts more in omega (arith, a)
+spawns-append (pushes q v ∷ acts) more = spawns-append acts more
+spawns-append (pops q ∷ acts) more = spawns-append acts more
+spawns-append (tests q ∷ acts) more = spawns-append acts more
+spawns-append (syncs ∷ acts) more = spawns-append acts more
+spawns-append (finishes ∷ acts) more = spawns-append acts more
+
+pub children-append : (p : Name) (xs ys : List Item) → childrenOf p (xs ++ ys) ≡ childrenOf p xs + childrenOf p ys
+unfolding childrenOf
+children-append p xs ys = ap spawnsIn (steps-append p xs ys) ∙ spawns-append (stepsOf p xs) (stepsOf p ys)
+
+pub children-none : (p : Name) (xs : List Item) → ((x : Item) → In x xs → whose x ≡ p → ⊥) → childrenOf p xs ≡ 0
+unfolding childrenOf spawnsIn
+children-none p xs h = ap spawnsIn (steps-none p xs h)
+
+pub children-spawn : (p : Name) (c r : ℕ) (xs : List Item) → childrenOf p (step p (spawns c r) ∷ xs) ≡ 1 + childrenOf p xs
+unfolding childrenOf spawnsIn
+children-spawn p c r xs = ap spawnsIn (steps-here p (spawns c r) xs)
+
+pub children-past : (p q : Name) (a : Act) (xs : List Item) → (q ≡ p → ⊥) → childrenOf p (step q a ∷ xs) ≡ childrenOf p xs
+unfolding childrenOf
+children-past p q a xs n = ap spawnsIn (steps-past p q a xs n)
+
+pub children-spot : (p : Name) (s : Task) (xs : List Item) → childrenOf p (spot s ∷ xs) ≡ childrenOf p xs
+unfolding childrenOf stepsOf
+children-spot p s xs = refl
+
+pub spots-append : (f : Task → Bool) (xs ys : List Item) → spotsBy f (xs ++ ys) ≡ spotsBy f xs + spotsBy f ys
+unfolding spotsBy
+spots-append f [] ys = omega arith
+spots-append f (step p a ∷ xs) ys = spots-append f xs ys
+spots-append f (spot s ∷ xs) ys = let a = spots-append f xs ys in omega (arith, a)
+
+-- no spot counts where f holds of none
+pub spots-none : (f : Task → Bool) (xs : List Item) → ((s : Task) → In (spot s) xs → f s ≡ true → ⊥) → spotsBy f xs ≡ 0
+unfolding spotsBy one
+spots-none f [] h = refl
+spots-none f (step p a ∷ xs) h = spots-none f xs (λ s i. h s (inr i))
+spots-none f (spot s ∷ xs) h =
+    let a = spots-none f xs (λ u i. h u (inr i)) in
+    let b = go (f s) refl in
+    omega (arith, a, b)
+  where
+    go : (b : Bool) → f s ≡ b → one (f s) ≡ 0
+    go true e = absurd (h s (inl refl) e)
+    go false e = pass _ e refl
