@@ -1,2 +1,4 @@
 pub mod Names
 pub mod Items
+pub mod Reached
+pub mod Courses
