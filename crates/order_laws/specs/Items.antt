@@ -9,7 +9,7 @@ use Rattle.words.specs.Words.{pick, pass, halt, either}
 use Rattle.lists.specs.Counting.{one}
 use Rattle.order.specs.Steps.{Name, Task, Item, step, spot, Act, spawns, pushes, pops, tests, syncs, finishes, nameOf}
 use Rattle.order.specs.Waits.{sameName, someSpot}
-use Rattle.order_laws.specs.Names.{same-yes, same-no}
+use Rattle.order_laws.specs.Names.{same?, same-yes, same-no}
 
 -- x stands in a list
 abbrev pub In : Item → List Item → Type 0
@@ -110,6 +110,22 @@ children-append p xs ys = ap spawnsIn (steps-append p xs ys) ∙ spawns-append (
 pub children-none : (p : Name) (xs : List Item) → ((x : Item) → In x xs → whose x ≡ p → ⊥) → childrenOf p xs ≡ 0
 unfolding childrenOf spawnsIn
 children-none p xs h = ap spawnsIn (steps-none p xs h)
+
+-- a task that has made a child has a step
+pub children-some : (p : Name) (xs : List Item) → 0 < childrenOf p xs → (x : Item) × In x xs × (whose x ≡ p)
+unfolding childrenOf spawnsIn stepsOf whose
+children-some p [] h = let z : ⊥ = omega (arith, h) in absurd z
+children-some p (spot s ∷ xs) h = let w = children-some p xs h in (w .0, inr (w .1), w .2)
+children-some p (step q a ∷ xs) h =
+    ⊎-elim
+    (λ e. (step q a, inl refl, e))
+    (λ n.
+    let w = children-some p xs (let d = ap spawnsIn (steps-past p q a xs n) in omega (arith, d, h)) in (w .0, inr (w .1), w .2))
+    (same? q p)
+
+pub children-here : (p : Name) (a : Act) (xs : List Item) → childrenOf p (step p a ∷ xs) ≡ spawnsIn (a ∷ []) + childrenOf p xs
+unfolding childrenOf
+children-here p a xs = ap spawnsIn (steps-here p a xs) ∙ spawns-append (a ∷ []) (stepsOf p xs)
 
 pub children-spawn : (p : Name) (c r : ℕ) (xs : List Item) → childrenOf p (step p (spawns c r) ∷ xs) ≡ 1 + childrenOf p xs
 unfolding childrenOf spawnsIn

@@ -2,3 +2,4 @@ pub mod Names
 pub mod Items
 pub mod Reached
 pub mod Courses
+pub mod Kin
