@@ -1,14 +1,13 @@
 -- Whose the items of a course are: the task's own, or a descendant's by one of the children that it makes there.
 use mathlib.Core.Path.{_≡_, refl, ap, sym, _∙_, subst}
-use mathlib.Core.Bool.{true, false≢true}
 use mathlib.Core.List.{List, [], _∷_, _++_}
 use mathlib.Core.Logic.{_⊎_, inl, inr, ⊎-elim}
 use Prim.Native.Nat.{ℕ, _+_, _<_, _≤_}
 use native.Mathlib.Omega.{arith}
-use Rattle.order.specs.Steps.{Name, Item, Act, step, spot, task, spawns, pushes, pops, tests, syncs, finishes, nameOf}
+use Rattle.order.specs.Steps.{Name, Item, step, spot, task, spawns, finishes, nameOf}
 use Rattle.order_laws.specs.Names.{Under, under-self, under-parent, not-under-child, one-branch}
-use Rattle.order_laws.specs.Items.{In, in-parts, whose, stepsOf, childrenOf, spawnsIn, children-some, children-none}
-use Rattle.order_laws.specs.Courses.{Course, stands, ended, goes, forks, items, plain}
+use Rattle.order_laws.specs.Items.{In, in-parts, whose, childrenOf, children-some}
+use Rattle.order_laws.specs.Courses.{Course, stands, ended, goes, forks, items}
 
 -- q is p, or descends from child number k of p or a younger one
 abbrev pub Kin : Name → ℕ → Name → Type 0
@@ -59,21 +58,3 @@ pub kin-spawner : (p : Name) (t r k : ℕ) (w : Course) (q : Name) → 0 < child
 kin-spawner p t r k w q h =
     let s = children-some q (items p t r k w) h in
     subst (λ (n : Name). Kin p k n) (s .2) (kin p t r k w (s .0) (s .1))
-
-pub plain-none : (a : Act) → plain a ≡ true → spawnsIn (a ∷ []) ≡ 0
-unfolding plain spawnsIn
-plain-none (spawns c r) e = absurd (false≢true e)
-plain-none (pushes q v) e = refl
-plain-none (pops q) e = refl
-plain-none (tests q) e = refl
-plain-none syncs e = refl
-plain-none finishes e = refl
-
-pub none-standing : (q p : Name) (t r k : ℕ) → childrenOf q (items p t r k stands) ≡ 0
-unfolding items childrenOf stepsOf spawnsIn
-none-standing q p t r k = refl
-
--- a child has made none of its parent's children
-pub none-inside : (p : Name) (c s k : ℕ) (w : Course) → childrenOf p (items (k ∷ p) c s 0 w) ≡ 0
-none-inside p c s k w =
-    children-none p _ (λ x i e. not-under-child (under-self p) (subst (λ (n : Name). Under (k ∷ p) n) e (own (k ∷ p) c s 0 w x i)))
