@@ -1,14 +1,13 @@
--- What is said of a list of items: what stands in it, the steps of a task, its children, its spots.
+-- What is said of a list of items: what stands in it, the steps of a task, its children.
 use mathlib.Core.Path.{_≡_, refl, ap, sym, _∙_}
-use mathlib.Core.Bool.{Bool, true, false, false≢true}
+use mathlib.Core.Bool.{Bool, true, false}
 use mathlib.Core.List.{List, [], _∷_, _++_}
 use mathlib.Core.Logic.{_⊎_, inl, inr, ⊎-elim}
-use Prim.Native.Nat.{ℕ, _+_, _<_, _≤_}
+use Prim.Native.Nat.{ℕ, _+_, _<_}
 use native.Mathlib.Omega.{arith}
-use Rattle.words.specs.Words.{pick, pass, halt, either}
-use Rattle.lists.specs.Counting.{one}
+use Rattle.words.specs.Words.{pick, pass, halt}
 use Rattle.order.specs.Steps.{Name, Task, Item, step, spot, Act, spawns, pushes, pops, tests, syncs, finishes, nameOf}
-use Rattle.order.specs.Waits.{sameName, someSpot}
+use Rattle.order.specs.Waits.{sameName}
 use Rattle.order_laws.specs.Names.{same?, same-yes, same-no}
 
 -- x stands in a list
@@ -40,12 +39,6 @@ spawnsIn (finishes ∷ acts) = spawnsIn acts
 -- how many children the task named p has made: their names are 0 ∷ p, 1 ∷ p, and so on
 unfoldable pub childrenOf : Name → List Item → ℕ
 childrenOf p xs = spawnsIn (stepsOf p xs)
-
--- how many spots are of tasks such that f holds
-unfoldable pub spotsBy : (Task → Bool) → List Item → ℕ
-spotsBy f [] = 0
-spotsBy f (step p a ∷ xs) = spotsBy f xs
-spotsBy f (spot s ∷ xs) = one (f s) + spotsBy f xs
 
 pub in-left : (x : Item) (xs ys : List Item) → In x xs → In x (xs ++ ys)
 in-left x [] ys h = absurd h
@@ -138,23 +131,3 @@ children-past p q a xs n = ap spawnsIn (steps-past p q a xs n)
 pub children-spot : (p : Name) (s : Task) (xs : List Item) → childrenOf p (spot s ∷ xs) ≡ childrenOf p xs
 unfolding childrenOf stepsOf
 children-spot p s xs = refl
-
-pub spots-append : (f : Task → Bool) (xs ys : List Item) → spotsBy f (xs ++ ys) ≡ spotsBy f xs + spotsBy f ys
-unfolding spotsBy
-spots-append f [] ys = omega arith
-spots-append f (step p a ∷ xs) ys = spots-append f xs ys
-spots-append f (spot s ∷ xs) ys = let a = spots-append f xs ys in omega (arith, a)
-
--- no spot counts where f holds of none
-pub spots-none : (f : Task → Bool) (xs : List Item) → ((s : Task) → In (spot s) xs → f s ≡ true → ⊥) → spotsBy f xs ≡ 0
-unfolding spotsBy one
-spots-none f [] h = refl
-spots-none f (step p a ∷ xs) h = spots-none f xs (λ s i. h s (inr i))
-spots-none f (spot s ∷ xs) h =
-    let a = spots-none f xs (λ u i. h u (inr i)) in
-    let b = go (f s) refl in
-    omega (arith, a, b)
-  where
-    go : (b : Bool) → f s ≡ b → one (f s) ≡ 0
-    go true e = absurd (h s (inl refl) e)
-    go false e = pass _ e refl

@@ -1,5 +1,6 @@
 pub mod Names
 pub mod Items
+pub mod Count
 pub mod Reached
 pub mod Courses
 pub mod Kin
