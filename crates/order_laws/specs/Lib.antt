@@ -7,3 +7,4 @@ pub mod Kin
 pub mod Counts
 pub mod Spawned
 pub mod Children
+pub mod Placed
