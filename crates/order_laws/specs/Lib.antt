@@ -8,3 +8,4 @@ pub mod Counts
 pub mod Spawned
 pub mod Children
 pub mod Placed
+pub mod Numbers
