@@ -9,3 +9,5 @@ pub mod Spawned
 pub mod Children
 pub mod Placed
 pub mod Numbers
+pub mod Closes
+pub mod Known
