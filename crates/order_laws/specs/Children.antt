@@ -7,11 +7,11 @@ use native.Mathlib.Omega.{arith}
 use native.Mathlib.Nat.{eq-zero-or-pos}
 use Rattle.order.specs.Steps.{Name, Item, step, spawns}
 use Rattle.order_laws.specs.Names.{Under, under-self, under-trans, under-parent, not-under-child, one-branch, same?}
-use Rattle.order_laws.specs.Items.{In, whose, stepsOf, childrenOf, spawnsIn, children-past}
+use Rattle.order_laws.specs.Items.{In, Free, whose, stepsOf, childrenOf, spawnsIn, children-past}
 use Rattle.order_laws.specs.Courses.{Course, stands, ended, goes, forks, items}
 use Rattle.order_laws.specs.Kin.{Kin, kin, kin-under, kin-apart, own, kin-spawner}
 use Rattle.order_laws.specs.Counts.{children-plain, plain-alone, other-alone, none-standing, none-ended, one-forked, forked, forked-other}
-use Rattle.order_laws.specs.Spawned.{Free, Spawned, free-append, free-one, front, back, here}
+use Rattle.order_laws.specs.Spawned.{Spawned, free-append, free-one, front, back, here}
 
 -- a step of p is of no child of p or of p's descendants
 step-free : (p q : Name) (i : ℕ) (y : Item) → whose y ≡ p → Under p q → Free (i ∷ q) (y ∷ [])

@@ -1,4 +1,4 @@
--- What is said of a list of items: what stands in it, the steps of a task, its children.
+-- What is said of a list of items: what stands in it, the steps of a task, its children, who was made.
 use mathlib.Core.Path.{_≡_, refl, ap, sym, _∙_}
 use mathlib.Core.Bool.{Bool, true, false}
 use mathlib.Core.List.{List, [], _∷_, _++_}
@@ -8,7 +8,7 @@ use native.Mathlib.Omega.{arith}
 use Rattle.words.specs.Words.{pick, pass, halt}
 use Rattle.order.specs.Steps.{Name, Task, Item, step, spot, Act, spawns, pushes, pops, tests, syncs, finishes, nameOf}
 use Rattle.order.specs.Waits.{sameName}
-use Rattle.order_laws.specs.Names.{same?, same-yes, same-no}
+use Rattle.order_laws.specs.Names.{Under, same?, same-yes, same-no}
 
 -- x stands in a list
 abbrev pub In : Item → List Item → Type 0
@@ -39,6 +39,15 @@ spawnsIn (finishes ∷ acts) = spawnsIn acts
 -- how many children the task named p has made: their names are 0 ∷ p, 1 ∷ p, and so on
 unfoldable pub childrenOf : Name → List Item → ℕ
 childrenOf p xs = spawnsIn (stepsOf p xs)
+
+-- p is the top, or child number k (from 0) of q, which has made more than k
+unfoldable pub WasMade : Name → List Item → Type 0
+WasMade [] xs = Unit
+WasMade (k ∷ q) xs = k < childrenOf q xs
+
+-- no item is of c or of a descendant of c
+abbrev pub Free : Name → List Item → Type 0
+Free c xs = (x : Item) → In x xs → Under c (whose x) → ⊥
 
 pub in-left : (x : Item) (xs ys : List Item) → In x xs → In x (xs ++ ys)
 in-left x [] ys h = absurd h

@@ -5,14 +5,9 @@ use mathlib.Core.Logic.{_⊎_, inl, inr, ⊎-elim}
 use Prim.Native.Nat.{ℕ, _+_, _<_, _≤_}
 use native.Mathlib.Omega.{arith}
 use Rattle.order.specs.Steps.{Name, Item, step, spot, task, spawns, nameOf}
-use Rattle.order_laws.specs.Items.{In, in-parts, whose, childrenOf, children-append, children-spawn}
+use Rattle.order_laws.specs.Items.{In, in-parts, whose, childrenOf, WasMade, children-append, children-spawn}
 use Rattle.order_laws.specs.Courses.{Course, stands, ended, goes, forks, items}
 use Rattle.order_laws.specs.Counts.{one-forked}
-
--- p is the top, or child number k of q where q has made more than k
-unfoldable pub WasMade : Name → List Item → Type 0
-WasMade [] xs = Unit
-WasMade (k ∷ q) xs = k < childrenOf q xs
 
 made-append : (p : Name) (xs ys : List Item) → WasMade p xs → WasMade p (xs ++ ys)
 unfolding WasMade

@@ -11,3 +11,4 @@ pub mod Placed
 pub mod Numbers
 pub mod Closes
 pub mod Known
+pub mod Moves

@@ -8,11 +8,11 @@ use native.Mathlib.Omega.{arith}
 use Rattle.lists.specs.Counting.{one}
 use Rattle.order.specs.Steps.{Name, Task, Item, step, spot, task, spawns, nameOf}
 use Rattle.order_laws.specs.Names.{Under, under-trans}
-use Rattle.order_laws.specs.Items.{In, whose}
+use Rattle.order_laws.specs.Items.{In, Free, whose}
 use Rattle.order_laws.specs.Count.{count, spotNamed, one-true, one-false, count-none, named-true, named-whose}
 use Rattle.order_laws.specs.Courses.{Course, stands, ended, goes, forks, items}
 use Rattle.order_laws.specs.Kin.{kin, kin-apart, own}
-use Rattle.order_laws.specs.Spawned.{Free, free-append}
+use Rattle.order_laws.specs.Spawned.{free-append}
 
 abbrev pub Placed : List Item → Type 0
 Placed [] = Unit

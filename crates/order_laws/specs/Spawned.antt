@@ -6,13 +6,9 @@ use Prim.Native.Nat.{ℕ, _+_}
 use native.Mathlib.Omega.{arith}
 use Rattle.order.specs.Steps.{Name, Item, step, spawns}
 use Rattle.order_laws.specs.Names.{Under}
-use Rattle.order_laws.specs.Items.{In, in-parts, whose, stepsOf, childrenOf, spawnsIn, children-append}
+use Rattle.order_laws.specs.Items.{In, in-parts, Free, whose, stepsOf, childrenOf, spawnsIn, children-append}
 use Rattle.order_laws.specs.Courses.{Course, forks, items}
 use Rattle.order_laws.specs.Kin.{kin, kin-apart, first}
-
--- no item is of c or of a descendant of c
-abbrev pub Free : Name → List Item → Type 0
-Free c xs = (x : Item) → In x xs → Under c (whose x) → ⊥
 
 -- spawn number j of p (from 0) made c
 pub record Spawned (p c : Name) (j : ℕ) (xs : List Item) : Type 0 where

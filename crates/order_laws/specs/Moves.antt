@@ -1,0 +1,59 @@
+-- What a step puts in place of a spot, and the steps of each task after it.
+use mathlib.Core.Path.{_≡_, refl, ap, sym, _∙_, subst}
+use mathlib.Core.List.{List, [], _∷_, _++_, map, append-nil}
+use Prim.Native.Nat.{ℕ, _+_, _≤_}
+use Rattle.order.specs.Steps.{Name, Task, Item, step, spot, task, Act, spawns, pushes, pops, tests, syncs, finishes, nameOf, numberOf, made, advance}
+use Rattle.order_laws.specs.Items.{stepsOf, Free, whose, steps-here, steps-past, steps-append, steps-none}
+use Rattle.order_laws.specs.Count.{count, spotNumbered}
+use Rattle.order_laws.specs.Numbers.{advance-at}
+
+-- the step, then spots
+pub made-step : (s : Task) (a : Act) → (ts : List Task) × (made s a ≡ step (nameOf s) a ∷ map spot ts)
+unfolding made nameOf
+made-step (task p t r k) (spawns c s) = (task (k ∷ p) c s 0 ∷ task p t r (k + 1) ∷ [], refl)
+made-step (task p t r k) (pushes q v) = (task p t r k ∷ [], refl)
+made-step (task p t r k) (pops q) = (task p t r k ∷ [], refl)
+made-step (task p t r k) (tests q) = (task p t r k ∷ [], refl)
+made-step (task p t r k) syncs = (task p t r k ∷ [], refl)
+made-step (task p t r k) finishes = ([], refl)
+
+spots-stepless : (q : Name) (ts : List Task) → stepsOf q (map spot ts) ≡ []
+unfolding stepsOf
+spots-stepless q [] = refl
+spots-stepless q (s ∷ ts) = spots-stepless q ts
+
+made-own : (s : Task) (a : Act) → stepsOf (nameOf s) (made s a) ≡ a ∷ []
+made-own s a =
+    let w = made-step s a in
+    ap (stepsOf (nameOf s)) (w .1) ∙ steps-here (nameOf s) a (map spot (w .0)) ∙ ap (λ (l : List Act). a ∷ l) (spots-stepless (nameOf s) (w .0))
+
+made-other : (s : Task) (a : Act) (q : Name) → (nameOf s ≡ q → ⊥) → stepsOf q (made s a) ≡ []
+made-other s a q n =
+    let w = made-step s a in
+    ap (stepsOf q) (w .1) ∙ steps-past q (nameOf s) a (map spot (w .0)) n ∙ spots-stepless q (w .0)
+
+module _ (before behind : List Item) (s : Task) (a : Act) (single : count (spotNumbered (numberOf s)) (before ++ spot s ∷ behind) ≤ 1) where
+  parted : (q : Name) → stepsOf q (advance (numberOf s) a (before ++ spot s ∷ behind)) ≡ stepsOf q before ++ (stepsOf q (made s a) ++ stepsOf q behind)
+  parted q =
+      ap (stepsOf q) (advance-at before behind s a single)
+      ∙ steps-append q before (made s a ++ behind)
+      ∙ ap (λ (l : List Act). stepsOf q before ++ l) (steps-append q (made s a) behind)
+
+  whole : (q : Name) → stepsOf q (before ++ spot s ∷ behind) ≡ stepsOf q before ++ stepsOf q behind
+  unfolding stepsOf
+  whole q = steps-append q before (spot s ∷ behind)
+
+  -- the task that makes it
+  pub own-steps : Free (nameOf s) behind
+      → stepsOf (nameOf s) (advance (numberOf s) a (before ++ spot s ∷ behind)) ≡ stepsOf (nameOf s) (before ++ spot s ∷ behind) ++ (a ∷ [])
+  own-steps free =
+      let none = steps-none (nameOf s) behind (λ x i e. free x i ([], e)) in
+      parted (nameOf s)
+      ∙ ap (λ (l : List Act). stepsOf (nameOf s) before ++ l) (ap (λ (l : List Act). l ++ stepsOf (nameOf s) behind) (made-own s a) ∙ ap (λ (l : List Act). a ∷ l) none)
+      ∙ ap (λ (l : List Act). l ++ (a ∷ [])) (sym (whole (nameOf s) ∙ ap (λ (l : List Act). stepsOf (nameOf s) before ++ l) none ∙ append-nil (stepsOf (nameOf s) before)))
+
+  -- the others
+  pub others-steps : (q : Name) → (nameOf s ≡ q → ⊥)
+      → stepsOf q (advance (numberOf s) a (before ++ spot s ∷ behind)) ≡ stepsOf q (before ++ spot s ∷ behind)
+  others-steps q n =
+      parted q ∙ ap (λ (l : List Act). stepsOf q before ++ (l ++ stepsOf q behind)) (made-other s a q n) ∙ sym (whole q)
