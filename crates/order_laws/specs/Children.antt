@@ -8,7 +8,8 @@ use native.Mathlib.Nat.{eq-zero-or-pos}
 use Rattle.order.specs.Steps.{Name, Item, step, spawns}
 use Rattle.order_laws.specs.Names.{Under, under-self, under-trans, under-parent, not-under-child, one-branch, same?}
 use Rattle.order_laws.specs.Items.{In, Free, whose, stepsOf, childrenOf, spawnsIn, children-past}
-use Rattle.order_laws.specs.Courses.{Course, stands, ended, goes, forks, items}
+use Rattle.order_laws.specs.Reached.{Reached}
+use Rattle.order_laws.specs.Courses.{Course, stands, ended, goes, forks, items, course}
 use Rattle.order_laws.specs.Kin.{Kin, kin, kin-under, kin-apart, own, kin-spawner}
 use Rattle.order_laws.specs.Counts.{children-plain, plain-alone, other-alone, none-standing, none-ended, one-forked, forked, forked-other}
 use Rattle.order_laws.specs.Spawned.{Spawned, free-append, free-one, front, back, here}
@@ -100,11 +101,16 @@ inner-children p t r k (forks c s v w) q j n h =
         (back q (j ∷ q) j (items (k ∷ p) c s 0 v) (items p t r (k + 1) w)
         (λ x i d. kin-apart p k (whose x) (kin p t r (k + 1) w x i) (under-trans u (under-parent d))) b)
 
--- In the top's course every child that was made.
-pub all-children : (t r : ℕ) (w : Course) (q : Name) (j : ℕ) → j < childrenOf q (items [] t r 0 w) → Spawned q (j ∷ q) j (items [] t r 0 w)
-all-children t r w q j h =
+top-children : (t r : ℕ) (w : Course) (q : Name) (j : ℕ) → j < childrenOf q (items [] t r 0 w) → Spawned q (j ∷ q) j (items [] t r 0 w)
+top-children t r w q j h =
     ⊎-elim
     (λ e.
     subst (λ (n : Name). j < childrenOf n (items [] t r 0 w) → Spawned n (j ∷ n) j (items [] t r 0 w)) e (own-children [] t r 0 w j j (omega arith)) h)
     (λ n. inner-children [] t r 0 w q j n h)
     (same? [] q)
+
+-- In a reached list every child that was made.
+pub spawned : (xs : List Item) → Reached xs → (q : Name) (j : ℕ) → j < childrenOf q xs → Spawned q (j ∷ q) j xs
+spawned xs h q j =
+    let w = course h in
+    subst (λ (l : List Item). j < childrenOf q l → Spawned q (j ∷ q) j l) (sym (w .1)) (top-children 0 255 (w .0) q j)

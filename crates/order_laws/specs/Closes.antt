@@ -8,11 +8,13 @@ use native.Mathlib.Omega.{arith}
 use Rattle.words.specs.Words.{both, pass}
 use Rattle.order.specs.Steps.{Name, Item, step, spot, task, Act, spawns, pushes, pops, tests, syncs, finishes, nameOf}
 use Rattle.order_laws.specs.Names.{Under, under-self, not-under-child}
-use Rattle.order_laws.specs.Items.{In, whose}
+use Rattle.order_laws.specs.Items.{In, whose, WasMade}
 use Rattle.order_laws.specs.Count.{count, spotNamed, finishOf, isFinish, one-true, one-false, count-append, count-none, named-yes, named-whose, finish-yes, finish-whose}
-use Rattle.order_laws.specs.Courses.{Course, stands, ended, goes, forks, items, plain}
+use Rattle.order_laws.specs.Reached.{Reached}
+use Rattle.order_laws.specs.Courses.{Course, stands, ended, goes, forks, items, course, plain}
 use Rattle.order_laws.specs.Kin.{own}
 use Rattle.order_laws.specs.Spawned.{Spawned}
+use Rattle.order_laws.specs.Children.{spawned}
 
 -- the spots and finishes of the task named p
 abbrev pub closings : Name → List Item → ℕ
@@ -54,7 +56,7 @@ not-child : (p : Name) (n : ℕ) → Under (n ∷ p) p → ⊥
 not-child p n = not-under-child (under-self p)
 
 -- A course has one of them for its own task.
-pub closes : (p : Name) (t r k : ℕ) (w : Course) → closings p (items p t r k w) ≡ 1
+closes : (p : Name) (t r k : ℕ) (w : Course) → closings p (items p t r k w) ≡ 1
 unfolding items isFinish
 closes p t r k stands = closes-spot p t r k
 closes p t r k ended = closes-finish p
@@ -67,7 +69,7 @@ closes p t r k (forks c s v w) =
     omega (arith, a, b, d, e)
 
 -- And so has every list for a child that was made in it.
-pub child-closes : (p : Name) (n j : ℕ) (xs : List Item) → Spawned p (n ∷ p) j xs → closings (n ∷ p) xs ≡ 1
+child-closes : (p : Name) (n j : ℕ) (xs : List Item) → Spawned p (n ∷ p) j xs → closings (n ∷ p) xs ≡ 1
 unfolding isFinish
 child-closes p n j xs b =
     let block = items (n ∷ p) (b .number) (b .rights) 0 (b .course) in
@@ -82,3 +84,9 @@ child-closes p n j xs b =
     none : (x : Item) → In x (b .next ∷ b .behind) → whose x ≡ n ∷ p → ⊥
     none x (inl e) d = not-child p n ([], sym (b .mine) ∙ ap whose (sym e) ∙ d)
     none x (inr i) d = b .free-behind x i ([], d)
+
+-- In a reached list.
+pub made-closes : (xs : List Item) → Reached xs → (p : Name) → WasMade p xs → closings p xs ≡ 1
+unfolding WasMade
+made-closes xs h [] m = let w = course h in ap (closings []) (w .1) ∙ closes [] 0 255 0 (w .0)
+made-closes xs h (k ∷ q) m = child-closes q k k xs (spawned xs h q k m)

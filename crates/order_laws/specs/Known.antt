@@ -6,7 +6,8 @@ use Prim.Native.Nat.{ℕ, _+_, _<_, _≤_}
 use native.Mathlib.Omega.{arith}
 use Rattle.order.specs.Steps.{Name, Item, step, spot, task, spawns, nameOf}
 use Rattle.order_laws.specs.Items.{In, in-parts, whose, childrenOf, WasMade, children-append, children-spawn}
-use Rattle.order_laws.specs.Courses.{Course, stands, ended, goes, forks, items}
+use Rattle.order_laws.specs.Reached.{Reached}
+use Rattle.order_laws.specs.Courses.{Course, stands, ended, goes, forks, items, course}
 use Rattle.order_laws.specs.Counts.{one-forked}
 
 made-append : (p : Name) (xs ys : List Item) → WasMade p xs → WasMade p (xs ++ ys)
@@ -54,7 +55,12 @@ known p t r k (forks c s v w) past l m x (inr h) =
     (known p t r (k + 1) w (past ++ step p (spawns c s) ∷ child) (omega (arith, f, g, l)) (made-append p past (step p (spawns c s) ∷ child) m) x i))
     (in-parts x child rest h)
 
--- In the top's course.
-pub all-known : (t r : ℕ) (w : Course) (x : Item) → In x (items [] t r 0 w) → WasMade (whose x) (items [] t r 0 w)
+top-known : (t r : ℕ) (w : Course) (x : Item) → In x (items [] t r 0 w) → WasMade (whose x) (items [] t r 0 w)
 unfolding WasMade
-all-known t r w x h = known [] t r 0 w [] (omega arith) tt x h
+top-known t r w x h = known [] t r 0 w [] (omega arith) tt x h
+
+-- In a reached list.
+pub whose-made : (xs : List Item) → Reached xs → (x : Item) → In x xs → WasMade (whose x) xs
+whose-made xs h x =
+    let w = course h in
+    subst (λ (l : List Item). In x l → WasMade (whose x) l) (sym (w .1)) (top-known 0 255 (w .0) x)

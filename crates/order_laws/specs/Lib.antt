@@ -12,3 +12,6 @@ pub mod Numbers
 pub mod Closes
 pub mod Known
 pub mod Moves
+pub mod Standing
+pub mod Unfinished
+pub mod Laws

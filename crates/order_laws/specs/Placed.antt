@@ -10,7 +10,8 @@ use Rattle.order.specs.Steps.{Name, Task, Item, step, spot, task, spawns, nameO
 use Rattle.order_laws.specs.Names.{Under, under-trans}
 use Rattle.order_laws.specs.Items.{In, Free, whose}
 use Rattle.order_laws.specs.Count.{count, spotNamed, one-true, one-false, count-none, named-true, named-whose}
-use Rattle.order_laws.specs.Courses.{Course, stands, ended, goes, forks, items}
+use Rattle.order_laws.specs.Reached.{Reached}
+use Rattle.order_laws.specs.Courses.{Course, stands, ended, goes, forks, items, course}
 use Rattle.order_laws.specs.Kin.{kin, kin-apart, own}
 use Rattle.order_laws.specs.Spawned.{free-append}
 
@@ -24,7 +25,7 @@ placed-append [] ys a b f = b
 placed-append (step p d ∷ xs) ys a b f = placed-append xs ys a b (λ s i. f s (inr i))
 placed-append (spot s ∷ xs) ys a b f = (free-append (nameOf s) xs ys (a .0) (f s (inl refl)), placed-append xs ys (a .1) b (λ u i. f u (inr i)))
 
-pub course-placed : (p : Name) (t r k : ℕ) (w : Course) → Placed (items p t r k w)
+course-placed : (p : Name) (t r k : ℕ) (w : Course) → Placed (items p t r k w)
 unfolding items whose
 course-placed p t r k stands = (λ x h u. h, tt)
 course-placed p t r k ended = tt
@@ -32,6 +33,9 @@ course-placed p t r k (goes a d w) = course-placed p t r k w
 course-placed p t r k (forks c s v w) =
     placed-append (items (k ∷ p) c s 0 v) (items p t r (k + 1) w) (course-placed (k ∷ p) c s 0 v) (course-placed p t r (k + 1) w)
     (λ o i x h u. kin-apart p k (whose x) (kin p t r (k + 1) w x h) (under-trans (own (k ∷ p) c s 0 v (spot o) i) u))
+
+pub placed : (xs : List Item) → Reached xs → Placed xs
+placed xs h = let w = course h in subst Placed (sym (w .1)) (course-placed [] 0 255 0 (w .0))
 
 pub placed-behind : (before behind : List Item) (s : Task) → Placed (before ++ spot s ∷ behind) → Free (nameOf s) behind
 placed-behind [] behind s h = h .0
