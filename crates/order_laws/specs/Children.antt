@@ -1,13 +1,13 @@
 -- All children that were made, in the items of a course.
-use mathlib.Core.Path.{_≡_, refl, ap, sym, _∙_, subst}
+use mathlib.Core.Path.{_≡_, refl, sym, _∙_, subst}
 use mathlib.Core.List.{List, [], _∷_, _++_}
-use mathlib.Core.Logic.{_⊎_, inl, inr, ⊎-elim}
-use Prim.Native.Nat.{ℕ, zero, suc, _+_, _<_, _≤_}
+use mathlib.Core.Logic.{inl, inr, ⊎-elim}
+use Prim.Native.Nat.{ℕ, zero, suc, _+_, _<_}
 use native.Mathlib.Omega.{arith}
 use native.Mathlib.Nat.{eq-zero-or-pos}
 use Rattle.order.specs.Steps.{Name, Item, step, spawns}
 use Rattle.order_laws.specs.Names.{Under, under-self, under-trans, under-parent, not-under-child, one-branch, same?}
-use Rattle.order_laws.specs.Items.{In, Free, whose, stepsOf, childrenOf, spawnsIn, children-past}
+use Rattle.order_laws.specs.Items.{Free, whose, childrenOf, children-past}
 use Rattle.order_laws.specs.Reached.{Reached}
 use Rattle.order_laws.specs.Courses.{Course, stands, ended, goes, forks, items, course}
 use Rattle.order_laws.specs.Kin.{Kin, kin, kin-under, kin-apart, own, kin-spawner}

@@ -2,11 +2,11 @@
 use mathlib.Core.Path.{_≡_, refl, ap, sym, _∙_}
 use mathlib.Core.Bool.{Bool, true, false, false≢true}
 use mathlib.Core.List.{List, [], _∷_, _++_}
-use mathlib.Core.Logic.{_⊎_, inl, inr, ⊎-elim}
+use mathlib.Core.Logic.{inl, inr}
 use Prim.Native.Nat.{ℕ, _+_, _<_}
 use native.Mathlib.Omega.{arith}
 use lib.Dec.{eqb}
-use Rattle.words.specs.Words.{pick, pass, halt, both, both-true}
+use Rattle.words.specs.Words.{pick, pass, halt, both}
 use Rattle.lists.specs.Counting.{one}
 use Rattle.order.specs.Steps.{Name, Task, Item, step, spot, Act, spawns, pushes, pops, tests, syncs, finishes, nameOf, numberOf}
 use Rattle.order.specs.Waits.{sameName}

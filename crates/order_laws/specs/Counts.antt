@@ -1,14 +1,14 @@
 -- How many children a task has made in a course.
-use mathlib.Core.Path.{_≡_, refl, ap, sym, _∙_, subst}
+use mathlib.Core.Path.{_≡_, refl, sym, _∙_, subst}
 use mathlib.Core.Bool.{true, false≢true}
-use mathlib.Core.List.{List, [], _∷_, _++_}
-use mathlib.Core.Logic.{_⊎_, ⊎-elim}
+use mathlib.Core.List.{List, [], _∷_}
+use mathlib.Core.Logic.{⊎-elim}
 use Prim.Native.Nat.{ℕ, _+_}
 use native.Mathlib.Omega.{arith}
 use Rattle.order.specs.Steps.{Name, Item, Act, step, spawns, pushes, pops, tests, syncs, finishes}
 use Rattle.order_laws.specs.Names.{Under, under-self, not-under-child, same?}
-use Rattle.order_laws.specs.Items.{In, whose, stepsOf, childrenOf, spawnsIn, children-append, children-none, children-here, children-spawn, children-past}
-use Rattle.order_laws.specs.Courses.{Course, stands, ended, goes, forks, items, plain}
+use Rattle.order_laws.specs.Items.{stepsOf, childrenOf, spawnsIn, children-append, children-none, children-here, children-spawn, children-past}
+use Rattle.order_laws.specs.Courses.{Course, stands, ended, forks, items, plain}
 use Rattle.order_laws.specs.Kin.{own}
 
 plain-none : (a : Act) → plain a ≡ true → spawnsIn (a ∷ []) ≡ 0

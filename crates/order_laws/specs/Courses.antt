@@ -39,7 +39,7 @@ advance-append u a (x ∷ xs) ys =
     ap (λ (l : List Item). moved u a x ++ l) (advance-append u a xs ys) ∙ sym (append-assoc (moved u a x) (advance u a xs) (advance u a ys))
 
 -- a step of the task that stands
-unfoldable pub onward : Act → Course
+unfoldable onward : Act → Course
 unfolding plain
 onward (spawns c s) = forks c s stands stands
 onward (pushes q v) = goes (pushes q v) refl stands
@@ -58,7 +58,7 @@ made-items p t r k syncs = refl
 made-items p t r k finishes = refl
 
 -- A step leads from a course to a course.
-pub stepped : (p : Name) (t r k : ℕ) (w : Course) (u : ℕ) (a : Act) → (w' : Course) × (advance u a (items p t r k w) ≡ items p t r k w')
+stepped : (p : Name) (t r k : ℕ) (w : Course) (u : ℕ) (a : Act) → (w' : Course) × (advance u a (items p t r k w) ≡ items p t r k w')
 unfolding items advance moved numberOf
 stepped p t r k stands u a = go (eqb t u) refl
   where

@@ -49,15 +49,6 @@ WasMade (k ∷ q) xs = k < childrenOf q xs
 abbrev pub Free : Name → List Item → Type 0
 Free c xs = (x : Item) → In x xs → Under c (whose x) → ⊥
 
-pub in-left : (x : Item) (xs ys : List Item) → In x xs → In x (xs ++ ys)
-in-left x [] ys h = absurd h
-in-left x (z ∷ xs) ys (inl e) = inl e
-in-left x (z ∷ xs) ys (inr h) = inr (in-left x xs ys h)
-
-pub in-right : (x : Item) (xs ys : List Item) → In x ys → In x (xs ++ ys)
-in-right x [] ys h = h
-in-right x (z ∷ xs) ys h = inr (in-right x xs ys h)
-
 pub in-parts : (x : Item) (xs ys : List Item) → In x (xs ++ ys) → In x xs ⊎ In x ys
 in-parts x [] ys h = inr h
 in-parts x (z ∷ xs) ys (inl e) = inl (inl e)
@@ -136,7 +127,3 @@ children-spawn p c r xs = ap spawnsIn (steps-here p (spawns c r) xs)
 pub children-past : (p q : Name) (a : Act) (xs : List Item) → (q ≡ p → ⊥) → childrenOf p (step q a ∷ xs) ≡ childrenOf p xs
 unfolding childrenOf
 children-past p q a xs n = ap spawnsIn (steps-past p q a xs n)
-
-pub children-spot : (p : Name) (s : Task) (xs : List Item) → childrenOf p (spot s ∷ xs) ≡ childrenOf p xs
-unfolding childrenOf stepsOf
-children-spot p s xs = refl

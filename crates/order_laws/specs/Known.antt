@@ -1,10 +1,10 @@
 -- Every item is of the top or of a child that was made.
-use mathlib.Core.Path.{_≡_, refl, ap, sym, _∙_, subst}
+use mathlib.Core.Path.{_≡_, ap, sym, _∙_, subst}
 use mathlib.Core.List.{List, [], _∷_, _++_, append-assoc}
-use mathlib.Core.Logic.{_⊎_, inl, inr, ⊎-elim}
+use mathlib.Core.Logic.{inl, inr, ⊎-elim}
 use Prim.Native.Nat.{ℕ, _+_, _<_, _≤_}
 use native.Mathlib.Omega.{arith}
-use Rattle.order.specs.Steps.{Name, Item, step, spot, task, spawns, nameOf}
+use Rattle.order.specs.Steps.{Name, Item, step, spawns, nameOf}
 use Rattle.order_laws.specs.Items.{In, in-parts, whose, childrenOf, WasMade, children-append, children-spawn}
 use Rattle.order_laws.specs.Reached.{Reached}
 use Rattle.order_laws.specs.Courses.{Course, stands, ended, goes, forks, items, course}

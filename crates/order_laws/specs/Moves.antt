@@ -1,9 +1,9 @@
 -- What a step puts in place of a spot, and the steps of each task after it.
-use mathlib.Core.Path.{_≡_, refl, ap, sym, _∙_, subst}
+use mathlib.Core.Path.{_≡_, refl, ap, sym, _∙_}
 use mathlib.Core.List.{List, [], _∷_, _++_, map, append-nil}
-use Prim.Native.Nat.{ℕ, _+_, _≤_}
+use Prim.Native.Nat.{_+_, _≤_}
 use Rattle.order.specs.Steps.{Name, Task, Item, step, spot, task, Act, spawns, pushes, pops, tests, syncs, finishes, nameOf, numberOf, made, advance}
-use Rattle.order_laws.specs.Items.{stepsOf, Free, whose, steps-here, steps-past, steps-append, steps-none}
+use Rattle.order_laws.specs.Items.{stepsOf, Free, steps-here, steps-past, steps-append, steps-none}
 use Rattle.order_laws.specs.Count.{count, spotNumbered}
 use Rattle.order_laws.specs.Numbers.{advance-at}
 
@@ -48,9 +48,11 @@ module _ (before behind : List Item) (s : Task) (a : Act) (single : count (spotN
       → stepsOf (nameOf s) (advance (numberOf s) a (before ++ spot s ∷ behind)) ≡ stepsOf (nameOf s) (before ++ spot s ∷ behind) ++ (a ∷ [])
   own-steps free =
       let none = steps-none (nameOf s) behind (λ x i e. free x i ([], e)) in
+      let past = stepsOf (nameOf s) before in
       parted (nameOf s)
-      ∙ ap (λ (l : List Act). stepsOf (nameOf s) before ++ l) (ap (λ (l : List Act). l ++ stepsOf (nameOf s) behind) (made-own s a) ∙ ap (λ (l : List Act). a ∷ l) none)
-      ∙ ap (λ (l : List Act). l ++ (a ∷ [])) (sym (whole (nameOf s) ∙ ap (λ (l : List Act). stepsOf (nameOf s) before ++ l) none ∙ append-nil (stepsOf (nameOf s) before)))
+      ∙ ap (λ (l : List Act). past ++ (l ++ stepsOf (nameOf s) behind)) (made-own s a)
+      ∙ ap (λ (l : List Act). past ++ (a ∷ l)) none
+      ∙ ap (λ (l : List Act). l ++ (a ∷ [])) (sym (whole (nameOf s) ∙ ap (λ (l : List Act). past ++ l) none ∙ append-nil past))
 
   -- the others
   pub others-steps : (q : Name) → (nameOf s ≡ q → ⊥)

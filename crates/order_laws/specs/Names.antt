@@ -1,14 +1,13 @@
 -- Names of tasks: which name is that of a descendant.
 use mathlib.Core.Path.{_≡_, refl, ap, sym, _∙_}
 use mathlib.Core.Bool.{Bool, true, false, false≢true}
-use mathlib.Core.List.{List, [], _∷_, _++_, append-assoc, head-eq-of-cons-eq, tail-eq-of-cons-eq, cons≢nil, nil≢cons}
+use mathlib.Core.List.{List, [], _∷_, _++_, append-assoc, head-eq-of-cons-eq, tail-eq-of-cons-eq}
 use mathlib.Core.Logic.{_⊎_, inl, inr}
-use Prim.Native.Nat.{ℕ, suc, _+_, _<_, _≤_}
+use Prim.Native.Nat.{ℕ, _≤_}
 use native.Mathlib.Omega.{arith}
-use lib.Dec.{eqb}
 use lib.ListN.{length, length-append}
 use borrow.Author.Tests.{eqb-true, eq-eqb}
-use Rattle.words.specs.Words.{both, both-true, true-both}
+use Rattle.words.specs.Words.{both-true, true-both}
 use Rattle.order.specs.Steps.{Name}
 use Rattle.order.specs.Waits.{sameName}
 
@@ -25,7 +24,7 @@ under-trans {c} u v = (v .0 ++ u .0, v .1 ∙ ap (λ (n : Name). v .0 ++ n) (u .
 pub under-parent : {i : ℕ} {p q : Name} → Under (i ∷ p) q → Under p q
 under-parent {i} u = under-trans (i ∷ [], refl) u
 
-pub under-length : {c q : Name} → Under c q → length c ≤ length q
+under-length : {c q : Name} → Under c q → length c ≤ length q
 under-length {c} {q} u = let a = ap (λ (n : Name). length n) (u .1) in let b = length-append (u .0) c in omega (arith, a, b)
 
 -- no task is a descendant of its child
@@ -55,7 +54,7 @@ same-true (i ∷ p) (j ∷ q) e =
     let w = both-true _ _ e in
     ap (λ (k : ℕ). k ∷ p) (eqb-true i j (w .0)) ∙ ap (λ (n : Name). j ∷ n) (same-true p q (w .1))
 
-pub same-self : (p : Name) → sameName p p ≡ true
+same-self : (p : Name) → sameName p p ≡ true
 unfolding sameName
 same-self [] = refl
 same-self (i ∷ p) = true-both (eq-eqb i i refl) (same-self p)

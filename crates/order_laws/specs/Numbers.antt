@@ -2,7 +2,7 @@
 use mathlib.Core.Path.{_≡_, refl, ap, sym, _∙_, subst}
 use mathlib.Core.Bool.{Bool, true, false, false≢true}
 use mathlib.Core.List.{List, [], _∷_, _++_}
-use mathlib.Core.Logic.{_⊎_, inl, inr, ⊎-elim}
+use mathlib.Core.Logic.{inl, inr, ⊎-elim}
 use Prim.Native.Nat.{ℕ, _+_, _≤_}
 use native.Mathlib.Omega.{arith}
 use lib.Dec.{eqb}
@@ -17,7 +17,7 @@ use Rattle.order_laws.specs.Courses.{advance-append}
 use Rattle.order_laws.specs.Reached.{Fresh, Reached, start, more}
 
 -- the test for an unfinished task finds its spot
-pub spot-found : (t : ℕ) (xs : List Item) → unfinished t xs ≡ true → (s : Task) × In (spot s) xs × (numberOf s ≡ t)
+spot-found : (t : ℕ) (xs : List Item) → unfinished t xs ≡ true → (s : Task) × In (spot s) xs × (numberOf s ≡ t)
 unfolding unfinished someSpot
 spot-found t [] e = absurd (false≢true e)
 spot-found t (step p a ∷ xs) e = let w = spot-found t xs e in (w .0, inr (w .1), w .2)
@@ -33,7 +33,8 @@ none-unfinished t [] e = refl
 none-unfinished t (step p a ∷ xs) e = let i = none-unfinished t xs e in let b = one-false {b = false} refl in omega (arith, i, b)
 none-unfinished t (spot s ∷ xs) e = go (eqb (numberOf s) t) refl (none-unfinished t xs)
   where
-    go : (b : Bool) → eqb (numberOf s) t ≡ b → (unfinished t xs ≡ false → count (spotNumbered t) xs ≡ 0) → one (eqb (numberOf s) t) + count (spotNumbered t) xs ≡ 0
+    go : (b : Bool) → eqb (numberOf s) t ≡ b → (unfinished t xs ≡ false → count (spotNumbered t) xs ≡ 0)
+        → one (eqb (numberOf s) t) + count (spotNumbered t) xs ≡ 0
     go true d i = absurd (false≢true (sym e ∙ true-left _ d))
     go false d i = let a = i (sym (pass _ d refl) ∙ e) in let b = one-false d in omega (arith, a, b)
 
@@ -104,13 +105,13 @@ kept xs t a h e f u =
   where
     go : (s : Task) (before behind : List Item) → xs ≡ before ++ spot s ∷ behind → numberOf s ≡ t → count (spotNumbered u) (advance t a xs) ≤ 1
     go s before behind q n =
-        let f0 = spotNumbered u in
+        let test = spotNumbered u in
         let single = subst (λ (l : List Item). count (spotNumbered (numberOf s)) l ≤ 1) q (h (numberOf s)) in
         let now = ap (λ (k : ℕ). advance k a xs) (sym n) ∙ ap (advance (numberOf s) a) q ∙ advance-at before behind s a single in
-        let b0 = ap (count f0) now ∙ count-append f0 before (made s a ++ behind) in
-        let b1 = count-append f0 (made s a) behind in
+        let b0 = ap (count test) now ∙ count-append test before (made s a ++ behind) in
+        let b1 = count-append test (made s a) behind in
         let b2 = made-count s a u in
-        let b3 = ap (count f0) q ∙ count-append f0 before (spot s ∷ behind) in
+        let b3 = ap (count test) q ∙ count-append test before (spot s ∷ behind) in
         let b4 = brings-new a xs u f (h u) in
         omega (arith, b0, b1, b2, b3, b4)
 

@@ -1,15 +1,15 @@
 -- Behind a spot stands no item of its task or of a descendant; so no name has two spots.
-use mathlib.Core.Path.{_≡_, refl, ap, sym, _∙_, subst}
+use mathlib.Core.Path.{_≡_, refl, sym, _∙_, subst}
 use mathlib.Core.Bool.{Bool, true, false}
 use mathlib.Core.List.{List, [], _∷_, _++_}
-use mathlib.Core.Logic.{_⊎_, inl, inr, ⊎-elim}
+use mathlib.Core.Logic.{inl, inr}
 use Prim.Native.Nat.{ℕ, _+_, _≤_}
 use native.Mathlib.Omega.{arith}
 use Rattle.lists.specs.Counting.{one}
-use Rattle.order.specs.Steps.{Name, Task, Item, step, spot, task, spawns, nameOf}
-use Rattle.order_laws.specs.Names.{Under, under-trans}
+use Rattle.order.specs.Steps.{Name, Task, Item, step, spot, nameOf}
+use Rattle.order_laws.specs.Names.{under-trans}
 use Rattle.order_laws.specs.Items.{In, Free, whose}
-use Rattle.order_laws.specs.Count.{count, spotNamed, one-true, one-false, count-none, named-true, named-whose}
+use Rattle.order_laws.specs.Count.{count, spotNamed, one-true, one-false, count-none, named-whose}
 use Rattle.order_laws.specs.Reached.{Reached}
 use Rattle.order_laws.specs.Courses.{Course, stands, ended, goes, forks, items, course}
 use Rattle.order_laws.specs.Kin.{kin, kin-apart, own}

@@ -1,10 +1,9 @@
 -- The spot of a course's own task has the number and the rights that the task was made with.
-use mathlib.Core.Path.{_≡_, refl, ap, subst}
-use mathlib.Core.Bool.{true, false≢true}
-use mathlib.Core.List.{List, [], _∷_, _++_}
-use mathlib.Core.Logic.{_⊎_, inl, inr, ⊎-elim}
+use mathlib.Core.Path.{_≡_, ap, subst}
+use mathlib.Core.List.{_∷_}
+use mathlib.Core.Logic.{inl, inr, ⊎-elim}
 use Prim.Native.Nat.{ℕ, _+_}
-use Rattle.order.specs.Steps.{Name, Task, Item, step, spot, task, nameOf, numberOf, rightsOf}
+use Rattle.order.specs.Steps.{Name, Task, Item, step, spot, nameOf, numberOf, rightsOf}
 use Rattle.order_laws.specs.Names.{Under, under-self, not-under-child}
 use Rattle.order_laws.specs.Items.{In, in-parts, whose}
 use Rattle.order_laws.specs.Courses.{Course, stands, ended, goes, forks, items}
