@@ -1,6 +1,12 @@
 //! A model of the queue core, written from document 01, document 003, the
 //! readings of the open places and docs/LAYOUT.md, and from nothing else.
 
+pub mod answer;
+pub mod calls;
 pub mod fast;
+pub mod late;
 pub mod layout;
+pub mod pools;
 pub mod rules;
+pub mod tree;
+pub mod views;

@@ -1,0 +1,405 @@
+//! The eight calls of the core, on any words of any number.
+//!
+//! Each call tests in the order of document 01's table, and writes only when
+//! nothing can turn it down any more.
+
+use crate::answer::*;
+use crate::layout::*;
+use crate::views::{self, EMPTY};
+use crate::{fast, late, pools, tree};
+
+/// An answer that ends a call early is the error case.
+type Tried = Result<Answer, Answer>;
+type Passed = Result<(), Answer>;
+
+fn either(tried: Tried) -> Answer {
+    match tried {
+        Ok(answer) | Err(answer) => answer,
+    }
+}
+
+fn refuse_if(bad: bool, answer: Answer) -> Passed {
+    if bad {
+        Err(answer)
+    } else {
+        Ok(())
+    }
+}
+
+/// Tests 1 and 2.
+fn memory_passes(m: &[u32]) -> Passed {
+    refuse_if(m.len() != WORDS, LENGTH_WRONG)?;
+    refuse_if(!fast::hold(m), RULES_FAIL)
+}
+
+/// Test 4.
+fn task_unfinished(m: &[u32], t: u32) -> Passed {
+    refuse_if(t >= TASKS || status(m, t) != UNFINISHED, NO_SUCH_TASK)
+}
+
+/// Test 5.
+fn queue_exists(q: u32) -> Passed {
+    refuse_if(q >= QUEUES, NO_SUCH_QUEUE)
+}
+
+/// Test 6 of push, pop and test.
+fn right_held(m: &[u32], t: u32, bit: u32) -> Passed {
+    refuse_if(!tree::holds(m, t, bit), NO_RIGHT)
+}
+
+/// The wait of every call for older siblings that pop.
+fn no_older_popper(m: &[u32], t: u32) -> Passed {
+    refuse_if(tree::waits_for_sibling(m, t), Answer::Waits)
+}
+
+/// The wait of sync and finish.
+fn no_child(m: &[u32], t: u32) -> Passed {
+    refuse_if(youngest(m, t) != NONE, Answer::Waits)
+}
+
+/// Opens the core with segments of `length` values, `opened` of them.
+pub fn open(m: &mut [u32], length: u32, opened: u32) -> Answer {
+    if m.len() != WORDS {
+        return LENGTH_WRONG;
+    }
+    let lengths = 1..=MOST_LENGTH;
+    let numbers = FEWEST_SEGMENTS..=MOST_SEGMENTS;
+    // The ranges go first, so that the product is small.
+    let fit =
+        lengths.contains(&length) && numbers.contains(&opened) && length * opened <= VALUE_WORDS;
+    if !fit {
+        return NUMBERS_WRONG;
+    }
+    m.fill(0);
+    write_header(m, length, opened);
+    write_top(m);
+    Answer::Moved(0)
+}
+
+/// The header and both stacks: the lowest number is used first.
+fn write_header(m: &mut [u32], length: u32, opened: u32) {
+    put(m, LENGTH, length);
+    put(m, SEGMENTS, opened);
+    put(m, FREE_SEGMENTS, opened - QUEUES);
+    put(m, FREE_TASKS, TASKS - 1);
+    for i in 0..opened - QUEUES {
+        put(m, segment_place(i), opened - 1 - i);
+    }
+    for i in 0..TASKS - 1 {
+        put(m, task_place(i), TASKS - 1 - i);
+    }
+}
+
+/// The top task; queue q starts with segment q, shared between the queue view
+/// and the user view.
+fn write_top(m: &mut [u32]) {
+    put(m, task(0) + STATUS, UNFINISHED);
+    put(m, task(0) + RIGHTS, ALL_RIGHTS);
+    for link in [PARENT, OLDER, YOUNGER, YOUNGEST] {
+        put(m, task(0) + link, NONE);
+    }
+    for q in 0..QUEUES {
+        put(m, segment(q) + NEXT, NONE);
+        put(m, queue_head(0, q), q);
+        views::write(m, children_view(0, q), EMPTY);
+        views::write(m, user_view(0, q), views::View { head: NL, tail: q });
+        views::write(m, right_view(0, q), EMPTY);
+    }
+}
+
+/// Spawns a child of `t`; the value is its number.
+pub fn spawn(m: &mut [u32], t: u32, child_rights: u32) -> Answer {
+    either(try_spawn(m, t, child_rights))
+}
+
+fn try_spawn(m: &mut [u32], t: u32, child_rights: u32) -> Tried {
+    memory_passes(m)?;
+    task_unfinished(m, t)?;
+    refuse_if(child_rights & !rights(m, t) != 0, NO_RIGHT)?;
+    no_older_popper(m, t)?;
+    let child = pools::next_free_task(m).ok_or(NO_RECORD)?;
+    pools::take_task(m);
+    write_child(m, t, child, child_rights);
+    for q in 0..QUEUES {
+        pass_views(m, t, child, q);
+    }
+    Ok(Answer::Moved(child))
+}
+
+/// The child's own words, and its place as the youngest child of `t`.
+fn write_child(m: &mut [u32], t: u32, child: u32, child_rights: u32) {
+    let sibling = youngest(m, t);
+    let words = [UNFINISHED, child_rights, t, sibling, NONE, NONE];
+    for (i, word) in words.into_iter().enumerate() {
+        put(m, task(child) + i, word);
+    }
+    if sibling != NONE {
+        put(m, task(sibling) + YOUNGER, child);
+    }
+    put(m, task(t) + YOUNGEST, child);
+}
+
+/// What spawning passes on for queue `q`: the user view to a child with any
+/// right to it, the queue view to one with the pop right.
+fn pass_views(m: &mut [u32], t: u32, child: u32, q: u32) {
+    put(m, queue_head(child, q), NONE);
+    for place in [
+        children_view(child, q),
+        user_view(child, q),
+        right_view(child, q),
+    ] {
+        views::write(m, place, EMPTY);
+    }
+    if tree::holds(m, child, any_right(q)) {
+        let user = views::read(m, user_view(t, q));
+        views::write(m, user_view(child, q), user);
+        views::write(m, user_view(t, q), EMPTY);
+    }
+    if tree::holds(m, child, pop_right(q)) {
+        pass_queue_view(m, t, child, q);
+    }
+}
+
+/// Moves the queue view of `q`, if `from` has it.
+fn pass_queue_view(m: &mut [u32], from: u32, to: u32, q: u32) {
+    let head = get(m, queue_head(from, q));
+    if head != NONE {
+        put(m, queue_head(from, q), NONE);
+        put(m, queue_head(to, q), head);
+    }
+}
+
+/// What a push does, once nothing turns it down.
+enum PushPlan {
+    /// Into the user view's tail segment, which has room.
+    Store(u32),
+    /// Into a new segment behind the tail segment, which is full.
+    Append { tail: u32, new: u32 },
+    /// Into a new segment; its head goes into the view at `place`.
+    Begin { place: usize, new: u32 },
+}
+
+/// Pushes `value` to queue `q`; the value is `value`.
+pub fn push(m: &mut [u32], t: u32, q: u32, value: u32) -> Answer {
+    either(try_push(m, t, q, value))
+}
+
+fn try_push(m: &mut [u32], t: u32, q: u32, value: u32) -> Tried {
+    memory_passes(m)?;
+    task_unfinished(m, t)?;
+    queue_exists(q)?;
+    right_held(m, t, push_right(q))?;
+    no_older_popper(m, t)?;
+    match plan_push(m, t, q)? {
+        PushPlan::Store(s) => pools::store(m, s, value),
+        PushPlan::Append { tail, new } => {
+            pools::take_segment(m, new, value);
+            put(m, segment(tail) + NEXT, new);
+            put(m, user_view(t, q) + TAIL_FROM_HEAD, new);
+        }
+        PushPlan::Begin { place, new } => {
+            pools::take_segment(m, new, value);
+            let user = views::View {
+                head: NL,
+                tail: new,
+            };
+            views::write(m, user_view(t, q), user);
+            put_head(m, place, new);
+        }
+    }
+    Ok(Answer::Moved(value))
+}
+
+/// Refusal 9 goes before the late refusal 2. A user view that is not empty and
+/// has a non-local tail asks for no segment, so it gets 2 in any case.
+fn plan_push(m: &[u32], t: u32, q: u32) -> Result<PushPlan, Answer> {
+    let user = views::read(m, user_view(t, q));
+    let free = pools::next_free_segment(m).ok_or(NO_SEGMENT);
+    if user.is_empty() {
+        let new = free?;
+        let place = views::place_before_user(m, t, q);
+        refuse_if(views::read(m, place).tail == NL, RULES_FAIL)?;
+        return Ok(PushPlan::Begin { place, new });
+    }
+    refuse_if(user.tail == NL, RULES_FAIL)?;
+    if count(m, user.tail) < length(m) {
+        return Ok(PushPlan::Store(user.tail));
+    }
+    let (tail, new) = (user.tail, free?);
+    Ok(PushPlan::Append { tail, new })
+}
+
+/// Reduces the view at `place` with the head of the new segment.
+fn put_head(m: &mut [u32], place: usize, new: u32) {
+    let before = views::read(m, place);
+    if before.is_empty() {
+        put(m, place, new);
+    } else {
+        views::link(m, before.tail, new);
+    }
+    put(m, place + TAIL_FROM_HEAD, NL);
+}
+
+/// What pop and test find.
+#[derive(Clone, Copy, Debug, PartialEq, Eq)]
+enum Finding {
+    /// A value, the first of this segment.
+    Value(u32),
+    Empty,
+    Waits,
+}
+
+/// The tests of pop and test, and what they find.
+fn find(m: &[u32], t: u32, q: u32) -> Result<Finding, Answer> {
+    memory_passes(m)?;
+    task_unfinished(m, t)?;
+    queue_exists(q)?;
+    right_held(m, t, pop_right(q))?;
+    no_older_popper(m, t)?;
+    refuse_if(tree::waits_for_popping_child(m, t, q), Answer::Waits)?;
+    let head = get(m, queue_head(t, q));
+    // Only the last segment of a chain may be empty, so the first one tells.
+    Ok(if head != NONE && count(m, head) != 0 {
+        Finding::Value(head)
+    } else if tree::pusher_before(m, t, q) {
+        Finding::Waits
+    } else {
+        Finding::Empty
+    })
+}
+
+/// Pops from queue `q`; the value is the one taken.
+pub fn pop(m: &mut [u32], t: u32, q: u32) -> Answer {
+    either(try_pop(m, t, q))
+}
+
+fn try_pop(m: &mut [u32], t: u32, q: u32) -> Tried {
+    match find(m, t, q)? {
+        Finding::Empty => Err(PAST_THE_END),
+        Finding::Waits => Err(Answer::Waits),
+        Finding::Value(s) => {
+            let value = pools::value(m, s, 0);
+            pools::drop_first(m, s);
+            let after = next(m, s);
+            if count(m, s) == 0 && after != NONE {
+                put(m, queue_head(t, q), after);
+                pools::free_segment(m, s);
+            }
+            Ok(Answer::Moved(value))
+        }
+    }
+}
+
+/// Is queue `q` empty for `t`? No word changes.
+pub fn test(m: &mut [u32], t: u32, q: u32) -> Answer {
+    match find(m, t, q) {
+        Err(answer) => answer,
+        Ok(Finding::Value(_)) => Answer::NotEmpty,
+        Ok(Finding::Empty) => Answer::Empty,
+        Ok(Finding::Waits) => Answer::Waits,
+    }
+}
+
+/// The tests of sync and finish but the last.
+fn may_end(m: &[u32], t: u32) -> Passed {
+    memory_passes(m)?;
+    task_unfinished(m, t)?;
+    no_older_popper(m, t)?;
+    no_child(m, t)
+}
+
+/// Reduces the children view with the user view, for each queue.
+pub fn sync(m: &mut [u32], t: u32) -> Answer {
+    either(try_sync(m, t))
+}
+
+fn try_sync(m: &mut [u32], t: u32) -> Tried {
+    may_end(m, t)?;
+    refuse_if(late::sync_left_out(m, t), RULES_FAIL)?;
+    join_children(m, t);
+    Ok(Answer::Moved(0))
+}
+
+fn join_children(m: &mut [u32], t: u32) {
+    for q in 0..QUEUES {
+        let (children, user) = (children_view(t, q), user_view(t, q));
+        views::join(m, children, user, user);
+    }
+}
+
+/// Finishes `t`. The top's record stays, with its views.
+pub fn finish(m: &mut [u32], t: u32) -> Answer {
+    either(try_finish(m, t))
+}
+
+fn try_finish(m: &mut [u32], t: u32) -> Tried {
+    may_end(m, t)?;
+    if t == 0 {
+        refuse_if(late::sync_left_out(m, t), RULES_FAIL)?;
+        join_children(m, t);
+        put(m, task(t) + STATUS, FINISHED);
+        return Ok(Answer::Moved(0));
+    }
+    refuse_if(late::finish_left_out(m, t), RULES_FAIL)?;
+    for q in 0..QUEUES {
+        return_views(m, t, q);
+        return_queue_view(m, t, q);
+    }
+    unlink(m, t);
+    pools::free_task(m, t);
+    Ok(Answer::Moved(0))
+}
+
+/// Children, user and right view become one, which goes to its place.
+fn return_views(m: &mut [u32], t: u32, q: u32) {
+    let user = user_view(t, q);
+    views::join(m, children_view(t, q), user, user);
+    views::join(m, user, right_view(t, q), user);
+    let whole = views::read(m, user);
+    if !whole.is_empty() {
+        let place = views::place_of_returned(m, t, q, whole.head);
+        views::join(m, place, user, place);
+    }
+}
+
+/// The queue view goes to the oldest sibling that pops, else to the parent.
+fn return_queue_view(m: &mut [u32], t: u32, q: u32) {
+    let heir = tree::oldest_popping_sibling(m, t, q).unwrap_or(parent(m, t));
+    pass_queue_view(m, t, heir, q);
+}
+
+/// Takes `t` out of the list of its siblings.
+fn unlink(m: &mut [u32], t: u32) {
+    let (o, y, up) = (older(m, t), younger(m, t), parent(m, t));
+    if o != NONE {
+        put(m, task(o) + YOUNGER, y);
+    }
+    if y != NONE {
+        put(m, task(y) + OLDER, o);
+    } else {
+        put(m, task(up) + YOUNGEST, o);
+    }
+}
+
+/// Value number `index`, from 0, still in queue `q` once the top has finished.
+pub fn left(m: &mut [u32], q: u32, index: u32) -> Answer {
+    either(try_left(m, q, index))
+}
+
+fn try_left(m: &[u32], q: u32, index: u32) -> Tried {
+    memory_passes(m)?;
+    queue_exists(q)?;
+    refuse_if(status(m, 0) != FINISHED, Answer::Waits)?;
+    let (mut s, mut index) = (get(m, queue_head(0, q)), index);
+    for _ in 0..segments(m) {
+        if s == NONE {
+            break;
+        }
+        if index < count(m, s) {
+            return Ok(Answer::Moved(pools::value(m, s, index)));
+        }
+        index -= count(m, s);
+        s = next(m, s);
+    }
+    Err(PAST_THE_END)
+}
