@@ -2,10 +2,12 @@
 //! readings of the open places and docs/LAYOUT.md, and from nothing else.
 
 pub mod answer;
+pub mod call;
 pub mod calls;
 pub mod fast;
 pub mod late;
 pub mod layout;
+pub mod order;
 pub mod pools;
 pub mod rules;
 pub mod tree;
