@@ -4,11 +4,14 @@
 pub mod answer;
 pub mod call;
 pub mod calls;
+pub mod check;
 pub mod fast;
 pub mod late;
 pub mod layout;
 pub mod order;
+pub mod play;
 pub mod pools;
+pub mod random;
 pub mod rules;
 pub mod tree;
 pub mod views;

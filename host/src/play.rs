@@ -1,0 +1,347 @@
+//! Random programs: which call comes next.
+
+use crate::call::Call;
+use crate::layout::{any_right, pop_right, push_right, ALL_RIGHTS, QUEUES};
+use crate::order::Order;
+use crate::random::Random;
+
+/// How likely each kind of call is.
+#[derive(Clone, Copy, Debug)]
+struct Weights {
+    spawn: u32,
+    push: u32,
+    pop: u32,
+    test: u32,
+    sync: u32,
+    finish: u32,
+    left: u32,
+    /// Calls with numbers that may not exist.
+    stray: u32,
+}
+
+const KINDS: [Weights; 6] = [
+    // A bit of everything.
+    Weights {
+        spawn: 20,
+        push: 30,
+        pop: 30,
+        test: 8,
+        sync: 5,
+        finish: 14,
+        left: 1,
+        stray: 2,
+    },
+    // Many tasks, few of which end.
+    Weights {
+        spawn: 60,
+        push: 14,
+        pop: 10,
+        test: 4,
+        sync: 2,
+        finish: 3,
+        left: 1,
+        stray: 1,
+    },
+    // Long pushes and pops.
+    Weights {
+        spawn: 6,
+        push: 50,
+        pop: 50,
+        test: 6,
+        sync: 3,
+        finish: 5,
+        left: 0,
+        stray: 1,
+    },
+    // Tasks come and go.
+    Weights {
+        spawn: 30,
+        push: 20,
+        pop: 10,
+        test: 3,
+        sync: 4,
+        finish: 40,
+        left: 0,
+        stray: 1,
+    },
+    // Pushes until no segment is free.
+    Weights {
+        spawn: 12,
+        push: 60,
+        pop: 6,
+        test: 2,
+        sync: 3,
+        finish: 8,
+        left: 0,
+        stray: 1,
+    },
+    // Tests and syncs.
+    Weights {
+        spawn: 16,
+        push: 16,
+        pop: 10,
+        test: 30,
+        sync: 20,
+        finish: 14,
+        left: 2,
+        stray: 6,
+    },
+];
+
+const ENDING: Weights = Weights {
+    spawn: 0,
+    push: 3,
+    pop: 6,
+    test: 1,
+    sync: 3,
+    finish: 80,
+    left: 1,
+    stray: 1,
+};
+
+/// Which rights a child gets.
+#[derive(Clone, Copy, Debug)]
+enum Gift {
+    Any,
+    All,
+    /// Only of one queue.
+    OneQueue(u32),
+    Push,
+    /// Mostly push, now and then one with pop.
+    FewPoppers,
+}
+
+const PUSH_RIGHTS: u32 = 0b0101_0101;
+
+/// Makes the calls of one random program.
+pub struct Player {
+    random: Random,
+    weights: Weights,
+    gift: Gift,
+    /// How often, of a hundred, the task with the first spot is taken, and how
+    /// often the one with the last, which is the top. The first makes deep
+    /// trees, the last makes wide ones.
+    first: u32,
+    last: u32,
+    /// The most pushes in a row.
+    row: u32,
+    /// Task, queue and number of the pushes still to come in a row.
+    pushing: (u32, u32, u32),
+    value: u32,
+    pub calls: u32,
+    /// After so many calls the tasks are brought to their end.
+    ending: u32,
+    /// Calls made after the top's finish.
+    after: u32,
+}
+
+impl Player {
+    pub fn new(mut random: Random) -> Player {
+        let focus = random.below(QUEUES);
+        let one = Gift::OneQueue(focus);
+        let gift = random.pick(&[Gift::Any, Gift::All, one, one, Gift::Push, Gift::FewPoppers]);
+        let most = random.pick(&[60, 300, 900, 2_500]);
+        Player {
+            weights: random.pick(&KINDS),
+            gift,
+            first: random.pick(&[0, 10, 40, 80]),
+            last: random.pick(&[0, 10, 30, 60]),
+            row: random.pick(&[1, 2, 6, 20]),
+            pushing: (0, 0, 0),
+            value: 0,
+            calls: 0,
+            ending: random.within(10, most),
+            after: 0,
+            random,
+        }
+    }
+
+    /// An opening that is in range: mostly short and few segments.
+    pub fn opening(&mut self) -> Call {
+        let r = &mut self.random;
+        let length = if r.chance(85) {
+            r.within(1, 4)
+        } else {
+            r.within(5, 64)
+        };
+        let most = (8_192 / length).min(256);
+        let segments = match r.below(4) {
+            0 => r.within(4, 9),
+            1 => r.within(8, 40),
+            _ => r.within(41, most),
+        };
+        Call::Open { length, segments }
+    }
+
+    /// Has the program made all its calls?
+    pub fn ended(&self) -> bool {
+        self.after > 20 || self.calls > self.ending + 4_000
+    }
+
+    /// The next call, given what has been done.
+    pub fn next(&mut self, order: &Order) -> Call {
+        self.calls += 1;
+        if order.top_finished() {
+            self.after += 1;
+            return self.after_the_top();
+        }
+        if self.pushing.2 > 0 {
+            self.pushing.2 -= 1;
+            return self.push(self.pushing.0, self.pushing.1);
+        }
+        let weights = if self.calls > self.ending {
+            ENDING
+        } else {
+            self.weights
+        };
+        self.weighted(weights, order)
+    }
+
+    fn weighted(&mut self, w: Weights, order: &Order) -> Call {
+        let parts = [
+            w.spawn, w.push, w.pop, w.test, w.sync, w.finish, w.left, w.stray,
+        ];
+        let mut at = self.random.below(parts.iter().sum());
+        let mut kind = 0;
+        while at >= parts[kind] {
+            at -= parts[kind];
+            kind += 1;
+        }
+        match kind {
+            0 => self.spawn(order),
+            1 => self.first_push(order),
+            2 => self.look(order, |task, queue| Call::Pop { task, queue }),
+            3 => self.look(order, |task, queue| Call::Test { task, queue }),
+            4 => Call::Sync {
+                task: self.some_task(order),
+            },
+            5 => self.finish(order),
+            6 => self.after_the_top(),
+            _ => self.stray(),
+        }
+    }
+
+    fn spawn(&mut self, order: &Order) -> Call {
+        let task = self.some_task(order);
+        let rights = self.some_rights(order.rights(task));
+        Call::Spawn { task, rights }
+    }
+
+    /// The top ends the program, so before the ending it is mostly spared.
+    fn finish(&mut self, order: &Order) -> Call {
+        let task = self.some_task(order);
+        if task == 0 && self.calls <= self.ending && self.random.chance(98) {
+            return Call::Sync { task };
+        }
+        Call::Finish { task }
+    }
+
+    /// A pop or a test. The first spot with the pop right waits for nobody but
+    /// pushers, so it is taken often.
+    fn look(&mut self, order: &Order, call: fn(u32, u32) -> Call) -> Call {
+        let queue = self.some_queue(ALL_RIGHTS);
+        let pops = |t: &u32| order.rights(*t) & pop_right(queue) != 0;
+        if self.random.chance(70) {
+            let task = order.spots().find(pops).unwrap_or(0);
+            return call(task, queue);
+        }
+        let task = self.some_task(order);
+        call(task, self.some_queue(order.rights(task)))
+    }
+
+    fn some_task(&mut self, order: &Order) -> u32 {
+        let spots: Vec<u32> = order.spots().collect();
+        let at = self.random.below(100);
+        if at < self.first {
+            spots[0]
+        } else if at < self.first + self.last {
+            spots[spots.len() - 1]
+        } else {
+            self.random.pick(&spots)
+        }
+    }
+
+    /// Mostly a queue to which the task has a right.
+    fn some_queue(&mut self, rights: u32) -> u32 {
+        let held: Vec<u32> = (0..QUEUES)
+            .filter(|q| rights & any_right(*q) != 0)
+            .collect();
+        if held.is_empty() || self.random.chance(3) {
+            return self.random.below(QUEUES);
+        }
+        match self.gift {
+            Gift::OneQueue(q) if self.random.chance(80) => q,
+            _ => self.random.pick(&held),
+        }
+    }
+
+    fn some_rights(&mut self, held: u32) -> u32 {
+        let r = &mut self.random;
+        if r.chance(2) {
+            return r.below(512);
+        }
+        match self.gift {
+            Gift::Any => r.word() & held,
+            Gift::All if r.chance(70) => held,
+            Gift::All => r.word() & r.word() & held,
+            Gift::OneQueue(q) => r.within(0, 3) << (2 * q) & held,
+            Gift::Push => (PUSH_RIGHTS & held) & (r.word() | r.word()),
+            Gift::FewPoppers if r.chance(15) => held & r.word(),
+            Gift::FewPoppers => PUSH_RIGHTS & held,
+        }
+    }
+
+    /// Mostly by a task with the push right.
+    fn first_push(&mut self, order: &Order) -> Call {
+        let mut task = self.some_task(order);
+        let queue = self.some_queue(order.rights(task));
+        let pushes = |t: &u32| order.rights(*t) & push_right(queue) != 0;
+        if self.random.chance(80) && !pushes(&task) {
+            let pushers: Vec<u32> = order.spots().filter(pushes).collect();
+            task = self.random.pick(&pushers);
+        }
+        self.pushing = (task, queue, self.random.below(self.row));
+        self.push(task, queue)
+    }
+
+    /// Each value is another one, so that no exchange stays hidden.
+    fn push(&mut self, task: u32, queue: u32) -> Call {
+        let value = self.value;
+        self.value = value.wrapping_add(1);
+        Call::Push { task, queue, value }
+    }
+
+    fn stray(&mut self) -> Call {
+        let r = &mut self.random;
+        let task = r.pick(&[0, 1, 2, 127, 128, 129, u32::MAX]);
+        let queue = r.pick(&[0, 3, 4, 5, 31, u32::MAX]);
+        let rights = r.pick(&[0, ALL_RIGHTS, 256, u32::MAX]);
+        match r.below(7) {
+            0 => Call::Spawn { task, rights },
+            1 => Call::Push {
+                task,
+                queue,
+                value: 7,
+            },
+            2 => Call::Pop { task, queue },
+            3 => Call::Test { task, queue },
+            4 => Call::Sync { task },
+            5 => Call::Finish { task },
+            _ => Call::Left {
+                queue,
+                index: r.word(),
+            },
+        }
+    }
+
+    fn after_the_top(&mut self) -> Call {
+        if self.random.chance(30) {
+            return self.stray();
+        }
+        let (queue, most) = (self.random.below(QUEUES), self.random.pick(&[2, 8, 200]));
+        Call::Left {
+            queue,
+            index: self.random.below(most),
+        }
+    }
+}
