@@ -123,10 +123,10 @@ pub struct Player {
     /// trees, the last makes wide ones.
     first: u32,
     last: u32,
-    /// The most pushes in a row.
+    /// The most pushes or pops in a row.
     row: u32,
-    /// Task, queue and number of the pushes still to come in a row.
-    pushing: (u32, u32, u32),
+    /// The call that is made again, and how often.
+    again: (Call, u32),
     value: u32,
     pub calls: u32,
     /// After so many calls the tasks are brought to their end.
@@ -147,7 +147,7 @@ impl Player {
             first: random.pick(&[0, 10, 40, 80]),
             last: random.pick(&[0, 10, 30, 60]),
             row: random.pick(&[1, 2, 6, 20]),
-            pushing: (0, 0, 0),
+            again: (Call::Sync { task: 0 }, 0),
             value: 0,
             calls: 0,
             ending: random.within(10, most),
@@ -185,9 +185,9 @@ impl Player {
             self.after += 1;
             return self.after_the_top();
         }
-        if self.pushing.2 > 0 {
-            self.pushing.2 -= 1;
-            return self.push(self.pushing.0, self.pushing.1);
+        if self.again.1 > 0 {
+            self.again.1 -= 1;
+            return self.renewed(self.again.0);
         }
         let weights = if self.calls > self.ending {
             ENDING
@@ -210,7 +210,10 @@ impl Player {
         match kind {
             0 => self.spawn(order),
             1 => self.first_push(order),
-            2 => self.look(order, |task, queue| Call::Pop { task, queue }),
+            2 => {
+                let pop = self.look(order, |task, queue| Call::Pop { task, queue });
+                self.in_a_row(pop)
+            }
             3 => self.look(order, |task, queue| Call::Test { task, queue }),
             4 => Call::Sync {
                 task: self.some_task(order),
@@ -300,12 +303,23 @@ impl Player {
             let pushers: Vec<u32> = order.spots().filter(pushes).collect();
             task = self.random.pick(&pushers);
         }
-        self.pushing = (task, queue, self.random.below(self.row));
-        self.push(task, queue)
+        self.in_a_row(Call::Push {
+            task,
+            queue,
+            value: 0,
+        })
     }
 
-    /// Each value is another one, so that no exchange stays hidden.
-    fn push(&mut self, task: u32, queue: u32) -> Call {
+    fn in_a_row(&mut self, call: Call) -> Call {
+        self.again = (call, self.random.below(self.row));
+        self.renewed(call)
+    }
+
+    /// Each value pushed is another one, so that no exchange stays hidden.
+    fn renewed(&mut self, call: Call) -> Call {
+        let Call::Push { task, queue, .. } = call else {
+            return call;
+        };
         let value = self.value;
         self.value = value.wrapping_add(1);
         Call::Push { task, queue, value }
