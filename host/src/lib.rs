@@ -6,6 +6,7 @@ pub mod call;
 pub mod calls;
 pub mod check;
 pub mod fast;
+pub mod foreign;
 pub mod late;
 pub mod layout;
 pub mod order;

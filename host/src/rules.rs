@@ -16,6 +16,7 @@ pub type Rule = (&'static str, fn(&[u32]) -> bool);
 pub const RULES: [Rule; 21] = [
     ("L and segments in range", numbers_in_range),
     ("stacks below their limits", stacks_in_range),
+    ("each record unfinished or free", records_unfinished_or_free),
     ("task links below 128 or none", task_links_in_range),
     ("view ends are segments or marks", views_in_range),
     ("nexts below the number opened or none", nexts_in_range),
@@ -25,7 +26,6 @@ pub const RULES: [Rule; 21] = [
     ("ends are named by one tail", ends_named_by_tails),
     ("empty with a next has been freed", no_empty_with_next),
     ("no ring of nexts", no_ring_of_nexts),
-    ("each record unfinished or free", records_unfinished_or_free),
     ("the top's record", top_record),
     ("parents are unfinished", parents_unfinished),
     ("siblings linked both ways", siblings_both_ways),

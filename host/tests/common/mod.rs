@@ -1,5 +1,5 @@
 //! A core with short call names, for tests. Each test file uses a part of it.
-#![allow(dead_code)]
+#![allow(dead_code, unused_imports)]
 
 use host::answer::Answer;
 use host::call::Call;
