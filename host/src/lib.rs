@@ -5,6 +5,7 @@ pub mod answer;
 pub mod call;
 pub mod calls;
 pub mod check;
+pub mod damage;
 pub mod fast;
 pub mod foreign;
 pub mod late;

@@ -1,0 +1,133 @@
+//! Damaged memory and random words: no call fails, a call that does not move
+//! changes nothing, and the two forms of the rules agree.
+
+use host::answer::Answer;
+use host::call::Call;
+use host::damage::damage;
+use host::layout::WORDS;
+use host::order::Order;
+use host::play::Player;
+use host::random::Random;
+use host::{fast, foreign, rules};
+
+/// Memory after some calls of a random program.
+fn reached(r: &mut Random) -> Vec<u32> {
+    let mut m = vec![0; WORDS];
+    let mut order = Order::new();
+    let seed = u64::from(r.word());
+    let mut player = Player::new(Random::new(seed));
+    player.opening().make(&mut m);
+    let calls = r.pick(&[0, 3, 20, 80, 200]);
+    while player.calls < calls && !player.ended() {
+        let call = player.next(&order);
+        if call.make(&mut m).moved() {
+            order.note(call);
+        }
+    }
+    m
+}
+
+fn some_calls(r: &mut Random) -> Vec<Call> {
+    let task = r.pick(&[0, 0, 1, 2, 3, 5, 127, 128]);
+    let queue = r.pick(&[0, 1, 2, 3, 4]);
+    let (rights, value) = (r.pick(&[0, 1, 2, 3, 85, 170, 255, 256]), r.word());
+    let (length, segments) = (r.below(66), r.below(258));
+    vec![
+        Call::Open { length, segments },
+        Call::Spawn { task, rights },
+        Call::Push { task, queue, value },
+        Call::Pop { task, queue },
+        Call::Test { task, queue },
+        Call::Sync { task },
+        Call::Finish { task },
+        Call::Left {
+            queue,
+            index: value & 7,
+        },
+    ]
+}
+
+/// Makes each call on a copy of `m`.
+fn try_calls(r: &mut Random, m: &[u32]) {
+    let passes = fast::hold(m);
+    for call in some_calls(r) {
+        let mut copy = m.to_vec();
+        let answer = call.make(&mut copy);
+        if !answer.moved() {
+            assert!(copy == m, "{call} is {answer:?} and changes words");
+        }
+        let opening = matches!(call, Call::Open { .. });
+        if m.len() == WORDS && !passes && !opening {
+            assert_eq!(answer, Answer::Refused(2), "{call}");
+        }
+        if answer.moved() {
+            assert!(rules::held_named_once(&copy), "{call}");
+            assert!(rules::ends_named_by_tails(&copy), "{call}");
+            assert!(rules::no_empty_with_next(&copy), "{call}");
+        }
+    }
+}
+
+/// Damages memories and makes calls; how many passed all the same.
+fn damaged(seed: u64, times: u32, source: fn(&mut Random) -> Vec<u32>) -> u32 {
+    let mut r = Random::new(seed);
+    let mut passing = 0;
+    for _ in 0..times {
+        let good = source(&mut r);
+        assert_eq!(rules::first_broken(&good), None);
+        for _ in 0..20 {
+            let mut m = good.clone();
+            damage(&mut r, &mut m);
+            assert_eq!(fast::hold(&m), rules::hold(&m));
+            passing += u32::from(m != good && fast::hold(&m));
+            try_calls(&mut r, &m);
+        }
+    }
+    passing
+}
+
+#[test]
+fn reached_memories() {
+    let passing = damaged(1, 400, reached);
+    println!("{passing} damaged memories pass");
+    assert!(passing > 400);
+}
+
+#[test]
+fn memories_of_other_origin() {
+    let passing = damaged(2, 300, foreign::memory);
+    println!("{passing} damaged memories pass");
+    assert!(passing > 200);
+}
+
+/// Each rule is total: it ends on damaged and on random words.
+#[test]
+fn rules_one_by_one() {
+    let mut r = Random::new(3);
+    for _ in 0..200 {
+        let mut m = reached(&mut r);
+        for _ in 0..3 {
+            damage(&mut r, &mut m);
+        }
+        let small = r.pick(&[4, 128, 300]);
+        let noise: Vec<u32> = (0..WORDS).map(|_| r.below(small)).collect();
+        for words in [&m, &noise] {
+            let broken = rules::RULES.iter().any(|(_, rule)| !rule(words));
+            assert_eq!(broken, !fast::hold(words));
+        }
+    }
+}
+
+#[test]
+fn random_words_of_any_number() {
+    let mut r = Random::new(4);
+    for _ in 0..300 {
+        let number = r.pick(&[0, 1, 4, 64, 500, 8_192, WORDS as u32 - 1, WORDS as u32 + 9]);
+        let m: Vec<u32> = (0..number).map(|_| r.word()).collect();
+        for call in some_calls(&mut r) {
+            assert_eq!(call.make(&mut m.clone()), Answer::Refused(1));
+        }
+        let whole: Vec<u32> = (0..WORDS).map(|_| r.word()).collect();
+        try_calls(&mut r, &whole);
+    }
+}
