@@ -34,17 +34,19 @@ impl Call {
 
 impl fmt::Display for Call {
     fn fmt(&self, f: &mut fmt::Formatter) -> fmt::Result {
-        match self {
-            Call::Open { length, segments } => write!(f, "open(L {length}, segments {segments})"),
-            Call::Spawn { task, rights } => write!(f, "spawn(task {task}, rights {rights})"),
+        let text = match self {
+            Call::Open { length, segments } => format!("open(L {length}, segments {segments})"),
+            Call::Spawn { task, rights } => format!("spawn(task {task}, rights {rights})"),
             Call::Push { task, queue, value } => {
-                write!(f, "push(task {task}, queue {queue}, value {value})")
+                format!("push(task {task}, queue {queue}, value {value})")
             }
-            Call::Pop { task, queue } => write!(f, "pop(task {task}, queue {queue})"),
-            Call::Test { task, queue } => write!(f, "test(task {task}, queue {queue})"),
-            Call::Sync { task } => write!(f, "sync(task {task})"),
-            Call::Finish { task } => write!(f, "finish(task {task})"),
-            Call::Left { queue, index } => write!(f, "left(queue {queue}, index {index})"),
-        }
+            Call::Pop { task, queue } => format!("pop(task {task}, queue {queue})"),
+            Call::Test { task, queue } => format!("test(task {task}, queue {queue})"),
+            Call::Sync { task } => format!("sync(task {task})"),
+            Call::Finish { task } => format!("finish(task {task})"),
+            Call::Left { queue, index } => format!("left(queue {queue}, index {index})"),
+        };
+        // Padded, so that the lines of a run can stand in columns.
+        f.pad(&text)
     }
 }
