@@ -70,13 +70,12 @@ stepped p t r k ended u a = (ended, refl)
 stepped p t r k (goes b e w) u a = let s = stepped p t r k w u a in (goes b e (s .0), ap (λ (l : List Item). step p b ∷ l) (s .1))
 stepped p t r k (forks c s v w) u a =
     let x = stepped (k ∷ p) c s 0 v u a in
-    let y = stepped p t r (k + 1) w u a in
-    (
+    let y = stepped p t r (k + 1) w u a in (
       forks c s (x .0) (y .0),
       ap (λ (l : List Item). step p (spawns c s) ∷ l)
-      (advance-append u a (items (k ∷ p) c s 0 v) (items p t r (k + 1) w)
-      ∙ ap (λ (l : List Item). l ++ advance u a (items p t r (k + 1) w)) (x .1)
-      ∙ ap (λ (l : List Item). items (k ∷ p) c s 0 (x .0) ++ l) (y .1)),
+          (advance-append u a (items (k ∷ p) c s 0 v) (items p t r (k + 1) w)
+          ∙ ap (λ (l : List Item). l ++ advance u a (items p t r (k + 1) w)) (x .1)
+          ∙ ap (λ (l : List Item). items (k ∷ p) c s 0 (x .0) ++ l) (y .1)),
     )
 
 -- A reached list is the items of a course of the top.

@@ -74,9 +74,9 @@ child-between xs h p k l =
       mine = b .mine;
       inside = own (k ∷ p) (b .number) (b .rights) 0 (b .course);
       outside =
-        free-append (k ∷ p) (b .before) (made ∷ b .next ∷ b .behind) (b .free-before)
-        (free-append (k ∷ p) (made ∷ []) (b .next ∷ b .behind) (free-one (k ∷ p) made (up p refl))
-        (free-append (k ∷ p) (b .next ∷ []) (b .behind) (free-one (k ∷ p) (b .next) (up (whose (b .next)) (b .mine))) (b .free-behind)));
+          free-append (k ∷ p) (b .before) (made ∷ b .next ∷ b .behind) (b .free-before)
+          (free-append (k ∷ p) (made ∷ []) (b .next ∷ b .behind) (free-one (k ∷ p) made (up p refl))
+          (free-append (k ∷ p) (b .next ∷ []) (b .behind) (free-one (k ∷ p) (b .next) (up (whose (b .next)) (b .mine))) (b .free-behind)));
       as-spawned = as-made (k ∷ p) (b .number) (b .rights) 0 (b .course);
     }
   where

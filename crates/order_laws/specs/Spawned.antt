@@ -59,10 +59,10 @@ back p c j xs zs f b =
       next = b .next;
       behind = b .behind ++ zs;
       parts =
-        ap (λ (l : List Item). l ++ zs) (b .parts)
-        ∙ append-assoc (b .before) (step p (spawns (b .number) (b .rights)) ∷ (items c (b .number) (b .rights) 0 (b .course) ++ b .next ∷ b .behind)) zs
-        ∙ ap (λ (l : List Item). b .before ++ step p (spawns (b .number) (b .rights)) ∷ l)
-        (append-assoc (items c (b .number) (b .rights) 0 (b .course)) (b .next ∷ b .behind) zs);
+          ap (λ (l : List Item). l ++ zs) (b .parts)
+          ∙ append-assoc (b .before) (step p (spawns (b .number) (b .rights)) ∷ (items c (b .number) (b .rights) 0 (b .course) ++ b .next ∷ b .behind)) zs
+          ∙ ap (λ (l : List Item). b .before ++ step p (spawns (b .number) (b .rights)) ∷ l)
+          (append-assoc (items c (b .number) (b .rights) 0 (b .course)) (b .next ∷ b .behind) zs);
       nth = b .nth;
       free-before = b .free-before;
       free-behind = free-append c (b .behind) zs (b .free-behind) f;
