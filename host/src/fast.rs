@@ -1,45 +1,31 @@
 //! The memory rules in one pass, for speed. `rules` has their wording; tests
 //! compare the two on good and on damaged memory.
 //!
-//! Why this says the same: the stack of free segments and the chains from all
-//! heads together have each segment once, so each held segment has one name
-//! and no nexts form a ring. The tails are distinct ends of chains, as many as
-//! there are chains. The tree is walked from the top along links that are
-//! tested where they are followed, and has as many tasks as are not free.
+//! Why this says the same. Each segment gets a mark for every place it has: on
+//! the stack, inside a chain, at the end of a chain. There are as many places
+//! as segments and each segment has one, so each has exactly one: held segments
+//! are named once, and no nexts form a ring. The order of the views makes the
+//! tails as many as the chains, and each end of a chain has a tail, so each has
+//! exactly one. The tree is walked from the top along links that are tested
+//! where they are followed, and has as many tasks as are not free.
 
 use crate::layout::*;
 
 type Words = [u32; WORDS];
 
-/// A set of numbers below 256.
-#[derive(Default)]
-struct Marks([u64; 4]);
-
-impl Marks {
-    /// Adds `x`, which is below 256. False if it was there.
-    fn add(&mut self, x: u32) -> bool {
-        let (word, bit) = (&mut self.0[(x >> 6) as usize & 3], 1 << (x & 63));
-        let new = *word & bit == 0;
-        *word |= bit;
-        new
-    }
-
-    fn has(&self, x: u32) -> bool {
-        self.0[(x >> 6) as usize & 3] & (1 << (x & 63)) != 0
-    }
-}
+// Marks of a segment.
+const FREE_ONE: u8 = 1;
+const INNER: u8 = 2;
+const END: u8 = 4;
+const TAIL: u8 = 8;
 
 /// What the walk over the views has met so far.
 struct Walk<'a> {
     m: &'a Words,
     opened: u32,
-    free: Marks,
-    /// Free segments, and those of the chains met.
-    placed: Marks,
-    placed_number: u32,
-    tails: Marks,
-    /// Chains met less tails met.
-    open_chains: i32,
+    marks: [u8; MOST_SEGMENTS as usize],
+    /// Places of segments met: on the stack and in chains.
+    placed: u32,
     /// Bit q: a queue view of queue q has a head.
     queues: u32,
     /// Bit q: the view met before, which is the next one in the paper's order,
@@ -47,21 +33,29 @@ struct Walk<'a> {
     nonlocal: u32,
 }
 
+impl Walk<'_> {
+    fn mark(&mut self, s: u32, mark: u8) {
+        self.marks[(s & 255) as usize] |= mark;
+    }
+}
+
 /// Does this memory pass?
 pub fn hold(m: &[u32]) -> bool {
     let Ok(m) = <&Words>::try_from(m) else {
         return false;
     };
-    if !numbers(m) || !segment_words(m) {
+    if !numbers(m) || !segment_words(m) || !free_tasks(m) || !top(m) {
         return false;
     }
-    let Some(mut walk) = free_segments(m) else {
-        return false;
+    let mut walk = Walk {
+        m,
+        opened: m[SEGMENTS],
+        marks: [0; MOST_SEGMENTS as usize],
+        placed: 0,
+        queues: 0,
+        nonlocal: 0,
     };
-    let Some(unfinished) = free_tasks(m) else {
-        return false;
-    };
-    top(m) && tree(&mut walk, unfinished) && whole(&walk)
+    free_segments(&mut walk) && tree(&mut walk, TASKS - m[FREE_TASKS]) && whole(&walk)
 }
 
 fn numbers(m: &Words) -> bool {
@@ -71,57 +65,52 @@ fn numbers(m: &Words) -> bool {
         && length * opened <= VALUE_WORDS
 }
 
-/// Counts, first places and nexts. No early exit, so that it runs on several
-/// words at once.
+/// First places, counts and nexts. No early exit and one comparison a word, so
+/// that several words are tested at once.
 fn segment_words(m: &Words) -> bool {
     let (length, opened) = (m[LENGTH], m[SEGMENTS]);
     let records = &m[SEGMENT_RECORDS..SEGMENT_RECORDS + SEGMENT_WORDS * opened as usize];
-    let mut good = true;
+    // Raised by one, the mark for none is 0 and each good next is at most `opened`.
+    let raise = [0, 0, 1, 0];
+    let most = [length - 1, length, opened, u32::MAX];
+    let mut bad = [0; SEGMENT_WORDS];
     for record in records.chunks_exact(SEGMENT_WORDS) {
-        good &= record[FIRST] < length;
-        good &= record[COUNT] <= length;
-        good &= (record[NEXT] < opened) | (record[NEXT] == NONE);
+        for i in 0..SEGMENT_WORDS {
+            bad[i] |= u32::from(record[i].wrapping_add(raise[i]) > most[i]);
+        }
     }
+    bad == [0; SEGMENT_WORDS]
+}
+
+fn free_segments(walk: &mut Walk) -> bool {
+    let (opened, height) = (walk.opened, walk.m[FREE_SEGMENTS]);
+    if height > opened {
+        return false;
+    }
+    let mut good = true;
+    for &s in &walk.m[SEGMENT_STACK..SEGMENT_STACK + height as usize] {
+        good &= s < opened;
+        walk.mark(s, FREE_ONE);
+    }
+    walk.placed = height;
     good
 }
 
-fn free_segments(m: &Words) -> Option<Walk<'_>> {
-    let (opened, height) = (m[SEGMENTS], m[FREE_SEGMENTS]);
-    if height > opened {
-        return None;
-    }
-    let mut free = Marks::default();
-    for &s in &m[SEGMENT_STACK..SEGMENT_STACK + height as usize] {
-        if s >= opened || !free.add(s) {
-            return None;
-        }
-    }
-    Some(Walk {
-        m,
-        opened,
-        placed: Marks(free.0),
-        free,
-        placed_number: height,
-        tails: Marks::default(),
-        open_chains: 0,
-        queues: 0,
-        nonlocal: 0,
-    })
-}
-
-/// The number of records that are not free, if the free ones are in order.
-fn free_tasks(m: &Words) -> Option<u32> {
+/// The free records are distinct, are not task 0, and say that they are free.
+fn free_tasks(m: &Words) -> bool {
     let height = m[FREE_TASKS];
     if height >= TASKS {
-        return None;
+        return false;
     }
-    let mut free = Marks::default();
+    let mut marks = [0u8; TASKS as usize];
+    let mut wrong = 0;
     for &t in &m[TASK_STACK..TASK_STACK + height as usize] {
-        if t == 0 || t >= TASKS || m[task(t)] != FREE || !free.add(t) {
-            return None;
-        }
+        let near = t & (TASKS - 1);
+        wrong |= (t ^ near) | (m[task(near)] ^ FREE);
+        marks[near as usize] = 1;
     }
-    Some(TASKS - height)
+    let distinct: u32 = marks.iter().map(|mark| u32::from(*mark)).sum();
+    wrong == 0 && marks[0] == 0 && distinct == height
 }
 
 fn top(m: &Words) -> bool {
@@ -174,56 +163,63 @@ fn fits(m: &Words, t: u32, up: u32, younger: u32) -> bool {
     if t >= TASKS {
         return false;
     }
-    let r = &m[task(t)..task(t) + TASK_WORDS];
+    let r = record(m, t);
     r[STATUS] == UNFINISHED
         && r[PARENT] == up
         && r[YOUNGER] == younger
-        && r[RIGHTS] & !m[task(up) + RIGHTS] == 0
+        && r[RIGHTS] & !record(m, up)[RIGHTS] == 0
+}
+
+/// The record of task `t`, which is below 128.
+fn record(m: &Words, t: u32) -> &[u32; TASK_WORDS] {
+    let words = m[task(t & (TASKS - 1))..].first_chunk();
+    words.expect("a record stands within the words")
 }
 
 /// The views of `t` that stand after those of its children, and its queue views.
 fn met(walk: &mut Walk, t: u32) -> bool {
-    queue_views(walk, t) && views(walk, t, RIGHT_HEADS) && views(walk, t, USER_HEADS)
+    let r = record(walk.m, t);
+    queue_views(walk, r) && views::<RIGHT_HEADS>(walk, r) && views::<USER_HEADS>(walk, r)
 }
 
 /// The views of `t` that stand before those of its children.
 fn left(walk: &mut Walk, t: u32) -> bool {
-    views(walk, t, CHILDREN_HEADS)
+    views::<CHILDREN_HEADS>(walk, record(walk.m, t))
 }
 
-fn queue_views(walk: &mut Walk, t: u32) -> bool {
-    let r = &walk.m[task(t)..task(t) + TASK_WORDS];
-    let heads = &r[QUEUE_HEADS..QUEUE_HEADS + 4];
-    if heads.iter().fold(NONE, |all, h| all & h) == NONE {
-        return true;
-    }
-    (0..QUEUES).all(|q| {
-        let head = heads[q as usize];
-        let new = walk.queues & (1 << q) == 0;
-        let good = new && r[RIGHTS] & any_right(q) != 0;
-        head == NONE || {
-            walk.queues |= 1 << q;
-            good && chain(walk, head)
-        }
-    })
+/// Are the four words from `i` on all the mark for none? It has all bits set.
+fn all_none(r: &[u32; TASK_WORDS], i: usize) -> bool {
+    r[i] & r[i + 1] & r[i + 2] & r[i + 3] == NONE
 }
 
-/// The four views of one kind; `kind` is where their heads start.
-fn views(walk: &mut Walk, t: u32, kind: usize) -> bool {
-    let r = &walk.m[task(t)..task(t) + TASK_WORDS];
-    let heads = &r[kind..kind + 4];
-    let tails = &r[kind + TAIL_FROM_HEAD..kind + TAIL_FROM_HEAD + 4];
-    let all = heads.iter().chain(tails).fold(NONE, |all, w| all & w);
-    if all == NONE {
+fn queue_views(walk: &mut Walk, r: &[u32; TASK_WORDS]) -> bool {
+    all_none(r, QUEUE_HEADS) || (0..QUEUES).all(|q| queue_view(walk, r, q))
+}
+
+fn queue_view(walk: &mut Walk, r: &[u32; TASK_WORDS], q: u32) -> bool {
+    let head = r[QUEUE_HEADS + q as usize];
+    if head == NONE {
         return true;
     }
-    (0..QUEUES).all(|q| {
-        let (head, tail) = (heads[q as usize], tails[q as usize]);
-        if head == NONE && tail == NONE {
-            return true;
-        }
-        r[RIGHTS] & any_right(q) != 0 && view(walk, q, head, tail)
-    })
+    let new = walk.queues & (1 << q) == 0;
+    walk.queues |= 1 << q;
+    new && r[RIGHTS] & any_right(q) != 0 && chain(walk, head)
+}
+
+/// The four views of one kind; `KIND` is where their heads start. Most tasks
+/// have none, so that is tested first.
+#[inline(always)]
+fn views<const KIND: usize>(walk: &mut Walk, r: &[u32; TASK_WORDS]) -> bool {
+    let none = all_none(r, KIND) && all_none(r, KIND + TAIL_FROM_HEAD);
+    none || (0..QUEUES).all(|q| stored_view(walk, r, KIND + q as usize, q))
+}
+
+fn stored_view(walk: &mut Walk, r: &[u32; TASK_WORDS], i: usize, q: u32) -> bool {
+    let (head, tail) = (r[i], r[i + TAIL_FROM_HEAD]);
+    if head == NONE && tail == NONE {
+        return true;
+    }
+    r[RIGHTS] & any_right(q) != 0 && view(walk, q, head, tail)
 }
 
 /// A view that is not empty, met before the one in front of it.
@@ -236,38 +232,38 @@ fn view(walk: &mut Walk, q: u32, head: u32, tail: u32) -> bool {
     (tail == NL || end(walk, tail)) && (head == NL || chain(walk, head))
 }
 
-/// Places the segments from `head` on.
+/// Marks the segments from `head` on. More places than segments end it, so a
+/// ring does.
 fn chain(walk: &mut Walk, head: u32) -> bool {
     let mut s = head;
-    while s < walk.opened && walk.placed.add(s) {
-        walk.placed_number += 1;
+    while s < walk.opened && walk.placed < walk.opened {
+        walk.placed += 1;
         let record = &walk.m[segment(s)..segment(s) + SEGMENT_WORDS];
-        if record[NEXT] == NONE {
-            walk.open_chains += 1;
+        let (held, after) = (record[COUNT], record[NEXT]);
+        if after == NONE {
+            walk.mark(s, END);
             return true;
         }
-        if record[COUNT] == 0 {
+        if held == 0 {
             return false;
         }
-        s = record[NEXT];
+        walk.mark(s, INNER);
+        s = after;
     }
     false
 }
 
-/// A tail names the end of a chain that no other tail names.
 fn end(walk: &mut Walk, tail: u32) -> bool {
-    walk.open_chains -= 1;
+    walk.mark(tail, TAIL);
     tail < walk.opened
-        && !walk.free.has(tail)
-        && walk.m[segment(tail) + NEXT] == NONE
-        && walk.tails.add(tail)
 }
 
-/// Each segment has its place, each chain its tail, each queue its head, and
+/// Each segment has its one place, each end its tail, each queue its head, and
 /// the first view of each queue behind the queue view a non-local head.
 fn whole(walk: &Walk) -> bool {
-    walk.placed_number == walk.opened
-        && walk.open_chains == 0
-        && walk.queues == 15
-        && walk.nonlocal == 15
+    let mut good = true;
+    for &mark in &walk.marks[..walk.opened as usize] {
+        good &= (mark == FREE_ONE) | (mark == INNER) | (mark == END | TAIL);
+    }
+    good && walk.placed == walk.opened && walk.queues == 15 && walk.nonlocal == 15
 }
