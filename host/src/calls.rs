@@ -364,8 +364,8 @@ fn return_views(m: &mut [u32], t: u32, q: u32) {
 
 /// The queue view goes to the oldest sibling that pops, else to the parent.
 fn return_queue_view(m: &mut [u32], t: u32, q: u32) {
-    let heir = tree::oldest_popping_sibling(m, t, q).unwrap_or(parent(m, t));
-    pass_queue_view(m, t, heir, q);
+    let receiver = tree::oldest_popping_sibling(m, t, q).unwrap_or(parent(m, t));
+    pass_queue_view(m, t, receiver, q);
 }
 
 /// Takes `t` out of the list of its siblings.
