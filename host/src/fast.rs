@@ -2,12 +2,13 @@
 //! compare the two on good and on damaged memory.
 //!
 //! Why this says the same. Each segment gets a mark for every place it has: on
-//! the stack, inside a chain, at the end of a chain. There are as many places
-//! as segments and each segment has one, so each has exactly one: held segments
-//! are named once, and no nexts form a ring. The order of the views makes the
-//! tails as many as the chains, and each end of a chain has a tail, so each has
-//! exactly one. The tree is walked from the top along links that are tested
-//! where they are followed, and has as many tasks as are not free.
+//! the stack, inside a chain, at the end of a chain. There are no more places
+//! than segments and each segment has one, so each has exactly one: held
+//! segments are named once, and no nexts form a ring. The order of the views
+//! and one queue view for each queue make the tails as many as the chains, and
+//! each end of a chain has a tail, so each has exactly one. The tree is walked
+//! from the top along links that are tested where they are followed, and has as
+//! many tasks as are not free.
 
 use crate::layout::*;
 
@@ -265,5 +266,5 @@ fn whole(walk: &Walk) -> bool {
     for &mark in &walk.marks[..walk.opened as usize] {
         good &= (mark == FREE_ONE) | (mark == INNER) | (mark == END | TAIL);
     }
-    good && walk.placed == walk.opened && walk.queues == 15 && walk.nonlocal == 15
+    good && walk.queues == 15 && walk.nonlocal == 15
 }

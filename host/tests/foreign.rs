@@ -280,8 +280,17 @@ fn one_word_breaks_a_rule() {
 fn segments_and_views_break_a_rule() {
     let tail = |t, q| user_view(t, q) + TAIL_FROM_HEAD;
     assert_breaks(&[(tail(0, 1), 2)], "ends are named by one tail");
+    // No queue view of queue 1, and its user view ends in queue 2's segment.
+    let free_1 = [
+        (queue_head(0, 1), NONE),
+        (FREE_SEGMENTS, 5),
+        (segment_place(4), 1),
+    ];
+    let mut words = free_1.to_vec();
+    words.push((tail(0, 1), 2));
+    assert_breaks(&words, "ends are named by one tail");
     let take_4 = [(FREE_SEGMENTS, 3), (segment(4) + NEXT, NONE)];
-    let mut words = take_4.to_vec();
+    words = take_4.to_vec();
     words.extend([(segment(1) + NEXT, 4), (tail(0, 1), 4)]);
     assert_breaks(&words, "empty with a next has been freed");
     let ring = [
