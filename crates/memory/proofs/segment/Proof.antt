@@ -1,0 +1,31 @@
+use Rattle.layout.specs.Layout.{read, address}
+use borrow.Author.Needs.{needs}
+use Rattle.memory.proofs.segment.Statement.{statement}
+use Rattle.memory.proofs.segment.Tie as tie
+use Rattle.memory.proofs.segment.Reads as reads
+use Rattle.memory.proofs.segment.Lts as lts
+use Rattle.memory.proofs.get.Reads as get-reads
+
+-- src/lib.rt:63:18
+mul-get : tie.Need-mul-get
+mul-get c = search needs
+
+-- src/lib.rt:63:12
+add-get : tie.Need-add-get
+add-get c = search needs
+
+-- src/lib.rt:63:12
+add-get-2 : tie.Need-add-get-2
+add-get-2 c = search needs
+
+-- src/lib.rt:63:5
+get-requires : tie.Need-get-requires
+get-requires c κs = search needs
+
+-- src/lib.rt:60:1
+returns : tie.Need-returns
+unfolding read address
+returns c = c .get .ensures
+
+pub segment-spec : {M : Type 1} → statement M
+segment-spec = tie.close (tie.spec mul-get add-get add-get-2 get-requires returns)

@@ -1,0 +1,27 @@
+use Rattle.layout.specs.Layout.{write, address}
+use borrow.Author.Needs.{needs}
+use Rattle.memory.proofs.set_free_segment.Statement.{statement}
+use Rattle.memory.proofs.set_free_segment.Tie as tie
+use Rattle.memory.proofs.set_free_segment.Reads as reads
+use Rattle.memory.proofs.set_free_segment.Lts as lts
+use Rattle.memory.proofs.put.Reads as put-reads
+
+-- src/lib.rt:43:12
+add-put : tie.Need-add-put
+add-put c = search needs
+
+-- src/lib.rt:43:5
+put-requires : tie.Need-put-requires
+put-requires c κs = search needs
+
+-- src/lib.rt:40:1
+same-length : tie.Need-same-length
+same-length c = search needs
+
+-- src/lib.rt:40:1
+returns : tie.Need-returns
+unfolding write address
+returns c = c .before .before .put .ensures
+
+pub set-free-segment-spec : {M : Type 1} → statement M
+set-free-segment-spec = tie.close (tie.spec add-put put-requires same-length returns)

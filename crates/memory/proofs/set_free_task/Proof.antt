@@ -1,0 +1,27 @@
+use Rattle.layout.specs.Layout.{write, address}
+use borrow.Author.Needs.{needs}
+use Rattle.memory.proofs.set_free_task.Statement.{statement}
+use Rattle.memory.proofs.set_free_task.Tie as tie
+use Rattle.memory.proofs.set_free_task.Reads as reads
+use Rattle.memory.proofs.set_free_task.Lts as lts
+use Rattle.memory.proofs.put.Reads as put-reads
+
+-- src/lib.rt:56:12
+add-put : tie.Need-add-put
+add-put c = search needs
+
+-- src/lib.rt:56:5
+put-requires : tie.Need-put-requires
+put-requires c κs = search needs
+
+-- src/lib.rt:53:1
+same-length : tie.Need-same-length
+same-length c = search needs
+
+-- src/lib.rt:53:1
+returns : tie.Need-returns
+unfolding write address
+returns c = c .before .before .put .ensures
+
+pub set-free-task-spec : {M : Type 1} → statement M
+set-free-task-spec = tie.close (tie.spec add-put put-requires same-length returns)

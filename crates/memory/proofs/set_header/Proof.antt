@@ -1,0 +1,23 @@
+use Rattle.layout.specs.Layout.{write, address}
+use borrow.Author.Needs.{needs}
+use Rattle.memory.proofs.set_header.Statement.{statement}
+use Rattle.memory.proofs.set_header.Tie as tie
+use Rattle.memory.proofs.set_header.Reads as reads
+use Rattle.memory.proofs.set_header.Lts as lts
+use Rattle.memory.proofs.put.Reads as put-reads
+
+-- src/lib.rt:30:5
+put-requires : tie.Need-put-requires
+put-requires c κs = search needs
+
+-- src/lib.rt:27:1
+same-length : tie.Need-same-length
+same-length c = search needs
+
+-- src/lib.rt:27:1
+returns : tie.Need-returns
+unfolding write address
+returns c = c .before .before .put .ensures
+
+pub set-header-spec : {M : Type 1} → statement M
+set-header-spec = tie.close (tie.spec put-requires same-length returns)

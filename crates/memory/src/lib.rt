@@ -1,0 +1,83 @@
+// Reading and writing the fields of the layout. Every function is total: past the end a read gives 0 and a write
+// does nothing.
+ghost use mathlib.Core.Path.{_≡_};
+ghost use Rattle.words.specs.Words.{load, store, pick};
+ghost use Rattle.layout.specs.Layout.{read, write, header, freeSegment, freeTask, segment, task, value};
+
+pub fn get(m: &[u32], a: usize) -> u32
+    ensures { λ r. ⌜ r ≡ load (now (m .entry)) a ⌝ }
+{
+    if a < m.len() { m[a] } else { 0 }
+}
+
+pub fn put(m: &mut [u32], a: usize, v: u32)
+    ensures { λ _. ⌜ now (m .exit) ≡ store (now (m .entry)) a v ⌝ }
+{
+    if a < m.len() {
+        m[a] = v;
+    }
+}
+
+pub fn header(m: &[u32], k: u32) -> u32
+    ensures { λ r. ⌜ r ≡ read (now (m .entry)) (header k) ⌝ }
+{
+    get(m, k as usize)
+}
+
+pub fn set_header(m: &mut [u32], k: u32, v: u32)
+    ensures { λ _. ⌜ now (m .exit) ≡ write (now (m .entry)) (header k) v ⌝ }
+{
+    put(m, k as usize, v);
+}
+
+// Place i of the stack of free segments.
+pub fn free_segment(m: &[u32], i: u32) -> u32
+    ensures { λ r. ⌜ r ≡ read (now (m .entry)) (freeSegment i) ⌝ }
+{
+    get(m, 64 + i as usize)
+}
+
+pub fn set_free_segment(m: &mut [u32], i: u32, v: u32)
+    ensures { λ _. ⌜ now (m .exit) ≡ write (now (m .entry)) (freeSegment i) v ⌝ }
+{
+    put(m, 64 + i as usize, v);
+}
+
+// Place i of the stack of free task records.
+pub fn free_task(m: &[u32], i: u32) -> u32
+    ensures { λ r. ⌜ r ≡ read (now (m .entry)) (freeTask i) ⌝ }
+{
+    get(m, 320 + i as usize)
+}
+
+pub fn set_free_task(m: &mut [u32], i: u32, v: u32)
+    ensures { λ _. ⌜ now (m .exit) ≡ write (now (m .entry)) (freeTask i) v ⌝ }
+{
+    put(m, 320 + i as usize, v);
+}
+
+// Word k of the record of segment s.
+pub fn segment(m: &[u32], s: u32, k: u32) -> u32
+    ensures { λ r. ⌜ r ≡ read (now (m .entry)) (segment s k) ⌝ }
+{
+    get(m, 448 + s as usize * 4 + k as usize)
+}
+
+pub fn set_segment(m: &mut [u32], s: u32, k: u32, v: u32)
+    ensures { λ _. ⌜ now (m .exit) ≡ write (now (m .entry)) (segment s k) v ⌝ }
+{
+    put(m, 448 + s as usize * 4 + k as usize, v);
+}
+
+// Word k of the record of task t.
+pub fn task(m: &[u32], t: u32, k: u32) -> u32
+    ensures { λ r. ⌜ r ≡ read (now (m .entry)) (task t k) ⌝ }
+{
+    get(m, 1472 + t as usize * 48 + k as usize)
+}
+
+pub fn set_task(m: &mut [u32], t: u32, k: u32, v: u32)
+    ensures { λ _. ⌜ now (m .exit) ≡ write (now (m .entry)) (task t k) v ⌝ }
+{
+    put(m, 1472 + t as usize * 48 + k as usize, v);
+}
