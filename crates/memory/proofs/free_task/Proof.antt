@@ -6,15 +6,12 @@ use Rattle.memory.proofs.free_task.Reads as reads
 use Rattle.memory.proofs.free_task.Lts as lts
 use Rattle.memory.proofs.get.Reads as get-reads
 
--- src/lib.rt:50:12
 add-get : tie.Need-add-get
 add-get c = search needs
 
--- src/lib.rt:50:5
 get-requires : tie.Need-get-requires
 get-requires c κs = search needs
 
--- src/lib.rt:47:1
 returns : tie.Need-returns
 unfolding read address
 returns c = c .get .ensures

@@ -7,20 +7,16 @@ use Rattle.memory.proofs.get.Tie as tie
 use Rattle.memory.proofs.get.Reads as reads
 use Rattle.memory.proofs.get.Lts as lts
 
--- src/lib.rt:10:22
 mul-result : tie.Need-mul-result
 mul-result c = search needs
 
--- src/lib.rt:10:22
 shared-slice-read-result : tie.Need-shared-slice-read-result
 shared-slice-read-result c = search needs
 
--- src/lib.rt:7:1
 returns : tie.Need-returns
 unfolding load
 returns c = search needs
 
--- src/lib.rt:7:1
 returns-2 : tie.Need-returns-2
 unfolding load
 returns-2 c = sym (List·getD-eq-default (c .before .args .m .now) 0 (c .if1 .left))

@@ -6,11 +6,9 @@ use Rattle.memory.proofs.header.Reads as reads
 use Rattle.memory.proofs.header.Lts as lts
 use Rattle.memory.proofs.get.Reads as get-reads
 
--- src/lib.rt:24:5
 get-requires : tie.Need-get-requires
 get-requires c κs = search needs
 
--- src/lib.rt:21:1
 returns : tie.Need-returns
 unfolding read address
 returns c = c .get .ensures

@@ -7,24 +7,19 @@ use Rattle.memory.proofs.put.Tie as tie
 use Rattle.memory.proofs.put.Reads as reads
 use Rattle.memory.proofs.put.Lts as lts
 
--- src/lib.rt:17:9
 mul-m : tie.Need-mul-m
 mul-m c = search needs
 
--- src/lib.rt:17:9
 slice-write-m : tie.Need-slice-write-m
 slice-write-m c = search needs
 
--- src/lib.rt:13:1
 same-length : tie.Need-same-length
 same-length c = search needs
 
--- src/lib.rt:13:1
 returns : tie.Need-returns
 unfolding store
 returns c = search needs
 
--- src/lib.rt:13:1
 returns-2 : tie.Need-returns-2
 unfolding store
 returns-2 c = sym (set-out _ _ _ (c .if1 .left))

@@ -6,23 +6,18 @@ use Rattle.memory.proofs.segment.Reads as reads
 use Rattle.memory.proofs.segment.Lts as lts
 use Rattle.memory.proofs.get.Reads as get-reads
 
--- src/lib.rt:63:18
 mul-get : tie.Need-mul-get
 mul-get c = search needs
 
--- src/lib.rt:63:12
 add-get : tie.Need-add-get
 add-get c = search needs
 
--- src/lib.rt:63:12
 add-get-2 : tie.Need-add-get-2
 add-get-2 c = search needs
 
--- src/lib.rt:63:5
 get-requires : tie.Need-get-requires
 get-requires c κs = search needs
 
--- src/lib.rt:60:1
 returns : tie.Need-returns
 unfolding read address
 returns c = c .get .ensures

@@ -6,19 +6,15 @@ use Rattle.memory.proofs.set_free_segment.Reads as reads
 use Rattle.memory.proofs.set_free_segment.Lts as lts
 use Rattle.memory.proofs.put.Reads as put-reads
 
--- src/lib.rt:43:12
 add-put : tie.Need-add-put
 add-put c = search needs
 
--- src/lib.rt:43:5
 put-requires : tie.Need-put-requires
 put-requires c κs = search needs
 
--- src/lib.rt:40:1
 same-length : tie.Need-same-length
 same-length c = search needs
 
--- src/lib.rt:40:1
 returns : tie.Need-returns
 unfolding write address
 returns c = c .before .before .put .ensures

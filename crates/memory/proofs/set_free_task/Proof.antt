@@ -6,19 +6,15 @@ use Rattle.memory.proofs.set_free_task.Reads as reads
 use Rattle.memory.proofs.set_free_task.Lts as lts
 use Rattle.memory.proofs.put.Reads as put-reads
 
--- src/lib.rt:56:12
 add-put : tie.Need-add-put
 add-put c = search needs
 
--- src/lib.rt:56:5
 put-requires : tie.Need-put-requires
 put-requires c κs = search needs
 
--- src/lib.rt:53:1
 same-length : tie.Need-same-length
 same-length c = search needs
 
--- src/lib.rt:53:1
 returns : tie.Need-returns
 unfolding write address
 returns c = c .before .before .put .ensures

@@ -6,15 +6,12 @@ use Rattle.memory.proofs.set_header.Reads as reads
 use Rattle.memory.proofs.set_header.Lts as lts
 use Rattle.memory.proofs.put.Reads as put-reads
 
--- src/lib.rt:30:5
 put-requires : tie.Need-put-requires
 put-requires c κs = search needs
 
--- src/lib.rt:27:1
 same-length : tie.Need-same-length
 same-length c = search needs
 
--- src/lib.rt:27:1
 returns : tie.Need-returns
 unfolding write address
 returns c = c .before .before .put .ensures

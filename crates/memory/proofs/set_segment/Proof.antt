@@ -6,27 +6,21 @@ use Rattle.memory.proofs.set_segment.Reads as reads
 use Rattle.memory.proofs.set_segment.Lts as lts
 use Rattle.memory.proofs.put.Reads as put-reads
 
--- src/lib.rt:69:18
 mul-put : tie.Need-mul-put
 mul-put c = search needs
 
--- src/lib.rt:69:12
 add-put : tie.Need-add-put
 add-put c = search needs
 
--- src/lib.rt:69:12
 add-put-2 : tie.Need-add-put-2
 add-put-2 c = search needs
 
--- src/lib.rt:69:5
 put-requires : tie.Need-put-requires
 put-requires c κs = search needs
 
--- src/lib.rt:66:1
 same-length : tie.Need-same-length
 same-length c = search needs
 
--- src/lib.rt:66:1
 returns : tie.Need-returns
 unfolding write address
 returns c = c .before .before .put .ensures
