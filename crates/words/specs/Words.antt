@@ -1,6 +1,6 @@
 -- A memory is a list of words. Reading a word, writing a word, the number of words, and a choice,
 -- under names that stay shut, with the laws that proofs use instead of the clauses.
-use mathlib.Core.Path.{_≡_, refl, _∙_}
+use mathlib.Core.Path.{_≡_, refl, sym, _∙_}
 use mathlib.Core.Bool.{Bool, true, false, false≢true}
 use mathlib.Core.Logic.{_⊎_, inl, inr}
 use mathlib.Core.List.{List}
@@ -78,6 +78,21 @@ both-true false b e = no e
 pub true-both : {a b : Bool} → a ≡ true → b ≡ true → both a b ≡ true
 unfolding both
 true-both {a} {b} e f = halt b false e ∙ f
+
+-- a conjunction where the first part is known
+pub both-on : {a b : Bool} → a ≡ true → both a b ≡ b
+unfolding both pick
+both-on e = rw e refl
+
+pub both-off : {a : Bool} (b : Bool) → a ≡ false → both a b ≡ false
+unfolding both pick
+both-off b e = rw e refl
+
+-- two tests that say the same
+pub same-test : (a b : Bool) → (a ≡ true → b ≡ true) → (b ≡ true → a ≡ true) → a ≡ b
+same-test true b f g = sym (f refl)
+same-test false true f g = g refl
+same-test false false f g = refl
 
 pub either-true : (a b : Bool) → either a b ≡ true → (a ≡ true) ⊎ (b ≡ true)
 unfolding either pick
