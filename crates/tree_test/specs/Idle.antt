@@ -1,0 +1,153 @@
+-- The free records, one after the other, as the code goes through them.
+use mathlib.Core.Path.{_≡_, refl, ap, sym, _∙_}
+use mathlib.Core.Bool.{Bool, true, false}
+use mathlib.Core.List.{List, [], _∷_}
+use Prim.Native.Nat.{ℕ, zero, suc, _+_, _-_, _*_, _<_, _≤_}
+use native.Mathlib.Omega.{arith}
+use native.Mathlib.Numerals.{add-one}
+use native.Mathlib.Nat.{le-of-suc-le-suc}
+use lib.Dec.{leb, ltb, eqb}
+use lib.ListN.{length, getD, drop, take, replicate, length-drop}
+use lib.Seq.{drop-cons, getD-drop}
+use borrow.Author.Tests.{ltb-true, lt-ltb, leb-true, le-leb, lt-leb, ne-eqb, eq-eqb}
+use Rattle.words.specs.Words.{load, store, size, pick, both, both-true, true-both, both-on, both-off, same-test}
+use Rattle.lists.specs.Tests.{each}
+use Rattle.lists.specs.Distinct.{fresh, distinct}
+use Rattle.layout.specs.Layout.{FREE, STATUS, freeTasks, read, recordOf}
+use Rattle.rules.specs.Contents.{Contents, decode, word}
+use Rattle.rules.specs.Test.{idleTest}
+
+-- the k records from place i of the stack on; d has the marks of those before
+unfoldable pub idleFrom : ℕ → List ℕ → ℕ → List ℕ → Bool
+idleFrom zero m i d = true
+idleFrom (suc k) m i d =
+    let t = load m (320 + i) in
+    let rest = idleFrom k m (i + 1) (store d t 1) in
+    both (leb 1 t) (both (leb t 127) (both (eqb (load d t) 0) (both (eqb (load m (1472 + t * 48)) 0) rest)))
+
+-- one record that is right
+pub idle-step : (k : ℕ) (m d : List ℕ) (i t : ℕ) → 0 < k → t ≡ load m (320 + i) → 1 ≤ t → t ≤ 127 → load d t ≡ 0 → load m (1472 + t * 48) ≡ 0
+    → idleFrom (k - 1) m (i + 1) (store d t 1) ≡ idleFrom k m i d
+unfolding idleFrom
+idle-step zero m d i t p e a b f g = let z : ⊥ = omega arith in absurd z
+idle-step (suc k) m d i t p e a b f g =
+    ap (λ (j : ℕ). idleFrom j m (i + 1) (store d t 1)) (let z : suc k - 1 ≡ k = omega arith in z)
+    ∙ sym (rw (← e) (both-on (le-leb 1 t a) ∙ both-on (le-leb t 127 b) ∙ both-on (eq-eqb _ _ f) ∙ both-on (eq-eqb _ _ g)))
+
+-- one that is not: task 0, no task, one that stands on the stack twice, or one without the status of a free record
+pub idle-top : (k : ℕ) (m d : List ℕ) (i t : ℕ) → 0 < k → t ≡ load m (320 + i) → t < 1 → false ≡ idleFrom k m i d
+unfolding idleFrom
+idle-top zero m d i t p e h = let z : ⊥ = omega arith in absurd z
+idle-top (suc k) m d i t p e h = sym (rw (← e) (both-off _ (lt-leb 1 t h)))
+
+pub idle-far : (k : ℕ) (m d : List ℕ) (i t : ℕ) → 0 < k → t ≡ load m (320 + i) → 1 ≤ t → 127 < t → false ≡ idleFrom k m i d
+unfolding idleFrom
+idle-far zero m d i t p e a h = let z : ⊥ = omega arith in absurd z
+idle-far (suc k) m d i t p e a h = sym (rw (← e) (both-on (le-leb 1 t a) ∙ both-off _ (lt-leb t 127 h)))
+
+pub idle-again : (k : ℕ) (m d : List ℕ) (i t : ℕ) → 0 < k → t ≡ load m (320 + i) → 1 ≤ t → t ≤ 127 → (load d t ≡ 0 → ⊥) → false ≡ idleFrom k m i d
+unfolding idleFrom
+idle-again zero m d i t p e a b h = let z : ⊥ = omega arith in absurd z
+idle-again (suc k) m d i t p e a b h = sym (rw (← e) (both-on (le-leb 1 t a) ∙ both-on (le-leb t 127 b) ∙ both-off _ (ne-eqb _ _ h)))
+
+pub idle-used : (k : ℕ) (m d : List ℕ) (i t : ℕ) → 0 < k → t ≡ load m (320 + i) → 1 ≤ t → t ≤ 127 → load d t ≡ 0
+    → (load m (1472 + t * 48) ≡ 0 → ⊥) → false ≡ idleFrom k m i d
+unfolding idleFrom
+idle-used zero m d i t p e a b f h = let z : ⊥ = omega arith in absurd z
+idle-used (suc k) m d i t p e a b f h =
+    sym (rw (← e) (both-on (le-leb 1 t a) ∙ both-on (le-leb t 127 b) ∙ both-on (eq-eqb _ _ f) ∙ both-off _ (ne-eqb _ _ h)))
+
+pub idle-done : (k : ℕ) (m d : List ℕ) (i : ℕ) → k ≤ 0 → true ≡ idleFrom k m i d
+unfolding idleFrom
+idle-done zero m d i h = refl
+idle-done (suc k) m d i h = let z : ⊥ = omega arith in absurd z
+
+-- the first of some words of a memory, and the others
+take-more : (k a : ℕ) (m : List ℕ) → a < size m → take (suc k) (drop a m) ≡ load m a ∷ take k (drop (a + 1) m)
+unfolding size load
+take-more k a m h =
+    ap (take (suc k)) (drop-cons m a 0 h)
+    ∙ ap (λ (j : ℕ). getD m a 0 ∷ take k (drop j m)) (sym (add-one a))
+
+below-same : (t : ℕ) → leb t 127 ≡ ltb t 128
+below-same t =
+    same-test _ _
+    (λ e. lt-ltb t 128 (let z = leb-true t 127 e in omega (arith, z)))
+    (λ e. le-leb t 127 (let z = ltb-true t 128 e in omega (arith, z)))
+
+shuffle : (a b z s f e : Bool) → both a (both b (both z (both s (both f e)))) ≡ both (both b (both z f)) (both (both a s) e)
+unfolding both pick
+shuffle true true true true f e = refl
+shuffle true true true false true e = refl
+shuffle true true true false false e = refl
+shuffle true true false s f e = refl
+shuffle true false z s f e = refl
+shuffle false true true s true e = refl
+shuffle false true true s false e = refl
+shuffle false true false s f e = refl
+shuffle false false z s f e = refl
+
+few : (k : ℕ) (l : List ℕ) → length (take k l) ≤ k
+few zero l = omega arith
+few (suc k) [] = omega arith
+few (suc k) (x ∷ l) = let a = few k l in omega (arith, a)
+
+many : (j k : ℕ) (l : List ℕ) → j < k → j < length l → j < length (take k l)
+many j zero l a b = let z : ⊥ = omega arith in absurd z
+many j (suc k) [] a b = let z : ⊥ = omega arith in absurd z
+many zero (suc k) (x ∷ l) a b = omega arith
+many (suc j) (suc k) (x ∷ l) a b = let z = many j k l (le-of-suc-le-suc a) (le-of-suc-le-suc b) in omega (arith, z)
+
+module _ (m : List ℕ) where
+  -- what a record on the stack has to be
+  unfoldable pub freeOne : ℕ → Bool
+  freeOne t = both (leb 1 t) (eqb (word (decode m) t STATUS) FREE)
+
+  status : (t : ℕ) → load m (1472 + t * 48) ≡ word (decode m) t STATUS
+  unfolding word recordOf load
+  status t = ap (λ (a : ℕ). getD m a 0) (let z : 1472 + t * 48 ≡ 1472 + t * 48 + 0 = omega arith in z) ∙ sym (getD-drop (1472 + t * 48) m 0 0)
+
+  -- the two tests of a list of records
+  abbrev Parts : List ℕ → List ℕ → Bool
+  Parts l d = both (fresh 128 l d) (each freeOne l)
+
+  parts-cons : (t : ℕ) (l d : List ℕ)
+      → both (leb 1 t) (both (leb t 127) (both (eqb (load d t) 0) (both (eqb (load m (1472 + t * 48)) 0) (Parts l (store d t 1))))) ≡ Parts (t ∷ l) d
+  unfolding fresh each freeOne
+  parts-cons t l d =
+      ap
+      (λ (b : Bool). both (leb 1 t) (both b (both (eqb (load d t) 0) (both (eqb (load m (1472 + t * 48)) 0) (Parts l (store d t 1))))))
+      (below-same t)
+      ∙ ap
+      (λ (w : ℕ). both (leb 1 t) (both (ltb t 128) (both (eqb (load d t) 0) (both (eqb w 0) (Parts l (store d t 1))))))
+      (status t)
+      ∙ shuffle _ _ _ _ _ _
+
+  parts-none : (d : List ℕ) → true ≡ Parts [] d
+  unfolding fresh each both pick
+  parts-none d = refl
+
+  idle-parts : (k i : ℕ) (d : List ℕ) → 320 + i + k ≤ size m → idleFrom k m i d ≡ Parts (take k (drop (320 + i) m)) d
+  unfolding idleFrom
+  idle-parts zero i d h = parts-none d
+  idle-parts (suc k) i d h =
+      let t = load m (320 + i) in
+      ap
+      (λ (b : Bool). both (leb 1 t) (both (leb t 127) (both (eqb (load d t) 0) (both (eqb (load m (1472 + t * 48)) 0) b))))
+      (idle-parts k (i + 1) (store d t 1) (omega arith) ∙ ap (λ (a : ℕ). Parts (take k (drop a m)) (store d t 1)) (let z : 320 + (i + 1) ≡ 320 + i + 1 = omega arith in z))
+      ∙ parts-cons t (take k (drop (320 + i + 1) m)) d
+      ∙ ap (λ (l : List ℕ). Parts l d) (sym (take-more k (320 + i) m (omega arith)))
+
+  -- the whole stack, of a height that is at most 127
+  pub idle-same : size m ≡ 16384 → read m freeTasks ≤ 127 → idleFrom (read m freeTasks) m 0 (replicate 256 0) ≡ idleTest (decode m)
+  unfolding idleTest distinct freeOne
+  idle-same s h =
+      idle-parts (read m freeTasks) 0 (replicate 256 0) (omega (arith, s, h))
+      ∙ sym (both-on (le-leb (length (take (read m freeTasks) (drop 320 m))) 127 (let a = few (read m freeTasks) (drop 320 m) in omega (arith, a, h))))
+
+  -- a height above 127
+  pub idle-many : size m ≡ 16384 → 127 < read m freeTasks → false ≡ idleTest (decode m)
+  unfolding idleTest size
+  idle-many s h =
+      let a = length-drop 320 m in
+      sym (both-off _ (lt-leb (length (take (read m freeTasks) (drop 320 m))) 127 (many 127 (read m freeTasks) (drop 320 m) h (omega (arith, a, s)))))

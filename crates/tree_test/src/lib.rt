@@ -1,0 +1,1 @@
+// The memory test: opening numbers, free task records, the top and the task tree.
