@@ -24,7 +24,7 @@ decoded-word m t i = load-drop m (1472 + t * 48) i
 
 module _ (c : Contents) where
   -- by the tests of tasks the tour goes through the holders
-  whole-tour : topTest c ≡ true → idleTest c ≡ true → treeTest c (marks c) 0 ≡ true → Toured c (toured c)
+  pub whole-tour : topTest c ≡ true → idleTest c ≡ true → treeTest c (marks c) 0 ≡ true → Toured c (toured c)
   whole-tour a b e =
       record {
         whole = tour-whole c a b e;

@@ -1,0 +1,102 @@
+-- What a memory that passes the test promises to the calls: which words are in range.
+use mathlib.Core.Path.{_≡_, refl, ap, sym, _∙_}
+use mathlib.Core.Bool.{Bool, true, false}
+use mathlib.Core.List.{List}
+use mathlib.Core.Logic.{_⊎_, inl, inr, ⊎-elim}
+use Prim.Native.Nat.{ℕ, _+_, _*_, _<_, _≤_}
+use native.Mathlib.Omega.{arith}
+use lib.ListN.{length, take, drop, length-take, length-drop}
+use borrow.Author.Tests.{ltb-true, eqb-true, leb-true}
+use Rattle.words.specs.Words.{load, size, both-true}
+use Rattle.lists.specs.Counting.{occurrences}
+use Rattle.layout.specs.Layout.{NONE, NL, UNFINISHED, STATUS, RIGHTS, lengthWord, numberWord, freeSegments, freeTasks, freeSegment, freeTask, segment, task, first, count, next, address, read, recordOf}
+use Rattle.layout.specs.Frame.{record-word}
+use Rattle.tree.specs.Tour.{met}
+use Rattle.rules.specs.Contents.{Contents, decode, scan-decodes, word, part, segmentOf, heads, tails}
+use Rattle.rules.specs.Rules.{Link, Holder, TaskRules}
+use Rattle.rules.specs.Test.{test, rulesHold}
+use Rattle.rules_segments.specs.Segments.{segments-say}
+use Rattle.rules_segments.specs.Tested.{segments-sound}
+use Rattle.rules_tasks.specs.Tasks.{tasks-say}
+use Rattle.rules_views.specs.Ends.{heads-fit, tails-fit}
+use Rattle.rules_views.specs.Members.{load-drop}
+use Rattle.rules_same.specs.Passed.{Passed, test-says, opening-says, toured}
+use Rattle.rules_same.specs.Same.{whole-tour}
+use Rattle.calls.specs.Waits.{unfinished}
+
+module _ (m : List ℕ) where
+  -- a task that has views: the top, or an unfinished one
+  abbrev pub Live : ℕ → Type 0
+  Live t = (t ≡ 0) ⊎ ((t < 128) × (read m (task t STATUS) ≡ UNFINISHED))
+
+  pub record Sound : Type 0 where
+    pub length-range : (1 ≤ read m lengthWord) × (read m lengthWord ≤ 64)
+    pub number-range : (4 ≤ read m numberWord) × (read m numberWord ≤ 256)
+    pub product-range : read m lengthWord * read m numberWord ≤ 8192
+    -- segments opened
+    pub firsts : (s : ℕ) → s < read m numberWord → read m (first s) < read m lengthWord
+    pub counts : (s : ℕ) → s < read m numberWord → read m (count s) ≤ read m lengthWord
+    pub nexts : (s : ℕ) → s < read m numberWord → Link (read m numberWord) (read m (next s))
+    -- heads and tails that are no marks: of the queue, children, user and right views, 4 words each
+    pub heads-open : (t i : ℕ) → Live t → i < 16 → read m (task t (16 + i)) < NL → read m (task t (16 + i)) < read m numberWord
+    pub tails-open : (t i : ℕ) → Live t → i < 12 → read m (task t (32 + i)) < NL → read m (task t (32 + i)) < read m numberWord
+    -- the stack of free segments
+    pub free-height : read m freeSegments ≤ read m numberWord
+    -- the task tree
+    pub tasks : TaskRules (decode m)
+
+  part-word : (s k : ℕ) → part (decode m) s k ≡ read m (segment s k)
+  unfolding part segmentOf read address
+  part-word s k = load-drop m (448 + s * 4) k
+
+  task-word : (t k : ℕ) → word (decode m) t k ≡ read m (task t k)
+  unfolding word
+  task-word t k = record-word m t k
+
+  live-holder : (t : ℕ) → Live t → Holder (decode m) t
+  live-holder t h = ⊎-elim inl (λ w. inr (w .0, task-word t STATUS ∙ w .1)) h
+
+  passed-sound : size m ≡ 16384 → Passed (decode m) → Sound
+  unfolding size
+  passed-sound big p =
+      let c = decode m in
+      let o = opening-says c (p .range) in
+      let v = whole-tour c (p .top) (p .free) (p .tree) in
+      let xs = toured c in
+      let g = segments-say c (heads c (met xs)) (tails c (met xs)) (o .number-range .1) (p .room) (p .seen .segs) (p .seen .holding) in
+      let sound = segments-sound c (p .seen .segs) in
+      record {
+        length-range = o .length-range;
+        number-range = o .number-range;
+        product-range = o .product-range;
+        firsts = λ s l. let a = sound s l .first in let b = part-word s 0 in omega (arith, a, b);
+        counts = λ s l. let a = sound s l .count in let b = part-word s 1 in omega (arith, a, b);
+        nexts = λ s l. rw (part-word s 2) at (sound s l .link);
+        heads-open = λ t i h l q.
+            let e = task-word t (16 + i) in
+            let a = heads-fit c xs v (g .1) t i (live-holder t h) l (omega (arith, e, q)) in
+            omega (arith, e, a);
+        tails-open = λ t i h l q.
+            let e = task-word t (32 + i) in
+            let a = tails-fit c xs v (g .2) t i (live-holder t h) l (omega (arith, e, q)) in
+            omega (arith, e, a);
+        free-height =
+            let a = leb-true (length (c .free)) (c .number) (p .room) in
+            let b = length-take (read m freeSegments) (drop 64 m) in
+            let d = length-drop 64 m in
+            let f = o .number-range .1 in
+            omega (arith, a, b, d, f, big);
+        tasks = tasks-say c (p .top) (p .free) (p .tree);
+      }
+
+  pub rules-sound : size m ≡ 16384 → rulesHold m ≡ true → Sound
+  unfolding rulesHold
+  rules-sound big e = passed-sound big (test-says (decode m) (ap test (sym (scan-decodes m)) ∙ e))
+
+  -- an unfinished task
+  pub unfinished-says : (t : ℕ) → unfinished m t ≡ true → (t < 128) × (read m (task t STATUS) ≡ UNFINISHED)
+  unfolding unfinished
+  unfinished-says t e = let a = both-true _ _ e in (ltb-true _ _ (a .0), eqb-true _ _ (a .1))
+
+  pub unfinished-live : (t : ℕ) → unfinished m t ≡ true → Live t
+  unfinished-live t e = inr (unfinished-says t e)
