@@ -1,10 +1,10 @@
 -- Several words at once: storing a list of words from an address on, and a table as a list of rows.
 use mathlib.Core.Path.{_≡_, refl, ap, sym, _∙_}
-use mathlib.Core.List.{List, [], _∷_}
+use mathlib.Core.List.{List, [], _∷_, _++_}
 use Prim.Native.Nat.{ℕ, zero, suc, _+_, _*_, _<_}
-use native.Mathlib.Nat.{le-of-suc-le-suc, add-comm, zero-mul, suc-mul}
+use native.Mathlib.Nat.{le-of-suc-le-suc, add-zero, add-comm, zero-mul, suc-mul}
 use native.Mathlib.Omega.{arith}
-use lib.ListN.{getD, drop}
+use lib.ListN.{length, getD, drop}
 use lib.Seq.{drop-drop}
 use Rattle.words.specs.Words.{store, size}
 
@@ -27,6 +27,16 @@ unfolding storeAll store
 store-more [] a w ws = refl
 store-more (x ∷ m) zero w ws = refl
 store-more (x ∷ m) (suc a) w ws = ap (λ (l : List ℕ). x ∷ l) (store-more m a w ws)
+
+-- one list behind another
+pub store-append : (xs : List ℕ) (m : List ℕ) (a : ℕ) (ys : List ℕ) → storeAll m a (xs ++ ys) ≡ storeAll (storeAll m a xs) (a + length xs) ys
+store-append [] m a ys =
+    ap (λ (l : List ℕ). storeAll l a ys) (sym (store-none m a)) ∙ ap (λ (b : ℕ). storeAll (storeAll m a []) b ys) (sym (add-zero a))
+store-append (x ∷ xs) m a ys =
+    store-more m a x (xs ++ ys)
+    ∙ store-append xs (store m a x) (suc a) ys
+    ∙ ap (λ (l : List ℕ). storeAll l (suc a + length xs) ys) (sym (store-more m a x xs))
+    ∙ ap (λ (b : ℕ). storeAll (storeAll m a (x ∷ xs)) b ys) (let z : suc a + length xs ≡ a + suc (length xs) = omega arith in z)
 
 pub size-storeAll : (m : List ℕ) (a : ℕ) (ws : List ℕ) → size (storeAll m a ws) ≡ size m
 unfolding storeAll size
