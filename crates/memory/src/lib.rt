@@ -1,7 +1,10 @@
 // Reading and writing the fields of the layout. Every function is total: past the end a read gives 0 and a write
 // does nothing.
 ghost use mathlib.Core.Path.{_≡_};
+ghost use mathlib.Core.List.{[], _∷_};
+ghost use lib.ListN.{length, replicate};
 ghost use Rattle.words.specs.Words.{load, store, pick};
+ghost use Rattle.words.specs.Blocks.{storeAll};
 ghost use Rattle.layout.specs.Layout.{read, write, header, freeSegment, freeTask, segment, task, value};
 
 pub fn get(m: &[u32], a: usize) -> u32
@@ -15,6 +18,29 @@ pub fn put(m: &mut [u32], a: usize, v: u32)
 {
     if a < m.len() {
         m[a] = v;
+    }
+}
+
+// The words w0 to w3 from address a on.
+pub fn put4(m: &mut [u32], a: u32, w0: u32, w1: u32, w2: u32, w3: u32)
+    ensures { λ _. ⌜ now (m .exit) ≡ storeAll (now (m .entry)) a (w0 ∷ w1 ∷ w2 ∷ w3 ∷ []) ⌝ }
+{
+    let b = a as usize;
+    put(m, b, w0);
+    put(m, b + 1, w1);
+    put(m, b + 2, w2);
+    put(m, b + 3, w3);
+}
+
+// Every word 0.
+pub fn clear(m: &mut [u32])
+    ensures { λ _. ⌜ now (m .exit) ≡ replicate (length (now (m .entry))) 0 ⌝ }
+{
+    let n = m.len();
+    let mut i: usize = 0;
+    while i < n {
+        m[i] = 0;
+        i += 1;
     }
 }
 
