@@ -1,0 +1,23 @@
+use mathlib.Core.Path.{ap}
+use Prim.Native.Nat.{ℕ, _/_, _%_}
+use lib.Dec.{eqb}
+use Rattle.tree.specs.Rights.{pushes}
+use Rattle.rights.specs.Masks.{shift}
+use borrow.Author.Needs.{needs}
+use Rattle.rights.proofs.pushes.Statement.{statement}
+use Rattle.rights.proofs.pushes.Tie as tie
+use Rattle.rights.proofs.pushes.Reads as reads
+use Rattle.rights.proofs.pushes.Lts as lts
+
+mul-result : tie.Need-mul-result
+mul-result c = search needs
+
+shr-result : tie.Need-shr-result
+shr-result c = search needs
+
+returns : tie.Need-returns
+unfolding pushes
+returns c = ap (λ (u : ℕ). eqb (u % 2) 1) (shift (c .args .r) (c .args .q) (c .pre))
+
+pub pushes-spec : {M : Type 1} → statement M
+pushes-spec = tie.close (tie.spec mul-result shr-result returns)

@@ -1,0 +1,24 @@
+use mathlib.Core.Path.{ap}
+use mathlib.Core.Bool.{not}
+use Prim.Native.Nat.{ℕ, _/_, _%_}
+use lib.Dec.{eqb}
+use Rattle.tree.specs.Rights.{uses}
+use Rattle.rights.specs.Masks.{shift}
+use borrow.Author.Needs.{needs}
+use Rattle.rights.proofs.uses.Statement.{statement}
+use Rattle.rights.proofs.uses.Tie as tie
+use Rattle.rights.proofs.uses.Reads as reads
+use Rattle.rights.proofs.uses.Lts as lts
+
+mul-result : tie.Need-mul-result
+mul-result c = search needs
+
+shr-result : tie.Need-shr-result
+shr-result c = search needs
+
+returns : tie.Need-returns
+unfolding uses
+returns c = ap (λ (u : ℕ). not (eqb u 0)) (shift (c .args .r) (c .args .q) (c .pre))
+
+pub uses-spec : {M : Type 1} → statement M
+uses-spec = tie.close (tie.spec mul-result shr-result returns)
