@@ -1,0 +1,27 @@
+use mathlib.Core.Path.{refl, sym, _∙_}
+use borrow.Author.Tests.{lt-ltb, le-ltb}
+use Rattle.words.specs.Words.{pass, halt}
+use Rattle.tree.specs.Tour.{entering}
+use borrow.Author.Needs.{needs}
+use Rattle.walks.proofs.entering.Statement.{statement}
+use Rattle.walks.proofs.entering.Tie as tie
+use Rattle.walks.proofs.entering.Reads as reads
+use Rattle.walks.proofs.entering.Lts as lts
+use Rattle.walks.proofs.leaving.Reads as leaving-reads
+
+-- src/lib.rt:37:29
+leaving-requires : tie.Need-leaving-requires
+leaving-requires c κs = search needs
+
+-- src/lib.rt:34:1
+returns : tie.Need-returns
+unfolding entering
+returns c = sym (halt _ _ (lt-ltb _ _ (c .if1 .taken)))
+
+-- src/lib.rt:34:1
+returns-2 : tie.Need-returns-2
+unfolding entering
+returns-2 c = c .leaving .ensures ∙ sym (pass _ (le-ltb _ _ (c .before .if1 .left)) refl)
+
+pub entering-spec : {M : Type 1} → statement M
+entering-spec = tie.close (tie.spec leaving-requires returns returns-2)

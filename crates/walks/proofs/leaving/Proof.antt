@@ -1,0 +1,26 @@
+use mathlib.Core.Path.{refl, sym}
+use borrow.Author.Tests.{lt-ltb, le-ltb}
+use Rattle.words.specs.Words.{pass, halt}
+use Rattle.tree.specs.Tour.{leaving}
+use borrow.Author.Needs.{needs}
+use Rattle.walks.proofs.leaving.Statement.{statement}
+use Rattle.walks.proofs.leaving.Tie as tie
+use Rattle.walks.proofs.leaving.Reads as reads
+use Rattle.walks.proofs.leaving.Lts as lts
+
+-- src/lib.rt:30:18
+add-result : tie.Need-add-result
+add-result c = search needs
+
+-- src/lib.rt:27:1
+returns : tie.Need-returns
+unfolding leaving
+returns c = sym (halt _ _ (lt-ltb _ _ (c .if1 .taken)))
+
+-- src/lib.rt:27:1
+returns-2 : tie.Need-returns-2
+unfolding leaving
+returns-2 c = sym (pass _ (le-ltb _ _ (c .if1 .left)) refl)
+
+pub leaving-spec : {M : Type 1} → statement M
+leaving-spec = tie.close (tie.spec add-result returns returns-2)
