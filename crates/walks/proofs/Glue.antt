@@ -2,15 +2,19 @@
 use mathlib.Core.Path.{_≡_, refl, ap, ap₂, sym, _∙_}
 use mathlib.Core.Bool.{Bool, true, false, not}
 use mathlib.Core.List.{List}
-use Prim.Native.Nat.{ℕ, _-_, _<_, _≤_}
+use Prim.Native.Nat.{ℕ, _+_, _-_, _<_, _≤_}
+use native.Mathlib.Omega.{arith}
 use lib.Dec.{ltb, eqb}
-use borrow.Author.Tests.{lt-ltb, le-ltb}
-use Rattle.words.specs.Words.{load, pick, both, either, pass, halt}
-use Rattle.layout.specs.Layout.{NONE, PARENT, OLDER, YOUNGEST, RIGHTS, task, read, recordOf}
+use borrow.Author.Tests.{lt-ltb, le-ltb, eq-eqb, ne-eqb}
+use Rattle.words.specs.Words.{pick, both, either, pass, halt, true-left, true-right}
+use Rattle.layout.specs.Layout.{NONE, NL, PARENT, OLDER, YOUNGEST, RIGHTS, task, read, recordOf}
 use Rattle.layout.specs.Frame.{record-word}
-use Rattle.tree.specs.Rights.{sharesPop}
-use Rattle.tree.specs.Tour.{entering, after, sibling}
-use Rattle.calls.specs.Waits.{rightsOf, blocked}
+use Rattle.tree.specs.Rights.{pushes, pops, uses, sharesPop}
+use Rattle.tree.specs.Tour.{END, MARKS, entering, after, seek, sibling, oldest}
+use Rattle.rules.specs.Views.{view}
+use Rattle.calls.specs.Waits.{rightsOf, blocked, childPops, pusherBefore}
+use Rattle.calls.specs.Views.{viewOf, isEmpty, headOf, taskAt, takesPart, standsAt, justBefore, returnedTo}
+use Rattle.calls.specs.Finish.{heir}
 
 -- the first of two tests decides, or the second does
 pub both-so : {a x b : Bool} → a ≡ true → x ≡ b → x ≡ both a b
@@ -39,4 +43,82 @@ pub blocked-by : {a o r : ℕ} (m : List ℕ) (t : ℕ) → a ≡ read m (task t
 unfolding blocked rightsOf
 blocked-by m t e f g =
     ap (λ (c : ℕ). not (eqb c NONE))
-      (g ∙ ap₂ (λ (a o : ℕ). sibling 128 (λ c. sharesPop (rightsOf m c) a) (recordOf m) o) e f)
+    (g ∙ ap₂ (λ (a o : ℕ). sibling 128 (λ c. sharesPop (rightsOf m c) a) (recordOf m) o) e f)
+
+pub child-pops : {c r : ℕ} (m : List ℕ) (t q : ℕ) → c ≡ read m (task t YOUNGEST)
+    → r ≡ sibling 128 (λ c. pops (rightsOf m c) q) (recordOf m) c → not (eqb r NONE) ≡ childPops m t q
+unfolding childPops
+child-pops m t q e g = ap (λ (c : ℕ). not (eqb c NONE)) (g ∙ ap (sibling 128 (λ c. pops (rightsOf m c) q) (recordOf m)) e)
+
+pub pusher-before : {x r : ℕ} (m : List ℕ) (t q : ℕ) → x ≡ after (recordOf m) t
+    → r ≡ seek MARKS (λ x. both (ltb x 128) (pushes (rightsOf m x) q)) (recordOf m) x → not (eqb r END) ≡ pusherBefore m t q
+unfolding pusherBefore
+pusher-before m t q e g =
+    ap (λ (x : ℕ). not (eqb x END)) (g ∙ ap (seek MARKS (λ x. both (ltb x 128) (pushes (rightsOf m x) q)) (recordOf m)) e)
+
+-- VIEWS ON THE TOUR
+either-on : {a x b : Bool} → a ≡ false → x ≡ b → x ≡ either a b
+unfolding either
+either-on {a} {x} {b} e f = f ∙ sym (pass true e refl)
+
+pub takes-part : {t w : ℕ} {b : Bool} (m : List ℕ) (q x : ℕ) → t ≡ taskAt x → w ≡ read m (task t RIGHTS) → b ≡ uses w q
+    → b ≡ takesPart m q x
+unfolding takesPart
+takes-part m q x e f g = g ∙ ap (λ (w : ℕ). uses w q) (f ∙ ap (λ (t : ℕ). read m (task t RIGHTS)) e)
+
+module _ {p : Bool} (m : List ℕ) (q x : ℕ) (part : p ≡ takesPart m q x) where
+  pub stands-not : p ≡ false → false ≡ standsAt m q x
+  unfolding standsAt
+  stands-not f = both-no _ (sym part ∙ f)
+
+  pub stands-met : p ≡ true → x ≤ 128 → true ≡ standsAt m q x
+  unfolding standsAt
+  stands-met f h = both-so (sym part ∙ f) (sym (true-right _ (true-left _ (eq-eqb (x - 128) 0 (omega arith)))))
+
+  pub stands-head : {h : ℕ} → p ≡ true → h ≡ read m (task (x - 128) (20 + q)) → (h ≡ NONE → ⊥) → true ≡ standsAt m q x
+  unfolding standsAt viewOf isEmpty
+  stands-head f e n =
+      both-so (sym part ∙ f) (sym (true-right _ (true-right _ (ap not (sym (both-no _ (ne-eqb _ _ (λ z. n (e ∙ z)))))))))
+
+  pub stands-tail : {h e : ℕ} → p ≡ true → 128 < x → h ≡ read m (task (x - 128) (20 + q)) → h ≡ NONE
+      → e ≡ read m (task (x - 128) (32 + q)) → not (eqb e NONE) ≡ standsAt m q x
+  unfolding standsAt viewOf isEmpty
+  stands-tail f l d z e =
+      both-so (sym part ∙ f)
+      (either-on (le-ltb x 128 (omega arith)) (either-on (ne-eqb (x - 128) 0 (λ n. omega arith))
+      (ap not (both-so (eq-eqb _ _ (sym d ∙ z)) (ap (λ (w : ℕ). eqb w NONE) e)))))
+
+pub just-before : {x r : ℕ} (m : List ℕ) (q t : ℕ) → x ≡ after (recordOf m) t
+    → r ≡ seek MARKS (standsAt m q) (recordOf m) x → r ≡ justBefore m q t
+unfolding justBefore
+just-before m q t e g = g ∙ ap (seek MARKS (standsAt m q) (recordOf m)) e
+
+module _ {x r : ℕ} (m : List ℕ) (q t h e : ℕ) (from : x ≡ after (recordOf m) (t + 128)) where
+  pub returned-part : h ≡ NL → r ≡ seek MARKS (takesPart m q) (recordOf m) x → r ≡ returnedTo m q t (view h e)
+  unfolding returnedTo headOf
+  returned-part n g = g ∙ ap (seek MARKS (takesPart m q) (recordOf m)) from ∙ sym (halt _ _ (eq-eqb h NL n))
+
+  pub returned-stands : (h ≡ NL → ⊥) → r ≡ seek MARKS (standsAt m q) (recordOf m) x → r ≡ returnedTo m q t (view h e)
+  unfolding returnedTo headOf
+  returned-stands n g = g ∙ ap (seek MARKS (standsAt m q) (recordOf m)) from ∙ sym (pass _ (ne-eqb h NL n) refl)
+
+-- HEIRS
+module _ (m : List ℕ) (t q c d : ℕ) where
+  pub heir-self : c ≡ t → d ≡ pick (both (not (eqb c t)) (pops (rightsOf m c) q)) c d
+  heir-self e = sym (pass _ (sym (both-no _ (ap not (eq-eqb c t e)))) refl)
+
+  pub heir-pops : {w : ℕ} {b : Bool} → (c ≡ t → ⊥) → w ≡ read m (task c RIGHTS) → b ≡ pops w q → b ≡ true
+      → c ≡ pick (both (not (eqb c t)) (pops (rightsOf m c) q)) c d
+  unfolding rightsOf
+  heir-pops n e f g = sym (halt _ _ (sym (both-so (ap not (ne-eqb c t n)) (sym g ∙ f ∙ ap (λ (w : ℕ). pops w q) e))))
+
+  pub heir-not : {w : ℕ} {b : Bool} → (c ≡ t → ⊥) → w ≡ read m (task c RIGHTS) → b ≡ pops w q → b ≡ false
+      → d ≡ pick (both (not (eqb c t)) (pops (rightsOf m c) q)) c d
+  unfolding rightsOf
+  heir-not n e f g = sym (pass _ (sym (both-so (ap not (ne-eqb c t n)) (sym g ∙ f ∙ ap (λ (w : ℕ). pops w q) e))) refl)
+
+pub heir-from : {p c r : ℕ} (m : List ℕ) (t q : ℕ) → p ≡ read m (task t PARENT) → c ≡ read m (task p YOUNGEST)
+    → r ≡ oldest 128 (λ c. both (not (eqb c t)) (pops (rightsOf m c) q)) (recordOf m) c p → r ≡ heir m t q
+unfolding heir
+heir-from m t q e f g =
+    g ∙ ap₂ (oldest 128 (λ c. both (not (eqb c t)) (pops (rightsOf m c) q)) (recordOf m)) (f ∙ ap (λ (p : ℕ). read m (task p YOUNGEST)) e) e

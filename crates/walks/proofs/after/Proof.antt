@@ -7,31 +7,24 @@ use Rattle.walks.proofs.after.Lts as lts
 use Rattle.memory.proofs.task.Reads as task-reads
 use Rattle.walks.proofs.entering.Reads as entering-reads
 
--- src/lib.rt:45:28
 task-requires : tie.Need-task-requires
 task-requires c κs = search needs
 
--- src/lib.rt:45:9
 entering-requires : tie.Need-entering-requires
 entering-requires c κs = search needs
 
--- src/lib.rt:45:9
 returns : tie.Need-returns
 returns c = after-met _ _ (c .before .before .if1 .taken) (c .before .task .ensures) (c .entering .ensures)
 
--- src/lib.rt:48:9
 task-requires-2 : tie.Need-task-requires-2
 task-requires-2 c κs = search needs
 
--- src/lib.rt:49:17
 task-requires-3 : tie.Need-task-requires-3
 task-requires-3 c κs = search needs
 
--- src/lib.rt:49:5
 entering-requires-2 : tie.Need-entering-requires-2
 entering-requires-2 c κs = search needs
 
--- src/lib.rt:41:1
 returns-2 : tie.Need-returns-2
 returns-2 c = after-left _ _ (c .before .before .before .if1 .left) (c .before .before .task2 .ensures) (c .before .task3 .ensures) (c .entering2 .ensures)
 

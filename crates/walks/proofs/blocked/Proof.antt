@@ -7,19 +7,15 @@ use Rattle.walks.proofs.blocked.Lts as lts
 use Rattle.memory.proofs.task.Reads as task-reads
 use Rattle.walks.proofs.sharing.Reads as sharing-reads
 
--- src/lib.rt:80:9
 task-requires : tie.Need-task-requires
 task-requires c κs = search needs
 
--- src/lib.rt:81:9
 task-requires-2 : tie.Need-task-requires-2
 task-requires-2 c κs = search needs
 
--- src/lib.rt:82:5
 sharing-requires : tie.Need-sharing-requires
 sharing-requires c κs = search needs
 
--- src/lib.rt:77:1
 returns : tie.Need-returns
 returns c = blocked-by _ _ (c .before .before .task .ensures) (c .before .task2 .ensures) (c .sharing .ensures)
 

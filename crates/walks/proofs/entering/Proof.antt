@@ -9,16 +9,13 @@ use Rattle.walks.proofs.entering.Reads as reads
 use Rattle.walks.proofs.entering.Lts as lts
 use Rattle.walks.proofs.leaving.Reads as leaving-reads
 
--- src/lib.rt:37:29
 leaving-requires : tie.Need-leaving-requires
 leaving-requires c κs = search needs
 
--- src/lib.rt:34:1
 returns : tie.Need-returns
 unfolding entering
 returns c = sym (halt _ _ (lt-ltb _ _ (c .if1 .taken)))
 
--- src/lib.rt:34:1
 returns-2 : tie.Need-returns-2
 unfolding entering
 returns-2 c = c .leaving .ensures ∙ sym (pass _ (le-ltb _ _ (c .before .if1 .left)) refl)

@@ -8,16 +8,13 @@ use Rattle.walks.proofs.leaving.Tie as tie
 use Rattle.walks.proofs.leaving.Reads as reads
 use Rattle.walks.proofs.leaving.Lts as lts
 
--- src/lib.rt:30:18
 add-result : tie.Need-add-result
 add-result c = search needs
 
--- src/lib.rt:27:1
 returns : tie.Need-returns
 unfolding leaving
 returns c = sym (halt _ _ (lt-ltb _ _ (c .if1 .taken)))
 
--- src/lib.rt:27:1
 returns-2 : tie.Need-returns-2
 unfolding leaving
 returns-2 c = sym (pass _ (le-ltb _ _ (c .if1 .left)) refl)

@@ -1,6 +1,4 @@
 use Prim.Native.Nat.{ℕ}
-use mathlib.Core.Bool.{Bool}
-use mathlib.Core.List.{List}
 use mathlib.Core.Path.{_≡_, refl, sym, _∙_, ap}
 use native.Mathlib.Omega.{arith}
 use borrow.Author.Needs.{needs}
@@ -22,45 +20,35 @@ Inv-loop m a first c₀ n₀ c n = sibling n (λ c. sharesPop (rightsOf m c) a) 
 abbrev μ-loop : tie.MeasureT-loop
 μ-loop m a first c₀ n₀ c n = n
 
--- src/lib.rt:64:5
 loop-holds : tie.Need-loop-holds Inv-loop μ-loop
 loop-holds c = refl
 
--- src/lib.rt:66:13
 returns : tie.Need-returns Inv-loop μ-loop
 returns c = sibling-end _ _ _ _ (c .before .loop-test .taken) (c .if1 .taken) ∙ c .before .before .loop .inv
 
--- src/lib.rt:68:31
 task-requires : tie.Need-task-requires Inv-loop μ-loop
 task-requires c κs = search needs
 
--- src/lib.rt:68:12
 shares-pop-requires : tie.Need-shares-pop-requires Inv-loop μ-loop
 shares-pop-requires c κs = search needs
 
--- src/lib.rt:69:13
 returns-2 : tie.Need-returns-2 Inv-loop μ-loop
 unfolding rightsOf
 returns-2 c = sibling-here _ _ _ _ (c .before .before .before .before .loop-test .taken) (c .before .before .before .if1 .left) (ap (λ (w : ℕ). sharesPop w (c .before .before .before .before .before .before .before .args .a)) (sym (c .before .before .task .ensures)) ∙ sym (c .before .shares-pop .ensures) ∙ c .if2 .taken) ∙ c .before .before .before .before .before .loop .inv
 
--- src/lib.rt:71:9
 task-requires-2 : tie.Need-task-requires-2 Inv-loop μ-loop
 task-requires-2 c κs = search needs
 
--- src/lib.rt:72:9
 sub-n : tie.Need-sub-n Inv-loop μ-loop
 sub-n c = omega arith
 
--- src/lib.rt:64:5
 loop-less : tie.Need-loop-less Inv-loop μ-loop
 loop-less c = omega arith
 
--- src/lib.rt:64:5
 loop-again : tie.Need-loop-again Inv-loop μ-loop
 unfolding rightsOf
 loop-again c = sibling-on _ _ _ _ _ (c .before .before .before .before .before .loop-test .taken) (c .before .before .before .before .if1 .left) (ap (λ (w : ℕ). sharesPop w (c .before .before .before .before .before .before .before .before .args .a)) (sym (c .before .before .before .task .ensures)) ∙ sym (c .before .before .shares-pop .ensures) ∙ c .before .if2 .left) (c .task2 .ensures) ∙ c .before .before .before .before .before .before .loop .inv
 
--- src/lib.rt:59:1
 returns-3 : tie.Need-returns-3 Inv-loop μ-loop
 returns-3 c = sibling-none _ _ _ _ (c .loop-test .left) ∙ c .before .loop .inv
 

@@ -11,16 +11,13 @@ use Rattle.walks.proofs.unfinished.Reads as reads
 use Rattle.walks.proofs.unfinished.Lts as lts
 use Rattle.memory.proofs.task.Reads as task-reads
 
--- src/lib.rt:55:18
 task-requires : tie.Need-task-requires
 task-requires c κs = search needs
 
--- src/lib.rt:52:1
 returns : tie.Need-returns
 unfolding unfinished
 returns c = both-so (lt-ltb _ _ (c .before .if1 .taken)) (ap (λ (s : ℕ). eqb s 1) (c .task .ensures))
 
--- src/lib.rt:52:1
 returns-2 : tie.Need-returns-2
 unfolding unfinished
 returns-2 c = both-no _ (le-ltb _ _ (c .if1 .left))

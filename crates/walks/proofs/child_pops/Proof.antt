@@ -1,0 +1,20 @@
+use Rattle.walks.proofs.Glue.{child-pops}
+use borrow.Author.Needs.{needs}
+use Rattle.walks.proofs.child_pops.Statement.{statement}
+use Rattle.walks.proofs.child_pops.Tie as tie
+use Rattle.walks.proofs.child_pops.Reads as reads
+use Rattle.walks.proofs.child_pops.Lts as lts
+use Rattle.memory.proofs.task.Reads as task-reads
+use Rattle.walks.proofs.popping.Reads as popping-reads
+
+task-requires : tie.Need-task-requires
+task-requires c κs = search needs
+
+popping-requires : tie.Need-popping-requires
+popping-requires c κs = search needs
+
+returns : tie.Need-returns
+returns c = child-pops _ _ _ (c .before .task .ensures) (c .popping .ensures)
+
+pub child-pops-spec : {M : Type 1} → statement M
+child-pops-spec = tie.close (tie.spec task-requires popping-requires returns)

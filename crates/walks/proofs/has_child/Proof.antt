@@ -1,0 +1,22 @@
+use lib.Dec.{eqb}
+use Prim.Native.Nat.{ℕ}
+use mathlib.Core.Bool.{not}
+use mathlib.Core.Path.{ap}
+use Rattle.layout.specs.Layout.{NONE}
+use Rattle.calls.specs.Waits.{hasChild}
+use borrow.Author.Needs.{needs}
+use Rattle.walks.proofs.has_child.Statement.{statement}
+use Rattle.walks.proofs.has_child.Tie as tie
+use Rattle.walks.proofs.has_child.Reads as reads
+use Rattle.walks.proofs.has_child.Lts as lts
+use Rattle.memory.proofs.task.Reads as task-reads
+
+task-requires : tie.Need-task-requires
+task-requires c κs = search needs
+
+returns : tie.Need-returns
+unfolding hasChild
+returns c = ap (λ (c : ℕ). not (eqb c NONE)) (c .task .ensures)
+
+pub has-child-spec : {M : Type 1} → statement M
+has-child-spec = tie.close (tie.spec task-requires returns)

@@ -1,0 +1,23 @@
+use Rattle.walks.proofs.Glue.{heir-from}
+use borrow.Author.Needs.{needs}
+use Rattle.walks.proofs.heir.Statement.{statement}
+use Rattle.walks.proofs.heir.Tie as tie
+use Rattle.walks.proofs.heir.Reads as reads
+use Rattle.walks.proofs.heir.Lts as lts
+use Rattle.memory.proofs.task.Reads as task-reads
+use Rattle.walks.proofs.oldest_popping.Reads as oldest-popping-reads
+
+task-requires : tie.Need-task-requires
+task-requires c κs = search needs
+
+task-requires-2 : tie.Need-task-requires-2
+task-requires-2 c κs = search needs
+
+oldest-popping-requires : tie.Need-oldest-popping-requires
+oldest-popping-requires c κs = search needs
+
+returns : tie.Need-returns
+returns c = heir-from _ _ _ (c .before .before .task .ensures) (c .before .task2 .ensures) (c .oldest-popping .ensures)
+
+pub heir-spec : {M : Type 1} → statement M
+heir-spec = tie.close (tie.spec task-requires task-requires-2 oldest-popping-requires returns)

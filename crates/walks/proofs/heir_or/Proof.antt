@@ -1,0 +1,26 @@
+use Rattle.walks.proofs.Glue.{heir-self, heir-pops, heir-not}
+use borrow.Author.Needs.{needs}
+use Rattle.walks.proofs.heir_or.Statement.{statement}
+use Rattle.walks.proofs.heir_or.Tie as tie
+use Rattle.walks.proofs.heir_or.Reads as reads
+use Rattle.walks.proofs.heir_or.Lts as lts
+use Rattle.memory.proofs.task.Reads as task-reads
+use Rattle.rights.proofs.pops.Reads as pops-reads
+
+returns : tie.Need-returns
+returns c = heir-self _ _ _ _ _ (c .if1 .taken)
+
+task-requires : tie.Need-task-requires
+task-requires c κs = search needs
+
+pops-requires : tie.Need-pops-requires
+pops-requires c κs = search needs
+
+returns-2 : tie.Need-returns-2
+returns-2 c = heir-pops _ _ _ _ _ (c .before .before .before .if1 .left) (c .before .before .task .ensures) (c .before .pops .ensures) (c .if2 .taken)
+
+returns-3 : tie.Need-returns-3
+returns-3 c = heir-not _ _ _ _ _ (c .before .before .before .if1 .left) (c .before .before .task .ensures) (c .before .pops .ensures) (c .if2 .left)
+
+pub heir-or-spec : {M : Type 1} → statement M
+heir-or-spec = tie.close (tie.spec returns task-requires pops-requires returns-2 returns-3)

@@ -1,0 +1,62 @@
+use mathlib.Core.Path.{_≡_, refl, sym, _∙_}
+use mathlib.Core.Bool.{not}
+use lib.Dec.{eqb}
+use native.Mathlib.Omega.{arith}
+use borrow.Author.Needs.{needs}
+use Rattle.words.specs.Words.{both}
+use Rattle.layout.specs.Layout.{recordOf}
+use Rattle.tree.specs.Tour.{oldest}
+use Rattle.tree.specs.Rights.{pops}
+use Rattle.calls.specs.Waits.{rightsOf}
+use Rattle.walks.specs.Steps.{oldest-none, oldest-end, oldest-on}
+use Rattle.walks.proofs.oldest_popping.Statement.{statement}
+use Rattle.walks.proofs.oldest_popping.Tie as tie
+use Rattle.walks.proofs.oldest_popping.Reads as reads
+use Rattle.walks.proofs.oldest_popping.Lts as lts
+use Rattle.memory.proofs.task.Reads as task-reads
+use Rattle.walks.proofs.heir_or.Reads as heir-or-reads
+
+abbrev Inv-loop : tie.InvT-loop
+Inv-loop m t q first p c₀ d₀ n₀ c d n = oldest n (λ c. both (not (eqb c t)) (pops (rightsOf m c) q)) (recordOf m) c d ≡ oldest 128 (λ c. both (not (eqb c t)) (pops (rightsOf m c) q)) (recordOf m) first p
+
+abbrev μ-loop : tie.MeasureT-loop
+μ-loop m t q first p c₀ d₀ n₀ c d n = n
+
+loop-holds : tie.Need-loop-holds Inv-loop μ-loop
+loop-holds c = refl
+
+returns : tie.Need-returns Inv-loop μ-loop
+returns c = oldest-end _ _ _ _ _ (c .before .loop-test .taken) (c .if1 .taken) ∙ c .before .before .loop .inv
+
+heir-or-requires : tie.Need-heir-or-requires Inv-loop μ-loop
+heir-or-requires c κs = search needs
+
+task-requires : tie.Need-task-requires Inv-loop μ-loop
+task-requires c κs = search needs
+
+sub-n : tie.Need-sub-n Inv-loop μ-loop
+sub-n c = omega arith
+
+loop-less : tie.Need-loop-less Inv-loop μ-loop
+loop-less c = omega arith
+
+loop-again : tie.Need-loop-again Inv-loop μ-loop
+loop-again c = oldest-on _ _ _ _ _ _ _ (c .before .before .before .loop-test .taken) (c .before .before .if1 .left) (c .task .ensures) (c .before .heir-or .ensures) ∙ c .before .before .before .before .loop .inv
+
+returns-2 : tie.Need-returns-2 Inv-loop μ-loop
+returns-2 c = oldest-none _ _ _ _ _ (c .loop-test .left) ∙ c .before .loop .inv
+
+pub oldest-popping-spec : {M : Type 1} → statement M
+oldest-popping-spec =
+    tie.close
+    (tie.spec
+    Inv-loop
+    μ-loop
+    loop-holds
+    returns
+    heir-or-requires
+    task-requires
+    sub-n
+    loop-less
+    loop-again
+    returns-2)

@@ -1,0 +1,70 @@
+use Prim.Native.Nat.{ℕ}
+use mathlib.Core.Path.{_≡_, refl, sym, _∙_, ap}
+use native.Mathlib.Omega.{arith}
+use borrow.Author.Needs.{needs}
+use Rattle.layout.specs.Layout.{recordOf}
+use Rattle.tree.specs.Tour.{sibling}
+use Rattle.tree.specs.Rights.{pops}
+use Rattle.calls.specs.Waits.{rightsOf}
+use Rattle.walks.specs.Steps.{sibling-none, sibling-end, sibling-here, sibling-on}
+use Rattle.walks.proofs.popping.Statement.{statement}
+use Rattle.walks.proofs.popping.Tie as tie
+use Rattle.walks.proofs.popping.Reads as reads
+use Rattle.walks.proofs.popping.Lts as lts
+use Rattle.memory.proofs.task.Reads as task-reads
+use Rattle.rights.proofs.pops.Reads as pops-reads
+
+abbrev Inv-loop : tie.InvT-loop
+Inv-loop m q first c₀ n₀ c n = sibling n (λ c. pops (rightsOf m c) q) (recordOf m) c ≡ sibling 128 (λ c. pops (rightsOf m c) q) (recordOf m) first
+
+abbrev μ-loop : tie.MeasureT-loop
+μ-loop m q first c₀ n₀ c n = n
+
+loop-holds : tie.Need-loop-holds Inv-loop μ-loop
+loop-holds c = refl
+
+returns : tie.Need-returns Inv-loop μ-loop
+returns c = sibling-end _ _ _ _ (c .before .loop-test .taken) (c .if1 .taken) ∙ c .before .before .loop .inv
+
+task-requires : tie.Need-task-requires Inv-loop μ-loop
+task-requires c κs = search needs
+
+pops-requires : tie.Need-pops-requires Inv-loop μ-loop
+pops-requires c κs = search needs
+
+returns-2 : tie.Need-returns-2 Inv-loop μ-loop
+unfolding rightsOf
+returns-2 c = sibling-here _ _ _ _ (c .before .before .before .before .loop-test .taken) (c .before .before .before .if1 .left) (ap (λ (w : ℕ). pops w (c .before .before .before .before .before .before .before .args .q)) (sym (c .before .before .task .ensures)) ∙ sym (c .before .pops .ensures) ∙ c .if2 .taken) ∙ c .before .before .before .before .before .loop .inv
+
+task-requires-2 : tie.Need-task-requires-2 Inv-loop μ-loop
+task-requires-2 c κs = search needs
+
+sub-n : tie.Need-sub-n Inv-loop μ-loop
+sub-n c = omega arith
+
+loop-less : tie.Need-loop-less Inv-loop μ-loop
+loop-less c = omega arith
+
+loop-again : tie.Need-loop-again Inv-loop μ-loop
+unfolding rightsOf
+loop-again c = sibling-on _ _ _ _ _ (c .before .before .before .before .before .loop-test .taken) (c .before .before .before .before .if1 .left) (ap (λ (w : ℕ). pops w (c .before .before .before .before .before .before .before .before .args .q)) (sym (c .before .before .before .task .ensures)) ∙ sym (c .before .before .pops .ensures) ∙ c .before .if2 .left) (c .task2 .ensures) ∙ c .before .before .before .before .before .before .loop .inv
+
+returns-3 : tie.Need-returns-3 Inv-loop μ-loop
+returns-3 c = sibling-none _ _ _ _ (c .loop-test .left) ∙ c .before .loop .inv
+
+pub popping-spec : {M : Type 1} → statement M
+popping-spec =
+    tie.close
+    (tie.spec
+    Inv-loop
+    μ-loop
+    loop-holds
+    returns
+    task-requires
+    pops-requires
+    returns-2
+    task-requires-2
+    sub-n
+    loop-less
+    loop-again
+    returns-3)

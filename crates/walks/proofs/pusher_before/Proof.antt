@@ -1,0 +1,20 @@
+use Rattle.walks.proofs.Glue.{pusher-before}
+use borrow.Author.Needs.{needs}
+use Rattle.walks.proofs.pusher_before.Statement.{statement}
+use Rattle.walks.proofs.pusher_before.Tie as tie
+use Rattle.walks.proofs.pusher_before.Reads as reads
+use Rattle.walks.proofs.pusher_before.Lts as lts
+use Rattle.walks.proofs.after.Reads as after-reads
+use Rattle.walks.proofs.pushing.Reads as pushing-reads
+
+after-requires : tie.Need-after-requires
+after-requires c κs = search needs
+
+pushing-requires : tie.Need-pushing-requires
+pushing-requires c κs = search needs
+
+returns : tie.Need-returns
+returns c = pusher-before _ _ _ (c .before .after .ensures) (c .pushing .ensures)
+
+pub pusher-before-spec : {M : Type 1} → statement M
+pusher-before-spec = tie.close (tie.spec after-requires pushing-requires returns)

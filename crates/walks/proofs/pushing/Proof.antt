@@ -1,0 +1,65 @@
+use mathlib.Core.Path.{_≡_, refl, sym, _∙_}
+use native.Mathlib.Omega.{arith}
+use borrow.Author.Needs.{needs}
+use Rattle.layout.specs.Layout.{recordOf}
+use Rattle.tree.specs.Tour.{MARKS, seek}
+use lib.Dec.{ltb}
+use Rattle.words.specs.Words.{both}
+use Rattle.tree.specs.Rights.{pushes}
+use Rattle.calls.specs.Waits.{rightsOf}
+use Rattle.walks.specs.Steps.{seek-none, seek-end, seek-here, seek-on}
+use Rattle.walks.proofs.pushing.Statement.{statement}
+use Rattle.walks.proofs.pushing.Tie as tie
+use Rattle.walks.proofs.pushing.Reads as reads
+use Rattle.walks.proofs.pushing.Lts as lts
+use Rattle.walks.proofs.after.Reads as after-reads
+use Rattle.walks.proofs.meets_pusher.Reads as meets-pusher-reads
+
+abbrev Inv-loop : tie.InvT-loop
+Inv-loop m q from x₀ n₀ x n = seek n (λ x. both (ltb x 128) (pushes (rightsOf m x) q)) (recordOf m) x ≡ seek MARKS (λ x. both (ltb x 128) (pushes (rightsOf m x) q)) (recordOf m) from
+
+abbrev μ-loop : tie.MeasureT-loop
+μ-loop m q from x₀ n₀ x n = n
+
+loop-holds : tie.Need-loop-holds Inv-loop μ-loop
+loop-holds c = refl
+
+returns : tie.Need-returns Inv-loop μ-loop
+returns c = seek-end _ _ _ _ (c .before .loop-test .taken) (c .if1 .taken) ∙ c .before .before .loop .inv
+
+meets-pusher-requires : tie.Need-meets-pusher-requires Inv-loop μ-loop
+meets-pusher-requires c κs = search needs
+
+returns-2 : tie.Need-returns-2 Inv-loop μ-loop
+returns-2 c = seek-here _ _ _ _ (c .before .before .before .loop-test .taken) (c .before .before .if1 .left) (sym (c .before .meets-pusher .ensures) ∙ c .if2 .taken) ∙ c .before .before .before .before .loop .inv
+
+after-requires : tie.Need-after-requires Inv-loop μ-loop
+after-requires c κs = search needs
+
+sub-n : tie.Need-sub-n Inv-loop μ-loop
+sub-n c = omega arith
+
+loop-less : tie.Need-loop-less Inv-loop μ-loop
+loop-less c = omega arith
+
+loop-again : tie.Need-loop-again Inv-loop μ-loop
+loop-again c = seek-on _ _ _ _ _ (c .before .before .before .before .loop-test .taken) (c .before .before .before .if1 .left) (sym (c .before .before .meets-pusher .ensures) ∙ c .before .if2 .left) (c .after .ensures) ∙ c .before .before .before .before .before .loop .inv
+
+returns-3 : tie.Need-returns-3 Inv-loop μ-loop
+returns-3 c = seek-none _ _ _ _ (c .loop-test .left) ∙ c .before .loop .inv
+
+pub pushing-spec : {M : Type 1} → statement M
+pushing-spec =
+    tie.close
+    (tie.spec
+    Inv-loop
+    μ-loop
+    loop-holds
+    returns
+    meets-pusher-requires
+    returns-2
+    after-requires
+    sub-n
+    loop-less
+    loop-again
+    returns-3)

@@ -1,0 +1,58 @@
+use borrow.Author.Tests.{not-true, not-false}
+use Rattle.walks.proofs.Glue.{stands-not, stands-met, stands-head, stands-tail}
+use borrow.Author.Needs.{needs}
+use Rattle.walks.proofs.stands_at.Statement.{statement}
+use Rattle.walks.proofs.stands_at.Tie as tie
+use Rattle.walks.proofs.stands_at.Reads as reads
+use Rattle.walks.proofs.stands_at.Lts as lts
+use Rattle.memory.proofs.task.Reads as task-reads
+use Rattle.walks.proofs.takes_part.Reads as takes-part-reads
+
+takes-part-requires : tie.Need-takes-part-requires
+takes-part-requires c κs = search needs
+
+returns : tie.Need-returns
+returns c = stands-not _ _ _ (c .before .takes-part .ensures) (not-true _ (c .if1 .taken))
+
+returns-2 : tie.Need-returns-2
+returns-2 c = stands-met _ _ _ (c .before .before .takes-part .ensures) (not-false _ (c .before .if1 .left)) (c .if2 .taken)
+
+sub-task : tie.Need-sub-task
+sub-task c = search needs
+
+add-task : tie.Need-add-task
+add-task c = search needs
+
+task-requires : tie.Need-task-requires
+task-requires c κs = search needs
+
+returns-3 : tie.Need-returns-3
+returns-3 c = stands-head _ _ _ (c .before .before .before .before .takes-part .ensures) (not-false _ (c .before .before .before .if1 .left)) (c .before .task .ensures) (c .if3 .taken)
+
+sub-task-2 : tie.Need-sub-task-2
+sub-task-2 c = search needs
+
+add-task-2 : tie.Need-add-task-2
+add-task-2 c = search needs
+
+task-requires-2 : tie.Need-task-requires-2
+task-requires-2 c κs = search needs
+
+returns-4 : tie.Need-returns-4
+returns-4 c = stands-tail _ _ _ (c .before .before .before .before .before .takes-part .ensures) (not-false _ (c .before .before .before .before .if1 .left)) (c .before .before .before .if2 .left) (c .before .before .task .ensures) (c .before .if3 .left) (c .task2 .ensures)
+
+pub stands-at-spec : {M : Type 1} → statement M
+stands-at-spec =
+    tie.close
+    (tie.spec
+    takes-part-requires
+    returns
+    returns-2
+    sub-task
+    add-task
+    task-requires
+    returns-3
+    sub-task-2
+    add-task-2
+    task-requires-2
+    returns-4)

@@ -1,0 +1,24 @@
+use Rattle.walks.proofs.Glue.{takes-part}
+use borrow.Author.Needs.{needs}
+use Rattle.walks.proofs.takes_part.Statement.{statement}
+use Rattle.walks.proofs.takes_part.Tie as tie
+use Rattle.walks.proofs.takes_part.Reads as reads
+use Rattle.walks.proofs.takes_part.Lts as lts
+use Rattle.memory.proofs.task.Reads as task-reads
+use Rattle.rights.proofs.uses.Reads as uses-reads
+use Rattle.walks.proofs.task_at.Reads as task-at-reads
+
+task-at-requires : tie.Need-task-at-requires
+task-at-requires c κs = search needs
+
+task-requires : tie.Need-task-requires
+task-requires c κs = search needs
+
+uses-requires : tie.Need-uses-requires
+uses-requires c κs = search needs
+
+returns : tie.Need-returns
+returns c = takes-part _ _ _ (c .before .before .task-at .ensures) (c .before .task .ensures) (c .uses .ensures)
+
+pub takes-part-spec : {M : Type 1} → statement M
+takes-part-spec = tie.close (tie.spec task-at-requires task-requires uses-requires returns)
