@@ -8,22 +8,22 @@ use Rattle.memory.proofs.task.Reads as task-reads
 use Rattle.walks.proofs.entering.Reads as entering-reads
 
 task-requires : tie.Need-task-requires
-task-requires c κs = search needs
+task-requires c κs = tt
 
 entering-requires : tie.Need-entering-requires
-entering-requires c κs = search needs
+entering-requires c κs = tt
 
 returns : tie.Need-returns
 returns c = after-met _ _ (c .before .before .if1 .taken) (c .before .task .ensures) (c .entering .ensures)
 
 task-requires-2 : tie.Need-task-requires-2
-task-requires-2 c κs = search needs
+task-requires-2 c κs = tt
 
 task-requires-3 : tie.Need-task-requires-3
-task-requires-3 c κs = search needs
+task-requires-3 c κs = tt
 
 entering-requires-2 : tie.Need-entering-requires-2
-entering-requires-2 c κs = search needs
+entering-requires-2 c κs = tt
 
 returns-2 : tie.Need-returns-2
 returns-2 c = after-left _ _ (c .before .before .before .if1 .left) (c .before .before .task2 .ensures) (c .before .task3 .ensures) (c .entering2 .ensures)

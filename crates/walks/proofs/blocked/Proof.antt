@@ -8,13 +8,13 @@ use Rattle.memory.proofs.task.Reads as task-reads
 use Rattle.walks.proofs.sharing.Reads as sharing-reads
 
 task-requires : tie.Need-task-requires
-task-requires c κs = search needs
+task-requires c κs = tt
 
 task-requires-2 : tie.Need-task-requires-2
-task-requires-2 c κs = search needs
+task-requires-2 c κs = tt
 
 sharing-requires : tie.Need-sharing-requires
-sharing-requires c κs = search needs
+sharing-requires c κs = tt
 
 returns : tie.Need-returns
 returns c = blocked-by _ _ (c .before .before .task .ensures) (c .before .task2 .ensures) (c .sharing .ensures)

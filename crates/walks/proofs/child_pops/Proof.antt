@@ -8,7 +8,7 @@ use Rattle.memory.proofs.task.Reads as task-reads
 use Rattle.walks.proofs.popping.Reads as popping-reads
 
 task-requires : tie.Need-task-requires
-task-requires c κs = search needs
+task-requires c κs = tt
 
 popping-requires : tie.Need-popping-requires
 popping-requires c κs = search needs

@@ -10,7 +10,7 @@ use Rattle.walks.proofs.entering.Lts as lts
 use Rattle.walks.proofs.leaving.Reads as leaving-reads
 
 leaving-requires : tie.Need-leaving-requires
-leaving-requires c κs = search needs
+leaving-requires c κs = tt
 
 returns : tie.Need-returns
 unfolding entering

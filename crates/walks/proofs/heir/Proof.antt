@@ -8,10 +8,10 @@ use Rattle.memory.proofs.task.Reads as task-reads
 use Rattle.walks.proofs.oldest_popping.Reads as oldest-popping-reads
 
 task-requires : tie.Need-task-requires
-task-requires c κs = search needs
+task-requires c κs = tt
 
 task-requires-2 : tie.Need-task-requires-2
-task-requires-2 c κs = search needs
+task-requires-2 c κs = tt
 
 oldest-popping-requires : tie.Need-oldest-popping-requires
 oldest-popping-requires c κs = search needs

@@ -11,7 +11,7 @@ returns : tie.Need-returns
 returns c = heir-self _ _ _ _ _ (c .if1 .taken)
 
 task-requires : tie.Need-task-requires
-task-requires c κs = search needs
+task-requires c κs = tt
 
 pops-requires : tie.Need-pops-requires
 pops-requires c κs = search needs

@@ -8,7 +8,7 @@ use Rattle.walks.proofs.after.Reads as after-reads
 use Rattle.walks.proofs.standing.Reads as standing-reads
 
 after-requires : tie.Need-after-requires
-after-requires c κs = search needs
+after-requires c κs = tt
 
 standing-requires : tie.Need-standing-requires
 standing-requires c κs = search needs

@@ -13,7 +13,7 @@ use Rattle.memory.proofs.task.Reads as task-reads
 use Rattle.rights.proofs.pushes.Reads as pushes-reads
 
 task-requires : tie.Need-task-requires
-task-requires c κs = search needs
+task-requires c κs = tt
 
 pushes-requires : tie.Need-pushes-requires
 pushes-requires c κs = search needs

@@ -32,7 +32,7 @@ heir-or-requires : tie.Need-heir-or-requires Inv-loop μ-loop
 heir-or-requires c κs = search needs
 
 task-requires : tie.Need-task-requires Inv-loop μ-loop
-task-requires c κs = search needs
+task-requires c κs = tt
 
 sub-n : tie.Need-sub-n Inv-loop μ-loop
 sub-n c = omega arith

@@ -8,7 +8,7 @@ use Rattle.walks.proofs.after.Reads as after-reads
 use Rattle.walks.proofs.pushing.Reads as pushing-reads
 
 after-requires : tie.Need-after-requires
-after-requires c κs = search needs
+after-requires c κs = tt
 
 pushing-requires : tie.Need-pushing-requires
 pushing-requires c κs = search needs

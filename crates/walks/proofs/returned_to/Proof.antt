@@ -12,7 +12,7 @@ add-after : tie.Need-add-after
 add-after c = search needs
 
 after-requires : tie.Need-after-requires
-after-requires c κs = search needs
+after-requires c κs = tt
 
 taking-requires : tie.Need-taking-requires
 taking-requires c κs = search needs

@@ -24,7 +24,7 @@ add-task : tie.Need-add-task
 add-task c = search needs
 
 task-requires : tie.Need-task-requires
-task-requires c κs = search needs
+task-requires c κs = tt
 
 returns-3 : tie.Need-returns-3
 returns-3 c = stands-head _ _ _ (c .before .before .before .before .takes-part .ensures) (not-false _ (c .before .before .before .if1 .left)) (c .before .task .ensures) (c .if3 .taken)
@@ -36,7 +36,7 @@ add-task-2 : tie.Need-add-task-2
 add-task-2 c = search needs
 
 task-requires-2 : tie.Need-task-requires-2
-task-requires-2 c κs = search needs
+task-requires-2 c κs = tt
 
 returns-4 : tie.Need-returns-4
 returns-4 c = stands-tail _ _ _ (c .before .before .before .before .before .takes-part .ensures) (not-false _ (c .before .before .before .before .if1 .left)) (c .before .before .before .if2 .left) (c .before .before .task .ensures) (c .before .if3 .left) (c .task2 .ensures)

@@ -9,10 +9,10 @@ use Rattle.rights.proofs.uses.Reads as uses-reads
 use Rattle.walks.proofs.task_at.Reads as task-at-reads
 
 task-at-requires : tie.Need-task-at-requires
-task-at-requires c κs = search needs
+task-at-requires c κs = tt
 
 task-requires : tie.Need-task-requires
-task-requires c κs = search needs
+task-requires c κs = tt
 
 uses-requires : tie.Need-uses-requires
 uses-requires c κs = search needs

@@ -12,7 +12,7 @@ use Rattle.walks.proofs.unfinished.Lts as lts
 use Rattle.memory.proofs.task.Reads as task-reads
 
 task-requires : tie.Need-task-requires
-task-requires c κs = search needs
+task-requires c κs = tt
 
 returns : tie.Need-returns
 unfolding unfinished
