@@ -1,5 +1,4 @@
 use Rattle.walks.proofs.Glue.{after-met, after-left}
-use borrow.Author.Needs.{needs}
 use Rattle.walks.proofs.after.Statement.{statement}
 use Rattle.walks.proofs.after.Tie as tie
 use Rattle.walks.proofs.after.Reads as reads

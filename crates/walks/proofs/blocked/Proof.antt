@@ -1,5 +1,4 @@
 use Rattle.walks.proofs.Glue.{blocked-by}
-use borrow.Author.Needs.{needs}
 use Rattle.walks.proofs.blocked.Statement.{statement}
 use Rattle.walks.proofs.blocked.Tie as tie
 use Rattle.walks.proofs.blocked.Reads as reads

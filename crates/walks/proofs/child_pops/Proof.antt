@@ -1,5 +1,4 @@
 use Rattle.walks.proofs.Glue.{child-pops}
-use borrow.Author.Needs.{needs}
 use Rattle.walks.proofs.child_pops.Statement.{statement}
 use Rattle.walks.proofs.child_pops.Tie as tie
 use Rattle.walks.proofs.child_pops.Reads as reads
@@ -11,7 +10,7 @@ task-requires : tie.Need-task-requires
 task-requires c κs = tt
 
 popping-requires : tie.Need-popping-requires
-popping-requires c κs = search needs
+popping-requires c κs = c .before .before .pre
 
 returns : tie.Need-returns
 returns c = child-pops _ _ _ (c .before .task .ensures) (c .popping .ensures)

@@ -2,7 +2,6 @@ use mathlib.Core.Path.{refl, sym, _∙_}
 use borrow.Author.Tests.{lt-ltb, le-ltb}
 use Rattle.words.specs.Words.{pass, halt}
 use Rattle.tree.specs.Tour.{entering}
-use borrow.Author.Needs.{needs}
 use Rattle.walks.proofs.entering.Statement.{statement}
 use Rattle.walks.proofs.entering.Tie as tie
 use Rattle.walks.proofs.entering.Reads as reads

@@ -4,7 +4,6 @@ use mathlib.Core.Bool.{not}
 use mathlib.Core.Path.{ap}
 use Rattle.layout.specs.Layout.{NONE}
 use Rattle.calls.specs.Waits.{hasChild}
-use borrow.Author.Needs.{needs}
 use Rattle.walks.proofs.has_child.Statement.{statement}
 use Rattle.walks.proofs.has_child.Tie as tie
 use Rattle.walks.proofs.has_child.Reads as reads

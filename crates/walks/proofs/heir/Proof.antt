@@ -1,5 +1,4 @@
 use Rattle.walks.proofs.Glue.{heir-from}
-use borrow.Author.Needs.{needs}
 use Rattle.walks.proofs.heir.Statement.{statement}
 use Rattle.walks.proofs.heir.Tie as tie
 use Rattle.walks.proofs.heir.Reads as reads
@@ -14,7 +13,7 @@ task-requires-2 : tie.Need-task-requires-2
 task-requires-2 c κs = tt
 
 oldest-popping-requires : tie.Need-oldest-popping-requires
-oldest-popping-requires c κs = search needs
+oldest-popping-requires c κs = c .before .before .before .pre
 
 returns : tie.Need-returns
 returns c = heir-from _ _ _ (c .before .before .task .ensures) (c .before .task2 .ensures) (c .oldest-popping .ensures)

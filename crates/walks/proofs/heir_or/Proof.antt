@@ -1,5 +1,4 @@
 use Rattle.walks.proofs.Glue.{heir-self, heir-pops, heir-not}
-use borrow.Author.Needs.{needs}
 use Rattle.walks.proofs.heir_or.Statement.{statement}
 use Rattle.walks.proofs.heir_or.Tie as tie
 use Rattle.walks.proofs.heir_or.Reads as reads
@@ -14,7 +13,7 @@ task-requires : tie.Need-task-requires
 task-requires c κs = tt
 
 pops-requires : tie.Need-pops-requires
-pops-requires c κs = search needs
+pops-requires c κs = c .before .before .before .pre
 
 returns-2 : tie.Need-returns-2
 returns-2 c = heir-pops _ _ _ _ _ (c .before .before .before .if1 .left) (c .before .before .task .ensures) (c .before .pops .ensures) (c .if2 .taken)

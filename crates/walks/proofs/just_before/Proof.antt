@@ -1,5 +1,4 @@
 use Rattle.walks.proofs.Glue.{just-before}
-use borrow.Author.Needs.{needs}
 use Rattle.walks.proofs.just_before.Statement.{statement}
 use Rattle.walks.proofs.just_before.Tie as tie
 use Rattle.walks.proofs.just_before.Reads as reads
@@ -11,7 +10,7 @@ after-requires : tie.Need-after-requires
 after-requires c κs = tt
 
 standing-requires : tie.Need-standing-requires
-standing-requires c κs = search needs
+standing-requires c κs = c .before .before .pre
 
 returns : tie.Need-returns
 returns c = just-before _ _ _ (c .before .after .ensures) (c .standing .ensures)

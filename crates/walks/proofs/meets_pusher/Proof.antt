@@ -4,7 +4,6 @@ use borrow.Author.Tests.{lt-ltb, le-ltb}
 use Rattle.tree.specs.Rights.{pushes}
 use Rattle.calls.specs.Waits.{rightsOf}
 use Rattle.walks.proofs.Glue.{both-so, both-no}
-use borrow.Author.Needs.{needs}
 use Rattle.walks.proofs.meets_pusher.Statement.{statement}
 use Rattle.walks.proofs.meets_pusher.Tie as tie
 use Rattle.walks.proofs.meets_pusher.Reads as reads
@@ -16,7 +15,7 @@ task-requires : tie.Need-task-requires
 task-requires c κs = tt
 
 pushes-requires : tie.Need-pushes-requires
-pushes-requires c κs = search needs
+pushes-requires c κs = c .before .before .before .pre
 
 returns : tie.Need-returns
 unfolding rightsOf

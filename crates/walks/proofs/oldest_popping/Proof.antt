@@ -2,7 +2,6 @@ use mathlib.Core.Path.{_≡_, refl, sym, _∙_}
 use mathlib.Core.Bool.{not}
 use lib.Dec.{eqb}
 use native.Mathlib.Omega.{arith}
-use borrow.Author.Needs.{needs}
 use Rattle.words.specs.Words.{both}
 use Rattle.layout.specs.Layout.{recordOf}
 use Rattle.tree.specs.Tour.{oldest}
@@ -29,7 +28,7 @@ returns : tie.Need-returns Inv-loop μ-loop
 returns c = oldest-end _ _ _ _ _ (c .before .loop-test .taken) (c .if1 .taken) ∙ c .before .before .loop .inv
 
 heir-or-requires : tie.Need-heir-or-requires Inv-loop μ-loop
-heir-or-requires c κs = search needs
+heir-or-requires c κs = c .before .before .before .before .pre
 
 task-requires : tie.Need-task-requires Inv-loop μ-loop
 task-requires c κs = tt

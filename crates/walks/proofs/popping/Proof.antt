@@ -1,7 +1,6 @@
 use Prim.Native.Nat.{ℕ}
 use mathlib.Core.Path.{_≡_, refl, sym, _∙_, ap}
 use native.Mathlib.Omega.{arith}
-use borrow.Author.Needs.{needs}
 use Rattle.layout.specs.Layout.{recordOf}
 use Rattle.tree.specs.Tour.{sibling}
 use Rattle.tree.specs.Rights.{pops}
@@ -30,7 +29,7 @@ task-requires : tie.Need-task-requires Inv-loop μ-loop
 task-requires c κs = tt
 
 pops-requires : tie.Need-pops-requires Inv-loop μ-loop
-pops-requires c κs = search needs
+pops-requires c κs = c .before .before .before .before .before .pre
 
 returns-2 : tie.Need-returns-2 Inv-loop μ-loop
 unfolding rightsOf

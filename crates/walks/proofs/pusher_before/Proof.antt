@@ -1,5 +1,4 @@
 use Rattle.walks.proofs.Glue.{pusher-before}
-use borrow.Author.Needs.{needs}
 use Rattle.walks.proofs.pusher_before.Statement.{statement}
 use Rattle.walks.proofs.pusher_before.Tie as tie
 use Rattle.walks.proofs.pusher_before.Reads as reads
@@ -11,7 +10,7 @@ after-requires : tie.Need-after-requires
 after-requires c κs = tt
 
 pushing-requires : tie.Need-pushing-requires
-pushing-requires c κs = search needs
+pushing-requires c κs = c .before .before .pre
 
 returns : tie.Need-returns
 returns c = pusher-before _ _ _ (c .before .after .ensures) (c .pushing .ensures)

@@ -15,10 +15,10 @@ after-requires : tie.Need-after-requires
 after-requires c κs = tt
 
 taking-requires : tie.Need-taking-requires
-taking-requires c κs = search needs
+taking-requires c κs = c .before .before .before .pre .0
 
 standing-requires : tie.Need-standing-requires
-standing-requires c κs = search needs
+standing-requires c κs = c .before .before .before .pre .0
 
 returns : tie.Need-returns
 returns c = returned-part _ _ _ _ _ (c .before .before .after .ensures) (c .before .if1 .taken) (c .taking .ensures)

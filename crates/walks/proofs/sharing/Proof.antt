@@ -1,7 +1,6 @@
 use Prim.Native.Nat.{ℕ}
 use mathlib.Core.Path.{_≡_, refl, sym, _∙_, ap}
 use native.Mathlib.Omega.{arith}
-use borrow.Author.Needs.{needs}
 use Rattle.layout.specs.Layout.{recordOf}
 use Rattle.tree.specs.Tour.{sibling}
 use Rattle.tree.specs.Rights.{sharesPop}

@@ -9,7 +9,7 @@ use Rattle.memory.proofs.task.Reads as task-reads
 use Rattle.walks.proofs.takes_part.Reads as takes-part-reads
 
 takes-part-requires : tie.Need-takes-part-requires
-takes-part-requires c κs = search needs
+takes-part-requires c κs = c .before .pre
 
 returns : tie.Need-returns
 returns c = stands-not _ _ _ (c .before .takes-part .ensures) (not-true _ (c .if1 .taken))

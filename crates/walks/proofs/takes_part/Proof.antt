@@ -1,5 +1,4 @@
 use Rattle.walks.proofs.Glue.{takes-part}
-use borrow.Author.Needs.{needs}
 use Rattle.walks.proofs.takes_part.Statement.{statement}
 use Rattle.walks.proofs.takes_part.Tie as tie
 use Rattle.walks.proofs.takes_part.Reads as reads
@@ -15,7 +14,7 @@ task-requires : tie.Need-task-requires
 task-requires c κs = tt
 
 uses-requires : tie.Need-uses-requires
-uses-requires c κs = search needs
+uses-requires c κs = c .before .before .before .pre
 
 returns : tie.Need-returns
 returns c = takes-part _ _ _ (c .before .before .task-at .ensures) (c .before .task .ensures) (c .uses .ensures)

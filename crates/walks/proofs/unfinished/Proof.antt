@@ -4,7 +4,6 @@ use mathlib.Core.Path.{ap}
 use borrow.Author.Tests.{lt-ltb, le-ltb}
 use Rattle.calls.specs.Waits.{unfinished}
 use Rattle.walks.proofs.Glue.{both-so, both-no}
-use borrow.Author.Needs.{needs}
 use Rattle.walks.proofs.unfinished.Statement.{statement}
 use Rattle.walks.proofs.unfinished.Tie as tie
 use Rattle.walks.proofs.unfinished.Reads as reads
