@@ -65,11 +65,11 @@ pub fn unfinished(m: &[u32], t: u32) -> bool
     }
 }
 
-// The first of c and its older siblings that shares a pop right with a.
-fn sharing(m: &[u32], a: u32, first: u32) -> u32
-    ensures { λ r. ⌜ r ≡ sibling 128 (λ c. sharesPop (rightsOf (now (m .entry)) c) a) (recordOf (now (m .entry))) first ⌝ }
+// The first of `from` and its older siblings that shares a pop right with rights a.
+fn sharing(m: &[u32], a: u32, from: u32) -> u32
+    ensures { λ r. ⌜ r ≡ sibling 128 (λ c. sharesPop (rightsOf (now (m .entry)) c) a) (recordOf (now (m .entry))) from ⌝ }
 {
-    let mut c = first;
+    let mut c = from;
     let mut n: u32 = 128;
     while 0 < n {
         if 128 <= c {
@@ -92,12 +92,12 @@ pub fn blocked(m: &[u32], t: u32) -> bool
     sharing(m, a, c) != NONE
 }
 
-// The first of `first` and its older siblings that may pop q.
-fn popping(m: &[u32], q: u32, first: u32) -> u32
+// The first of `from` and its older siblings that may pop q.
+fn popping(m: &[u32], q: u32, from: u32) -> u32
     requires { ⌜ q < 4 ⌝ }
-    ensures { λ r. ⌜ r ≡ sibling 128 (λ c. pops (rightsOf (now (m .entry)) c) q) (recordOf (now (m .entry))) first ⌝ }
+    ensures { λ r. ⌜ r ≡ sibling 128 (λ c. pops (rightsOf (now (m .entry)) c) q) (recordOf (now (m .entry))) from ⌝ }
 {
-    let mut c = first;
+    let mut c = from;
     let mut n: u32 = 128;
     while 0 < n {
         if 128 <= c {
@@ -270,12 +270,12 @@ fn heir_or(m: &[u32], t: u32, q: u32, c: u32, d: u32) -> u32
     }
 }
 
-// The oldest of `first` and its older siblings that may pop q and is not t, else p.
-fn oldest_popping(m: &[u32], t: u32, q: u32, first: u32, p: u32) -> u32
+// The oldest of `from` and its older siblings that may pop q and is not t, else p.
+fn oldest_popping(m: &[u32], t: u32, q: u32, from: u32, p: u32) -> u32
     requires { ⌜ q < 4 ⌝ }
-    ensures { λ r. ⌜ r ≡ oldest 128 (λ c. both (not (eqb c t)) (pops (rightsOf (now (m .entry)) c) q)) (recordOf (now (m .entry))) first p ⌝ }
+    ensures { λ r. ⌜ r ≡ oldest 128 (λ c. both (not (eqb c t)) (pops (rightsOf (now (m .entry)) c) q)) (recordOf (now (m .entry))) from p ⌝ }
 {
-    let mut c = first;
+    let mut c = from;
     let mut d = p;
     let mut n: u32 = 128;
     while 0 < n {

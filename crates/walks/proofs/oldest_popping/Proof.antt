@@ -16,10 +16,10 @@ use Rattle.memory.proofs.task.Reads as task-reads
 use Rattle.walks.proofs.heir_or.Reads as heir-or-reads
 
 abbrev Inv-loop : tie.InvT-loop
-Inv-loop m t q first p c₀ d₀ n₀ c d n = oldest n (λ c. both (not (eqb c t)) (pops (rightsOf m c) q)) (recordOf m) c d ≡ oldest 128 (λ c. both (not (eqb c t)) (pops (rightsOf m c) q)) (recordOf m) first p
+Inv-loop m t q from p c₀ d₀ n₀ c d n = oldest n (λ c. both (not (eqb c t)) (pops (rightsOf m c) q)) (recordOf m) c d ≡ oldest 128 (λ c. both (not (eqb c t)) (pops (rightsOf m c) q)) (recordOf m) from p
 
 abbrev μ-loop : tie.MeasureT-loop
-μ-loop m t q first p c₀ d₀ n₀ c d n = n
+μ-loop m t q from p c₀ d₀ n₀ c d n = n
 
 loop-holds : tie.Need-loop-holds Inv-loop μ-loop
 loop-holds c = refl

@@ -14,10 +14,10 @@ use Rattle.memory.proofs.task.Reads as task-reads
 use Rattle.rights.proofs.pops.Reads as pops-reads
 
 abbrev Inv-loop : tie.InvT-loop
-Inv-loop m q first c₀ n₀ c n = sibling n (λ c. pops (rightsOf m c) q) (recordOf m) c ≡ sibling 128 (λ c. pops (rightsOf m c) q) (recordOf m) first
+Inv-loop m q from c₀ n₀ c n = sibling n (λ c. pops (rightsOf m c) q) (recordOf m) c ≡ sibling 128 (λ c. pops (rightsOf m c) q) (recordOf m) from
 
 abbrev μ-loop : tie.MeasureT-loop
-μ-loop m q first c₀ n₀ c n = n
+μ-loop m q from c₀ n₀ c n = n
 
 loop-holds : tie.Need-loop-holds Inv-loop μ-loop
 loop-holds c = refl

@@ -14,10 +14,10 @@ use Rattle.memory.proofs.task.Reads as task-reads
 use Rattle.rights.proofs.shares_pop.Reads as shares-pop-reads
 
 abbrev Inv-loop : tie.InvT-loop
-Inv-loop m a first c₀ n₀ c n = sibling n (λ c. sharesPop (rightsOf m c) a) (recordOf m) c ≡ sibling 128 (λ c. sharesPop (rightsOf m c) a) (recordOf m) first
+Inv-loop m a from c₀ n₀ c n = sibling n (λ c. sharesPop (rightsOf m c) a) (recordOf m) c ≡ sibling 128 (λ c. sharesPop (rightsOf m c) a) (recordOf m) from
 
 abbrev μ-loop : tie.MeasureT-loop
-μ-loop m a first c₀ n₀ c n = n
+μ-loop m a from c₀ n₀ c n = n
 
 loop-holds : tie.Need-loop-holds Inv-loop μ-loop
 loop-holds c = refl
