@@ -17,35 +17,27 @@ Inv-loop m₀ n i₀ m i = (n ≡ length m₀) × (i ≤ n) × (length m ≡ len
 abbrev μ-loop : tie.MeasureT-loop
 μ-loop m₀ n i₀ m i = n - i
 
--- src/lib.rt:41:5
 loop-holds : tie.Need-loop-holds Inv-loop μ-loop
 loop-holds c = (refl, omega arith, refl, refl)
 
--- src/lib.rt:42:9
 mul-m : tie.Need-mul-m Inv-loop μ-loop
 mul-m c = search needs
 
--- src/lib.rt:42:9
 slice-write-m : tie.Need-slice-write-m Inv-loop μ-loop
 slice-write-m c = search needs
 
--- src/lib.rt:43:9
 add-i : tie.Need-add-i Inv-loop μ-loop
 add-i c = search needs
 
--- src/lib.rt:41:5
 loop-less : tie.Need-loop-less Inv-loop μ-loop
 loop-less c = omega arith
 
--- src/lib.rt:41:5
 loop-again : tie.Need-loop-again Inv-loop μ-loop
 loop-again c = (refl, omega arith, length-set (c .before .loop .m) (c .before .loop .i) 0 ∙ c .before .loop .inv .2, clear-more (c .before .before .args .m .now) (c .before .loop .m) _ (c .before .loop .i) (c .loop-test .taken) (c .before .loop .inv .3) refl)
 
--- src/lib.rt:36:1
 same-length : tie.Need-same-length Inv-loop μ-loop
 same-length c = search needs
 
--- src/lib.rt:36:1
 returns : tie.Need-returns Inv-loop μ-loop
 returns c = clear-done (c .before .before .args .m .now) (c .before .loop .m) (c .before .loop .i) _ refl (c .before .loop .inv .1) (c .loop-test .left) (c .before .loop .inv .3)
 
