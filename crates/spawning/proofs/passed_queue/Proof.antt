@@ -1,0 +1,30 @@
+use Rattle.spawning.proofs.Glue.{chosen}
+use Rattle.calls.specs.Spawn.{passedQueue}
+use borrow.Author.Needs.{needs}
+use Rattle.spawning.proofs.passed_queue.Statement.{statement}
+use Rattle.spawning.proofs.passed_queue.Tie as tie
+use Rattle.spawning.proofs.passed_queue.Reads as reads
+use Rattle.spawning.proofs.passed_queue.Lts as lts
+use Rattle.memory.proofs.task.Reads as task-reads
+use Rattle.rights.proofs.pops.Reads as pops-reads
+use Rattle.spawning.proofs.choose.Reads as choose-reads
+
+pops-requires : tie.Need-pops-requires
+pops-requires c κs = search needs
+
+add-task : tie.Need-add-task
+add-task c = search needs
+
+task-requires : tie.Need-task-requires
+task-requires c κs = search needs
+
+choose-requires : tie.Need-choose-requires
+choose-requires c κs = search needs
+
+returns : tie.Need-returns
+unfolding passedQueue
+returns c = chosen _ (c .choose .ensures) (c .before .before .pops .ensures) (c .before .task .ensures)
+
+pub passed-queue-spec : {M : Type 1} → statement M
+passed-queue-spec =
+    tie.close (tie.spec pops-requires add-task task-requires choose-requires returns)

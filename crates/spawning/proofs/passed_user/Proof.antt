@@ -1,0 +1,30 @@
+use Rattle.spawning.proofs.Glue.{chosen}
+use Rattle.calls.specs.Spawn.{passedUser}
+use borrow.Author.Needs.{needs}
+use Rattle.spawning.proofs.passed_user.Statement.{statement}
+use Rattle.spawning.proofs.passed_user.Tie as tie
+use Rattle.spawning.proofs.passed_user.Reads as reads
+use Rattle.spawning.proofs.passed_user.Lts as lts
+use Rattle.memory.proofs.task.Reads as task-reads
+use Rattle.rights.proofs.uses.Reads as uses-reads
+use Rattle.spawning.proofs.choose.Reads as choose-reads
+
+uses-requires : tie.Need-uses-requires
+uses-requires c κs = search needs
+
+add-task : tie.Need-add-task
+add-task c = search needs
+
+task-requires : tie.Need-task-requires
+task-requires c κs = search needs
+
+choose-requires : tie.Need-choose-requires
+choose-requires c κs = search needs
+
+returns : tie.Need-returns
+unfolding passedUser
+returns c = chosen _ (c .choose .ensures) (c .before .before .uses .ensures) (c .before .task .ensures)
+
+pub passed-user-spec : {M : Type 1} → statement M
+passed-user-spec =
+    tie.close (tie.spec uses-requires add-task task-requires choose-requires returns)

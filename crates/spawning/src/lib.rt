@@ -1,0 +1,104 @@
+// spawn (task, rights)
+ghost use mathlib.Core.Path.{_≡_};
+ghost use mathlib.Core.List.{[], _∷_};
+ghost use Prim.Native.Nat.{_+_, _<_, _≤_};
+ghost use lib.ListN.{length};
+ghost use Rattle.words.specs.Words.{pick};
+ghost use Rattle.words.specs.Blocks.{storeAll};
+ghost use Rattle.layout.specs.Layout.{task, address, read, UNFINISHED, NONE};
+ghost use Rattle.calls.specs.Spawn.{forQueues, passedUser, passedQueue, keptUser, keptQueue, noWords, childViews, passedOn, childMade};
+
+fn choose(b: bool, v: u32, w: u32) -> u32
+    ensures { λ r. ⌜ r ≡ pick b v w ⌝ }
+{
+    if b { v } else { w }
+}
+
+// What the child gets of the queue view of q, and of word k + q of its spawner's user views.
+fn passed_queue(m: &[u32], t: u32, r: u32, q: u32) -> u32
+    requires { ⌜ q < 4 ⌝ }
+    ensures { λ w. ⌜ w ≡ passedQueue r (read (now (m .entry)) (task t (16 + q))) q ⌝ }
+{
+    choose(rights::pops(r, q), memory::task(m, t, 16 + q), 4294967295)
+}
+
+fn passed_user(m: &[u32], t: u32, r: u32, k: u32, q: u32) -> u32
+    requires { ⌜ (q < 4) × (k ≤ 40) ⌝ }
+    ensures { λ w. ⌜ w ≡ passedUser r (read (now (m .entry)) (task t (k + q))) q ⌝ }
+{
+    choose(rights::uses(r, q), memory::task(m, t, k + q), 4294967295)
+}
+
+// What the spawner keeps.
+fn kept_queue(m: &[u32], t: u32, r: u32, q: u32) -> u32
+    requires { ⌜ q < 4 ⌝ }
+    ensures { λ w. ⌜ w ≡ keptQueue r (read (now (m .entry)) (task t (16 + q))) q ⌝ }
+{
+    choose(rights::pops(r, q), 4294967295, memory::task(m, t, 16 + q))
+}
+
+fn kept_user(m: &[u32], t: u32, r: u32, k: u32, q: u32) -> u32
+    requires { ⌜ (q < 4) × (k ≤ 40) ⌝ }
+    ensures { λ w. ⌜ w ≡ keptUser r (read (now (m .entry)) (task t (k + q))) q ⌝ }
+{
+    choose(rights::uses(r, q), 4294967295, memory::task(m, t, k + q))
+}
+
+// Four words from word k of the record of c on.
+fn set_four(m: &mut [u32], c: u32, k: u32, w0: u32, w1: u32, w2: u32, w3: u32)
+    requires { ⌜ (c < 128) × (k < 48) ⌝ }
+    ensures { λ _. ⌜ now (m .exit) ≡ storeAll (now (m .entry)) (address (task c k)) (w0 ∷ w1 ∷ w2 ∷ w3 ∷ []) ⌝ }
+{
+    memory::put4(m, 1472 + c * 48 + k, w0, w1, w2, w3);
+}
+
+fn set_none(m: &mut [u32], c: u32, k: u32)
+    requires { ⌜ (c < 128) × (k < 48) ⌝ }
+    ensures { λ _. ⌜ now (m .exit) ≡ storeAll (now (m .entry)) (address (task c k)) noWords ⌝ }
+{
+    set_four(m, c, k, 4294967295, 4294967295, 4294967295, 4294967295);
+}
+
+fn pass_queues(m: &mut [u32], c: u32, t: u32, r: u32)
+    requires { ⌜ c < 128 ⌝ }
+    ensures { λ _. ⌜ now (m .exit) ≡ storeAll (now (m .entry)) (address (task c 16)) (forQueues (λ q. passedQueue r (read (now (m .entry)) (task t (16 + q))) q)) ⌝ }
+{
+    let w0 = passed_queue(m, t, r, 0);
+    let w1 = passed_queue(m, t, r, 1);
+    let w2 = passed_queue(m, t, r, 2);
+    let w3 = passed_queue(m, t, r, 3);
+    set_four(m, c, 16, w0, w1, w2, w3);
+}
+
+fn pass_users(m: &mut [u32], c: u32, t: u32, r: u32, k: u32)
+    requires { ⌜ (c < 128) × (k ≤ 40) ⌝ }
+    ensures { λ _. ⌜ now (m .exit) ≡ storeAll (now (m .entry)) (address (task c k)) (forQueues (λ q. passedUser r (read (now (m .entry)) (task t (k + q))) q)) ⌝ }
+{
+    let w0 = passed_user(m, t, r, k, 0);
+    let w1 = passed_user(m, t, r, k, 1);
+    let w2 = passed_user(m, t, r, k, 2);
+    let w3 = passed_user(m, t, r, k, 3);
+    set_four(m, c, k, w0, w1, w2, w3);
+}
+
+fn keep_queues(m: &mut [u32], t: u32, r: u32)
+    requires { ⌜ t < 128 ⌝ }
+    ensures { λ _. ⌜ now (m .exit) ≡ storeAll (now (m .entry)) (address (task t 16)) (forQueues (λ q. keptQueue r (read (now (m .entry)) (task t (16 + q))) q)) ⌝ }
+{
+    let w0 = kept_queue(m, t, r, 0);
+    let w1 = kept_queue(m, t, r, 1);
+    let w2 = kept_queue(m, t, r, 2);
+    let w3 = kept_queue(m, t, r, 3);
+    set_four(m, t, 16, w0, w1, w2, w3);
+}
+
+fn keep_users(m: &mut [u32], t: u32, r: u32, k: u32)
+    requires { ⌜ (t < 128) × (k ≤ 40) ⌝ }
+    ensures { λ _. ⌜ now (m .exit) ≡ storeAll (now (m .entry)) (address (task t k)) (forQueues (λ q. keptUser r (read (now (m .entry)) (task t (k + q))) q)) ⌝ }
+{
+    let w0 = kept_user(m, t, r, k, 0);
+    let w1 = kept_user(m, t, r, k, 1);
+    let w2 = kept_user(m, t, r, k, 2);
+    let w3 = kept_user(m, t, r, k, 3);
+    set_four(m, t, k, w0, w1, w2, w3);
+}
