@@ -102,3 +102,53 @@ fn keep_users(m: &mut [u32], t: u32, r: u32, k: u32)
     let w3 = kept_user(m, t, r, k, 3);
     set_four(m, t, k, w0, w1, w2, w3);
 }
+
+// The views of child c of task t.
+fn child_views(m: &mut [u32], c: u32, t: u32, r: u32)
+    requires { ⌜ c < 128 ⌝ }
+    ensures { λ _. ⌜ now (m .exit) ≡ storeAll (now (m .entry)) (address (task c 16)) (childViews (now (m .entry)) t r) ⌝ }
+{
+    pass_queues(m, c, t, r);
+    set_none(m, c, 20);
+    pass_users(m, c, t, r, 24);
+    set_none(m, c, 28);
+    set_none(m, c, 32);
+    pass_users(m, c, t, r, 36);
+    set_none(m, c, 40);
+}
+
+// What t keeps of its views.
+fn pass_on(m: &mut [u32], t: u32, r: u32)
+    requires { ⌜ t < 128 ⌝ }
+    ensures { λ _. ⌜ now (m .exit) ≡ passedOn (now (m .entry)) t r ⌝ }
+{
+    keep_queues(m, t, r);
+    keep_users(m, t, r, 24);
+    keep_users(m, t, r, 36);
+}
+
+// The links of child c of task t, with the sibling o next to it.
+fn child_links(m: &mut [u32], c: u32, r: u32, t: u32, o: u32)
+    requires { ⌜ c < 128 ⌝ }
+    ensures { λ _. ⌜ now (m .exit) ≡ storeAll (now (m .entry)) (address (task c 0)) (UNFINISHED ∷ r ∷ t ∷ o ∷ NONE ∷ NONE ∷ []) ⌝ }
+{
+    set_four(m, c, 0, 1, r, t, o);
+    memory::set_task(m, c, 4, 4294967295);
+    memory::set_task(m, c, 5, 4294967295);
+}
+
+// Child c of t, with rights r: the youngest child from now on.
+fn make_child(m: &mut [u32], t: u32, r: u32, c: u32)
+    requires { ⌜ (c < 128) × (t < 128) ⌝ }
+    ensures { λ _. ⌜ now (m .exit) ≡ childMade (now (m .entry)) t r c ⌝ }
+{
+    let o = memory::task(m, t, 5);
+    child_links(m, c, r, t, o);
+    child_views(m, c, t, r);
+    pass_on(m, t, r);
+    memory::set_task(m, t, 5, c);
+    if o == 4294967295 {
+        return;
+    }
+    memory::set_task(m, o, 4, c);
+}

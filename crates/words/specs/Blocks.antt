@@ -6,7 +6,7 @@ use native.Mathlib.Nat.{le-of-suc-le-suc, add-zero, add-comm, zero-mul, suc-mul}
 use native.Mathlib.Omega.{arith}
 use lib.ListN.{length, getD, drop}
 use lib.Seq.{drop-drop}
-use Rattle.words.specs.Words.{store, size}
+use Rattle.words.specs.Words.{load, store, size, load-other}
 
 -- the memory with the words ws from address a on
 unfoldable pub storeAll : List ℕ → ℕ → List ℕ → List ℕ
@@ -37,6 +37,14 @@ store-append (x ∷ xs) m a ys =
     ∙ store-append xs (store m a x) (suc a) ys
     ∙ ap (λ (l : List ℕ). storeAll l (suc a + length xs) ys) (sym (store-more m a x xs))
     ∙ ap (λ (b : ℕ). storeAll (storeAll m a (x ∷ xs)) b ys) (let z : suc a + length xs ≡ a + suc (length xs) = omega arith in z)
+
+-- a word that is none of those stored
+pub block-other : (ws : List ℕ) (m : List ℕ) (a b : ℕ) → ((j : ℕ) → j < length ws → b ≡ a + j → ⊥) → load (storeAll m a ws) b ≡ load m b
+block-other [] m a b n = ap (λ (l : List ℕ). load l b) (store-none m a)
+block-other (w ∷ ws) m a b n =
+    ap (λ (l : List ℕ). load l b) (store-more m a w ws)
+    ∙ block-other ws (store m a w) (suc a) b (λ j l e. n (suc j) (omega (arith, l)) (omega (arith, e)))
+    ∙ load-other m a b w (λ e. n 0 (omega arith) (omega (arith, e)))
 
 pub size-storeAll : (m : List ℕ) (a : ℕ) (ws : List ℕ) → size (storeAll m a ws) ≡ size m
 unfolding storeAll size
