@@ -3,12 +3,13 @@ use mathlib.Core.Path.{_≡_, refl, ap, sym, _∙_}
 use mathlib.Core.Bool.{Bool, true, false}
 use mathlib.Core.List.{List}
 use mathlib.Core.Logic.{_⊎_, inl, inr, ⊎-elim}
-use Prim.Native.Nat.{ℕ, _+_, _*_, _<_, _≤_}
+use Prim.Native.Nat.{ℕ, zero, suc, _+_, _*_, _<_, _≤_}
 use native.Mathlib.Omega.{arith}
-use lib.ListN.{length, take, drop, length-take, length-drop}
+use lib.Seq.{drop-cons}
+use lib.ListN.{length, getD, take, drop, length-take, length-drop}
 use borrow.Author.Tests.{ltb-true, eqb-true, leb-true}
 use Rattle.words.specs.Words.{load, size, both-true}
-use Rattle.lists.specs.Counting.{occurrences}
+use Rattle.lists.specs.Counting.{occurrences, occurs-here, occurs-cons}
 use Rattle.layout.specs.Layout.{NONE, NL, UNFINISHED, STATUS, RIGHTS, lengthWord, numberWord, freeSegments, freeTasks, freeSegment, freeTask, segment, task, first, count, next, address, read, recordOf}
 use Rattle.layout.specs.Frame.{record-word}
 use Rattle.tree.specs.Tour.{met}
@@ -23,6 +24,26 @@ use Rattle.rules_views.specs.Members.{load-drop}
 use Rattle.rules_same.specs.Passed.{Passed, test-says, opening-says, toured}
 use Rattle.rules_same.specs.Same.{whole-tour}
 use Rattle.calls.specs.Waits.{unfinished}
+
+-- the words of a part of memory stand in it
+in-take : (i k a : ℕ) (m : List ℕ) → i < k → a + k ≤ size m → 0 < occurrences (load m (a + i)) (take k (drop a m))
+unfolding size load
+in-take i zero a m l b = let z : ⊥ = omega (arith, l) in absurd z
+in-take zero (suc k) a m l b =
+    let e = ap (take (suc k)) (drop-cons m a 0 (omega (arith, b))) in
+    let f : getD m (a + 0) 0 ≡ getD m a 0 = ap (λ (j : ℕ). getD m j 0) (let z : a + 0 ≡ a = omega arith in z) in
+    let n = occurs-here (getD m a 0) (getD m (a + 0) 0) (take k (drop (suc a) m)) (sym f) in
+    let o = ap (occurrences (getD m (a + 0) 0)) e in
+    omega (arith, n, o)
+in-take (suc i) (suc k) a m l b =
+    let e = ap (take (suc k)) (drop-cons m a 0 (omega (arith, b))) in
+    let w = getD m (a + suc i) 0 in
+    let f : getD m (suc a + i) 0 ≡ w = ap (λ (j : ℕ). getD m j 0) (let z : suc a + i ≡ a + suc i = omega arith in z) in
+    let h = in-take i k (suc a) m (omega (arith, l)) (omega (arith, b)) in
+    let g = ap (λ (x : ℕ). occurrences x (take k (drop (suc a) m))) f in
+    let n = occurs-cons (getD m a 0) w (take k (drop (suc a) m)) in
+    let o = ap (occurrences w) e in
+    omega (arith, h, g, n, o)
 
 module _ (m : List ℕ) where
   -- a task that has views: the top, or an unfinished one
@@ -42,6 +63,10 @@ module _ (m : List ℕ) where
     pub tails-open : (t i : ℕ) → Live t → i < 12 → read m (task t (32 + i)) < NL → read m (task t (32 + i)) < read m numberWord
     -- the stack of free segments
     pub free-height : read m freeSegments ≤ read m numberWord
+    pub free-open : (i : ℕ) → i < read m freeSegments → read m (freeSegment i) < read m numberWord
+    -- the stack of free records
+    pub idle-height : read m freeTasks ≤ 127
+    pub idle-tasks : (i : ℕ) → i < read m freeTasks → read m (freeTask i) < 128
     -- the task tree
     pub tasks : TaskRules (decode m)
 
@@ -56,8 +81,11 @@ module _ (m : List ℕ) where
   live-holder : (t : ℕ) → Live t → Holder (decode m) t
   live-holder t h = ⊎-elim inl (λ w. inr (w .0, task-word t STATUS ∙ w .1)) h
 
+  in-stack : (i k a : ℕ) → size m ≡ 16384 → i < k → k ≤ 256 → a ≤ 320 → 0 < occurrences (load m (a + i)) (take k (drop a m))
+  in-stack i k a big l b d = in-take i k a m l (omega (arith, big, b, d))
+
   passed-sound : size m ≡ 16384 → Passed (decode m) → Sound
-  unfolding size
+  unfolding size read address
   passed-sound big p =
       let c = decode m in
       let o = opening-says c (p .range) in
@@ -65,6 +93,18 @@ module _ (m : List ℕ) where
       let xs = toured c in
       let g = segments-say c (heads c (met xs)) (tails c (met xs)) (o .number-range .1) (p .room) (p .seen .segs) (p .seen .holding) in
       let sound = segments-sound c (p .seen .segs) in
+      let tasks = tasks-say c (p .top) (p .free) (p .tree) in
+      let high : read m freeSegments ≤ read m numberWord =
+      let a = leb-true (length (c .free)) (c .number) (p .room) in
+      let b = length-take (read m freeSegments) (drop 64 m) in
+      let d = length-drop 64 m in
+      let f = o .number-range .1 in
+      omega (arith, a, b, d, f, big) in
+      let few : read m freeTasks ≤ 127 =
+      let a = tasks .idle-few in
+      let b = length-take (read m freeTasks) (drop 320 m) in
+      let d = length-drop 320 m in
+      omega (arith, a, b, d, big) in
       record {
         length-range = o .length-range;
         number-range = o .number-range;
@@ -80,13 +120,13 @@ module _ (m : List ℕ) where
             let e = task-word t (32 + i) in
             let a = tails-fit c xs v (g .2) t i (live-holder t h) l (omega (arith, e, q)) in
             omega (arith, e, a);
-        free-height =
-            let a = leb-true (length (c .free)) (c .number) (p .room) in
-            let b = length-take (read m freeSegments) (drop 64 m) in
-            let d = length-drop 64 m in
+        free-height = high;
+        free-open = λ i l.
             let f = o .number-range .1 in
-            omega (arith, a, b, d, f, big);
-        tasks = tasks-say c (p .top) (p .free) (p .tree);
+            g .0 .free-below (read m (freeSegment i)) (in-stack i (read m freeSegments) 64 big l (omega (arith, high, f)) (omega arith));
+        idle-height = few;
+        idle-tasks = λ i l. tasks .idle-below (read m (freeTask i)) (in-stack i (read m freeTasks) 320 big l (omega (arith, few)) (omega arith)) .1;
+        tasks = tasks;
       }
 
   pub rules-sound : size m ≡ 16384 → rulesHold m ≡ true → Sound
