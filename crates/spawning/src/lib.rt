@@ -1,12 +1,16 @@
 // spawn (task, rights)
 ghost use mathlib.Core.Path.{_≡_};
+ghost use mathlib.Core.Bool.{true};
 ghost use mathlib.Core.List.{[], _∷_};
 ghost use Prim.Native.Nat.{_+_, _<_, _≤_};
 ghost use lib.ListN.{length};
 ghost use Rattle.words.specs.Words.{pick};
 ghost use Rattle.words.specs.Blocks.{storeAll};
 ghost use Rattle.layout.specs.Layout.{task, address, read, UNFINISHED, NONE};
-ghost use Rattle.calls.specs.Spawn.{forQueues, passedUser, passedQueue, keptUser, keptQueue, noWords, childViews, passedOn, childMade};
+ghost use Rattle.calls.specs.Spawn.{forQueues, passedUser, passedQueue, keptUser, keptQueue, noWords, childViews, passedOn, childMade, spawnTested};
+ghost use Rattle.rules.specs.Test.{rulesHold};
+ghost use Rattle.answers.specs.Answers.{Outcome};
+ghost use Rattle.answers.specs.Answers.Outcome.{outcome};
 
 fn choose(b: bool, v: u32, w: u32) -> u32
     ensures { λ r. ⌜ r ≡ pick b v w ⌝ }
@@ -151,4 +155,28 @@ fn make_child(m: &mut [u32], t: u32, r: u32, c: u32)
         return;
     }
     memory::set_task(m, o, 4, c);
+}
+
+// Spawn on memory that passes the rules.
+pub fn spawn(m: &mut [u32], t: u32, r: u32) -> answers::Answer
+    requires { ⌜ (length (now m) ≡ 16384) × (rulesHold (now m) ≡ true) ⌝ }
+    ensures { λ a. ⌜ outcome a (now (m .exit)) ≡ spawnTested (now (m .entry)) t r ⌝ }
+{
+    if !walks::unfinished(m, t) {
+        return answers::Answer::Refused(4);
+    }
+    if !rights::subset(r, memory::task(m, t, 1)) {
+        return answers::Answer::Refused(6);
+    }
+    if walks::blocked(m, t) {
+        return answers::Answer::Waits;
+    }
+    let h = memory::header(m, 3);
+    if h == 0 {
+        return answers::Answer::Refused(8);
+    }
+    let c = memory::free_task(m, h - 1);
+    memory::set_header(m, 3, h - 1);
+    make_child(m, t, r, c);
+    answers::Answer::Moved(c)
 }
