@@ -1,15 +1,17 @@
 -- The ring of values: places, the addresses of values, a store into one segment's values.
 use mathlib.Core.Path.{_≡_, refl, ap, sym, _∙_}
+use mathlib.Core.Bool.{Bool, true, false}
 use mathlib.Core.List.{List}
 use Prim.Native.Nat.{ℕ, _+_, _-_, _*_, _^_, _<_, _≤_}
 use native.Mathlib.Omega.{arith}
-use native.Mathlib.Nat.{mul-le-mul}
+use native.Mathlib.Nat.{mul-le-mul, mul-le-mul-left, mul-suc, mul-comm}
+use lib.Dec.{ltb}
 use lib.ListN.{length, set}
-use borrow.Author.Tests.{lt-ltb, le-ltb}
+use borrow.Author.Tests.{lt-ltb, le-ltb, ltb-true}
 use borrow.Rule.Slice.PartMut.{putMid, midOf, mid-len, set-mid-at}
-use Rattle.words.specs.Words.{load, store, pick, pass, halt}
-use Rattle.layout.specs.Layout.{lengthWord, value, first, address, read, write}
-use Rattle.calls.specs.Segments.{place, valueAt}
+use Rattle.words.specs.Words.{load, store, size, pick, pass, halt, pick-true, pick-false}
+use Rattle.layout.specs.Layout.{lengthWord, numberWord, segment, value, first, count, address, read, write}
+use Rattle.calls.specs.Segments.{place, valueAt, stored, dropped}
 
 pub place-low : (l f k : ℕ) → f + k < l → f + k ≡ place l f k
 unfolding place
@@ -22,6 +24,17 @@ place-high l f k h g = sym (pass _ (le-ltb _ _ h) (halt _ _ (lt-ltb _ _ g)))
 pub place-none : (l f k : ℕ) → l ≤ f + k → l ≤ f + k - l → 0 ≡ place l f k
 unfolding place
 place-none l f k h g = sym (pass _ (le-ltb _ _ h) (pass _ (le-ltb _ _ g) refl))
+
+pub place-below : (l f k : ℕ) → 0 < l → place l f k < l
+unfolding place
+place-below l f k h = go (ltb (f + k) l) refl
+  where
+    last : (b : Bool) → ltb (f + k - l) l ≡ b → pick b (f + k - l) 0 < l
+    last true e = rw (pick-true (f + k - l) 0) (ltb-true _ _ e)
+    last false e = rw (pick-false (f + k - l) 0) h
+    go : (b : Bool) → ltb (f + k) l ≡ b → pick b (f + k) (pick (ltb (f + k - l) l) (f + k - l) 0) < l
+    go true e = rw (pick-true (f + k) (pick (ltb (f + k - l) l) (f + k - l) 0)) (ltb-true _ _ e)
+    go false e = rw (pick-false (f + k) (pick (ltb (f + k - l) l) (f + k - l) 0)) (last (ltb (f + k - l) l) refl)
 
 -- no address of a value wraps
 pub product-fits : (s l : ℕ) → s < 2 ^ 32 → l < 2 ^ 32 → s * l ≤ 4294967295 * 4294967295
@@ -45,3 +58,29 @@ store-part a l i v xs ys h g q =
 pub store-value : (m n : List ℕ) (s l i v : ℕ) → n ≡ store m (8192 + s * l + i) v → n ≡ write m (value (s * l + i)) v
 unfolding write address
 store-value m n s l i v e = e ∙ ap (λ (a : ℕ). store m a v) (omega arith)
+
+-- the values of segment s are inside the memory
+pub values-inside : (m : List ℕ) (k s l : ℕ) → size m ≡ 16384 → s < read m numberWord → read m lengthWord * read m numberWord ≤ 8192 → l ≡ read m lengthWord
+    → k ≡ length m → 8192 + (s * l + l) ≤ k
+unfolding size
+values-inside m k s l e h g el ek = fits s l (read m numberWord) h (rw (← el) at g)
+  where
+    fits : (s l n : ℕ) → s < n → l * n ≤ 8192 → 8192 + (s * l + l) ≤ k
+    fits s l n h g =
+        let a = mul-le-mul-left l h in
+        let b = mul-suc l s in
+        let d = mul-comm l s in
+        omega (arith, a, b, d)
+
+pub one-more : (m m1 m2 : List ℕ) (s v l n f p : ℕ) → l ≡ read m lengthWord → n ≡ read m (count s) → f ≡ read m (first s) → p ≡ place l f n
+    → m1 ≡ write m (value (s * l + p)) v → m2 ≡ write m1 (segment s 1) (n + 1) → m2 ≡ stored m s v
+unfolding stored
+one-more m m1 m2 s v l n f p el en ef ep e1 e2 = simp (e2, e1, ep, ef, en, el)
+
+pub one-less : (m m1 m2 : List ℕ) (s l n f p : ℕ) → l ≡ read m lengthWord → f ≡ read m (first s) → p ≡ place l f 1 → n ≡ read m (count s)
+    → m1 ≡ write m (segment s 0) p → m2 ≡ write m1 (segment s 1) (n - 1) → m2 ≡ dropped m s
+unfolding dropped
+one-less m m1 m2 s l n f p el ef ep en e1 e2 = simp (e2, e1, ep, ef, en, el)
+
+pub place-inside : (m : List ℕ) (s l n f p : ℕ) → l ≡ read m lengthWord → n ≡ read m (count s) → read m (count s) < read m lengthWord → p ≡ place l f n → p < l
+place-inside m s l n f p el en h ep = rw ep (place-below l f n (omega arith))

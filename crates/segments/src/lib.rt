@@ -49,3 +49,75 @@ fn store_at(m: &mut [u32], s: u32, l: u32, at: u32, v: u32)
     let b = a + l as usize;
     store(&mut m[a..b], at, v);
 }
+
+// One value more behind the others of segment s.
+pub fn store_one(m: &mut [u32], s: u32, v: u32)
+    requires { ⌜ (size (now m) ≡ 16384) × (s < read (now m) numberWord) × (read (now m) lengthWord * read (now m) numberWord ≤ 8192) × (read (now m) (count s) < read (now m) lengthWord) ⌝ }
+    ensures { λ _. ⌜ now (m .exit) ≡ stored (now (m .entry)) s v ⌝ }
+{
+    let l = memory::header(m, 0);
+    let n = memory::segment(m, s, 1);
+    let p = place(l, memory::segment(m, s, 0), n);
+    store_at(m, s, l, p, v);
+    memory::set_segment(m, s, 1, n + 1);
+}
+
+// The first value of segment s is gone.
+pub fn drop_one(m: &mut [u32], s: u32)
+    requires { ⌜ 0 < read (now m) (count s) ⌝ }
+    ensures { λ _. ⌜ now (m .exit) ≡ dropped (now (m .entry)) s ⌝ }
+{
+    let p = place(memory::header(m, 0), memory::segment(m, s, 0), 1);
+    let n = memory::segment(m, s, 1);
+    memory::set_segment(m, s, 0, p);
+    memory::set_segment(m, s, 1, n - 1);
+}
+
+pub fn none_free(m: &[u32]) -> bool
+    ensures { λ r. ⌜ r ≡ noneFree (now (m .entry)) ⌝ }
+{
+    memory::header(m, 2) == 0
+}
+
+// The segment that is taken next.
+pub fn next_free(m: &[u32]) -> u32
+    requires { ⌜ 0 < read (now m) freeSegments ⌝ }
+    ensures { λ r. ⌜ r ≡ nextFree (now (m .entry)) ⌝ }
+{
+    memory::free_segment(m, memory::header(m, 2) - 1)
+}
+
+// The words of the record of segment s: first place, count, next.
+fn set_record(m: &mut [u32], s: u32, f: u32, n: u32, x: u32)
+    ensures { λ _. ⌜ now (m .exit) ≡ storeAll (now (m .entry)) (address (segment s 0)) (f ∷ n ∷ x ∷ []) ⌝ }
+{
+    memory::set_segment(m, s, 0, f);
+    memory::set_segment(m, s, 1, n);
+    memory::set_segment(m, s, 2, x);
+}
+
+// The next free segment gets v as its only value, and no next.
+pub fn take(m: &mut [u32], v: u32)
+    requires { ⌜ (size (now m) ≡ 16384) × (0 < read (now m) freeSegments) × (nextFree (now m) < read (now m) numberWord) × (0 < read (now m) lengthWord) × (read (now m) lengthWord * read (now m) numberWord ≤ 8192) ⌝ }
+    ensures { λ _. ⌜ now (m .exit) ≡ taken (now (m .entry)) v ⌝ }
+{
+    let l = memory::header(m, 0);
+    let n = memory::header(m, 2);
+    let s = memory::free_segment(m, n - 1);
+    memory::set_header(m, 2, n - 1);
+    set_record(m, s, 0, 1, 4294967295);
+    store_at(m, s, l, 0, v);
+}
+
+// Segment s is free, and is the one taken next.
+pub fn release(m: &mut [u32], s: u32)
+    ensures { λ _. ⌜ now (m .exit) ≡ released (now (m .entry)) s ⌝ }
+{
+    let n = memory::header(m, 2);
+    set_record(m, s, 0, 0, 0);
+    if 256 <= n {
+        return;
+    }
+    memory::set_free_segment(m, n, s);
+    memory::set_header(m, 2, n + 1);
+}
