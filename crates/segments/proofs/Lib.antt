@@ -1,2 +1,4 @@
 pub mod Ring
 pub mod Stack
+pub mod Walk
+pub mod Links

@@ -32,6 +32,7 @@ place-below l f k h = go (ltb (f + k) l) refl
     last : (b : Bool) → ltb (f + k - l) l ≡ b → pick b (f + k - l) 0 < l
     last true e = rw (pick-true (f + k - l) 0) (ltb-true _ _ e)
     last false e = rw (pick-false (f + k - l) 0) h
+
     go : (b : Bool) → ltb (f + k) l ≡ b → pick b (f + k) (pick (ltb (f + k - l) l) (f + k - l) 0) < l
     go true e = rw (pick-true (f + k) (pick (ltb (f + k - l) l) (f + k - l) 0)) (ltb-true _ _ e)
     go false e = rw (pick-false (f + k) (pick (ltb (f + k - l) l) (f + k - l) 0)) (last (ltb (f + k - l) l) refl)

@@ -5,8 +5,11 @@ ghost use Prim.Native.Nat.{_+_, _*_, _<_, _≤_};
 ghost use lib.ListN.{length};
 ghost use Rattle.words.specs.Words.{store, size};
 ghost use Rattle.words.specs.Blocks.{storeAll};
-ghost use Rattle.layout.specs.Layout.{lengthWord, numberWord, freeSegments, segment, value, count, address, read, write};
+ghost use Rattle.layout.specs.Layout.{recordOf, lengthWord, numberWord, freeSegments, segment, value, count, address, read, write};
+ghost use Rattle.tree.specs.Tour.{MARKS, entering, after, seek};
 ghost use Rattle.calls.specs.Segments.{place, valueAt, stored, dropped, noneFree, nextFree, taken, released};
+ghost use Rattle.calls.specs.Segments.{headIndex, linkedBy, renamed, linked};
+ghost use Rattle.segments.specs.Names.{held, nextIs, headHere};
 
 // The place of value number k in a ring of l places, the first value at place f.
 pub fn place(l: u32, f: u32, k: u32) -> u32
@@ -120,4 +123,140 @@ pub fn release(m: &mut [u32], s: u32)
     }
     memory::set_free_segment(m, n, s);
     memory::set_header(m, 2, n + 1);
+}
+
+// Where c is met on the tour, or its parent p left where c is no task.
+fn entering(p: u32, c: u32) -> u32
+    ensures { λ r. ⌜ r ≡ entering p c ⌝ }
+{
+    if c < 128 {
+        return c;
+    }
+    if p < 128 {
+        return 128 + p;
+    }
+    256
+}
+
+// The mark after x on the tour.
+fn after(m: &[u32], x: u32) -> u32
+    ensures { λ r. ⌜ r ≡ after (recordOf (now (m .entry))) x ⌝ }
+{
+    if x < 128 {
+        return entering(x, memory::task(m, x, 5));
+    }
+    entering(memory::task(m, x - 128, 2), memory::task(m, x - 128, 3))
+}
+
+// The place of s among the 16 heads of the views of task t; 16 where it is none of them.
+pub fn head_index(m: &[u32], s: u32, t: u32) -> u32
+    ensures { λ r. ⌜ r ≡ headIndex (now (m .entry)) s t ⌝ }
+{
+    let mut i: u32 = 0;
+    while i < 16 {
+        if memory::task(m, t, 16 + i) == s {
+            return i;
+        }
+        i += 1;
+    }
+    16
+}
+
+fn head_here(m: &[u32], s: u32, x: u32) -> bool
+    ensures { λ r. ⌜ r ≡ headHere (now (m .entry)) s x ⌝ }
+{
+    if 128 <= x {
+        return false;
+    }
+    head_index(m, s, x) < 16
+}
+
+// The task with s as the head of a view; 256 where there is none.
+fn head_task(m: &[u32], s: u32) -> u32
+    ensures { λ r. ⌜ r ≡ seek MARKS (headHere (now (m .entry)) s) (recordOf (now (m .entry))) 0 ⌝ }
+{
+    let mut x: u32 = 0;
+    let mut k: u32 = 256;
+    while 0 < k {
+        if 256 <= x {
+            return 256;
+        }
+        if head_here(m, s, x) {
+            return x;
+        }
+        x = after(m, x);
+        k -= 1;
+    }
+    256
+}
+
+// Segment y is not on the stack of free segments.
+fn held(m: &[u32], y: u32) -> bool
+    ensures { λ r. ⌜ r ≡ held (now (m .entry)) y ⌝ }
+{
+    let h = memory::header(m, 2);
+    let mut i: u32 = 0;
+    while i < h {
+        if m.len() <= 64 + i as usize {
+            return true;
+        }
+        if memory::free_segment(m, i) == y {
+            return false;
+        }
+        i += 1;
+    }
+    true
+}
+
+fn next_is(m: &[u32], s: u32, y: u32) -> bool
+    ensures { λ r. ⌜ r ≡ nextIs (now (m .entry)) s y ⌝ }
+{
+    if memory::segment(m, y, 2) != s {
+        return false;
+    }
+    held(m, y)
+}
+
+// The segment with s as its next; the number of segments where there is none.
+pub fn linked_by(m: &[u32], s: u32) -> u32
+    ensures { λ r. ⌜ r ≡ linkedBy (read (now (m .entry)) numberWord) (now (m .entry)) s 0 ⌝ }
+{
+    let n = memory::header(m, 1);
+    let mut y: u32 = 0;
+    while y < n {
+        if next_is(m, s, y) {
+            return y;
+        }
+        y += 1;
+    }
+    y
+}
+
+// What names segment s names h instead.
+pub fn rename(m: &mut [u32], s: u32, h: u32)
+    ensures { λ _. ⌜ now (m .exit) ≡ renamed (now (m .entry)) s h ⌝ }
+{
+    let t = head_task(m, s);
+    if t < 128 {
+        let i = head_index(m, s, t);
+        memory::set_task(m, t, 16 + i, h);
+        return;
+    }
+    let y = linked_by(m, s);
+    if y < memory::header(m, 1) {
+        memory::set_segment(m, y, 2, h);
+    }
+}
+
+// Segment s gets h as its next. Where s is empty, h takes its place and s is free.
+pub fn link(m: &mut [u32], s: u32, h: u32)
+    ensures { λ _. ⌜ now (m .exit) ≡ linked (now (m .entry)) s h ⌝ }
+{
+    let n = memory::segment(m, s, 1);
+    memory::set_segment(m, s, 2, h);
+    if n != 0 {
+        return;
+    }
+    rename(m, s, h);
+    release(m, s);
 }

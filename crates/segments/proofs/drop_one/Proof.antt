@@ -9,39 +9,30 @@ use Rattle.memory.proofs.segment.Reads as segment-reads
 use Rattle.memory.proofs.set_segment.Reads as set-segment-reads
 use Rattle.segments.proofs.place.Reads as place-reads
 
--- src/lib.rt:70:19
 header-requires : tie.Need-header-requires
 header-requires c κs = search needs
 
--- src/lib.rt:70:41
 segment-requires : tie.Need-segment-requires
 segment-requires c κs = search needs
 
--- src/lib.rt:70:9
 place-requires : tie.Need-place-requires
 place-requires c κs = search needs
 
--- src/lib.rt:71:9
 segment-requires-2 : tie.Need-segment-requires-2
 segment-requires-2 c κs = search needs
 
--- src/lib.rt:72:5
 set-segment-requires : tie.Need-set-segment-requires
 set-segment-requires c κs = search needs
 
--- src/lib.rt:73:34
 sub-set-segment : tie.Need-sub-set-segment
 sub-set-segment c = search needs
 
--- src/lib.rt:73:5
 set-segment-requires-2 : tie.Need-set-segment-requires-2
 set-segment-requires-2 c κs = search needs
 
--- src/lib.rt:66:1
 same-length : tie.Need-same-length
 same-length c = search needs
 
--- src/lib.rt:66:1
 returns : tie.Need-returns
 returns c = one-less _ _ _ _ _ _ _ _ (c .before .before .before .before .before .before .before .before .before .before .before .before .before .header .ensures) (c .before .before .before .before .before .before .before .before .before .before .before .segment .ensures) (c .before .before .before .before .before .before .before .before .before .before .place .ensures) (c .before .before .before .before .before .before .before .before .segment2 .ensures) (c .before .before .before .before .before .before .set-segment .ensures) (c .before .before .set-segment2 .ensures)
 

@@ -7,19 +7,15 @@ use Rattle.segments.proofs.next_free.Lts as lts
 use Rattle.memory.proofs.free_segment.Reads as free-segment-reads
 use Rattle.memory.proofs.header.Reads as header-reads
 
--- src/lib.rt:87:29
 header-requires : tie.Need-header-requires
 header-requires c κs = search needs
 
--- src/lib.rt:87:29
 sub-free-segment : tie.Need-sub-free-segment
 sub-free-segment c = search needs
 
--- src/lib.rt:87:5
 free-segment-requires : tie.Need-free-segment-requires
 free-segment-requires c κs = search needs
 
--- src/lib.rt:83:1
 returns : tie.Need-returns
 returns c = top-of _ _ _ (c .before .header .ensures) (c .free-segment .ensures)
 

@@ -6,11 +6,9 @@ use Rattle.segments.proofs.none_free.Reads as reads
 use Rattle.segments.proofs.none_free.Lts as lts
 use Rattle.memory.proofs.header.Reads as header-reads
 
--- src/lib.rt:79:5
 header-requires : tie.Need-header-requires
 header-requires c κs = search needs
 
--- src/lib.rt:76:1
 returns : tie.Need-returns
 returns c = none-left _ _ (c .header .ensures)
 

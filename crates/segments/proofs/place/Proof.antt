@@ -5,27 +5,21 @@ use Rattle.segments.proofs.place.Tie as tie
 use Rattle.segments.proofs.place.Reads as reads
 use Rattle.segments.proofs.place.Lts as lts
 
--- src/lib.rt:16:13
 add-p : tie.Need-add-p
 add-p c = search needs
 
--- src/lib.rt:18:16
 cast-result : tie.Need-cast-result
 cast-result c = search needs
 
--- src/lib.rt:18:9
 returns : tie.Need-returns
 returns c = place-low _ _ _ (c .if1 .taken)
 
--- src/lib.rt:22:16
 cast-result-2 : tie.Need-cast-result-2
 cast-result-2 c = search needs
 
--- src/lib.rt:22:9
 returns-2 : tie.Need-returns-2
 returns-2 c = place-high _ _ _ (c .before .if1 .left) (c .if2 .taken)
 
--- src/lib.rt:12:1
 returns-3 : tie.Need-returns-3
 returns-3 c = place-none _ _ _ (c .before .if1 .left) (c .if2 .left)
 

@@ -9,39 +9,30 @@ use Rattle.memory.proofs.set_free_segment.Reads as set-free-segment-reads
 use Rattle.memory.proofs.set_header.Reads as set-header-reads
 use Rattle.segments.proofs.set_record.Reads as set-record-reads
 
--- src/lib.rt:116:9
 header-requires : tie.Need-header-requires
 header-requires c κs = search needs
 
--- src/lib.rt:117:5
 set-record-requires : tie.Need-set-record-requires
 set-record-requires c κs = search needs
 
--- src/lib.rt:119:9
 same-length : tie.Need-same-length
 same-length c = search needs
 
--- src/lib.rt:119:9
 returns : tie.Need-returns
 returns c = no-room _ _ _ _ (c .before .before .before .before .before .header .ensures) (c .before .before .before .set-record .ensures) (c .if1 .taken)
 
--- src/lib.rt:121:5
 set-free-segment-requires : tie.Need-set-free-segment-requires
 set-free-segment-requires c κs = search needs
 
--- src/lib.rt:122:30
 add-set-header : tie.Need-add-set-header
 add-set-header c = search needs
 
--- src/lib.rt:122:5
 set-header-requires : tie.Need-set-header-requires
 set-header-requires c κs = search needs
 
--- src/lib.rt:113:1
 same-length-2 : tie.Need-same-length-2
 same-length-2 c = search needs
 
--- src/lib.rt:113:1
 returns-2 : tie.Need-returns-2
 returns-2 c = give-back _ _ _ _ _ _ (c .before .before .before .before .before .before .before .before .before .before .before .before .before .header .ensures) (c .before .before .before .before .before .before .before .before .before .before .before .set-record .ensures) (c .before .before .before .before .before .before .before .before .if1 .left) (c .before .before .before .before .before .before .set-free-segment .ensures) (c .before .before .set-header .ensures)
 

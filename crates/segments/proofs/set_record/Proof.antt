@@ -6,23 +6,18 @@ use Rattle.segments.proofs.set_record.Reads as reads
 use Rattle.segments.proofs.set_record.Lts as lts
 use Rattle.memory.proofs.set_segment.Reads as set-segment-reads
 
--- src/lib.rt:94:5
 set-segment-requires : tie.Need-set-segment-requires
 set-segment-requires c κs = search needs
 
--- src/lib.rt:95:5
 set-segment-requires-2 : tie.Need-set-segment-requires-2
 set-segment-requires-2 c κs = search needs
 
--- src/lib.rt:96:5
 set-segment-requires-3 : tie.Need-set-segment-requires-3
 set-segment-requires-3 c κs = search needs
 
--- src/lib.rt:91:1
 same-length : tie.Need-same-length
 same-length c = search needs
 
--- src/lib.rt:91:1
 returns : tie.Need-returns
 returns c = three-words _ _ _ _ _ _ _ _ (c .before .before .before .before .before .before .before .before .before .before .set-segment .ensures) (c .before .before .before .before .before .before .set-segment2 .ensures) (c .before .before .set-segment3 .ensures)
 

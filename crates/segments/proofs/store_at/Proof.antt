@@ -6,43 +6,33 @@ use Rattle.segments.proofs.store_at.Reads as reads
 use Rattle.segments.proofs.store_at.Lts as lts
 use Rattle.segments.proofs.store.Reads as store-reads
 
--- src/lib.rt:48:20
 mul-a : tie.Need-mul-a
 mul-a c = search needs
 
--- src/lib.rt:48:13
 add-a : tie.Need-add-a
 add-a c = search needs
 
--- src/lib.rt:49:13
 add-b : tie.Need-add-b
 add-b c = search needs
 
--- src/lib.rt:50:11
 mul-store : tie.Need-mul-store
 mul-store c = search needs
 
--- src/lib.rt:50:11
 sub-store : tie.Need-sub-store
 sub-store c = search needs
 
--- src/lib.rt:50:11
 part-store-start : tie.Need-part-store-start
 part-store-start c = search needs
 
--- src/lib.rt:50:11
 part-store-end : tie.Need-part-store-end
 part-store-end c = search needs
 
--- src/lib.rt:50:5
 store-requires : tie.Need-store-requires
 store-requires c κs = search needs
 
--- src/lib.rt:44:1
 same-length : tie.Need-same-length
 same-length c = search needs
 
--- src/lib.rt:44:1
 returns : tie.Need-returns
 returns c = store-value _ _ _ _ _ _ (store-part _ _ _ _ _ _ (search needs) (search needs) (c .before .before .store .ensures))
 

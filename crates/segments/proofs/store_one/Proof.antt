@@ -14,39 +14,30 @@ use Rattle.memory.proofs.set_segment.Reads as set-segment-reads
 use Rattle.segments.proofs.place.Reads as place-reads
 use Rattle.segments.proofs.store_at.Reads as store-at-reads
 
--- src/lib.rt:58:9
 header-requires : tie.Need-header-requires
 header-requires c κs = search needs
 
--- src/lib.rt:59:9
 segment-requires : tie.Need-segment-requires
 segment-requires c κs = search needs
 
--- src/lib.rt:60:22
 segment-requires-2 : tie.Need-segment-requires-2
 segment-requires-2 c κs = search needs
 
--- src/lib.rt:60:9
 place-requires : tie.Need-place-requires
 place-requires c κs = search needs
 
--- src/lib.rt:61:5
 store-at-requires : tie.Need-store-at-requires
 store-at-requires c κs = (place-inside _ _ _ _ _ _ (c .before .before .before .before .before .before .header .ensures) (c .before .before .before .before .segment .ensures) (c .before .before .before .before .before .before .before .before .before .pre .3) (c .before .place .ensures), values-inside _ _ _ _ (c .before .before .before .before .before .before .before .before .before .pre .0) (c .before .before .before .before .before .before .before .before .before .pre .1) (c .before .before .before .before .before .before .before .before .before .pre .2) (c .before .before .before .before .before .before .header .ensures) refl)
 
--- src/lib.rt:62:34
 add-set-segment : tie.Need-add-set-segment
 add-set-segment c = search needs
 
--- src/lib.rt:62:5
 set-segment-requires : tie.Need-set-segment-requires
 set-segment-requires c κs = search needs
 
--- src/lib.rt:54:1
 same-length : tie.Need-same-length
 same-length c = search needs
 
--- src/lib.rt:54:1
 returns : tie.Need-returns
 returns c = one-more _ _ _ _ _ _ _ _ _ (c .before .before .before .before .before .before .before .before .before .before .before .before .before .header .ensures) (c .before .before .before .before .before .before .before .before .before .before .before .segment .ensures) (c .before .before .before .before .before .before .before .before .before .segment2 .ensures) (c .before .before .before .before .before .before .before .before .place .ensures) (c .before .before .before .before .before .before .store-at .ensures) (c .before .before .set-segment .ensures)
 

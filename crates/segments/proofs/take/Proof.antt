@@ -13,43 +13,33 @@ use Rattle.memory.proofs.set_header.Reads as set-header-reads
 use Rattle.segments.proofs.set_record.Reads as set-record-reads
 use Rattle.segments.proofs.store_at.Reads as store-at-reads
 
--- src/lib.rt:104:9
 header-requires : tie.Need-header-requires
 header-requires c κs = search needs
 
--- src/lib.rt:105:9
 header-requires-2 : tie.Need-header-requires-2
 header-requires-2 c κs = search needs
 
--- src/lib.rt:106:37
 sub-free-segment : tie.Need-sub-free-segment
 sub-free-segment c = search needs
 
--- src/lib.rt:106:9
 free-segment-requires : tie.Need-free-segment-requires
 free-segment-requires c κs = search needs
 
--- src/lib.rt:107:30
 sub-set-header : tie.Need-sub-set-header
 sub-set-header c = search needs
 
--- src/lib.rt:107:5
 set-header-requires : tie.Need-set-header-requires
 set-header-requires c κs = search needs
 
--- src/lib.rt:108:5
 set-record-requires : tie.Need-set-record-requires
 set-record-requires c κs = search needs
 
--- src/lib.rt:109:5
 store-at-requires : tie.Need-store-at-requires
 store-at-requires c κs = (search needs, values-inside _ _ _ _ (c .before .before .before .before .before .before .before .before .before .before .before .before .before .before .before .before .pre .0) (below _ _ _ (top-of _ _ _ (c .before .before .before .before .before .before .before .before .before .before .before .header2 .ensures) (c .before .before .before .before .before .before .before .before .before .free-segment .ensures)) (c .before .before .before .before .before .before .before .before .before .before .before .before .before .before .before .before .pre .2)) (c .before .before .before .before .before .before .before .before .before .before .before .before .before .before .before .before .pre .4) (c .before .before .before .before .before .before .before .before .before .before .before .before .before .header .ensures) (c .before .before .before .set-record .kept .0 ∙ c .before .before .before .before .before .before .before .set-header .kept .0))
 
--- src/lib.rt:100:1
 same-length : tie.Need-same-length
 same-length c = search needs
 
--- src/lib.rt:100:1
 returns : tie.Need-returns
 returns c = take-it _ _ _ _ _ _ _ _ (c .before .before .before .before .before .before .before .before .before .before .before .before .before .before .before .before .header .ensures) (c .before .before .before .before .before .before .before .before .before .before .before .before .before .before .header2 .ensures) (c .before .before .before .before .before .before .before .before .before .before .before .before .free-segment .ensures) (c .before .before .before .before .before .before .before .before .before .before .set-header .ensures) (c .before .before .before .before .before .before .set-record .ensures) (c .before .before .store-at .ensures)
 

@@ -10,43 +10,33 @@ use Rattle.memory.proofs.header.Reads as header-reads
 use Rattle.memory.proofs.segment.Reads as segment-reads
 use Rattle.segments.proofs.place.Reads as place-reads
 
--- src/lib.rt:31:9
 header-requires : tie.Need-header-requires
 header-requires c κs = search needs
 
--- src/lib.rt:32:22
 segment-requires : tie.Need-segment-requires
 segment-requires c κs = search needs
 
--- src/lib.rt:32:9
 place-requires : tie.Need-place-requires
 place-requires c κs = search needs
 
--- src/lib.rt:33:41
 cast-get : tie.Need-cast-get
 cast-get c = search needs
 
--- src/lib.rt:33:28
 mul-get : tie.Need-mul-get
 mul-get c = let h = product-fits (c .before .before .before .before .args .s) (c .before .before .header .result) (search needs) (search needs) in record { fits = omega (arith, h) }
 
--- src/lib.rt:33:54
 cast-get-2 : tie.Need-cast-get-2
 cast-get-2 c = search needs
 
--- src/lib.rt:33:28
 add-get : tie.Need-add-get
 add-get c = let h = product-fits (c .before .before .before .before .args .s) (c .before .before .header .result) (search needs) (search needs) in record { fits = omega (arith, h) }
 
--- src/lib.rt:33:20
 add-get-2 : tie.Need-add-get-2
 add-get-2 c = let h = product-fits (c .before .before .before .before .args .s) (c .before .before .header .result) (search needs) (search needs) in record { fits = omega (arith, h) }
 
--- src/lib.rt:33:5
 get-requires : tie.Need-get-requires
 get-requires c κs = search needs
 
--- src/lib.rt:28:1
 returns : tie.Need-returns
 returns c = value-read _ _ _ _ _ _ _ (c .before .before .before .header .ensures) (c .before .before .segment .ensures) (c .before .place .ensures) (c .get .ensures)
 

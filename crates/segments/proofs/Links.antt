@@ -1,0 +1,206 @@
+-- What names a segment: its place among a task's heads, the stack of free segments, the segment before it.
+use mathlib.Core.Path.{_≡_, refl, ap, sym, _∙_}
+use mathlib.Core.Bool.{Bool, true, false}
+use mathlib.Core.List.{List, [], _∷_}
+use Prim.Native.Nat.{ℕ, zero, suc, _+_, _-_, _*_, _<_, _≤_}
+use native.Mathlib.Omega.{arith}
+use lib.Dec.{ltb, eqb}
+use lib.ListN.{length, take, drop, getD, length-drop}
+use lib.Seq.{drop-cons, drop-drop, getD-drop}
+use borrow.Author.Tests.{eq-eqb, ne-eqb, lt-ltb, le-ltb}
+use Rattle.words.specs.Words.{load, pick, both, pass, halt}
+use Rattle.lists.specs.Counting.{occurrences, occurs-nil, occurs-here, occurs-past}
+use Rattle.layout.specs.Layout.{numberWord, freeSegments, freeSegment, segment, task, next, count, address, read, write, recordOf}
+use Rattle.tree.specs.Tour.{MARKS, seek}
+use Rattle.calls.specs.Segments.{indexOf, headIndex, linkedBy, renamed, released, linked}
+use Rattle.segments.specs.Names.{held, nextIs, headHere}
+
+less : (n i : ℕ) → i < n → n - i ≡ suc (n - (i + 1))
+less n i h = omega arith
+
+none : (n i : ℕ) → n ≤ i → n - i ≡ 0
+none n i h = omega arith
+
+-- THE HEADS of a task: the place of s, where the first i are others
+unfoldable pub headFrom : List ℕ → ℕ → ℕ → ℕ → ℕ
+headFrom m s t i = i + indexOf s (16 - i) (drop (16 + i) (recordOf m t))
+
+head-word : (m : List ℕ) (t i : ℕ) → load (drop (16 + i) (recordOf m t)) 0 ≡ read m (task t (16 + i))
+unfolding load recordOf read address
+head-word m t i = getD-drop (16 + i) (drop (1472 + t * 48) m) 0 0 ∙ getD-drop (1472 + t * 48) m (16 + i + 0) 0 ∙ ap (λ (a : ℕ). getD m a 0) (omega arith)
+
+index-here : (s n : ℕ) (r : List ℕ) → load r 0 ≡ s → indexOf s (suc n) r ≡ 0
+unfolding indexOf
+index-here s n r e = halt _ _ (eq-eqb _ _ e)
+
+index-past : (s n : ℕ) (r : List ℕ) → (load r 0 ≡ s → ⊥) → indexOf s (suc n) r ≡ indexOf s n (drop 1 r) + 1
+unfolding indexOf
+index-past s n r e = pass _ (ne-eqb _ _ e) refl
+
+index-none : (s : ℕ) (r : List ℕ) → indexOf s 0 r ≡ 0
+unfolding indexOf
+index-none s r = refl
+
+pub head-start : (m : List ℕ) (s t : ℕ) → headFrom m s t 0 ≡ headIndex m s t
+unfolding headFrom headIndex
+head-start m s t = go (indexOf s 16 (drop 16 (recordOf m t)))
+  where
+    go : (n : ℕ) → 0 + n ≡ n
+    go n = omega arith
+
+pub head-found : (m : List ℕ) (s t i w : ℕ) → i < 16 → w ≡ read m (task t (16 + i)) → w ≡ s → i ≡ headFrom m s t i
+unfolding headFrom
+head-found m s t i w h ew e =
+    let a = ap (λ (n : ℕ). indexOf s n (drop (16 + i) (recordOf m t))) (less 16 i h) in
+    let b = index-here s (16 - (i + 1)) (drop (16 + i) (recordOf m t)) (head-word m t i ∙ sym ew ∙ e) in
+    omega (arith, a, b)
+
+pub head-next : (m : List ℕ) (s t i w : ℕ) → i < 16 → w ≡ read m (task t (16 + i)) → (w ≡ s → ⊥) → headFrom m s t (i + 1) ≡ headFrom m s t i
+unfolding headFrom
+head-next m s t i w h ew e =
+    let a = ap (λ (n : ℕ). indexOf s n (drop (16 + i) (recordOf m t))) (less 16 i h) in
+    let b = index-past s (16 - (i + 1)) (drop (16 + i) (recordOf m t)) (λ q. e (ew ∙ sym (head-word m t i) ∙ q)) in
+    let d = ap (indexOf s (16 - (i + 1))) (drop-drop 1 (16 + i) (recordOf m t) ∙ ap (λ (n : ℕ). drop n (recordOf m t)) (same i)) in
+    omega (arith, a, b, d)
+  where
+    same : (i : ℕ) → 16 + i + 1 ≡ 16 + (i + 1)
+    same i = omega arith
+
+pub head-none : (m : List ℕ) (s t i : ℕ) → i ≤ 16 → 16 ≤ i → 16 ≡ headFrom m s t i
+unfolding headFrom
+head-none m s t i h g =
+    let a = ap (λ (n : ℕ). indexOf s n (drop (16 + i) (recordOf m t))) (none 16 i g) in
+    let b = index-none s (drop (16 + i) (recordOf m t)) in
+    omega (arith, a, b)
+
+-- THE STACK of free segments: how often y stands in it from place i on
+unfoldable pub stackFrom : List ℕ → ℕ → ℕ → ℕ → ℕ
+stackFrom m h y i = occurrences y (take (h - i) (drop (64 + i) m))
+
+pub stack-start : (m : List ℕ) (h y : ℕ) → h ≡ read m freeSegments → eqb (stackFrom m h y 0) 0 ≡ held m y
+unfolding stackFrom held
+stack-start m h y e = ap (λ (k : ℕ). eqb (occurrences y (take (k - 0) (drop 64 m))) 0) e ∙ ap (λ (k : ℕ). eqb (occurrences y (take k (drop 64 m))) 0) (whole (read m freeSegments))
+  where
+    whole : (k : ℕ) → k - 0 ≡ k
+    whole k = omega arith
+
+stack-cons : (m : List ℕ) (h i : ℕ) → i < h → 64 + i < length m
+    → take (h - i) (drop (64 + i) m) ≡ getD m (64 + i) 0 ∷ take (h - (i + 1)) (drop (64 + (i + 1)) m)
+stack-cons m h i l g =
+    let q : suc (64 + i) ≡ 64 + (i + 1) = omega arith in
+    ap (λ (n : ℕ). take n (drop (64 + i) m)) (less h i l) ∙ ap (take (suc (h - (i + 1)))) (drop-cons m (64 + i) 0 g)
+    ∙ ap (λ (n : ℕ). getD m (64 + i) 0 ∷ take (h - (i + 1)) (drop n m)) q
+
+pub stack-found : (m : List ℕ) (h y i w : ℕ) → i < h → 64 + i < length m → w ≡ read m (freeSegment i) → w ≡ y → false ≡ eqb (stackFrom m h y i) 0
+unfolding stackFrom read address load
+stack-found m h y i w l g ew e =
+    let a = ap (occurrences y) (stack-cons m h i l g) in
+    let b = occurs-here (getD m (64 + i) 0) y (take (h - (i + 1)) (drop (64 + (i + 1)) m)) (sym ew ∙ e) in
+    sym (ne-eqb (occurrences y (take (h - i) (drop (64 + i) m))) 0 (λ q. omega arith))
+
+pub stack-next : (m : List ℕ) (h y i w : ℕ) → i < h → 64 + i < length m → w ≡ read m (freeSegment i) → (w ≡ y → ⊥) → stackFrom m h y (i + 1) ≡ stackFrom m h y i
+unfolding stackFrom read address load
+stack-next m h y i w l g ew e =
+    sym (ap (occurrences y) (stack-cons m h i l g)
+    ∙ occurs-past (getD m (64 + i) 0) y (take (h - (i + 1)) (drop (64 + (i + 1)) m)) (λ q. e (ew ∙ q)))
+
+nothing : (m : List ℕ) (a : ℕ) → length m ≤ a → drop a m ≡ []
+nothing m a h = go (drop a m) (let e = length-drop a m in omega (arith, e))
+  where
+    go : (xs : List ℕ) → length xs ≤ 0 → xs ≡ []
+    go [] h = refl
+    go (x ∷ xs) h = let z : ⊥ = omega arith in absurd z
+
+take-none : (n : ℕ) → _≡_ {A = List ℕ} (take n []) []
+take-none zero = refl
+take-none (suc n) = refl
+
+pub stack-out : (m : List ℕ) (h y i : ℕ) → length m ≤ 64 + i → true ≡ eqb (stackFrom m h y i) 0
+unfolding stackFrom
+stack-out m h y i g = sym (eq-eqb _ _ (ap (λ (xs : List ℕ). occurrences y (take (h - i) xs)) (nothing m (64 + i) g) ∙ ap (occurrences y) (take-none (h - i)) ∙ occurs-nil y))
+
+pub stack-end : (m : List ℕ) (h y i : ℕ) → h ≤ i → true ≡ eqb (stackFrom m h y i) 0
+unfolding stackFrom
+stack-end m h y i g = sym (eq-eqb _ _ (ap (λ (n : ℕ). occurrences y (take n (drop (64 + i) m))) (none h i g) ∙ occurs-nil y))
+
+-- THE SEGMENT BEFORE s
+pub next-other : (m : List ℕ) (s y w : ℕ) → w ≡ read m (segment y 2) → (w ≡ s → ⊥) → false ≡ nextIs m s y
+unfolding nextIs both
+next-other m s y w ew e = sym (pass _ (ne-eqb _ _ (λ q. e (ew ∙ q))) refl)
+
+pub next-same : (m : List ℕ) (s y w : ℕ) (b : Bool) → w ≡ read m (segment y 2) → w ≡ s → b ≡ held m y → b ≡ nextIs m s y
+unfolding nextIs both
+next-same m s y w b ew e eb = eb ∙ sym (halt _ _ (eq-eqb _ _ (sym ew ∙ e)))
+
+by-one : (k : ℕ) (m : List ℕ) (s y : ℕ) → nextIs m s y ≡ true → linkedBy (suc k) m s y ≡ y
+unfolding linkedBy nextIs held
+by-one k m s y e = halt _ _ e
+
+by-more : (k : ℕ) (m : List ℕ) (s y : ℕ) → nextIs m s y ≡ false → linkedBy (suc k) m s y ≡ linkedBy k m s (y + 1)
+unfolding linkedBy nextIs held
+by-more k m s y e = pass _ e refl
+
+pub by-start : (m : List ℕ) (s n : ℕ) → n ≡ read m numberWord → linkedBy (n - 0) m s 0 ≡ linkedBy (read m numberWord) m s 0
+by-start m s n e = ap (λ (k : ℕ). linkedBy k m s 0) (whole n ∙ e)
+  where
+    whole : (k : ℕ) → k - 0 ≡ k
+    whole k = omega arith
+
+pub by-found : (m : List ℕ) (s n y : ℕ) → y < n → nextIs m s y ≡ true → y ≡ linkedBy (n - y) m s y
+by-found m s n y h e = sym (ap (λ (k : ℕ). linkedBy k m s y) (less n y h) ∙ by-one _ m s y e)
+
+pub by-next : (m : List ℕ) (s n y : ℕ) → y < n → nextIs m s y ≡ false → linkedBy (n - (y + 1)) m s (y + 1) ≡ linkedBy (n - y) m s y
+by-next m s n y h e = sym (ap (λ (k : ℕ). linkedBy k m s y) (less n y h) ∙ by-more _ m s y e)
+
+pub by-end : (m : List ℕ) (s n y : ℕ) → n ≤ y → y ≡ linkedBy (n - y) m s y
+by-end m s n y h = sym (ap (λ (k : ℕ). linkedBy k m s y) (none n y h) ∙ last m s y)
+  where
+    last : (m : List ℕ) (s y : ℕ) → linkedBy 0 m s y ≡ y
+    last m s y = unfold linkedBy in refl
+
+-- THE TASK with s as a head
+pub head-elsewhere : (m : List ℕ) (s x : ℕ) → 128 ≤ x → false ≡ headHere m s x
+unfolding headHere both
+head-elsewhere m s x h = sym (pass _ (le-ltb _ _ h) refl)
+
+pub head-tested : (m : List ℕ) (s x i : ℕ) → x < 128 → i ≡ headIndex m s x → ltb i 16 ≡ headHere m s x
+unfolding headHere both
+head-tested m s x i h e = ap (λ (k : ℕ). ltb k 16) e ∙ sym (halt _ _ (lt-ltb _ _ h))
+
+index-few : (s n : ℕ) (r : List ℕ) → indexOf s n r ≤ n
+unfolding indexOf
+index-few s zero r = omega arith
+index-few s (suc n) r = go (eqb (load r 0) s) (index-few s n (drop 1 r))
+  where
+    go : (b : Bool) → indexOf s n (drop 1 r) ≤ n → pick b 0 (indexOf s n (drop 1 r) + 1) ≤ suc n
+    go true h = rw (halt {b = true} 0 (indexOf s n (drop 1 r) + 1) refl) (omega arith)
+    go false h = rw (pass {b = false} {y = indexOf s n (drop 1 r) + 1} 0 refl refl) (omega arith)
+
+pub head-few : (m : List ℕ) (s t : ℕ) → headIndex m s t ≤ 16
+unfolding headIndex
+head-few m s t = index-few s 16 (drop 16 (recordOf m t))
+
+module _ (m : List ℕ) (s h t : ℕ) (et : t ≡ seek MARKS (headHere m s) (recordOf m) 0) where
+  pub rename-head : (m1 : List ℕ) (i : ℕ) → t < 128 → i ≡ headIndex m s t → m1 ≡ write m (task t (16 + i)) h → m1 ≡ renamed m s h
+  unfolding renamed headHere
+  rename-head m1 i l ei e = e ∙ (rw (ei, et)) ∙ sym (halt _ _ (ap (λ (x : ℕ). ltb x 128) (sym et) ∙ lt-ltb t 128 l))
+
+  module _ (y n : ℕ) (ey : y ≡ linkedBy (read m numberWord) m s 0) (en : n ≡ read m numberWord) (l : 128 ≤ t) where
+    pub rename-next : (m1 : List ℕ) → y < n → m1 ≡ write m (segment y 2) h → m1 ≡ renamed m s h
+    unfolding renamed headHere
+    rename-next m1 g e =
+        e ∙ (rw ey) ∙ sym (pass _ (ap (λ (x : ℕ). ltb x 128) (sym et) ∙ le-ltb t 128 l) (halt _ _ (lt-ltb _ _ (rw (ey, en) at g))))
+
+    pub rename-none : n ≤ y → m ≡ renamed m s h
+    unfolding renamed headHere
+    rename-none g = sym (pass _ (ap (λ (x : ℕ). ltb x 128) (sym et) ∙ le-ltb t 128 l) (pass _ (le-ltb _ _ (rw (ey, en) at g)) refl))
+
+-- LINKING
+module _ (m m1 : List ℕ) (s h n : ℕ) (en : n ≡ read m (segment s 1)) (e1 : m1 ≡ write m (segment s 2) h) where
+  pub link-full : (n ≡ 0 → ⊥) → m1 ≡ linked m s h
+  unfolding linked
+  link-full g = e1 ∙ sym (pass _ (ne-eqb _ _ (λ q. g (en ∙ q))) refl)
+
+  pub link-empty : (m2 m3 : List ℕ) → n ≡ 0 → m2 ≡ renamed m1 s h → m3 ≡ released m2 s → m3 ≡ linked m s h
+  unfolding linked
+  link-empty m2 m3 g e2 e3 = e3 ∙ ap (λ (k : List ℕ). released k s) (e2 ∙ ap (λ (k : List ℕ). renamed k s h) e1) ∙ sym (halt _ _ (eq-eqb _ _ (sym en ∙ g)))

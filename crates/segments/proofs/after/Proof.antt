@@ -1,0 +1,41 @@
+use Rattle.segments.proofs.Walk.{after-met, after-left}
+use borrow.Author.Needs.{needs}
+use Rattle.segments.proofs.after.Statement.{statement}
+use Rattle.segments.proofs.after.Tie as tie
+use Rattle.segments.proofs.after.Reads as reads
+use Rattle.segments.proofs.after.Lts as lts
+use Rattle.memory.proofs.task.Reads as task-reads
+use Rattle.segments.proofs.entering.Reads as entering-reads
+
+task-requires : tie.Need-task-requires
+task-requires c κs = search needs
+
+entering-requires : tie.Need-entering-requires
+entering-requires c κs = search needs
+
+returns : tie.Need-returns
+returns c = after-met _ _ _ _ (c .before .before .if1 .taken) (c .before .task .ensures) (c .entering .ensures)
+
+task-requires-2 : tie.Need-task-requires-2
+task-requires-2 c κs = search needs
+
+task-requires-3 : tie.Need-task-requires-3
+task-requires-3 c κs = search needs
+
+entering-requires-2 : tie.Need-entering-requires-2
+entering-requires-2 c κs = search needs
+
+returns-2 : tie.Need-returns-2
+returns-2 c = after-left _ _ _ _ _ (c .before .before .before .if1 .left) (c .before .before .task2 .ensures) (c .before .task3 .ensures) (c .entering2 .ensures)
+
+pub after-spec : {M : Type 1} → statement M
+after-spec =
+    tie.close
+    (tie.spec
+    task-requires
+    entering-requires
+    returns
+    task-requires-2
+    task-requires-3
+    entering-requires-2
+    returns-2)

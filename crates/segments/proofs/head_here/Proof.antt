@@ -1,0 +1,19 @@
+use Rattle.segments.proofs.Links.{head-elsewhere, head-tested}
+use borrow.Author.Needs.{needs}
+use Rattle.segments.proofs.head_here.Statement.{statement}
+use Rattle.segments.proofs.head_here.Tie as tie
+use Rattle.segments.proofs.head_here.Reads as reads
+use Rattle.segments.proofs.head_here.Lts as lts
+use Rattle.segments.proofs.head_index.Reads as head-index-reads
+
+returns : tie.Need-returns
+returns c = head-elsewhere _ _ _ (c .if1 .taken)
+
+head-index-requires : tie.Need-head-index-requires
+head-index-requires c κs = search needs
+
+returns-2 : tie.Need-returns-2
+returns-2 c = head-tested _ _ _ _ (c .before .if1 .left) (c .head-index .ensures)
+
+pub head-here-spec : {M : Type 1} → statement M
+head-here-spec = tie.close (tie.spec returns head-index-requires returns-2)

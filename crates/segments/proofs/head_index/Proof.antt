@@ -1,0 +1,56 @@
+use mathlib.Core.Path.{_≡_, refl, sym, _∙_, ap}
+use Prim.Native.Nat.{ℕ, _≤_, _<_, _-_, _+_, _^_}
+use native.Mathlib.Omega.{arith}
+use borrow.Author.Needs.{needs}
+use Rattle.calls.specs.Segments.{headIndex}
+use Rattle.segments.proofs.Links.{headFrom, head-start, head-found, head-next, head-none}
+use Rattle.segments.proofs.head_index.Statement.{statement}
+use Rattle.segments.proofs.head_index.Tie as tie
+use Rattle.segments.proofs.head_index.Reads as reads
+use Rattle.segments.proofs.head_index.Lts as lts
+use Rattle.memory.proofs.task.Reads as task-reads
+
+abbrev Inv-loop : tie.InvT-loop
+Inv-loop m s t i₀ i = (i ≤ 16) × (headFrom m s t i ≡ headIndex m s t)
+
+abbrev μ-loop : tie.MeasureT-loop
+μ-loop m s t i₀ i = 16 - i
+
+loop-holds : tie.Need-loop-holds Inv-loop μ-loop
+loop-holds c = (omega arith, head-start _ _ _)
+
+add-task : tie.Need-add-task Inv-loop μ-loop
+add-task c = omega arith
+
+task-requires : tie.Need-task-requires Inv-loop μ-loop
+task-requires c κs = search needs
+
+returns : tie.Need-returns Inv-loop μ-loop
+returns c = head-found _ _ _ _ _ (c .before .before .loop-test .taken) (c .before .task .ensures) (c .if1 .taken) ∙ c .before .before .before .loop .inv .1
+
+add-i : tie.Need-add-i Inv-loop μ-loop
+add-i c = omega arith
+
+loop-less : tie.Need-loop-less Inv-loop μ-loop
+loop-less c = omega arith
+
+loop-again : tie.Need-loop-again Inv-loop μ-loop
+loop-again c = (omega arith, head-next _ _ _ _ _ (c .before .before .loop-test .taken) (c .before .task .ensures) (c .if1 .left) ∙ c .before .before .before .loop .inv .1)
+
+returns-2 : tie.Need-returns-2 Inv-loop μ-loop
+returns-2 c = head-none _ _ _ _ (c .before .loop .inv .0) (c .loop-test .left) ∙ c .before .loop .inv .1
+
+pub head-index-spec : {M : Type 1} → statement M
+head-index-spec =
+    tie.close
+    (tie.spec
+    Inv-loop
+    μ-loop
+    loop-holds
+    add-task
+    task-requires
+    returns
+    add-i
+    loop-less
+    loop-again
+    returns-2)

@@ -1,0 +1,23 @@
+use Rattle.segments.proofs.Links.{next-other, next-same}
+use borrow.Author.Needs.{needs}
+use Rattle.segments.proofs.next_is.Statement.{statement}
+use Rattle.segments.proofs.next_is.Tie as tie
+use Rattle.segments.proofs.next_is.Reads as reads
+use Rattle.segments.proofs.next_is.Lts as lts
+use Rattle.memory.proofs.segment.Reads as segment-reads
+use Rattle.segments.proofs.held.Reads as held-reads
+
+segment-requires : tie.Need-segment-requires
+segment-requires c κs = search needs
+
+returns : tie.Need-returns
+returns c = next-other _ _ _ _ (c .before .segment .ensures) (c .if1 .taken)
+
+held-requires : tie.Need-held-requires
+held-requires c κs = search needs
+
+returns-2 : tie.Need-returns-2
+returns-2 c = next-same _ _ _ _ _ (c .before .before .segment .ensures) (c .before .if1 .left) (c .held .ensures)
+
+pub next-is-spec : {M : Type 1} → statement M
+next-is-spec = tie.close (tie.spec segment-requires returns held-requires returns-2)
