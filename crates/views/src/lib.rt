@@ -1,0 +1,161 @@
+// Views: a view is its head and its tail. Reading, writing and reducing them, and sync.
+ghost use mathlib.Core.Path.{_≡_};
+ghost use Rattle.words.specs.Words.{both};
+ghost use lib.Dec.{ltb};
+ghost use Rattle.layout.specs.Layout.{NONE, NL, head, tail, read, write};
+ghost use Rattle.rules.specs.Views.View.{view};
+ghost use Rattle.calls.specs.Views.{isEmpty, reducible, setView, joined, merged};
+ghost use Rattle.calls.specs.Sync.{syncs, syncedQueue, synced};
+
+// The marks of the layout.
+const NONE: u32 = 4294967295;
+
+const NL: u32 = 4294967294;
+
+// The kinds of views.
+const CHILDREN: u32 = 0;
+
+const USER: u32 = 1;
+
+pub fn is_empty(h: u32, e: u32) -> bool
+    ensures { λ r. ⌜ r ≡ isEmpty (view h e) ⌝ }
+{
+    if h != NONE {
+        return false;
+    }
+    e == NONE
+}
+
+// The paper has the reduction of the two views.
+pub fn reducible(h1: u32, e1: u32, h2: u32, e2: u32) -> bool
+    ensures { λ r. ⌜ r ≡ reducible (view h1 e1) (view h2 e2) ⌝ }
+{
+    if is_empty(h1, e1) {
+        return true;
+    }
+    if is_empty(h2, e2) {
+        return true;
+    }
+    if e1 == NL {
+        return h2 == NL;
+    }
+    if h2 == NL {
+        return false;
+    }
+    e1 != h2
+}
+
+// The head of view k of task t of queue q.
+pub fn head(m: &[u32], k: u32, t: u32, q: u32) -> u32
+    ensures { λ r. ⌜ r ≡ read (now (m .entry)) (head k t q) ⌝ }
+{
+    memory::get(
+        m,
+        1472 + t as usize * 48 + (20 + k as usize * 4 + q as usize),
+    )
+}
+
+pub fn tail(m: &[u32], k: u32, t: u32, q: u32) -> u32
+    ensures { λ r. ⌜ r ≡ read (now (m .entry)) (tail k t q) ⌝ }
+{
+    memory::get(
+        m,
+        1472 + t as usize * 48 + (32 + k as usize * 4 + q as usize),
+    )
+}
+
+fn set_head(m: &mut [u32], k: u32, t: u32, q: u32, h: u32)
+    ensures { λ _. ⌜ now (m .exit) ≡ write (now (m .entry)) (head k t q) h ⌝ }
+{
+    memory::put(
+        m,
+        1472 + t as usize * 48 + (20 + k as usize * 4 + q as usize),
+        h,
+    );
+}
+
+pub fn set_tail(m: &mut [u32], k: u32, t: u32, q: u32, e: u32)
+    ensures { λ _. ⌜ now (m .exit) ≡ write (now (m .entry)) (tail k t q) e ⌝ }
+{
+    memory::put(
+        m,
+        1472 + t as usize * 48 + (32 + k as usize * 4 + q as usize),
+        e,
+    );
+}
+
+pub fn set_view(m: &mut [u32], q: u32, t: u32, k: u32, h: u32, e: u32)
+    ensures { λ _. ⌜ now (m .exit) ≡ setView (now (m .entry)) q t k (view h e) ⌝ }
+{
+    set_head(m, k, t, q, h);
+    set_tail(m, k, t, q, e);
+}
+
+// Both ends are segments.
+fn local(e: u32, h: u32) -> bool
+    ensures { λ r. ⌜ r ≡ both (ltb e NL) (ltb h NL) ⌝ }
+{
+    if NL <= e {
+        return false;
+    }
+    h < NL
+}
+
+// View k of task t becomes its reduction with the view from h to e.
+pub fn join(m: &mut [u32], q: u32, t: u32, k: u32, h: u32, e: u32)
+    ensures { λ _. ⌜ now (m .exit) ≡ joined (now (m .entry)) q t k (view h e) ⌝ }
+{
+    if is_empty(h, e) {
+        return;
+    }
+    let b = tail(m, k, t, q);
+    if is_empty(head(m, k, t, q), b) {
+        set_view(m, q, t, k, h, e);
+        return;
+    }
+    if local(b, h) {
+        segments::link(m, b, h);
+        set_tail(m, k, t, q, e);
+        return;
+    }
+    set_tail(m, k, t, q, e);
+}
+
+// View k of task t becomes its reduction with view k2 of task t2, which becomes empty.
+pub fn merge(m: &mut [u32], q: u32, t: u32, k: u32, t2: u32, k2: u32)
+    ensures { λ _. ⌜ now (m .exit) ≡ merged (now (m .entry)) q t k t2 k2 ⌝ }
+{
+    let h = head(m, k2, t2, q);
+    let e = tail(m, k2, t2, q);
+    join(m, q, t, k, h, e);
+    set_view(m, q, t2, k2, NONE, NONE);
+}
+
+// The paper has sync's reduction of queue q.
+pub fn syncs(m: &[u32], t: u32, q: u32) -> bool
+    ensures { λ r. ⌜ r ≡ syncs (now (m .entry)) t q ⌝ }
+{
+    let h = head(m, CHILDREN, t, q);
+    let e = tail(m, CHILDREN, t, q);
+    reducible(h, e, head(m, USER, t, q), tail(m, USER, t, q))
+}
+
+// The user view of queue q becomes the reduction of children view and user view.
+pub fn sync_queue(m: &mut [u32], t: u32, q: u32)
+    ensures { λ _. ⌜ now (m .exit) ≡ syncedQueue (now (m .entry)) t q ⌝ }
+{
+    merge(m, q, t, CHILDREN, t, USER);
+    let h = head(m, CHILDREN, t, q);
+    let e = tail(m, CHILDREN, t, q);
+    set_view(m, q, t, USER, h, e);
+    set_view(m, q, t, CHILDREN, NONE, NONE);
+}
+
+pub fn sync_all(m: &mut [u32], t: u32)
+    ensures { λ _. ⌜ now (m .exit) ≡ synced (now (m .entry)) t ⌝ }
+{
+    sync_queue(m, t, 0);
+    sync_queue(m, t, 1);
+    sync_queue(m, t, 2);
+    sync_queue(m, t, 3);
+}
