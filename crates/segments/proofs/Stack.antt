@@ -1,10 +1,11 @@
 -- The stack of free segments: the record of a segment in three writes, taking a segment, giving one back.
 use mathlib.Core.Path.{_≡_, refl, ap, sym, _∙_}
+use mathlib.Core.Bool.{Bool, true, false}
 use mathlib.Core.List.{List, [], _∷_}
-use Prim.Native.Nat.{ℕ, suc, _+_, _-_, _*_, _<_, _≤_}
+use Prim.Native.Nat.{ℕ, zero, suc, _+_, _-_, _*_, _<_, _≤_}
 use native.Mathlib.Omega.{arith}
 use lib.Dec.{eqb}
-use borrow.Author.Tests.{lt-ltb, le-ltb}
+use borrow.Author.Tests.{eqb-false, lt-ltb, le-ltb}
 use Rattle.words.specs.Words.{store, pick, pass, halt}
 use Rattle.words.specs.Blocks.{storeAll, store-more, store-none}
 use Rattle.layout.specs.Layout.{NONE, lengthWord, freeSegments, freeSegment, segment, value, address, read, write}
@@ -27,6 +28,15 @@ three-words m m1 m2 m3 s f n x e1 e2 e3 =
 pub none-left : (m : List ℕ) (n : ℕ) → n ≡ read m freeSegments → eqb n 0 ≡ noneFree m
 unfolding noneFree
 none-left m n e = ap (λ (k : ℕ). eqb k 0) e
+
+-- what a caller of next_free and take has to show, from what none_free answers
+pub some-left : (m : List ℕ) → noneFree m ≡ false → 0 < read m freeSegments
+unfolding noneFree
+some-left m e = positive (read m freeSegments) (eqb-false _ _ e)
+  where
+    positive : (n : ℕ) → (n ≡ 0 → ⊥) → 0 < n
+    positive zero h = absurd (h refl)
+    positive (suc n) h = omega arith
 
 pub top-of : (m : List ℕ) (n s : ℕ) → n ≡ read m freeSegments → s ≡ read m (freeSegment (n - 1)) → s ≡ nextFree m
 unfolding nextFree

@@ -55,7 +55,8 @@ fn store_at(m: &mut [u32], s: u32, l: u32, at: u32, v: u32)
 
 // One value more behind the others of segment s.
 pub fn store_one(m: &mut [u32], s: u32, v: u32)
-    requires { ⌜ (size (now m) ≡ 16384) × (s < read (now m) numberWord) × (read (now m) lengthWord * read (now m) numberWord ≤ 8192) × (read (now m) (count s) < read (now m) lengthWord) ⌝ }
+    requires { ⌜ (size (now m) ≡ 16384) × (s < read (now m) numberWord)
+        × (read (now m) lengthWord * read (now m) numberWord ≤ 8192) × (read (now m) (count s) < read (now m) lengthWord) ⌝ }
     ensures { λ _. ⌜ now (m .exit) ≡ stored (now (m .entry)) s v ⌝ }
 {
     let l = memory::header(m, 0);
@@ -101,7 +102,8 @@ fn set_record(m: &mut [u32], s: u32, f: u32, n: u32, x: u32)
 
 // The next free segment gets v as its only value, and no next.
 pub fn take(m: &mut [u32], v: u32)
-    requires { ⌜ (size (now m) ≡ 16384) × (0 < read (now m) freeSegments) × (nextFree (now m) < read (now m) numberWord) × (0 < read (now m) lengthWord) × (read (now m) lengthWord * read (now m) numberWord ≤ 8192) ⌝ }
+    requires { ⌜ (size (now m) ≡ 16384) × (0 < read (now m) freeSegments) × (nextFree (now m) < read (now m) numberWord)
+        × (0 < read (now m) lengthWord) × (read (now m) lengthWord * read (now m) numberWord ≤ 8192) ⌝ }
     ensures { λ _. ⌜ now (m .exit) ≡ taken (now (m .entry)) v ⌝ }
 {
     let l = memory::header(m, 0);

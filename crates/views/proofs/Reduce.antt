@@ -1,13 +1,27 @@
 -- Which views are empty, which ends are segments, which reductions the paper has: one law for each answer of the code.
 use mathlib.Core.Path.{_≡_, refl, ap, sym, _∙_}
 use mathlib.Core.Bool.{Bool, true, false, not}
+use mathlib.Core.List.{List}
 use Prim.Native.Nat.{ℕ, _<_, _≤_}
 use lib.Dec.{ltb, eqb}
 use borrow.Author.Tests.{eq-eqb, ne-eqb, lt-ltb, le-ltb}
-use Rattle.words.specs.Words.{pick, both, either, pass, halt}
-use Rattle.layout.specs.Layout.{NONE, NL}
+use Rattle.words.specs.Words.{pick, both, either, pass, halt, true-both}
+use Rattle.layout.specs.Layout.{NONE, NL, segment, read}
 use Rattle.rules.specs.Views.{View, view}
-use Rattle.calls.specs.Views.{isEmpty, headOf, tailOf, reducible}
+use Rattle.calls.specs.Views.{isEmpty, headOf, tailOf, reducible, frees, behind, reduced}
+
+both-left : (x y : Bool) → x ≡ true → both x y ≡ y
+unfolding both
+both-left x y e = halt _ _ e
+
+both-no : (x y : Bool) → x ≡ false → both x y ≡ false
+unfolding both
+both-no x y e = pass _ e refl
+
+both-last : (x y : Bool) → y ≡ false → both x y ≡ false
+unfolding both
+both-last true y e = halt _ _ refl ∙ e
+both-last false y e = pass _ refl refl
 
 pub not-empty : (h e : ℕ) → (h ≡ NONE → ⊥) → false ≡ isEmpty (view h e)
 unfolding isEmpty both
@@ -47,3 +61,62 @@ module _ (h1 e1 h2 e2 : ℕ) where
       pub distinct : (e1 ≡ NL → ⊥) → (h2 ≡ NL → ⊥) → not (eqb e1 h2) ≡ reducible (view h1 e1) (view h2 e2)
       unfolding reducible either both headOf tailOf
       distinct l g = sym (pass _ a (pass _ b (pass _ (ne-eqb _ _ l) (halt _ _ (ap not (ne-eqb _ _ g))))))
+
+-- what a reduction frees, and what is left of a head
+module _ (m : List ℕ) (h1 e1 h2 e2 : ℕ) where
+  pub keeps-left : isEmpty (view h1 e1) ≡ true → false ≡ frees m (view h1 e1) (view h2 e2)
+  unfolding frees both
+  keeps-left a = sym (pass _ (pass _ (ap not a) refl) refl)
+
+  module _ (a : isEmpty (view h1 e1) ≡ false) where
+    pub keeps-right : isEmpty (view h2 e2) ≡ true → false ≡ frees m (view h1 e1) (view h2 e2)
+    unfolding frees both
+    keeps-right b = sym (pass _ (halt _ _ (ap not a) ∙ ap not b) refl)
+
+    module _ (b : isEmpty (view h2 e2) ≡ false) where
+      pub keeps-apart : both (ltb e1 NL) (ltb h2 NL) ≡ false → false ≡ frees m (view h1 e1) (view h2 e2)
+      unfolding frees headOf tailOf
+      keeps-apart l = sym (both-left _ _ (true-both (ap not a) (ap not b)) ∙ both-no _ _ l)
+
+      pub frees-empty : (n : ℕ) → both (ltb e1 NL) (ltb h2 NL) ≡ true → n ≡ read m (segment e1 1) → eqb n 0 ≡ frees m (view h1 e1) (view h2 e2)
+      unfolding frees headOf tailOf
+      frees-empty n l e = ap (λ (k : ℕ). eqb k 0) e ∙ sym (both-left _ _ (true-both (ap not a) (ap not b)) ∙ both-left _ _ l)
+
+  pub head-other : (h e : ℕ) → (h ≡ e1 → ⊥) → view h e ≡ behind m (view h1 e1) (view h2 e2) (view h e)
+  unfolding behind headOf tailOf
+  head-other h e n = sym (pass _ (both-last (frees m (view h1 e1) (view h2 e2)) (eqb h e1) (ne-eqb _ _ n)) refl)
+
+  pub head-freed : (h e : ℕ) → h ≡ e1 → frees m (view h1 e1) (view h2 e2) ≡ true → view h2 e ≡ behind m (view h1 e1) (view h2 e2) (view h e)
+  unfolding behind headOf tailOf
+  head-freed h e n f = sym (halt _ _ (true-both f (eq-eqb _ _ n)))
+
+  pub head-kept : (h e : ℕ) → frees m (view h1 e1) (view h2 e2) ≡ false → view h e ≡ behind m (view h1 e1) (view h2 e2) (view h e)
+  unfolding behind headOf tailOf
+  head-kept h e f = sym (pass _ (both-no _ _ f) refl)
+
+  pub right-alone : isEmpty (view h1 e1) ≡ true → view h2 e2 ≡ reduced m (view h1 e1) (view h2 e2)
+  unfolding reduced
+  right-alone a = sym (halt _ _ a)
+
+  module _ (a : isEmpty (view h1 e1) ≡ false) where
+    pub left-alone : isEmpty (view h2 e2) ≡ true → view h1 e1 ≡ reduced m (view h1 e1) (view h2 e2)
+    unfolding reduced
+    left-alone b = sym (pass _ a (halt _ _ b))
+
+    pub two-reduced : (h : ℕ) → isEmpty (view h2 e2) ≡ false → view h e1 ≡ behind m (view h1 e1) (view h2 e2) (view h1 e1)
+        → view h e2 ≡ reduced m (view h1 e1) (view h2 e2)
+    unfolding reduced headOf tailOf
+    two-reduced h b e = ap (λ (v : View). view (headOf v) e2) e ∙ sym (pass _ a (pass _ b refl))
+
+    pub tail-reduced : isEmpty (view h2 e2) ≡ false → e2 ≡ tailOf (reduced m (view h1 e1) (view h2 e2))
+    unfolding reduced tailOf
+    tail-reduced b = ap tailOf (sym (pass _ a (pass _ b refl)))
+
+-- the ends of a view
+pub head-is : {h e : ℕ} {v : View} → view h e ≡ v → h ≡ headOf v
+unfolding headOf
+head-is {h} {e} {v} q = ap headOf q
+
+pub tail-is : {h e : ℕ} {v : View} → view h e ≡ v → e ≡ tailOf v
+unfolding tailOf
+tail-is {h} {e} {v} q = ap tailOf q

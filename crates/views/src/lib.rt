@@ -1,10 +1,12 @@
 // Views: a view is its head and its tail. Reading, writing and reducing them, and sync.
 ghost use mathlib.Core.Path.{_≡_};
+ghost use mathlib.Core.List.{List};
+ghost use Prim.Native.Nat.{ℕ};
 ghost use Rattle.words.specs.Words.{both};
 ghost use lib.Dec.{ltb};
 ghost use Rattle.layout.specs.Layout.{NONE, NL, head, tail, read, write};
 ghost use Rattle.rules.specs.Views.View.{view};
-ghost use Rattle.calls.specs.Views.{isEmpty, reducible, setView, joined, merged};
+ghost use Rattle.calls.specs.Views.{isEmpty, headOf, tailOf, reducible, frees, behind, reduced, setView, joined, merged};
 ghost use Rattle.calls.specs.Sync.{syncs, syncedQueue, synced};
 
 // The marks of the layout.
@@ -99,6 +101,61 @@ fn local(e: u32, h: u32) -> bool
         return false;
     }
     h < NL
+}
+
+// Reducing the two views frees the tail of the left one.
+pub fn frees(m: &[u32], h1: u32, e1: u32, h2: u32, e2: u32) -> bool
+    ensures { λ r. ⌜ r ≡ frees (now (m .entry)) (view h1 e1) (view h2 e2) ⌝ }
+{
+    if is_empty(h1, e1) {
+        return false;
+    }
+    if is_empty(h2, e2) {
+        return false;
+    }
+    if !local(e1, h2) {
+        return false;
+    }
+    memory::segment(m, e1, 1) == 0
+}
+
+// What the head h of a view has become when the two views are reduced. Its tail stays.
+pub fn head_behind(m: &[u32], h1: u32, e1: u32, h2: u32, e2: u32, h: u32) -> u32
+    ensures { λ r. ⌜ ((e : ℕ) → view r e ≡ behind (now (m .entry)) (view h1 e1) (view h2 e2) (view h e)) ⌝ }
+{
+    if h != e1 {
+        return h;
+    }
+    if frees(m, h1, e1, h2, e2) {
+        return h2;
+    }
+    h
+}
+
+// The head of what the two views are reduced to.
+pub fn reduced_head(m: &[u32], h1: u32, e1: u32, h2: u32, e2: u32) -> u32
+    ensures { λ r. ⌜ r ≡ headOf (reduced (now (m .entry)) (view h1 e1) (view h2 e2)) ⌝ }
+{
+    if is_empty(h1, e1) {
+        return h2;
+    }
+    if is_empty(h2, e2) {
+        return h1;
+    }
+    head_behind(m, h1, e1, h2, e2, h1)
+}
+
+// Its tail, which the memory does not change.
+pub fn reduced_tail(h1: u32, e1: u32, h2: u32, e2: u32) -> u32
+    ensures { λ r. ⌜ ((m : List ℕ) → r ≡ tailOf (reduced m (view h1 e1) (view h2 e2))) ⌝ }
+{
+    if is_empty(h1, e1) {
+        return e2;
+    }
+    if is_empty(h2, e2) {
+        return e1;
+    }
+    e2
 }
 
 // View k of task t becomes its reduction with the view from h to e.
