@@ -10,7 +10,7 @@ use lib.Seq.{drop-cons, drop-drop, getD-drop}
 use borrow.Author.Tests.{eq-eqb, ne-eqb, lt-ltb, le-ltb}
 use Rattle.words.specs.Words.{load, pick, both, pass, halt}
 use Rattle.lists.specs.Counting.{occurrences, occurs-nil, occurs-here, occurs-past}
-use Rattle.layout.specs.Layout.{numberWord, freeSegments, freeSegment, segment, task, next, count, address, read, write, recordOf}
+use Rattle.layout.specs.Layout.{numberWord, freeSegments, freeSegment, segment, task, address, read, write, recordOf}
 use Rattle.tree.specs.Tour.{MARKS, seek}
 use Rattle.calls.specs.Segments.{indexOf, headIndex, linkedBy, renamed, released, linked}
 use Rattle.segments.specs.Names.{held, nextIs, headHere}

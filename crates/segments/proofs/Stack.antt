@@ -1,12 +1,12 @@
 -- The stack of free segments: the record of a segment in three writes, taking a segment, giving one back.
 use mathlib.Core.Path.{_≡_, refl, ap, sym, _∙_}
-use mathlib.Core.Bool.{Bool, true, false}
+use mathlib.Core.Bool.{false}
 use mathlib.Core.List.{List, [], _∷_}
 use Prim.Native.Nat.{ℕ, zero, suc, _+_, _-_, _*_, _<_, _≤_}
 use native.Mathlib.Omega.{arith}
 use lib.Dec.{eqb}
 use borrow.Author.Tests.{eqb-false, lt-ltb, le-ltb}
-use Rattle.words.specs.Words.{store, pick, pass, halt}
+use Rattle.words.specs.Words.{store, pass, halt}
 use Rattle.words.specs.Blocks.{storeAll, store-more, store-none}
 use Rattle.layout.specs.Layout.{NONE, lengthWord, freeSegments, freeSegment, segment, value, address, read, write}
 use Rattle.calls.specs.Segments.{noneFree, nextFree, taken, released}

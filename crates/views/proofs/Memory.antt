@@ -4,9 +4,9 @@ use mathlib.Core.Bool.{Bool, true, false}
 use mathlib.Core.List.{List}
 use Prim.Native.Nat.{ℕ}
 use lib.Dec.{ltb}
-use Rattle.words.specs.Words.{pick, both, pass, halt}
+use Rattle.words.specs.Words.{both, pass, halt}
 use Rattle.layout.specs.Layout.{NONE, NL, CHILDREN, USER, head, tail, read, write}
-use Rattle.rules.specs.Views.{View, view}
+use Rattle.rules.specs.Views.{view}
 use Rattle.calls.specs.Segments.{linked}
 use Rattle.calls.specs.Views.{viewOf, isEmpty, headOf, tailOf, reducible, setView, joined, merged}
 use Rattle.calls.specs.Sync.{syncs, syncedQueue, synced}

@@ -5,7 +5,7 @@ use mathlib.Core.List.{List}
 use Prim.Native.Nat.{ℕ, _<_, _≤_}
 use lib.Dec.{ltb, eqb}
 use borrow.Author.Tests.{eq-eqb, ne-eqb, lt-ltb, le-ltb}
-use Rattle.words.specs.Words.{pick, both, either, pass, halt, true-both}
+use Rattle.words.specs.Words.{both, either, pass, halt, true-both}
 use Rattle.layout.specs.Layout.{NONE, NL, segment, read}
 use Rattle.rules.specs.Views.{View, view}
 use Rattle.calls.specs.Views.{isEmpty, headOf, tailOf, reducible, frees, behind, reduced}

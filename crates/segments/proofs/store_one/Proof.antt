@@ -1,7 +1,5 @@
 use mathlib.Core.Path.{refl}
 use Rattle.segments.proofs.Ring.{place-inside}
-use mathlib.Core.Path.{sym, _∙_, ap}
-use native.Mathlib.Omega.{arith}
 use Rattle.segments.proofs.Ring.{values-inside, one-more}
 use borrow.Author.Needs.{needs}
 use Rattle.segments.proofs.store_one.Statement.{statement}

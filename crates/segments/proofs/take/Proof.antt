@@ -1,5 +1,4 @@
-use mathlib.Core.Path.{sym, _∙_, ap}
-use native.Mathlib.Omega.{arith}
+use mathlib.Core.Path.{_∙_}
 use Rattle.segments.proofs.Ring.{values-inside}
 use Rattle.segments.proofs.Stack.{below, top-of, take-it}
 use borrow.Author.Needs.{needs}
