@@ -1,0 +1,40 @@
+// left (queue, index)
+ghost use mathlib.Core.Path.{_≡_};
+ghost use Rattle.answers.specs.Answers.{Outcome};
+ghost use Rattle.answers.specs.Answers.Outcome.{outcome};
+ghost use Rattle.calls.specs.Left.{queued, leftTested};
+
+// Value number `index` of the chain from segment `first` on.
+fn queued(m: &[u32], first: u32, index: u32) -> answers::Answer
+    ensures { λ r. ⌜ r ≡ queued 256 (now (m .entry)) first index ⌝ }
+{
+    let mut s = first;
+    let mut i = index;
+    let mut k: u32 = 256;
+    while 0 < k {
+        if s >= 4294967294 {
+            return answers::Answer::Refused(7);
+        }
+        let n = memory::segment(m, s, 1);
+        if i < n {
+            return answers::Answer::Moved(segments::value_at(m, s, i));
+        }
+        i -= n;
+        s = memory::segment(m, s, 2);
+        k -= 1;
+    }
+    answers::Answer::Refused(7)
+}
+
+// Left on memory that passes the rules.
+pub fn left(m: &[u32], q: u32, i: u32) -> answers::Answer
+    ensures { λ r. ⌜ outcome r (now (m .entry)) ≡ leftTested (now (m .entry)) q i ⌝ }
+{
+    if q >= 4 {
+        return answers::Answer::Refused(5);
+    }
+    if memory::task(m, 0, 0) != 2 {
+        return answers::Answer::Waits;
+    }
+    queued(m, memory::task(m, 0, 16 + q), i)
+}
