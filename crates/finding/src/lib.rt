@@ -1,0 +1,82 @@
+// pop (task, queue) and test (task, queue): one finding
+ghost use mathlib.Core.Path.{_≡_};
+ghost use mathlib.Core.Bool.{true};
+ghost use Prim.Native.Nat.{_<_};
+ghost use lib.ListN.{length};
+ghost use Rattle.layout.specs.Layout.{count, queueHead, read};
+ghost use Rattle.rules.specs.Test.{rulesHold};
+ghost use Rattle.answers.specs.Answers.{Outcome};
+ghost use Rattle.answers.specs.Answers.Outcome.{outcome};
+ghost use Rattle.finding.specs.Nothing.{popNothing, testNothing};
+ghost use Rattle.calls.specs.Find.{hasValue, finding, popped, popGives, testGives, popTested, testTested};
+
+// The chain from the queue head of task t holds a value.
+fn has_value(m: &[u32], t: u32, q: u32) -> bool
+    requires { ⌜ q < 4 ⌝ }
+    ensures { λ b. ⌜ b ≡ hasValue (now (m .entry)) t q ⌝ }
+{
+    let s = memory::task(m, t, 16 + q);
+    if s >= 4294967294 {
+        return false;
+    }
+    memory::segment(m, s, 1) != 0
+}
+
+// What a pop or a test by task t finds in queue q.
+pub fn find(m: &[u32], t: u32, q: u32) -> answers::Finding
+    requires { ⌜ q < 4 ⌝ }
+    ensures { λ f. ⌜ f ≡ finding (now (m .entry)) t q ⌝ }
+{
+    if walks::blocked(m, t) {
+        return answers::Finding::Waits;
+    }
+    if walks::child_pops(m, t, q) {
+        return answers::Finding::Waits;
+    }
+    if has_value(m, t, q) {
+        return answers::Finding::Value(segments::value_at(m, memory::task(m, t, 16 + q), 0));
+    }
+    if walks::pusher_before(m, t, q) {
+        return answers::Finding::Waits;
+    }
+    answers::Finding::Empty
+}
+
+// The first value of queue q is gone; a segment that it leaves empty and that has a next is freed.
+fn take_first(m: &mut [u32], t: u32, q: u32)
+    requires { ⌜ (q < 4) × (0 < read (now m) (count (read (now m) (queueHead t q)))) ⌝ }
+    ensures { λ _. ⌜ now (m .exit) ≡ popped (now (m .entry)) t q ⌝ }
+{
+    let s = memory::task(m, t, 16 + q);
+    let n = memory::segment(m, s, 2);
+    segments::drop_one(m, s);
+    if n == 4294967295 {
+        return;
+    }
+    if memory::segment(m, s, 1) != 0 {
+        return;
+    }
+    memory::set_task(m, t, 16 + q, n);
+    segments::release(m, s);
+}
+
+// Pop where nothing is to be taken.
+fn pop_nothing(f: answers::Finding) -> answers::Answer
+    ensures { λ a. ⌜ a ≡ popNothing f ⌝ }
+{
+    match f {
+        answers::Finding::Value(_) => answers::Answer::Waits,
+        answers::Finding::Empty => answers::Answer::Refused(7),
+        answers::Finding::Waits => answers::Answer::Waits,
+    }
+}
+
+fn test_nothing(f: answers::Finding) -> answers::Answer
+    ensures { λ a. ⌜ a ≡ testNothing f ⌝ }
+{
+    match f {
+        answers::Finding::Value(_) => answers::Answer::Waits,
+        answers::Finding::Empty => answers::Answer::Empty,
+        answers::Finding::Waits => answers::Answer::Waits,
+    }
+}
