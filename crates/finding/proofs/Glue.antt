@@ -1,17 +1,27 @@
 -- The finding, and the first value taken.
 use mathlib.Core.Path.{_≡_, refl, ap, sym, _∙_}
 use mathlib.Core.Bool.{Bool, true, false, not}
-use mathlib.Core.List.{List}
-use Prim.Native.Nat.{ℕ, _+_, _<_, _≤_}
+use mathlib.Core.List.{List, [], _∷_}
+use mathlib.Core.Logic.{⊎-elim}
+use Prim.Native.Nat.{ℕ, suc, _+_, _<_, _≤_}
+use native.Mathlib.Omega.{arith}
 use lib.Dec.{leb, ltb, eqb}
-use borrow.Author.Tests.{lt-ltb, le-ltb, eq-eqb, ne-eqb}
-use Rattle.words.specs.Words.{pick, halt, pass, both, both-on, both-off, either, true-left, true-right}
+use types.Run.{OneOf}
+use denote.Enum.Declared.{tagOf}
+use Rattle.answers.proofs.Finding.{the-type}
+use borrow.Author.Tests.{lt-ltb, le-ltb, le-leb, lt-leb, leb-false, eqb-false, not-true, eq-eqb, ne-eqb}
+use Rattle.words.specs.Words.{pick, halt, pass, both, both-on, both-off, both-true, either, true-left, true-right}
 use Rattle.layout.specs.Layout.{NONE, NL, count, next, segment, task, queueHead, read, write}
+use Rattle.answers.specs.declared.Answer.{Answer}
+use Rattle.answers.specs.declared.Answer.the-variants.{Moved, NotEmpty, Refused}
+use Rattle.answers.specs.Answers.{Outcome, outcome}
+use Rattle.tree.specs.Rights.{pops}
 use Rattle.answers.specs.declared.Finding.{Finding}
 use Rattle.answers.specs.declared.Finding.the-variants.{Value as Found, Empty as Nothing, Waits as Later}
 use Rattle.calls.specs.Segments.{valueAt, dropped, released}
-use Rattle.calls.specs.Waits.{blocked, childPops, pusherBefore}
-use Rattle.calls.specs.Find.{hasValue, finding, popped}
+use Rattle.calls.specs.Waits.{rightsOf, unfinished, blocked, childPops, pusherBefore}
+use Rattle.calls.specs.Find.{hasValue, finding, popped, popGives, testGives, popAllowed, popTested, testTested}
+use Rattle.finding.specs.Nothing.{popNothing, testNothing, popRefusal}
 
 neither : {a b : Bool} → a ≡ false → b ≡ false → either a b ≡ false
 unfolding either pick
@@ -85,3 +95,110 @@ module _ (m m1 : List ℕ) (t q : ℕ) {s n : ℕ} (es : s ≡ read m (task t (1
 
 pub head-count : (m : List ℕ) (t q : ℕ) {s : ℕ} → s ≡ read m (task t (16 + q)) → 0 < read m (segment (read m (task t (16 + q))) 1) → 0 < read m (segment s 1)
 head-count m t q e h = rw (sym e) at h
+
+-- WHERE A FINDING IS TAKEN APART
+pub none-popped : (m : List ℕ) (t q : ℕ) (f : Finding) (a : Answer) → OneOf (1 ∷ 2 ∷ []) (tagOf the-type f) → a ≡ popNothing f → outcome a m ≡ popGives m t q f
+unfolding popGives
+none-popped m t q (Found v) a k e = ⊎-elim (λ x. let z : ⊥ = omega (arith, x) in absurd z) (λ x. let z : ⊥ = omega (arith, x) in absurd z) k
+none-popped m t q Nothing a k e = ap (λ (x : Answer). outcome x m) e
+none-popped m t q Later a k e = ap (λ (x : Answer). outcome x m) e
+
+pub none-tested : (m : List ℕ) (f : Finding) (a : Answer) → OneOf (1 ∷ 2 ∷ []) (tagOf the-type f) → a ≡ testNothing f → outcome a m ≡ testGives m f
+unfolding testGives
+none-tested m (Found v) a k e = ⊎-elim (λ x. let z : ⊥ = omega (arith, x) in absurd z) (λ x. let z : ⊥ = omega (arith, x) in absurd z) k
+none-tested m Nothing a k e = ap (λ (x : Answer). outcome x m) e
+none-tested m Later a k e = ap (λ (x : Answer). outcome x m) e
+
+pub some-tested : (m : List ℕ) (f : Finding) → OneOf (0 ∷ []) (tagOf the-type f) → outcome NotEmpty m ≡ testGives m f
+unfolding testGives
+some-tested m (Found v) k = refl
+some-tested m Nothing k = let z : ⊥ = omega (arith, k) in absurd z
+some-tested m Later k = let z : ⊥ = omega (arith, k) in absurd z
+
+pub value-popped : (m m' : List ℕ) (t q v : ℕ) {f : Finding} → f ≡ Found v → m' ≡ popped m t q → outcome (Moved v) m' ≡ popGives m t q f
+unfolding popGives
+value-popped m m' t q v e g = ap (outcome (Moved v)) g ∙ sym (ap (popGives m t q) e)
+
+-- a value is found only where the head's segment has one
+found-value : (a b d : Bool) (v w : ℕ) → pick a Later (pick b (Found w) (pick d Later Nothing)) ≡ Found v → b ≡ true
+unfolding pick
+found-value true b d v w e = let k = ap (tagOf the-type) e in let z : ⊥ = omega (arith, k) in absurd z
+found-value false true d v w e = refl
+found-value false false true v w e = let k = ap (tagOf the-type) e in let z : ⊥ = omega (arith, k) in absurd z
+found-value false false false v w e = let k = ap (tagOf the-type) e in let z : ⊥ = omega (arith, k) in absurd z
+
+counted : (x : ℕ) → not (eqb x 0) ≡ true → 0 < x
+counted x e = let n = eqb-false x 0 (not-true _ e) in ne-zero x n
+  where
+    ne-zero : (x : ℕ) → (x ≡ 0 → ⊥) → 0 < x
+    ne-zero x n = omega (arith, n)
+
+pub value-there : (m : List ℕ) (t q v : ℕ) {f : Finding} → f ≡ finding m t q → f ≡ Found v → 0 < read m (segment (read m (task t (16 + q))) 1)
+unfolding finding hasValue
+value-there m t q v e g =
+    let h = found-value _ _ _ v _ (sym e ∙ g) in
+    counted _ (both-true _ _ h .1)
+
+-- WHY A TASK MAY NOT POP
+module _ (m : List ℕ) (t q : ℕ) {b1 : Bool} (e1 : b1 ≡ unfinished m t) where
+  pub refusal-4 : not b1 ≡ true → 4 ≡ popRefusal m t q
+  unfolding popRefusal
+  refusal-4 f = sym (halt _ _ (ap not (sym e1) ∙ f))
+
+  module _ (f1 : not b1 ≡ false) where
+    pub refusal-5 : 4 ≤ q → 5 ≡ popRefusal m t q
+    unfolding popRefusal
+    refusal-5 f = sym (pass _ (ap not (sym e1) ∙ f1) (halt _ _ (le-leb 4 q f)))
+
+    module _ {w : ℕ} {b3 : Bool} (f2 : q < 4) (ew : w ≡ read m (task t 1)) (e3 : b3 ≡ pops w q) where
+      pub refusal-6 : not b3 ≡ true → 6 ≡ popRefusal m t q
+      unfolding popRefusal rightsOf
+      refusal-6 f = sym (pass _ (ap not (sym e1) ∙ f1) (pass _ (lt-leb 4 q f2) (halt _ _ (ap not (ap (λ (x : ℕ). pops x q) (sym ew) ∙ sym e3) ∙ f))))
+
+      pub refusal-0 : not b3 ≡ false → 0 ≡ popRefusal m t q
+      unfolding popRefusal rightsOf
+      refusal-0 f = sym (pass _ (ap not (sym e1) ∙ f1) (pass _ (lt-leb 4 q f2) (pass _ (ap not (ap (λ (x : ℕ). pops x q) (sym ew) ∙ sym e3) ∙ f) refl)))
+
+-- what the number says of the ladder, and of the queue
+rung : (a : Bool) (k x : ℕ) → pick a (suc k) x ≡ 0 → (a ≡ false) × (x ≡ 0)
+unfolding pick
+rung true k x e = let z : ⊥ = omega (arith, e) in absurd z
+rung false k x e = (refl, e)
+
+pub may-pop : (m : List ℕ) (t q : ℕ) (o : Outcome) {k : ℕ} → k ≡ popRefusal m t q → k ≡ 0 → (o ≡ popAllowed m t q o) × (q < 4)
+unfolding popAllowed popRefusal
+may-pop m t q o e z =
+    let p1 = rung _ 3 _ (sym e ∙ z) in
+    let p2 = rung _ 4 _ (p1 .1) in
+    let p3 = rung _ 5 _ (p2 .1) in
+    (sym (pass _ (p1 .0) (pass _ (p2 .0) (pass _ (p3 .0) refl))), leb-false _ _ (p2 .0))
+
+pub may-not : (m : List ℕ) (t q : ℕ) (o : Outcome) (k : ℕ) → k ≡ popRefusal m t q → (k ≡ 0 → ⊥) → outcome (Refused k) m ≡ popAllowed m t q o
+unfolding popAllowed popRefusal pick
+may-not m t q o k e n = go (not (unfinished m t)) (leb 4 q) (not (pops (rightsOf m t) q)) e
+  where
+    go : (a b c : Bool) → k ≡ pick a 4 (pick b 5 (pick c 6 0))
+        → outcome (Refused k) m ≡ pick a (outcome (Refused 4) m) (pick b (outcome (Refused 5) m) (pick c (outcome (Refused 6) m) o))
+    go true b c f = ap (λ (x : ℕ). outcome (Refused x) m) f
+    go false true c f = ap (λ (x : ℕ). outcome (Refused x) m) f
+    go false false true f = ap (λ (x : ℕ). outcome (Refused x) m) f
+    go false false false f = absurd (n f)
+
+-- THE ANSWERS
+module _ (m : List ℕ) (t q k : ℕ) (ek : k ≡ popRefusal m t q) where
+  pub pop-refused : (k ≡ 0 → ⊥) → outcome (Refused k) m ≡ popTested m t q
+  unfolding popTested
+  pop-refused n = may-not m t q _ k ek n
+
+  pub test-refused : (k ≡ 0 → ⊥) → outcome (Refused k) m ≡ testTested m t q
+  unfolding testTested
+  test-refused n = may-not m t q _ k ek n
+
+  module _ {f : Finding} (z : k ≡ 0) (ef : f ≡ finding m t q) where
+    pub pop-given : popGives m t q f ≡ popTested m t q
+    unfolding popTested
+    pop-given = ap (popGives m t q) ef ∙ may-pop m t q _ ek z .0
+
+    pub test-given : testGives m f ≡ testTested m t q
+    unfolding testTested
+    test-given = ap (testGives m) ef ∙ may-pop m t q _ ek z .0

@@ -7,7 +7,7 @@ ghost use Rattle.layout.specs.Layout.{count, queueHead, read};
 ghost use Rattle.rules.specs.Test.{rulesHold};
 ghost use Rattle.answers.specs.Answers.{Outcome};
 ghost use Rattle.answers.specs.Answers.Outcome.{outcome};
-ghost use Rattle.finding.specs.Nothing.{popNothing, testNothing};
+ghost use Rattle.finding.specs.Nothing.{popNothing, testNothing, popRefusal};
 ghost use Rattle.calls.specs.Find.{hasValue, finding, popped, popGives, testGives, popTested, testTested};
 
 // The chain from the queue head of task t holds a value.
@@ -79,4 +79,51 @@ fn test_nothing(f: answers::Finding) -> answers::Answer
         answers::Finding::Empty => answers::Answer::Empty,
         answers::Finding::Waits => answers::Answer::Waits,
     }
+}
+
+// Why task t may not pop from queue q: 4, 5 or 6; 0 where it may.
+fn refusal(m: &[u32], t: u32, q: u32) -> u32
+    ensures { λ k. ⌜ k ≡ popRefusal (now (m .entry)) t q ⌝ }
+{
+    if !walks::unfinished(m, t) {
+        return 4;
+    }
+    if q >= 4 {
+        return 5;
+    }
+    if !rights::pops(memory::task(m, t, 1), q) {
+        return 6;
+    }
+    0
+}
+
+// Pop on memory that passes the rules.
+pub fn pop(m: &mut [u32], t: u32, q: u32) -> answers::Answer
+    ensures { λ a. ⌜ outcome a (now (m .exit)) ≡ popTested (now (m .entry)) t q ⌝ }
+{
+    let k = refusal(m, t, q);
+    if k != 0 {
+        return answers::Answer::Refused(k);
+    }
+    let f = find(m, t, q);
+    let answers::Finding::Value(v) = f else {
+        return pop_nothing(f);
+    };
+    take_first(m, t, q);
+    answers::Answer::Moved(v)
+}
+
+// Test on memory that passes the rules.
+pub fn test(m: &[u32], t: u32, q: u32) -> answers::Answer
+    ensures { λ a. ⌜ outcome a (now (m .entry)) ≡ testTested (now (m .entry)) t q ⌝ }
+{
+    let k = refusal(m, t, q);
+    if k != 0 {
+        return answers::Answer::Refused(k);
+    }
+    let f = find(m, t, q);
+    let answers::Finding::Value(_) = f else {
+        return test_nothing(f);
+    };
+    answers::Answer::NotEmpty
 }

@@ -1,0 +1,42 @@
+use Rattle.finding.proofs.Glue.{refusal-4, refusal-5, refusal-6, refusal-0}
+use borrow.Author.Needs.{needs}
+use Rattle.finding.proofs.refusal.Statement.{statement}
+use Rattle.finding.proofs.refusal.Tie as tie
+use Rattle.finding.proofs.refusal.Reads as reads
+use Rattle.finding.proofs.refusal.Lts as lts
+use Rattle.memory.proofs.task.Reads as task-reads
+use Rattle.rights.proofs.pops.Reads as pops-reads
+use Rattle.walks.proofs.unfinished.Reads as unfinished-reads
+
+unfinished-requires : tie.Need-unfinished-requires
+unfinished-requires c κs = search needs
+
+returns : tie.Need-returns
+returns c = refusal-4 _ _ _ (c .before .unfinished .ensures) (c .if1 .taken)
+
+returns-2 : tie.Need-returns-2
+returns-2 c = refusal-5 _ _ _ (c .before .before .unfinished .ensures) (c .before .if1 .left) (c .if2 .taken)
+
+task-requires : tie.Need-task-requires
+task-requires c κs = search needs
+
+pops-requires : tie.Need-pops-requires
+pops-requires c κs = search needs
+
+returns-3 : tie.Need-returns-3
+returns-3 c = refusal-6 _ _ _ (c .before .before .before .before .before .unfinished .ensures) (c .before .before .before .before .if1 .left) (c .before .before .before .if2 .left) (c .before .before .task .ensures) (c .before .pops .ensures) (c .if3 .taken)
+
+returns-4 : tie.Need-returns-4
+returns-4 c = refusal-0 _ _ _ (c .before .before .before .before .before .unfinished .ensures) (c .before .before .before .before .if1 .left) (c .before .before .before .if2 .left) (c .before .before .task .ensures) (c .before .pops .ensures) (c .if3 .left)
+
+pub refusal-spec : {M : Type 1} → statement M
+refusal-spec =
+    tie.close
+    (tie.spec
+    unfinished-requires
+    returns
+    returns-2
+    task-requires
+    pops-requires
+    returns-3
+    returns-4)
