@@ -1,0 +1,49 @@
+// push (task, queue, value)
+ghost use mathlib.Core.Path.{_≡_};
+ghost use mathlib.Core.Bool.{true};
+ghost use Prim.Native.Nat.{_*_, _<_, _≤_};
+ghost use lib.ListN.{length};
+ghost use Rattle.words.specs.Words.{size};
+ghost use Rattle.layout.specs.Layout.{lengthWord, numberWord, freeSegments, read};
+ghost use Rattle.rules.specs.Test.{rulesHold};
+ghost use Rattle.answers.specs.Answers.{Outcome};
+ghost use Rattle.answers.specs.Answers.Outcome.{outcome};
+ghost use Rattle.calls.specs.Segments.{nextFree};
+ghost use Rattle.calls.specs.Views.{kindAt};
+ghost use Rattle.calls.specs.Push.{pushedApart, pushedBehind, pushed, pushTested};
+
+// Which view stands at mark x of the tour.
+fn kind_at(x: u32) -> u32
+    ensures { λ k. ⌜ k ≡ kindAt x ⌝ }
+{
+    if x < 128 { 2 } else { 0 }
+}
+
+// The user view is empty: the new segment's head goes into the view at mark x.
+fn push_apart(m: &mut [u32], t: u32, q: u32, v: u32, x: u32) -> answers::Answer
+    requires { ⌜ (size (now m) ≡ 16384) × (0 < read (now m) freeSegments) × (nextFree (now m) < read (now m) numberWord) × (0 < read (now m) lengthWord) × (read (now m) lengthWord * read (now m) numberWord ≤ 8192) ⌝ }
+    ensures { λ a. ⌜ outcome a (now (m .exit)) ≡ pushedApart (now (m .entry)) t q v x ⌝ }
+{
+    let s = segments::next_free(m);
+    let y = walks::task_at(x);
+    let k = kind_at(x);
+    if !views::reducible(views::head(m, k, y, q), views::tail(m, k, y, q), s, 4294967294) {
+        return answers::Answer::Refused(2);
+    }
+    segments::take(m, v);
+    views::join(m, q, y, k, s, 4294967294);
+    views::set_view(m, q, t, 1, 4294967294, s);
+    answers::Answer::Moved(v)
+}
+
+// The tail segment e is full: the new segment becomes its next.
+fn push_behind(m: &mut [u32], t: u32, q: u32, v: u32, e: u32) -> answers::Answer
+    requires { ⌜ (size (now m) ≡ 16384) × (0 < read (now m) freeSegments) × (nextFree (now m) < read (now m) numberWord) × (0 < read (now m) lengthWord) × (read (now m) lengthWord * read (now m) numberWord ≤ 8192) ⌝ }
+    ensures { λ a. ⌜ outcome a (now (m .exit)) ≡ pushedBehind (now (m .entry)) t q v e ⌝ }
+{
+    let s = segments::next_free(m);
+    segments::take(m, v);
+    memory::set_segment(m, e, 2, s);
+    views::set_tail(m, 1, t, q, s);
+    answers::Answer::Moved(v)
+}
