@@ -10,6 +10,7 @@ ghost use Rattle.answers.specs.Answers.{Outcome};
 ghost use Rattle.answers.specs.Answers.Outcome.{outcome};
 ghost use Rattle.calls.specs.Segments.{nextFree};
 ghost use Rattle.calls.specs.Views.{kindAt};
+ghost use Rattle.calls.specs.Waits.{unfinished};
 ghost use Rattle.calls.specs.Push.{pushedApart, pushedBehind, pushed, pushTested};
 
 // Which view stands at mark x of the tour.
@@ -27,7 +28,12 @@ fn push_apart(m: &mut [u32], t: u32, q: u32, v: u32, x: u32) -> answers::Answer
     let s = segments::next_free(m);
     let y = walks::task_at(x);
     let k = kind_at(x);
-    if !views::reducible(views::head(m, k, y, q), views::tail(m, k, y, q), s, 4294967294) {
+    if !views::reducible(
+        views::head(m, k, y, q),
+        views::tail(m, k, y, q),
+        s,
+        4294967294,
+    ) {
         return answers::Answer::Refused(2);
     }
     segments::take(m, v);
@@ -46,4 +52,49 @@ fn push_behind(m: &mut [u32], t: u32, q: u32, v: u32, e: u32) -> answers::Answer
     memory::set_segment(m, e, 2, s);
     views::set_tail(m, 1, t, q, s);
     answers::Answer::Moved(v)
+}
+
+// The value goes to the tail segment, or to a new one.
+fn push_value(m: &mut [u32], t: u32, q: u32, v: u32) -> answers::Answer
+    requires { ⌜ (length (now m) ≡ 16384) × (rulesHold (now m) ≡ true) × (unfinished (now m) t ≡ true) × (q < 4) ⌝ }
+    ensures { λ a. ⌜ outcome a (now (m .exit)) ≡ pushed (now (m .entry)) t q v ⌝ }
+{
+    let e = views::tail(m, 1, t, q);
+    if views::is_empty(views::head(m, 1, t, q), e) {
+        if segments::none_free(m) {
+            return answers::Answer::Refused(9);
+        }
+        return push_apart(m, t, q, v, walks::just_before(m, q, t));
+    }
+    if e >= 4294967294 {
+        return answers::Answer::Refused(2);
+    }
+    if memory::segment(m, e, 1) < memory::header(m, 0) {
+        segments::store_one(m, e, v);
+        return answers::Answer::Moved(v);
+    }
+    if segments::none_free(m) {
+        return answers::Answer::Refused(9);
+    }
+    push_behind(m, t, q, v, e)
+}
+
+// Push on memory that passes the rules.
+pub fn push(m: &mut [u32], t: u32, q: u32, v: u32) -> answers::Answer
+    requires { ⌜ (length (now m) ≡ 16384) × (rulesHold (now m) ≡ true) ⌝ }
+    ensures { λ a. ⌜ outcome a (now (m .exit)) ≡ pushTested (now (m .entry)) t q v ⌝ }
+{
+    if !walks::unfinished(m, t) {
+        return answers::Answer::Refused(4);
+    }
+    if q >= 4 {
+        return answers::Answer::Refused(5);
+    }
+    if !rights::pushes(memory::task(m, t, 1), q) {
+        return answers::Answer::Refused(6);
+    }
+    if walks::blocked(m, t) {
+        return answers::Answer::Waits;
+    }
+    push_value(m, t, q, v)
 }
