@@ -1,0 +1,74 @@
+-- What the core hands to a host, and the first two refusals.
+use mathlib.Core.Path.{_≡_, refl, ap, sym, _∙_}
+use mathlib.Core.Bool.{Bool, true, false, not}
+use mathlib.Core.List.{List}
+use Prim.Native.Nat.{ℕ, suc, _+_, _*_}
+use native.Mathlib.Omega.{arith}
+use lib.Dec.{eqb}
+use borrow.Author.Tests.{eqb-true, eq-eqb, ne-eqb, not-false}
+use Rattle.words.specs.Words.{size, pick, halt, pass}
+use Rattle.layout.specs.Layout.{WORDS}
+use Rattle.answers.specs.declared.Answer.{Answer}
+use Rattle.answers.specs.declared.Answer.the-variants.{Moved, Empty, NotEmpty, Waits, Refused}
+use Rattle.answers.specs.Answers.{Outcome, outcome, answerOf, wordsOf, statusOf, valueOf}
+use Rattle.rules.specs.Test.{rulesHold}
+use Rattle.calls.specs.Waits.{tested}
+
+-- an answer as one number of 64 bits: the status in the high half, the value in the low half
+abbrev pub packed : Answer → ℕ
+packed (Moved v) = v
+packed Empty = 33 * 4294967296
+packed NotEmpty = 34 * 4294967296
+packed Waits = 32 * 4294967296
+packed (Refused k) = k * 4294967296
+
+pub packed-halves : (a : Answer) → packed a ≡ statusOf a * 4294967296 + valueOf a
+unfolding statusOf valueOf
+packed-halves (Moved v) = let z : v ≡ 0 * 4294967296 + v = omega arith in z
+packed-halves Empty = refl
+packed-halves NotEmpty = refl
+packed-halves Waits = refl
+packed-halves (Refused k) = let z : k * 4294967296 ≡ k * 4294967296 + 0 = omega arith in z
+
+-- 1 or 2 where no call may be made on these words, 0 where one may
+unfoldable pub memoryRefusal : List ℕ → ℕ
+memoryRefusal m = pick (not (eqb (size m) WORDS)) 1 (pick (not (rulesHold m)) 2 0)
+
+module _ (m : List ℕ) where
+  pub other-length : (size m ≡ 16384 → ⊥) → 1 ≡ memoryRefusal m
+  unfolding memoryRefusal
+  other-length n = sym (halt _ _ (ap not (ne-eqb _ _ n)))
+
+  pub rules-fail : {b : Bool} → size m ≡ 16384 → b ≡ rulesHold m → not b ≡ true → 2 ≡ memoryRefusal m
+  unfolding memoryRefusal
+  rules-fail e eb f = sym (pass _ (ap not (eq-eqb _ _ e)) (halt _ _ (ap not (sym eb) ∙ f)))
+
+  pub may-call : {b : Bool} → size m ≡ 16384 → b ≡ rulesHold m → not b ≡ false → 0 ≡ memoryRefusal m
+  unfolding memoryRefusal
+  may-call e eb f = sym (pass _ (ap not (eq-eqb _ _ e)) (pass _ (ap not (sym eb) ∙ f) refl))
+
+rung : (a : Bool) (k x : ℕ) → pick a (suc k) x ≡ 0 → (a ≡ false) × (x ≡ 0)
+unfolding pick
+rung true k x e = let z : ⊥ = omega (arith, e) in absurd z
+rung false k x e = (refl, e)
+
+module _ (m : List ℕ) (o : Outcome) (k : ℕ) (e : k ≡ memoryRefusal m) where
+  -- a call that is turned down
+  pub turned-down : (k ≡ 0 → ⊥) → outcome (Refused k) m ≡ tested m o
+  unfolding memoryRefusal tested pick
+  turned-down n = go (not (eqb (size m) WORDS)) (not (rulesHold m)) e
+    where
+      go : (a b : Bool) → k ≡ pick a 1 (pick b 2 0) → outcome (Refused k) m ≡ pick a (outcome (Refused 1) m) (pick b (outcome (Refused 2) m) o)
+      go true b f = ap (λ (x : ℕ). outcome (Refused x) m) f
+      go false true f = ap (λ (x : ℕ). outcome (Refused x) m) f
+      go false false f = absurd (n f)
+
+  -- one that is not
+  pub goes-on : k ≡ 0 → o ≡ tested m o
+  unfolding memoryRefusal tested
+  goes-on z = let a = rung _ 0 _ (sym e ∙ z) in let b = rung _ 1 _ (a .1) in sym (pass _ (a .0) (pass _ (b .0) refl))
+
+-- the memory that the call then finds
+pub passes : (m : List ℕ) {k : ℕ} → k ≡ memoryRefusal m → k ≡ 0 → (size m ≡ 16384) × (rulesHold m ≡ true)
+unfolding memoryRefusal
+passes m e z = let a = rung _ 0 _ (sym e ∙ z) in let b = rung _ 1 _ (a .1) in (eqb-true _ _ (not-false _ (a .0)), not-false _ (b .0))
