@@ -16,6 +16,7 @@ use Rattle.lists.specs.Distinct.{fresh, distinct}
 use Rattle.layout.specs.Layout.{FREE, STATUS, freeTasks, read, recordOf}
 use Rattle.rules.specs.Contents.{Contents, decode, word}
 use Rattle.rules.specs.Test.{idleTest}
+use Rattle.tree_test.specs.Stacks.{take-few, take-many}
 
 -- the k records from place i of the stack on; d has the marks of those before
 unfoldable pub idleFrom : ℕ → List ℕ → ℕ → List ℕ → Bool
@@ -87,17 +88,6 @@ shuffle false true true s false e = refl
 shuffle false true false s f e = refl
 shuffle false false z s f e = refl
 
-few : (k : ℕ) (l : List ℕ) → length (take k l) ≤ k
-few zero l = omega arith
-few (suc k) [] = omega arith
-few (suc k) (x ∷ l) = let a = few k l in omega (arith, a)
-
-many : (j k : ℕ) (l : List ℕ) → j < k → j < length l → j < length (take k l)
-many j zero l a b = let z : ⊥ = omega arith in absurd z
-many j (suc k) [] a b = let z : ⊥ = omega arith in absurd z
-many zero (suc k) (x ∷ l) a b = omega arith
-many (suc j) (suc k) (x ∷ l) a b = let z = many j k l (le-of-suc-le-suc a) (le-of-suc-le-suc b) in omega (arith, z)
-
 module _ (m : List ℕ) where
   -- what a record on the stack has to be
   unfoldable pub freeOne : ℕ → Bool
@@ -143,11 +133,11 @@ module _ (m : List ℕ) where
   unfolding idleTest distinct freeOne
   idle-same s h =
       idle-parts (read m freeTasks) 0 (replicate 256 0) (omega (arith, s, h))
-      ∙ sym (both-on (le-leb (length (take (read m freeTasks) (drop 320 m))) 127 (let a = few (read m freeTasks) (drop 320 m) in omega (arith, a, h))))
+      ∙ sym (both-on (le-leb (length (take (read m freeTasks) (drop 320 m))) 127 (let a = take-few (read m freeTasks) (drop 320 m) in omega (arith, a, h))))
 
   -- a height above 127
   pub idle-many : size m ≡ 16384 → 127 < read m freeTasks → false ≡ idleTest (decode m)
   unfolding idleTest size
   idle-many s h =
       let a = length-drop 320 m in
-      sym (both-off _ (lt-leb (length (take (read m freeTasks) (drop 320 m))) 127 (many 127 (read m freeTasks) (drop 320 m) h (omega (arith, a, s)))))
+      sym (both-off _ (lt-leb (length (take (read m freeTasks) (drop 320 m))) 127 (take-many 127 (read m freeTasks) (drop 320 m) h (omega (arith, a, s)))))

@@ -3,6 +3,7 @@ use mathlib.Core.Path.{_≡_, refl, ap, sym, _∙_}
 use mathlib.Core.Bool.{Bool, true, false}
 use mathlib.Core.List.{List}
 use Prim.Native.Nat.{ℕ, _<_, _≤_, _*_}
+use native.Mathlib.Nat.{mul-le-mul}
 use lib.Dec.{leb, eqb}
 use borrow.Author.Tests.{le-leb, lt-leb, ne-eqb, eq-eqb}
 use Rattle.words.specs.Words.{pick, both, both-on, both-off, either, true-left, true-right}
@@ -37,6 +38,10 @@ module _ (l n : ℕ) where
   unfolding inRange within
   product a b c d =
       sym (both-on (both-on (le-leb 1 l a) ∙ le-leb l 64 b) ∙ both-on (both-on (le-leb 4 n c) ∙ le-leb n 256 d))
+
+  -- their product is a word
+  pub fits : l ≤ 64 → n ≤ 256 → l * n ≤ 16384
+  fits a b = mul-le-mul a b
 
 -- the top has all rights, no parent and no siblings
 unfoldable pub topAlone : List ℕ → Bool

@@ -1,1 +1,83 @@
 // The memory test: opening numbers, free task records, the top and the task tree.
+ghost use mathlib.Core.Path.{_≡_};
+ghost use Prim.Native.Nat.{_≤_};
+ghost use lib.Dec.{leb};
+ghost use lib.ListN.{length};
+ghost use Rattle.layout.specs.Layout.{read, header};
+ghost use Rattle.rules.specs.Contents.{decode};
+ghost use Rattle.rules.specs.Test.{inRange, topTest};
+ghost use Rattle.tree_test.specs.Top.{topAlone};
+
+const NONE: u32 = 4294967295;
+
+const STATUS: u32 = 0;
+
+const RIGHTS: u32 = 1;
+
+const PARENT: u32 = 2;
+
+const OLDER: u32 = 3;
+
+const YOUNGER: u32 = 4;
+
+const YOUNGEST: u32 = 5;
+
+// "L is 1 to 64, segments 4 to 256, and L times segments is at most 8,192"
+pub fn in_range(l: u32, n: u32) -> bool
+    ensures { λ r. ⌜ r ≡ inRange l n ⌝ }
+{
+    if l < 1 {
+        return false;
+    }
+    if l > 64 {
+        return false;
+    }
+    if n < 4 {
+        return false;
+    }
+    if n > 256 {
+        return false;
+    }
+    l * n <= 8192
+}
+
+// No more free segments than segments opened.
+pub fn few_free(m: &[u32]) -> bool
+    requires { ⌜ (length (now m) ≡ 16384) × (read (now m) (header 1) ≤ 256) ⌝ }
+    ensures { λ r. ⌜ r ≡ leb (length ((decode (now (m .entry))) .free)) ((decode (now (m .entry))) .number) ⌝ }
+{
+    memory::header(m, 2) <= memory::header(m, 1)
+}
+
+// The links and the rights of the top.
+fn top_alone(m: &[u32]) -> bool
+    ensures { λ r. ⌜ r ≡ topAlone (now (m .entry)) ⌝ }
+{
+    if memory::task(m, 0, RIGHTS) != 255 {
+        return false;
+    }
+    if memory::task(m, 0, PARENT) != NONE {
+        return false;
+    }
+    if memory::task(m, 0, OLDER) != NONE {
+        return false;
+    }
+    memory::task(m, 0, YOUNGER) == NONE
+}
+
+// The top is unfinished, or finished without children.
+pub fn top_ok(m: &[u32]) -> bool
+    ensures { λ r. ⌜ r ≡ topTest (decode (now (m .entry))) ⌝ }
+{
+    let s = memory::task(m, 0, STATUS);
+    if s == 1 {
+        return top_alone(m);
+    }
+    if s != 2 {
+        return false;
+    }
+    if memory::task(m, 0, YOUNGEST) != NONE {
+        return false;
+    }
+    top_alone(m)
+}

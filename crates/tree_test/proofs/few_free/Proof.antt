@@ -1,0 +1,26 @@
+use Rattle.tree_test.specs.Stacks.{free-few}
+use Rattle.words.specs.Words.{size}
+use lib.Dec.{leb}
+use mathlib.Core.Path.{ap₂, _∙_}
+use borrow.Author.Needs.{needs}
+use Rattle.tree_test.proofs.few_free.Statement.{statement}
+use Rattle.tree_test.proofs.few_free.Tie as tie
+use Rattle.tree_test.proofs.few_free.Reads as reads
+use Rattle.tree_test.proofs.few_free.Lts as lts
+use Rattle.memory.proofs.header.Reads as header-reads
+
+-- src/lib.rt:49:5
+header-requires : tie.Need-header-requires
+header-requires c κs = tt
+
+-- src/lib.rt:49:29
+header-requires-2 : tie.Need-header-requires-2
+header-requires-2 c κs = tt
+
+-- src/lib.rt:45:1
+returns : tie.Need-returns
+unfolding size
+returns c = ap₂ leb (c .before .header .ensures) (c .header2 .ensures) ∙ free-few _ (c .before .before .before .pre .0) (c .before .before .before .pre .1)
+
+pub few-free-spec : {M : Type 1} → statement M
+few-free-spec = tie.close (tie.spec header-requires header-requires-2 returns)
