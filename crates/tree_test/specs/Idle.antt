@@ -16,6 +16,7 @@ use Rattle.lists.specs.Distinct.{fresh, distinct}
 use Rattle.layout.specs.Layout.{FREE, STATUS, freeTasks, read, recordOf}
 use Rattle.rules.specs.Contents.{Contents, decode, word}
 use Rattle.rules.specs.Test.{idleTest}
+use Rattle.tree_test.specs.Records.{status-at}
 use Rattle.tree_test.specs.Stacks.{take-few, take-many}
 
 -- the k records from place i of the stack on; d has the marks of those before
@@ -94,8 +95,8 @@ module _ (m : List ℕ) where
   freeOne t = both (leb 1 t) (eqb (word (decode m) t STATUS) FREE)
 
   status : (t : ℕ) → load m (1472 + t * 48) ≡ word (decode m) t STATUS
-  unfolding word recordOf load
-  status t = ap (λ (a : ℕ). getD m a 0) (let z : 1472 + t * 48 ≡ 1472 + t * 48 + 0 = omega arith in z) ∙ sym (getD-drop (1472 + t * 48) m 0 0)
+  unfolding load
+  status t = status-at m t
 
   -- the two tests of a list of records
   abbrev Parts : List ℕ → List ℕ → Bool

@@ -1,3 +1,5 @@
+pub mod Records
 pub mod Stacks
 pub mod Idle
 pub mod Top
+pub mod Links

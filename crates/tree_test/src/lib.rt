@@ -5,8 +5,9 @@ ghost use lib.Dec.{leb};
 ghost use lib.ListN.{length};
 ghost use Rattle.layout.specs.Layout.{read, header};
 ghost use Rattle.rules.specs.Contents.{decode};
-ghost use Rattle.rules.specs.Test.{inRange, topTest};
+ghost use Rattle.rules.specs.Test.{inRange, topTest, kin, linkTest};
 ghost use Rattle.tree_test.specs.Top.{topAlone};
+ghost use Rattle.tree_test.specs.Links.{fitting};
 
 const NONE: u32 = 4294967295;
 
@@ -80,4 +81,51 @@ pub fn top_ok(m: &[u32]) -> bool
         return false;
     }
     top_alone(m)
+}
+
+// May task t stand where the parent is p, the younger sibling y, and the rights are to be a part of b?
+fn fitting(m: &[u32], t: u32, p: u32, y: u32, b: u32) -> bool
+    requires { ⌜ length (now m) ≡ 16384 ⌝ }
+    ensures { λ r. ⌜ r ≡ fitting (decode (now (m .entry))) t p y b ⌝ }
+{
+    if t < 1 {
+        return false;
+    }
+    if t > 127 {
+        return false;
+    }
+    let a = 1472 + t as usize * 48;
+    if m[a] != 1 {
+        return false;
+    }
+    if m[a + 2] != p {
+        return false;
+    }
+    if m[a + 4] != y {
+        return false;
+    }
+    rights::subset(m[a + 1], b)
+}
+
+// t is no task, or may stand in the tree with parent p and younger sibling y.
+pub fn kin(m: &[u32], t: u32, p: u32, y: u32) -> bool
+    requires { ⌜ length (now m) ≡ 16384 ⌝ }
+    ensures { λ r. ⌜ r ≡ kin (decode (now (m .entry))) t p y ⌝ }
+{
+    if t == NONE {
+        return true;
+    }
+    fitting(m, t, p, y, memory::task(m, p, RIGHTS))
+}
+
+// The link that is followed at mark x.
+pub fn link_ok(m: &[u32], x: u32) -> bool
+    requires { ⌜ length (now m) ≡ 16384 ⌝ }
+    ensures { λ r. ⌜ r ≡ linkTest (decode (now (m .entry))) x ⌝ }
+{
+    if x < 128 {
+        return kin(m, memory::task(m, x, YOUNGEST), x, NONE);
+    }
+    let t = x - 128;
+    kin(m, memory::task(m, t, OLDER), memory::task(m, t, PARENT), t)
 }
