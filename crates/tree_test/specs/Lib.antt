@@ -3,3 +3,4 @@ pub mod Stacks
 pub mod Idle
 pub mod Top
 pub mod Links
+pub mod Walk
