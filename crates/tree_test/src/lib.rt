@@ -1,15 +1,20 @@
 // The memory test: opening numbers, free task records, the top and the task tree.
 ghost use mathlib.Core.Path.{_≡_};
-ghost use Prim.Native.Nat.{_≤_};
+ghost use mathlib.Core.Bool.{true};
+ghost use Prim.Native.Nat.{_<_, _≤_};
 ghost use lib.Dec.{leb};
-ghost use lib.ListN.{length};
-ghost use Rattle.layout.specs.Layout.{read, header};
+ghost use lib.ListN.{length, take};
+ghost use Rattle.layout.specs.Layout.{read, header, recordOf};
+ghost use Rattle.tree.specs.Tour.{tour};
 ghost use Rattle.rules.specs.Contents.{decode};
-ghost use Rattle.rules.specs.Test.{inRange, topTest, kin, linkTest};
+ghost use Rattle.rules.specs.Test.{inRange, topTest, kin, linkTest, treeTest};
 ghost use Rattle.tree_test.specs.Top.{topAlone};
 ghost use Rattle.tree_test.specs.Links.{fitting};
+ghost use Rattle.tree_test.specs.Walk.{metNext, leftNext, nextMark};
 
 const NONE: u32 = 4294967295;
+
+const END: u32 = 256;
 
 const STATUS: u32 = 0;
 
@@ -128,4 +133,72 @@ pub fn link_ok(m: &[u32], x: u32) -> bool
     }
     let t = x - 128;
     kin(m, memory::task(m, t, OLDER), memory::task(m, t, PARENT), t)
+}
+
+// The mark after the one where task t is met; END where the link is wrong.
+fn met_next(m: &[u32], t: u32) -> u32
+    requires { ⌜ (length (now m) ≡ 16384) × (t < 128) ⌝ }
+    ensures { λ r. ⌜ r ≡ metNext (decode (now (m .entry))) t ⌝ }
+{
+    let a = 1472 + t as usize * 48;
+    let u = m[a + 5];
+    if u == NONE {
+        return 128 + t;
+    }
+    if fitting(m, u, t, NONE, m[a + 1]) {
+        return u;
+    }
+    END
+}
+
+// The mark after the one where task t is left; END where the link is wrong or the parent is no task.
+fn left_next(m: &[u32], t: u32) -> u32
+    requires { ⌜ (length (now m) ≡ 16384) × (t < 128) ⌝ }
+    ensures { λ r. ⌜ r ≡ leftNext (decode (now (m .entry))) t ⌝ }
+{
+    let a = 1472 + t as usize * 48;
+    let p = m[a + 2];
+    if p > 127 {
+        return END;
+    }
+    let u = m[a + 3];
+    if u == NONE {
+        return 128 + p;
+    }
+    if fitting(m, u, p, t, m[1472 + p as usize * 48 + 1]) {
+        return u;
+    }
+    END
+}
+
+fn next_mark(m: &[u32], x: u32) -> u32
+    requires { ⌜ (length (now m) ≡ 16384) × (x < 256) ⌝ }
+    ensures { λ r. ⌜ r ≡ nextMark (decode (now (m .entry))) x ⌝ }
+{
+    if x < 128 {
+        return met_next(m, x);
+    }
+    left_next(m, x - 128)
+}
+
+// The tour has k marks, and each link that it follows is right. They are left in xs.
+pub fn tree_ok(m: &[u32], xs: &mut [u32], k: u32) -> bool
+    requires { ⌜ (length (now m) ≡ 16384) × (length (now xs) ≡ 256) × (k ≤ 256) ⌝ }
+    ensures { λ r. ⌜ (r ≡ treeTest (decode (now (m .entry))) k 0) × (r ≡ true → take k (now (xs .exit)) ≡ tour k (recordOf (now (m .entry))) 0) ⌝ }
+{
+    let n = k as usize;
+    let mut i: usize = 0;
+    let mut x: u32 = 0;
+    while i < n {
+        xs[i] = x;
+        i += 1;
+        if x == 128 {
+            return i == n;
+        }
+        x = next_mark(m, x);
+        if x >= END {
+            return false;
+        }
+    }
+    false
 }
