@@ -1,4 +1,4 @@
--- The free records, one after the other, as the code goes through them.
+-- The free records, one after the other.
 use mathlib.Core.Path.{_≡_, refl, ap, sym, _∙_}
 use mathlib.Core.Bool.{Bool, true, false}
 use mathlib.Core.List.{List, [], _∷_}
@@ -26,43 +26,6 @@ idleFrom (suc k) m i d =
     let t = load m (320 + i) in
     let rest = idleFrom k m (i + 1) (store d t 1) in
     both (leb 1 t) (both (leb t 127) (both (eqb (load d t) 0) (both (eqb (load m (1472 + t * 48)) 0) rest)))
-
--- one record that is right
-pub idle-step : (k : ℕ) (m d : List ℕ) (i t : ℕ) → 0 < k → t ≡ load m (320 + i) → 1 ≤ t → t ≤ 127 → load d t ≡ 0 → load m (1472 + t * 48) ≡ 0
-    → idleFrom (k - 1) m (i + 1) (store d t 1) ≡ idleFrom k m i d
-unfolding idleFrom
-idle-step zero m d i t p e a b f g = let z : ⊥ = omega arith in absurd z
-idle-step (suc k) m d i t p e a b f g =
-    ap (λ (j : ℕ). idleFrom j m (i + 1) (store d t 1)) (let z : suc k - 1 ≡ k = omega arith in z)
-    ∙ sym (rw (← e) (both-on (le-leb 1 t a) ∙ both-on (le-leb t 127 b) ∙ both-on (eq-eqb _ _ f) ∙ both-on (eq-eqb _ _ g)))
-
--- one that is not: task 0, no task, one that stands on the stack twice, or one without the status of a free record
-pub idle-top : (k : ℕ) (m d : List ℕ) (i t : ℕ) → 0 < k → t ≡ load m (320 + i) → t < 1 → false ≡ idleFrom k m i d
-unfolding idleFrom
-idle-top zero m d i t p e h = let z : ⊥ = omega arith in absurd z
-idle-top (suc k) m d i t p e h = sym (rw (← e) (both-off _ (lt-leb 1 t h)))
-
-pub idle-far : (k : ℕ) (m d : List ℕ) (i t : ℕ) → 0 < k → t ≡ load m (320 + i) → 1 ≤ t → 127 < t → false ≡ idleFrom k m i d
-unfolding idleFrom
-idle-far zero m d i t p e a h = let z : ⊥ = omega arith in absurd z
-idle-far (suc k) m d i t p e a h = sym (rw (← e) (both-on (le-leb 1 t a) ∙ both-off _ (lt-leb t 127 h)))
-
-pub idle-again : (k : ℕ) (m d : List ℕ) (i t : ℕ) → 0 < k → t ≡ load m (320 + i) → 1 ≤ t → t ≤ 127 → (load d t ≡ 0 → ⊥) → false ≡ idleFrom k m i d
-unfolding idleFrom
-idle-again zero m d i t p e a b h = let z : ⊥ = omega arith in absurd z
-idle-again (suc k) m d i t p e a b h = sym (rw (← e) (both-on (le-leb 1 t a) ∙ both-on (le-leb t 127 b) ∙ both-off _ (ne-eqb _ _ h)))
-
-pub idle-used : (k : ℕ) (m d : List ℕ) (i t : ℕ) → 0 < k → t ≡ load m (320 + i) → 1 ≤ t → t ≤ 127 → load d t ≡ 0
-    → (load m (1472 + t * 48) ≡ 0 → ⊥) → false ≡ idleFrom k m i d
-unfolding idleFrom
-idle-used zero m d i t p e a b f h = let z : ⊥ = omega arith in absurd z
-idle-used (suc k) m d i t p e a b f h =
-    sym (rw (← e) (both-on (le-leb 1 t a) ∙ both-on (le-leb t 127 b) ∙ both-on (eq-eqb _ _ f) ∙ both-off _ (ne-eqb _ _ h)))
-
-pub idle-done : (k : ℕ) (m d : List ℕ) (i : ℕ) → k ≤ 0 → true ≡ idleFrom k m i d
-unfolding idleFrom
-idle-done zero m d i h = refl
-idle-done (suc k) m d i h = let z : ⊥ = omega arith in absurd z
 
 -- the first of some words of a memory, and the others
 take-more : (k a : ℕ) (m : List ℕ) → a < size m → take (suc k) (drop a m) ≡ load m a ∷ take k (drop (a + 1) m)

@@ -1,6 +1,7 @@
 pub mod Records
 pub mod Stacks
 pub mod Idle
+pub mod Counted
 pub mod Top
 pub mod Links
 pub mod Walk

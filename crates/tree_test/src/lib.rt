@@ -7,8 +7,9 @@ ghost use lib.ListN.{length, take};
 ghost use Rattle.layout.specs.Layout.{read, header, recordOf};
 ghost use Rattle.tree.specs.Tour.{tour};
 ghost use Rattle.rules.specs.Contents.{decode};
-ghost use Rattle.rules.specs.Test.{inRange, topTest, kin, linkTest, treeTest};
+ghost use Rattle.rules.specs.Test.{inRange, topTest, idleTest, kin, linkTest, treeTest};
 ghost use Rattle.tree_test.specs.Top.{topAlone};
+ghost use Rattle.tree_test.specs.Counted.{freeFrom, markFrom, marks};
 ghost use Rattle.tree_test.specs.Links.{fitting};
 ghost use Rattle.tree_test.specs.Walk.{metNext, leftNext, nextMark};
 
@@ -86,6 +87,60 @@ pub fn top_ok(m: &[u32]) -> bool
         return false;
     }
     top_alone(m)
+}
+
+// Marks the h free records in d, as far as they are tasks other than the top with the status of a free record.
+fn mark_free(m: &[u32], d: &mut [u8], h: usize) -> bool
+    requires { ⌜ (length (now m) ≡ 16384) × (length (now d) ≡ 256) × (h ≤ 127) ⌝ }
+    ensures { λ r. ⌜ (r ≡ freeFrom h (now (m .entry)) 0) × (r ≡ true → now (d .exit) ≡ markFrom h (now (m .entry)) 0 (now (d .entry))) ⌝ }
+{
+    let mut i: usize = 0;
+    while i < h {
+        let t = m[320 + i] as usize;
+        if t < 1 {
+            return false;
+        }
+        if t > 127 {
+            return false;
+        }
+        if m[1472 + t * 48] != 0 {
+            return false;
+        }
+        d[t] = 1;
+        i += 1;
+    }
+    true
+}
+
+// How many tasks are marked in d.
+fn marks(d: &[u8]) -> u32
+    requires { ⌜ length (now d) ≡ 256 ⌝ }
+    ensures { λ r. ⌜ r ≡ marks (now (d .entry)) ⌝ }
+{
+    let mut n: u32 = 0;
+    let mut i: usize = 0;
+    while i < 128 {
+        n += d[i] as u32;
+        i += 1;
+    }
+    n
+}
+
+// At most 127 free records, none twice, none of them task 0, each with the status of a free one. None stands on the
+// stack twice where there are as many marks as records: counting the marks is faster than a look at each before it is set.
+pub fn idle_ok(m: &[u32]) -> bool
+    requires { ⌜ length (now m) ≡ 16384 ⌝ }
+    ensures { λ r. ⌜ r ≡ idleTest (decode (now (m .entry))) ⌝ }
+{
+    let h = memory::header(m, 3);
+    if h > 127 {
+        return false;
+    }
+    let mut d = [0u8; 256];
+    if !mark_free(m, &mut d, h as usize) {
+        return false;
+    }
+    marks(&d) == h
 }
 
 // May task t stand where the parent is p, the younger sibling y, and the rights are to be a part of b?

@@ -1,0 +1,174 @@
+-- The free records as the code goes through them: each is tested and marked, then the marks are counted. There are as
+-- many marks as records where none stands on the stack twice.
+use mathlib.Core.Path.{_≡_, refl, ap, sym, _∙_}
+use mathlib.Core.Bool.{Bool, true, false}
+use mathlib.Core.List.{List}
+use mathlib.Core.Logic.{⊎-elim}
+use Prim.Native.Nat.{ℕ, zero, suc, _+_, _-_, _*_, _<_, _≤_}
+use native.Mathlib.Omega.{arith}
+use lib.Dec.{leb, eqb}
+use lib.ListN.{replicate}
+use borrow.Author.Tests.{leb-true, leb-false, eqb-true, eqb-false, le-leb, lt-leb, ne-eqb, eq-eqb}
+use Rattle.words.specs.Words.{load, store, size, size-store, load-same, load-other, pick, both, both-on, both-off}
+use Rattle.lists.specs.Counting.{one, total, equal?, one-yes, one-no, total-ext, total-zero, total-plus, total-at}
+use Rattle.lists.specs.Sums.{total-le}
+use Rattle.layout.specs.Layout.{freeTasks, read}
+use Rattle.rules.specs.Contents.{decode}
+use Rattle.rules.specs.Test.{idleTest}
+use Rattle.tree_test.specs.Idle.{idleFrom, idle-same}
+
+-- the k records from place i of the stack on: tasks other than the top, with the status of a free record
+unfoldable pub freeFrom : ℕ → List ℕ → ℕ → Bool
+freeFrom zero m i = true
+freeFrom (suc k) m i =
+    let t = load m (320 + i) in
+    let rest = freeFrom k m (i + 1) in
+    both (leb 1 t) (both (leb t 127) (both (eqb (load m (1472 + t * 48)) 0) rest))
+
+-- the marks d with those of the same records
+unfoldable pub markFrom : ℕ → List ℕ → ℕ → List ℕ → List ℕ
+markFrom zero m i d = d
+markFrom (suc k) m i d = markFrom k m (i + 1) (store d (load m (320 + i)) 1)
+
+-- how many of the 128 tasks are marked
+unfoldable pub marks : List ℕ → ℕ
+marks d = total 128 (load d)
+
+once : (t : ℕ) → total 128 (λ y. one (eqb t y)) ≤ 1
+once t = go (leb 128 t) refl
+  where
+    times : (k : ℕ) → k ≡ k * 1
+    times k = omega arith
+
+    go : (b : Bool) → leb 128 t ≡ b → total 128 (λ y. one (eqb t y)) ≤ 1
+    go true q = let h = leb-true 128 t q in let a = total-zero 128 (λ y. one (eqb t y)) (λ y l. one-no t y (λ e. omega (arith, h, e, l))) in omega (arith, a)
+    go false q = let a = total-ext 128 _ _ (λ y l. times (one (eqb t y))) ∙ total-at 128 t (λ y. 1) (leb-false 128 t q) in omega (arith, a)
+
+module _ (d : List ℕ) (t : ℕ) (s : size d ≡ 256) where
+  -- a mark more, or none
+  at-most : marks (store d t 1) ≤ marks d + 1
+  unfolding marks
+  at-most =
+      let a = total-le 128 (load (store d t 1)) (λ y. load d y + one (eqb t y)) one-more in
+      let b = total-plus 128 (load d) (λ y. one (eqb t y)) in
+      let e = once t in
+      omega (arith, a, b, e)
+    where
+      one-more : (y : ℕ) → y < 128 → load (store d t 1) y ≤ load d y + one (eqb t y)
+      one-more y l =
+          ⊎-elim
+          (λ q. let a = ap (load (store d t 1)) (sym q) ∙ load-same d t 1 (omega (arith, q, l, s)) in let b = one-yes t y q in omega (arith, a, b))
+          (λ n. let a = load-other d t y 1 (λ q. n (sym q)) in omega (arith, a))
+          (equal? t y)
+
+  -- one that was there
+  again : t < 128 → load d t ≡ 1 → marks (store d t 1) ≡ marks d
+  unfolding marks
+  again l e =
+      total-ext 128 _ _ (λ y k.
+      ⊎-elim
+      (λ q. ap (load (store d t 1)) (sym q) ∙ load-same d t 1 (omega (arith, l, s)) ∙ sym e ∙ ap (load d) q)
+      (λ n. load-other d t y 1 (λ q. n (sym q)))
+      (equal? t y))
+
+  -- one that was not
+  new : t < 128 → load d t ≡ 0 → marks (store d t 1) ≡ marks d + 1
+  unfolding marks
+  new l e =
+      total-ext 128 _ (λ y. load d y + one (eqb t y) * 1) (λ y k.
+      ⊎-elim
+      (λ q. let a = ap (load (store d t 1)) (sym q) ∙ load-same d t 1 (omega (arith, l, s)) in let b = one-yes t y q in let f = ap (load d) (sym q) ∙ e in omega (arith, a, b, f))
+      (λ n. let a = load-other d t y 1 (λ q. n (sym q)) in let b = one-no t y n in omega (arith, a, b))
+      (equal? t y))
+      ∙ total-plus 128 (load d) (λ y. one (eqb t y) * 1)
+      ∙ ap (λ (k : ℕ). total 128 (load d) + k) (total-at 128 t (λ y. 1) l)
+
+few : (k : ℕ) (m : List ℕ) (i : ℕ) (d : List ℕ) → size d ≡ 256 → marks (markFrom k m i d) ≤ marks d + k
+unfolding markFrom
+few zero m i d s = omega arith
+few (suc k) m i d s =
+    let t = load m (320 + i) in
+    let a = few k m (i + 1) (store d t 1) (size-store d t 1 ∙ s) in
+    let b = at-most d t s in
+    omega (arith, a, b)
+
+-- a mark is 0 or 1
+abbrev Marks : List ℕ → Type 0
+Marks d = (t : ℕ) → load d t ≤ 1
+
+marks-store : (d : List ℕ) (t : ℕ) → size d ≡ 256 → t < 128 → Marks d → Marks (store d t 1)
+marks-store d t s l h y =
+    ⊎-elim
+    (λ q. let a = ap (load (store d t 1)) (sym q) ∙ load-same d t 1 (omega (arith, l, s)) in omega (arith, a))
+    (λ n. let a = load-other d t y 1 (λ q. n (sym q)) in let b = h y in omega (arith, a, b))
+    (equal? t y)
+
+zeros : (k t : ℕ) → load (replicate k 0) t ≡ 0
+unfolding load
+zeros zero t = refl
+zeros (suc k) zero = refl
+zeros (suc k) (suc t) = zeros k t
+
+marks-none : Marks (replicate 256 0)
+marks-none t = let a = zeros 256 t in omega (arith, a)
+
+both-no : (x : Bool) {y : Bool} → y ≡ false → both x y ≡ false
+unfolding both pick
+both-no true e = e
+both-no false e = refl
+
+meet : (low high free rest all clear more : Bool)
+    → (low ≡ true → high ≡ true → clear ≡ true → both rest all ≡ more)
+    → (low ≡ true → high ≡ true → clear ≡ false → all ≡ false)
+    → both (both low (both high (both free rest))) all ≡ both low (both high (both clear (both free more)))
+unfolding both pick
+meet false high free rest all clear more f g = refl
+meet true false free rest all clear more f g = refl
+meet true true true rest all true more f g = f refl refl refl
+meet true true false rest all true more f g = refl
+meet true true free rest all false more f g = both-no (both free rest) (g refl refl refl)
+
+counted : (k : ℕ) (m : List ℕ) (i : ℕ) (d : List ℕ) → size d ≡ 256 → Marks d
+    → both (freeFrom k m i) (eqb (marks (markFrom k m i d)) (marks d + k)) ≡ idleFrom k m i d
+unfolding freeFrom markFrom idleFrom
+counted zero m i d s h = both-on refl ∙ eq-eqb (marks d) (marks d + 0) (omega arith)
+counted (suc k) m i d s h =
+    meet (leb 1 t) (leb t 127) (eqb (load m (1472 + t * 48)) 0) (freeFrom k m (i + 1)) (eqb all (marks d + suc k)) (eqb (load d t) 0)
+    (idleFrom k m (i + 1) (store d t 1))
+    (λ a b e.
+    let l = leb-true t 127 b in
+    let n = new d t s (omega (arith, l)) (eqb-true _ _ e) in
+    ap (λ (j : ℕ). both (freeFrom k m (i + 1)) (eqb all j)) (let z : marks d + suc k ≡ marks (store d t 1) + k = omega (arith, n) in z)
+    ∙ counted k m (i + 1) (store d t 1) (size-store d t 1 ∙ s) (marks-store d t s (omega (arith, l)) h))
+    (λ a b e.
+    let l = leb-true t 127 b in
+    let q = eqb-false (load d t) 0 e in
+    let r = h t in
+    let n = again d t s (omega (arith, l)) (omega (arith, q, r)) in
+    let f = few k m (i + 1) (store d t 1) (size-store d t 1 ∙ s) in
+    ne-eqb all (marks d + suc k) (λ w. omega (arith, n, f, w)))
+  where
+    t : ℕ
+    t = load m (320 + i)
+
+    all : ℕ
+    all = marks (markFrom k m (i + 1) (store d t 1))
+
+module _ (m : List ℕ) (s : size m ≡ 16384) (h : ℕ) (e : h ≡ read m freeTasks) (l : h ≤ 127) where
+  whole : both (freeFrom h m 0) (eqb (marks (markFrom h m 0 (replicate 256 0))) h) ≡ idleTest (decode m)
+  unfolding size
+  whole =
+      ap (λ (n : ℕ). both (freeFrom h m 0) (eqb (marks (markFrom h m 0 (replicate 256 0))) n)) (let a = none in let z : h ≡ marks (replicate 256 0) + h = omega (arith, a) in z)
+      ∙ counted h m 0 (replicate 256 0) refl marks-none
+      ∙ ap (λ (n : ℕ). idleFrom n m 0 (replicate 256 0)) e
+      ∙ idle-same m s (omega (arith, e, l))
+    where
+      none : marks (replicate 256 0) ≡ 0
+      none = unfold marks in total-zero 128 (load (replicate 256 0)) (λ y k. zeros 256 y)
+
+  -- the stack is right where its records are free ones and there are as many marks as records
+  pub idle-wrong : freeFrom h m 0 ≡ false → false ≡ idleTest (decode m)
+  idle-wrong f = sym (both-off _ f) ∙ whole
+
+  pub idle-count : (d : List ℕ) → freeFrom h m 0 ≡ true → d ≡ markFrom h m 0 (replicate 256 0) → eqb (marks d) h ≡ idleTest (decode m)
+  idle-count d f q = ap (λ (x : List ℕ). eqb (marks x) h) q ∙ sym (both-on f) ∙ whole
