@@ -5,3 +5,4 @@ pub mod Counted
 pub mod Top
 pub mod Links
 pub mod Walk
+pub mod Led

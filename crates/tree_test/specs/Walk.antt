@@ -91,6 +91,9 @@ module _ (c : Contents) where
   unfolding nextMark
   next-left x l = sym (pass _ (le-ltb x 128 l) refl)
 
+  pub next-up : (t : ℕ) → leftNext t ≡ nextMark (128 + t)
+  next-up t = ap leftNext (let z : t ≡ 128 + t - 128 = omega arith in z) ∙ next-left (128 + t) (omega arith)
+
   -- what the mark after one says where it is below END
   abbrev Met : ℕ → Type 0
   Met t = ((word c t YOUNGEST ≡ NONE) × (metNext t ≡ 128 + t)) ⊎ (Kin c (word c t YOUNGEST) t NONE × (metNext t ≡ word c t YOUNGEST))

@@ -1,7 +1,7 @@
 // The memory test: opening numbers, free task records, the top and the task tree.
 ghost use mathlib.Core.Path.{_≡_};
 ghost use mathlib.Core.Bool.{true};
-ghost use Prim.Native.Nat.{_<_, _≤_};
+ghost use Prim.Native.Nat.{_+_, _<_, _≤_};
 ghost use lib.Dec.{leb};
 ghost use lib.ListN.{length, take};
 ghost use Rattle.layout.specs.Layout.{read, header, recordOf};
@@ -11,7 +11,8 @@ ghost use Rattle.rules.specs.Test.{inRange, topTest, idleTest, kin, linkTest, t
 ghost use Rattle.tree_test.specs.Top.{topAlone};
 ghost use Rattle.tree_test.specs.Counted.{freeFrom, markFrom, marks};
 ghost use Rattle.tree_test.specs.Links.{fitting};
-ghost use Rattle.tree_test.specs.Walk.{metNext, leftNext, nextMark};
+ghost use Rattle.tree_test.specs.Walk.{metNext, leftNext};
+ghost use Rattle.tree_test.specs.Led.{Led};
 
 const NONE: u32 = 4294967295;
 
@@ -226,14 +227,51 @@ fn left_next(m: &[u32], t: u32) -> u32
     END
 }
 
-fn next_mark(m: &[u32], x: u32) -> u32
-    requires { ⌜ (length (now m) ≡ 16384) × (x < 256) ⌝ }
-    ensures { λ r. ⌜ r ≡ nextMark (decode (now (m .entry))) x ⌝ }
+// Where the walk along the tree stands: so many marks are written, and the next one; END where a link is wrong.
+struct Spot {
+    mark: u32,
+    written: usize,
+}
+
+// From where task t0 is left, with i0 marks written: up to where an older sibling is met or the top is left.
+fn climb(m: &[u32], xs: &mut [u32], n: usize, t0: u32, i0: usize) -> Spot
+    requires { ⌜ (length (now m) ≡ 16384) × (length (now xs) ≡ 256) × (n ≤ 256) × (t0 < 128) ⌝ }
+    ensures { λ r. ⌜ Led (decode (now (m .entry))) n (128 + t0) i0 (now (xs .entry)) (r .mark) (r .written) (now (xs .exit)) × (i0 ≤ r .written) ⌝ }
 {
-    if x < 128 {
-        return met_next(m, x);
+    let mut t = t0;
+    let mut i = i0;
+    while i < n {
+        if t == 0 {
+            return Spot { mark: 128, written: i };
+        }
+        xs[i] = 128 + t;
+        i += 1;
+        let y = left_next(m, t);
+        if y < 128 {
+            return Spot { mark: y, written: i };
+        }
+        if y >= END {
+            return Spot { mark: END, written: i };
+        }
+        t = y - 128;
     }
-    left_next(m, x - 128)
+    Spot { mark: END, written: i }
+}
+
+// From where task t is met, with i marks written: to where the next one is met or the top is left.
+fn onward(m: &[u32], xs: &mut [u32], n: usize, t: u32, i: usize) -> Spot
+    requires { ⌜ (length (now m) ≡ 16384) × (length (now xs) ≡ 256) × (n ≤ 256) × (t < 128) × (i < n) ⌝ }
+    ensures { λ r. ⌜ Led (decode (now (m .entry))) n t i (now (xs .entry)) (r .mark) (r .written) (now (xs .exit)) × (i < r .written) ⌝ }
+{
+    xs[i] = t;
+    let y = met_next(m, t);
+    if y < 128 {
+        return Spot { mark: y, written: i + 1 };
+    }
+    if y >= END {
+        return Spot { mark: END, written: i + 1 };
+    }
+    climb(m, xs, n, y - 128, i + 1)
 }
 
 // The tour has k marks, and each link that it follows is right. They are left in xs.
@@ -242,17 +280,21 @@ pub fn tree_ok(m: &[u32], xs: &mut [u32], k: u32) -> bool
     ensures { λ r. ⌜ (r ≡ treeTest (decode (now (m .entry))) k 0) × (r ≡ true → take k (now (xs .exit)) ≡ tour k (recordOf (now (m .entry))) 0) ⌝ }
 {
     let n = k as usize;
-    let mut i: usize = 0;
     let mut x: u32 = 0;
+    let mut i: usize = 0;
     while i < n {
-        xs[i] = x;
-        i += 1;
-        if x == 128 {
-            return i == n;
-        }
-        x = next_mark(m, x);
-        if x >= END {
-            return false;
+        let s = onward(m, xs, n, x, i);
+        x = s.mark;
+        i = s.written;
+        if x > 127 {
+            if x > 128 {
+                return false;
+            }
+            if i >= n {
+                return false;
+            }
+            xs[i] = x;
+            return i + 1 == n;
         }
     }
     false

@@ -1,75 +1,83 @@
-use Rattle.tree_test.proofs.Glue.{walk-starts, walk-ends, walk-fails, walk-wrong, walk-on, walk-none, path-on}
-use Rattle.tree_test.specs.Walk.{walkTest, path}
+
+use Rattle.tree_test.specs.Led.{Same, Led, same-here, same-on, walk-none, walk-fails, walk-ends}
 use Rattle.rules.specs.Contents.{decode}
-use mathlib.Core.List.{List, _++_}
-use lib.ListN.{length, length-set, take}
+use mathlib.Core.List.{List}
+use lib.ListN.{length, length-set, set}
 use Prim.Native.Nat.{ℕ, _≤_, _<_, _-_, _+_}
 use native.Mathlib.Omega.{arith}
 use borrow.Author.Needs.{needs}
-use mathlib.Core.Path.{_≡_, refl, sym, _∙_, ap}
+use mathlib.Core.Path.{_≡_, refl, sym, _∙_}
 use Rattle.tree_test.proofs.tree_ok.Statement.{statement}
 use Rattle.tree_test.proofs.tree_ok.Tie as tie
 use Rattle.tree_test.proofs.tree_ok.Reads as reads
 use Rattle.tree_test.proofs.tree_ok.Lts as lts
-use Rattle.tree_test.proofs.next_mark.Reads as next-mark-reads
+use Rattle.tree_test.proofs.onward.Reads as onward-reads
 
 abbrev Inv-loop : tie.InvT-loop
-Inv-loop m xs₀ k n i₀ x₀ xs i x = (i ≤ n) × (x < 256) × (length xs ≡ 256) × (walkTest (decode m) (n - i) x ≡ walkTest (decode m) n 0) × (take i xs ++ path (decode m) (n - i) x ≡ path (decode m) n 0)
+Inv-loop m xs₀ k n x₀ i₀ xs x i = (x < 128) × (length xs ≡ 256) × Same (decode m) n 0 0 xs₀ x i xs
 
 abbrev μ-loop : tie.MeasureT-loop
-μ-loop m xs₀ k n i₀ x₀ xs i x = n - i
+μ-loop m xs₀ k n x₀ i₀ xs x i = n - i
 
--- src/lib.rt:192:5
+-- src/lib.rt:285:5
 loop-holds : tie.Need-loop-holds Inv-loop μ-loop
-loop-holds c = let w = walk-starts (decode (c .before .before .args .m .now)) (c .before .before .args .k) in (omega arith, omega arith, c .before .before .pre .1, w .0, w .1)
+loop-holds c = (omega arith, c .before .before .pre .1, same-here (decode (c .before .before .args .m .now)) (c .before .before .args .k) _ _ _)
 
--- src/lib.rt:193:9
+-- src/lib.rt:286:13
+onward-requires : tie.Need-onward-requires Inv-loop μ-loop
+onward-requires c κs = (c .before .before .before .before .before .pre .0, c .before .before .loop .inv .1, c .before .before .before .before .before .pre .2, c .before .before .loop .inv .0, c .before .loop-test .taken)
+
+-- src/lib.rt:291:17
+same-length : tie.Need-same-length Inv-loop μ-loop
+same-length c = c .before .before .before .before .onward .kept .1 .0 ∙ c .before .before .before .before .before .before .before .loop .inv .1 ∙ sym (c .before .before .before .before .before .before .before .before .before .before .pre .1)
+
+-- src/lib.rt:291:17
+returns : tie.Need-returns Inv-loop μ-loop
+returns c = walk-fails (decode (c .before .before .before .before .before .before .before .before .before .before .args .m .now)) (c .before .before .before .before .before .before .before .before .before .before .args .k) _ (c .before .before .before .before .onward .ensures .0 .wrong (c .if2 .taken) ∙ c .before .before .before .before .before .before .before .loop .inv .2 .test)
+
+-- src/lib.rt:294:17
+same-length-2 : tie.Need-same-length-2 Inv-loop μ-loop
+same-length-2 c = c .before .before .before .before .before .onward .kept .1 .0 ∙ c .before .before .before .before .before .before .before .before .loop .inv .1 ∙ sym (c .before .before .before .before .before .before .before .before .before .before .before .pre .1)
+
+-- src/lib.rt:294:17
+returns-2 : tie.Need-returns-2 Inv-loop μ-loop
+returns-2 c = walk-fails (decode (c .before .before .before .before .before .before .before .before .before .before .before .args .m .now)) (c .before .before .before .before .before .before .before .before .before .before .before .args .k) _ (walk-none (decode (c .before .before .before .before .before .before .before .before .before .before .before .args .m .now)) (c .before .before .before .before .before .before .before .before .before .before .before .args .k) _ _ (c .if3 .taken) ∙ same-on (decode (c .before .before .before .before .before .before .before .before .before .before .before .args .m .now)) (c .before .before .before .before .before .before .before .before .before .before .before .args .k) (c .before .before .before .before .before .before .before .before .loop .inv .2) (c .before .before .before .before .before .onward .ensures .0 .on (c .before .if2 .left)) .test)
+
+-- src/lib.rt:296:13
 mul-xs : tie.Need-mul-xs Inv-loop μ-loop
 mul-xs c = search needs
 
--- src/lib.rt:193:9
+-- src/lib.rt:296:13
 slice-write-xs : tie.Need-slice-write-xs Inv-loop μ-loop
-slice-write-xs c = (let a = c .loop-test .taken in let b = c .before .before .before .before .pre .2 in let d = c .before .loop .inv .2 in omega (arith, a, b, d))
+slice-write-xs c = let a = c .before .before .before .before .before .onward .kept .1 .0 ∙ c .before .before .before .before .before .before .before .before .loop .inv .1 in let b = c .before .before .before .before .before .before .before .before .before .before .before .pre .2 in let d = c .if3 .left in omega (arith, a, b, d)
 
--- src/lib.rt:194:9
-add-i : tie.Need-add-i Inv-loop μ-loop
-add-i c = search needs
+-- src/lib.rt:297:20
+add-result : tie.Need-add-result Inv-loop μ-loop
+add-result c = search needs
 
--- src/lib.rt:196:13
-same-length : tie.Need-same-length Inv-loop μ-loop
-same-length c = length-set (c .before .before .loop .xs) (c .before .before .loop .i) (c .before .before .loop .x) ∙ c .before .before .loop .inv .2 ∙ sym (c .before .before .before .before .before .pre .1)
-
--- src/lib.rt:196:13
-returns : tie.Need-returns Inv-loop μ-loop
-returns c = walk-ends (decode (c .before .before .before .before .before .args .m .now)) (c .before .before .before .before .before .args .k) (c .before .before .loop .i) (c .before .before .loop .x) (c .before .loop-test .taken) (c .before .before .loop .xs) (let a = c .before .loop-test .taken in let b = c .before .before .before .before .before .pre .2 in let d = c .before .before .loop .inv .2 in omega (arith, a, b, d)) (c .if1 .taken) (c .before .before .loop .inv .3) (c .before .before .loop .inv .4)
-
--- src/lib.rt:198:9
-next-mark-requires : tie.Need-next-mark-requires Inv-loop μ-loop
-next-mark-requires c κs = (c .before .before .before .before .before .pre .0, c .before .before .loop .inv .1)
-
--- src/lib.rt:200:13
-same-length-2 : tie.Need-same-length-2 Inv-loop μ-loop
-same-length-2 c = length-set (c .before .before .before .before .loop .xs) (c .before .before .before .before .loop .i) (c .before .before .before .before .loop .x) ∙ c .before .before .before .before .loop .inv .2 ∙ sym (c .before .before .before .before .before .before .before .pre .1)
-
--- src/lib.rt:200:13
-returns-2 : tie.Need-returns-2 Inv-loop μ-loop
-returns-2 c = walk-fails (decode (c .before .before .before .before .before .before .before .args .m .now)) (c .before .before .before .before .before .before .before .args .k) ((c .before .before .before .before .before .before .before .args .k) - (c .before .before .before .before .loop .i)) (c .before .before .before .before .loop .x) _ (walk-wrong (decode (c .before .before .before .before .before .before .before .args .m .now)) (c .before .before .before .before .before .before .before .args .k) (c .before .before .before .before .loop .i) (c .before .before .before .before .loop .x) (c .before .before .before .loop-test .taken) (c .before .before .if1 .left) _ (c .before .next-mark .ensures) (c .if2 .taken)) (c .before .before .before .before .loop .inv .3)
-
--- src/lib.rt:192:5
-loop-less : tie.Need-loop-less Inv-loop μ-loop
-loop-less c = omega arith
-
--- src/lib.rt:192:5
-loop-again : tie.Need-loop-again Inv-loop μ-loop
-loop-again c = (let a = c .before .before .before .loop-test .taken in omega (arith, a), c .if2 .left, length-set (c .before .before .before .before .loop .xs) (c .before .before .before .before .loop .i) (c .before .before .before .before .loop .x) ∙ c .before .before .before .before .loop .inv .2, walk-on (decode (c .before .before .before .before .before .before .before .args .m .now)) (c .before .before .before .before .before .before .before .args .k) (c .before .before .before .before .loop .i) (c .before .before .before .before .loop .x) (c .before .before .before .loop-test .taken) (c .before .before .if1 .left) _ (c .before .next-mark .ensures) (c .if2 .left) ∙ c .before .before .before .before .loop .inv .3, path-on (decode (c .before .before .before .before .before .before .before .args .m .now)) (c .before .before .before .before .before .before .before .args .k) (c .before .before .before .before .loop .i) (c .before .before .before .before .loop .x) (c .before .before .before .loop-test .taken) (c .before .before .before .before .loop .xs) (let a = c .before .before .before .loop-test .taken in let b = c .before .before .before .before .before .before .before .pre .2 in let d = c .before .before .before .before .loop .inv .2 in omega (arith, a, b, d)) _ (c .before .next-mark .ensures) ∙ c .before .before .before .before .loop .inv .4)
-
--- src/lib.rt:185:1
+-- src/lib.rt:297:13
 same-length-3 : tie.Need-same-length-3 Inv-loop μ-loop
-same-length-3 c = c .before .loop .inv .2 ∙ sym (c .before .before .before .before .pre .1)
+same-length-3 c = length-set (c .before .before .before .before .before .onward .last .1 .0) (c .before .before .before .before .before .onward .result .written) (c .before .before .before .before .before .onward .result .mark) ∙ c .before .before .before .before .before .onward .kept .1 .0 ∙ c .before .before .before .before .before .before .before .before .loop .inv .1 ∙ sym (c .before .before .before .before .before .before .before .before .before .before .before .pre .1)
 
--- src/lib.rt:185:1
+-- src/lib.rt:297:13
 returns-3 : tie.Need-returns-3 Inv-loop μ-loop
-returns-3 c = walk-fails (decode (c .before .before .before .before .args .m .now)) (c .before .before .before .before .args .k) ((c .before .before .before .before .args .k) - (c .before .loop .i)) (c .before .loop .x) _ (walk-none (decode (c .before .before .before .before .args .m .now)) (c .before .before .before .before .args .k) (c .before .loop .i) (c .before .loop .x) (c .loop-test .left)) (c .before .loop .inv .3)
+returns-3 c = walk-ends (decode (c .before .before .before .before .before .before .before .before .before .before .before .args .m .now)) (c .before .before .before .before .before .before .before .before .before .before .before .args .k) _ _ _ _ (c .if3 .left) (let a = c .before .before .before .before .before .onward .kept .1 .0 ∙ c .before .before .before .before .before .before .before .before .loop .inv .1 in let b = c .before .before .before .before .before .before .before .before .before .before .before .pre .2 in let d = c .if3 .left in omega (arith, a, b, d)) (let a = c .before .before .if1 .taken in let b = c .before .if2 .left in omega (arith, a, b)) (same-on (decode (c .before .before .before .before .before .before .before .before .before .before .before .args .m .now)) (c .before .before .before .before .before .before .before .before .before .before .before .args .k) (c .before .before .before .before .before .before .before .before .loop .inv .2) (c .before .before .before .before .before .onward .ensures .0 .on (c .before .if2 .left)))
+
+-- src/lib.rt:285:5
+loop-less : tie.Need-loop-less Inv-loop μ-loop
+loop-less c = let a = c .before .before .before .onward .ensures .1 in let b = c .before .before .before .before .before .loop-test .taken in omega (arith, a, b)
+
+-- src/lib.rt:285:5
+loop-again : tie.Need-loop-again Inv-loop μ-loop
+loop-again c = (let a = c .if1 .left in omega (arith, a), c .before .before .before .onward .kept .1 .0 ∙ c .before .before .before .before .before .before .loop .inv .1, same-on (decode (c .before .before .before .before .before .before .before .before .before .args .m .now)) (c .before .before .before .before .before .before .before .before .before .args .k) (c .before .before .before .before .before .before .loop .inv .2) (c .before .before .before .onward .ensures .0 .on (let a = c .if1 .left in omega (arith, a))))
+
+-- src/lib.rt:278:1
+same-length-4 : tie.Need-same-length-4 Inv-loop μ-loop
+same-length-4 c = c .before .loop .inv .1 ∙ sym (c .before .before .before .before .pre .1)
+
+-- src/lib.rt:278:1
+returns-4 : tie.Need-returns-4 Inv-loop μ-loop
+returns-4 c = walk-fails (decode (c .before .before .before .before .args .m .now)) (c .before .before .before .before .args .k) _ (walk-none (decode (c .before .before .before .before .args .m .now)) (c .before .before .before .before .args .k) (c .before .loop .i) (c .before .loop .x) (c .loop-test .left) ∙ c .before .loop .inv .2 .test)
 
 pub tree-ok-spec : {M : Type 1} → statement M
 tree-ok-spec =
@@ -78,15 +86,17 @@ tree-ok-spec =
     Inv-loop
     μ-loop
     loop-holds
-    mul-xs
-    slice-write-xs
-    add-i
+    onward-requires
     same-length
     returns
-    next-mark-requires
     same-length-2
     returns-2
+    mul-xs
+    slice-write-xs
+    add-result
+    same-length-3
+    returns-3
     loop-less
     loop-again
-    same-length-3
-    returns-3)
+    same-length-4
+    returns-4)
