@@ -74,3 +74,17 @@ fn write_all(m: &mut [u32], l: u32, n: u32)
     segment(m);
     top(m);
 }
+
+// Open, on any words.
+pub fn open(m: &mut [u32], l: u32, n: u32) -> answers::Answer
+    ensures { λ a. ⌜ outcome a (now (m .exit)) ≡ openOutcome (now (m .entry)) l n ⌝ }
+{
+    if m.len() != 16384 {
+        return answers::Answer::Refused(1);
+    }
+    if !tree_test::in_range(l, n) {
+        return answers::Answer::Refused(3);
+    }
+    write_all(m, l, n);
+    answers::Answer::Moved(0)
+}

@@ -105,16 +105,15 @@ module _ (c : Contents) (n : ℕ) where
       → (eqb (i + 1) n ≡ treeTest c n 0) × (eqb (i + 1) n ≡ true → take n (set ys i x) ≡ tour n (c .recs) 0)
   unfolding path
   walk-ends xs ys i x h r q a =
-      let e = walk-last i x h q ∙ a .test ∙ walk-starts in
-      (
+      let e = walk-last i x h q ∙ a .test ∙ walk-starts in (
         e,
         λ t.
-        let z = eqb-true (i + 1) n t in
-        ap (λ (k : ℕ). take k (set ys i x)) (sym z)
-        ∙ sym (append-nil (take (i + 1) (set ys i x)))
-        ∙ ap (λ (k : ℕ). take (i + 1) (set ys i x) ++ path c k (nextMark c x)) (let y : 0 ≡ n - (i + 1) = omega (arith, z) in y)
-        ∙ path-more i x h ys r
-        ∙ a .marks
-        ∙ ap (λ (k : ℕ). path c k 0) (let y : n - 0 ≡ n = omega arith in y)
-        ∙ path-tour c n (sym e ∙ t),
+            let z = eqb-true (i + 1) n t in
+            ap (λ (k : ℕ). take k (set ys i x)) (sym z)
+            ∙ sym (append-nil (take (i + 1) (set ys i x)))
+            ∙ ap (λ (k : ℕ). take (i + 1) (set ys i x) ++ path c k (nextMark c x)) (let y : 0 ≡ n - (i + 1) = omega (arith, z) in y)
+            ∙ path-more i x h ys r
+            ∙ a .marks
+            ∙ ap (λ (k : ℕ). path c k 0) (let y : n - 0 ≡ n = omega arith in y)
+            ∙ path-tour c n (sym e ∙ t),
       )

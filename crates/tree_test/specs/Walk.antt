@@ -199,21 +199,19 @@ module _ (c : Contents) where
 
         last : x ≡ 128 → (walkTest (suc k) x ≡ true) × (path (suc k) x ≡ tour (suc k) (c .recs) x)
         last q =
-            let z = last-tree c k (rw q at e) in
-            (
+            let z = last-tree c k (rw q at e) in (
               halt _ _ (eq-eqb x 128 q) ∙ eq-eqb k 0 z,
               ap (λ (j : ℕ). x ∷ path j (nextMark x)) z
-              ∙ ap (λ (l : List ℕ). x ∷ l) (sym (tour-none c (after (c .recs) x)))
-              ∙ ap (λ (j : ℕ). x ∷ tour j (c .recs) (after (c .recs) x)) (sym z)
-              ∙ sym (tour-cons c k x range),
+                  ∙ ap (λ (l : List ℕ). x ∷ l) (sym (tour-none c (after (c .recs) x)))
+                  ∙ ap (λ (j : ℕ). x ∷ tour j (c .recs) (after (c .recs) x)) (sym z)
+                  ∙ sym (tour-cons c k x range),
             )
 
         on : (x ≡ 128 → ⊥) → (walkTest k (after (c .recs) x) ≡ true) × (path k (after (c .recs) x) ≡ tour k (c .recs) (after (c .recs) x))
             → (walkTest (suc k) x ≡ true) × (path (suc k) x ≡ tour (suc k) (c .recs) x)
         on o w =
             let a = next-after k x s e o in
-            let l = standing-range c n k (after (c .recs) x) (standing-next c n k x s e o) in
-            (
+            let l = standing-range c n k (after (c .recs) x) (standing-next c n k x s e o) in (
               pass _ (ne-eqb x 128 o) (pass _ (lt-leb END (nextMark x) (omega (arith, a, l))) (ap (walkTest k) a ∙ w .0)),
               ap (λ (l : List ℕ). x ∷ l) (ap (path k) a ∙ w .1) ∙ sym (tour-cons c k x range),
             )

@@ -242,20 +242,32 @@ fn climb(m: &[u32], xs: &mut [u32], n: usize, t0: u32, i0: usize) -> Spot
     let mut i = i0;
     while i < n {
         if t == 0 {
-            return Spot { mark: 128, written: i };
+            return Spot {
+                mark: 128,
+                written: i,
+            };
         }
         xs[i] = 128 + t;
         i += 1;
         let y = left_next(m, t);
         if y < 128 {
-            return Spot { mark: y, written: i };
+            return Spot {
+                mark: y,
+                written: i,
+            };
         }
         if y >= END {
-            return Spot { mark: END, written: i };
+            return Spot {
+                mark: END,
+                written: i,
+            };
         }
         t = y - 128;
     }
-    Spot { mark: END, written: i }
+    Spot {
+        mark: END,
+        written: i,
+    }
 }
 
 // From where task t is met, with i marks written: to where the next one is met or the top is left.
@@ -266,10 +278,16 @@ fn onward(m: &[u32], xs: &mut [u32], n: usize, t: u32, i: usize) -> Spot
     xs[i] = t;
     let y = met_next(m, t);
     if y < 128 {
-        return Spot { mark: y, written: i + 1 };
+        return Spot {
+            mark: y,
+            written: i + 1,
+        };
     }
     if y >= END {
-        return Spot { mark: END, written: i + 1 };
+        return Spot {
+            mark: END,
+            written: i + 1,
+        };
     }
     climb(m, xs, n, y - 128, i + 1)
 }

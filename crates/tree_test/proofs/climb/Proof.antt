@@ -1,4 +1,3 @@
-
 use Rattle.tree_test.specs.Led.{Same, Led, same-here, same-on, same-step, led-here, led-wrong, walk-none, walk-wrong}
 use Rattle.tree_test.specs.Walk.{next-up}
 use Rattle.rules.specs.Contents.{decode}

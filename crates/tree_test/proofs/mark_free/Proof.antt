@@ -1,4 +1,3 @@
-
 use Rattle.tree_test.proofs.Turns.{free-top, free-far, free-used, free-on, mark-on, all-free, not-free, first-free}
 use Rattle.tree_test.specs.Counted.{freeFrom, markFrom}
 use Rattle.words.specs.Words.{load, store}

@@ -1,4 +1,3 @@
-
 use Rattle.tree_test.specs.Led.{Same, Led, same-here, same-on, walk-none, walk-fails, walk-ends}
 use Rattle.rules.specs.Contents.{decode}
 use mathlib.Core.List.{List}
