@@ -1,1 +1,3 @@
 pub mod Deciding
+pub mod Views
+pub mod Records

@@ -5,7 +5,7 @@ ghost use lib.Dec.{eqb};
 ghost use lib.ListN.{length, replicate};
 ghost use Rattle.words.specs.Words.{pick, both, either};
 ghost use Rattle.words.specs.Blocks.{storeAll};
-ghost use Rattle.layout.specs.Layout.{NONE, YOUNGER, task, address, read, write};
+ghost use Rattle.layout.specs.Layout.{NONE, NL, YOUNGER, task, address, read, write};
 ghost use Rattle.answers.specs.Answers.{Outcome};
 ghost use Rattle.answers.specs.Answers.Outcome.{outcome};
 ghost use Rattle.tree.specs.Rights.{eachQueue};
@@ -14,7 +14,7 @@ ghost use Rattle.calls.specs.Views.{viewOf, isEmpty, kindAt};
 ghost use Rattle.calls.specs.Waits.{blocked, hasChild};
 ghost use Rattle.calls.specs.Sync.{syncs, whenReduced, syncTested};
 ghost use Rattle.calls.specs.Finish.{finishes, viewsReturned, queueReturned, finishedQueue, unlinked, recordFreed, finished, topFinished, finishTested};
-ghost use Rattle.finishing.specs.Returning.{noViews, fits, rightFits};
+ghost use Rattle.finishing.specs.Returning.{noViews, fits, rightFits, viewReturned};
 
 const NONE: u32 = 4294967295;
 
@@ -114,3 +114,107 @@ fn no_views(m: &[u32], t: u32, q: u32) -> bool
     empty_view(m, RIGHT, t, q)
 }
 
+
+// Which of the two ways a view with head h goes.
+fn way(h: u32, far: u32, near: u32) -> u32
+    ensures { λ r. ⌜ r ≡ pick (eqb h NL) far near ⌝ }
+{
+    if h == NL { far } else { near }
+}
+
+// The children view of t, into which the others are reduced, goes to the view at mark far or near.
+fn return_view(m: &mut [u32], t: u32, q: u32, far: u32, near: u32)
+    ensures { λ _. ⌜ now (m .exit) ≡ viewReturned (now (m .entry)) t q far near ⌝ }
+{
+    let h = views::head(m, CHILDREN, t, q);
+    if views::is_empty(h, views::tail(m, CHILDREN, t, q)) {
+        return;
+    }
+    let x = way(h, far, near);
+    let k = kind_at(x);
+    views::merge(m, q, walks::task_at(x), k, t, CHILDREN);
+}
+
+// Where the view goes is asked of the memory as it was and of the head that comes out. So both ways are looked for.
+pub fn views_returned(m: &mut [u32], t: u32, q: u32)
+    requires { ⌜ (q < 4) × (t < 128) ⌝ }
+    ensures { λ _. ⌜ now (m .exit) ≡ viewsReturned (now (m .entry)) t q ⌝ }
+{
+    if no_views(m, t, q) {
+        return;
+    }
+    let far = walks::returned_to(m, q, t, NL, NONE);
+    let near = walks::returned_to(m, q, t, NONE, NONE);
+    views::merge(m, q, t, CHILDREN, t, USER);
+    views::merge(m, q, t, CHILDREN, t, RIGHT);
+    return_view(m, t, q, far, near);
+}
+
+// The queue view goes to the heir.
+pub fn queue_returned(m: &mut [u32], t: u32, q: u32)
+    requires { ⌜ q < 4 ⌝ }
+    ensures { λ _. ⌜ now (m .exit) ≡ queueReturned (now (m .entry)) t q ⌝ }
+{
+    let h = memory::task(m, t, 16 + q);
+    if h == NONE {
+        return;
+    }
+    let c = walks::heir(m, t, q);
+    memory::set_task(m, t, 16 + q, NONE);
+    memory::set_task(m, c, 16 + q, h);
+}
+
+pub fn finished_queue(m: &mut [u32], t: u32, q: u32)
+    requires { ⌜ (q < 4) × (t < 128) ⌝ }
+    ensures { λ _. ⌜ now (m .exit) ≡ finishedQueue (now (m .entry)) t q ⌝ }
+{
+    views_returned(m, t, q);
+    queue_returned(m, t, q);
+}
+
+// The older sibling o, if any, has y as its younger one.
+fn link_younger(m: &mut [u32], o: u32, y: u32)
+    ensures { λ _. ⌜ now (m .exit) ≡ pick (eqb o NONE) (now (m .entry)) (write (now (m .entry)) (task o YOUNGER) y) ⌝ }
+{
+    if o == NONE {
+        return;
+    }
+    memory::set_task(m, o, YOUNGER, y);
+}
+
+// Task t leaves the list of its siblings.
+pub fn unlink(m: &mut [u32], t: u32)
+    ensures { λ _. ⌜ now (m .exit) ≡ unlinked (now (m .entry)) t ⌝ }
+{
+    let o = memory::task(m, t, OLDER);
+    let y = memory::task(m, t, YOUNGER);
+    let p = memory::task(m, t, PARENT);
+    link_younger(m, o, y);
+    if y == NONE {
+        memory::set_task(m, p, YOUNGEST, o);
+        return;
+    }
+    memory::set_task(m, y, OLDER, o);
+}
+
+fn clear_record(m: &mut [u32], t: u32)
+    requires { ⌜ (length (now m) ≡ 16384) × (t < 128) ⌝ }
+    ensures { λ _. ⌜ now (m .exit) ≡ storeAll (now (m .entry)) (address (task t 0)) (replicate 48 0) ⌝ }
+{
+    let a = 1472 + t as usize * 48;
+    memory::clear(&mut m[a..a + 48]);
+}
+
+// The record of t is free, and the one that is used next.
+pub fn record_freed(m: &mut [u32], t: u32)
+    requires { ⌜ (length (now m) ≡ 16384) × (t < 128) ⌝ }
+    ensures { λ _. ⌜ now (m .exit) ≡ recordFreed (now (m .entry)) t ⌝ }
+{
+    let h = memory::header(m, 3);
+    clear_record(m, t);
+    if 128 <= h {
+        return;
+    }
+    memory::set_free_task(m, h, t);
+    memory::set_header(m, 3, h + 1);
+}
