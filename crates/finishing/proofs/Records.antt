@@ -27,25 +27,25 @@ module _ (m m1 m2 : List ℕ) (t : ℕ) {o y p : ℕ} (eo : o ≡ read m (task t
   pub youngest-leaves : y ≡ NONE → m2 ≡ write m1 (task p YOUNGEST) o → m2 ≡ unlinked m t
   unfolding unlinked
   youngest-leaves f e2 =
-      e2 ∙ ap (λ (x : List ℕ). write x (task p YOUNGEST) o) first ∙ ap (λ (x : ℕ). write _ (task x YOUNGEST) o) ep ∙ ap (write _ _) eo
-      ∙ sym (halt _ _ (eq-eqb _ _ (sym ey ∙ f)))
+      rw (e2, first, ep, eo) refl ∙ sym (halt _ _ (eq-eqb _ _ (sym ey ∙ f)))
 
   pub other-leaves : (y ≡ NONE → ⊥) → m2 ≡ write m1 (task y OLDER) o → m2 ≡ unlinked m t
   unfolding unlinked
   other-leaves f e2 =
-      e2 ∙ ap (λ (x : List ℕ). write x (task y OLDER) o) first ∙ ap (λ (x : ℕ). write _ (task x OLDER) o) ey ∙ ap (write _ _) eo
-      ∙ sym (pass _ (ne-eqb _ _ (λ z. f (ey ∙ z))) refl)
+      rw (e2, first, ey, eo) refl ∙ sym (pass _ (ne-eqb _ _ (λ z. f (ey ∙ z))) refl)
 
 -- a part of the memory that is written whole
 behind-part : (ws xs : List ℕ) → length ws ≤ length xs → ws ++ drop (length ws) xs ≡ storeAll xs 0 ws
+unfolding storeAll
 behind-part [] xs l = sym (store-none xs 0)
 behind-part (w ∷ ws) [] l = let z : ⊥ = omega (arith, l) in absurd z
-behind-part (w ∷ ws) (x ∷ xs) l = unfold storeAll in ap (λ (y : List ℕ). w ∷ y) (behind-part ws xs (omega (arith, l)))
+behind-part (w ∷ ws) (x ∷ xs) l = ap (λ (y : List ℕ). w ∷ y) (behind-part ws xs (omega (arith, l)))
 
 part-stored : (a : ℕ) (ws xs : List ℕ) → a + length ws ≤ length xs → putMid a (length ws) xs ws ≡ storeAll xs a ws
+unfolding storeAll
 part-stored zero ws xs l = behind-part ws xs (omega (arith, l))
 part-stored (suc a) ws [] l = let z : ⊥ = omega (arith, l) in absurd z
-part-stored (suc a) ws (x ∷ xs) l = unfold storeAll in ap (λ (y : List ℕ). x ∷ y) (part-stored a ws xs (omega (arith, l)))
+part-stored (suc a) ws (x ∷ xs) l = ap (λ (y : List ℕ). x ∷ y) (part-stored a ws xs (omega (arith, l)))
 
 pub record-cleared : (t : ℕ) (xs ys : List ℕ) → length xs ≡ 16384 → t < 128
     → ys ≡ replicate (length (midOf (1472 + t * 48) (1472 + t * 48 + 48 - (1472 + t * 48)) xs)) 0
