@@ -21,10 +21,10 @@ pub empty-is : (m : List ℕ) (q t k h e : ℕ) (r : Bool) → h ≡ read m (hea
 empty-is m q t k h e r eh ee er = er ∙ ap isEmpty (view-is m q t k h e eh ee)
 
 -- an answer that stops a conjunction, and one that goes on
-stop : {a b : Bool} (x : Bool) → b ≡ a → not b ≡ true → false ≡ both a x
+pub stop : {a b : Bool} (x : Bool) → b ≡ a → not b ≡ true → false ≡ both a x
 stop {a} {b} x e f = sym (both-off x (sym e ∙ not-true b f))
 
-on : {a b r x : Bool} → b ≡ a → not b ≡ false → r ≡ x → r ≡ both a x
+pub on : {a b r x : Bool} → b ≡ a → not b ≡ false → r ≡ x → r ≡ both a x
 on {a} {b} {r} {x} e f g = g ∙ sym (both-on (sym e ∙ not-false b f))
 
 module _ (m : List ℕ) (t q : ℕ) {b1 : Bool} (e1 : b1 ≡ isEmpty (viewOf m q t USER)) where

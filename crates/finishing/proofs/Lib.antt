@@ -1,3 +1,4 @@
 pub mod Deciding
 pub mod Views
 pub mod Records
+pub mod Ladder

@@ -6,6 +6,7 @@ ghost use lib.ListN.{length, replicate};
 ghost use Rattle.words.specs.Words.{pick, both, either};
 ghost use Rattle.words.specs.Blocks.{storeAll};
 ghost use Rattle.layout.specs.Layout.{NONE, NL, YOUNGER, task, address, read, write};
+ghost use Rattle.answers.specs.declared.Answer.the-variants.{Moved};
 ghost use Rattle.answers.specs.Answers.{Outcome};
 ghost use Rattle.answers.specs.Answers.Outcome.{outcome};
 ghost use Rattle.tree.specs.Rights.{eachQueue};
@@ -114,7 +115,6 @@ fn no_views(m: &[u32], t: u32, q: u32) -> bool
     empty_view(m, RIGHT, t, q)
 }
 
-
 // Which of the two ways a view with head h goes.
 fn way(h: u32, far: u32, near: u32) -> u32
     ensures { λ r. ⌜ r ≡ pick (eqb h NL) far near ⌝ }
@@ -217,4 +217,129 @@ pub fn record_freed(m: &mut [u32], t: u32)
     }
     memory::set_free_task(m, h, t);
     memory::set_header(m, 3, h + 1);
+}
+
+// What finish leaves of the memory.
+pub fn finished(m: &mut [u32], t: u32)
+    requires { ⌜ (length (now m) ≡ 16384) × (t < 128) ⌝ }
+    ensures { λ _. ⌜ now (m .exit) ≡ finished (now (m .entry)) t ⌝ }
+{
+    finished_queue(m, t, 0);
+    finished_queue(m, t, 1);
+    finished_queue(m, t, 2);
+    finished_queue(m, t, 3);
+    unlink(m, t);
+    record_freed(m, t);
+}
+
+// A finished top keeps its views.
+pub fn top_finished(m: &mut [u32])
+    ensures { λ _. ⌜ now (m .exit) ≡ topFinished (now (m .entry)) ⌝ }
+{
+    views::sync_all(m, 0);
+    memory::set_task(m, 0, STATUS, FINISHED);
+}
+
+fn each_syncs(m: &[u32], t: u32) -> bool
+    ensures { λ r. ⌜ r ≡ eachQueue (syncs (now (m .entry)) t) ⌝ }
+{
+    if !views::syncs(m, t, 0) {
+        return false;
+    }
+    if !views::syncs(m, t, 1) {
+        return false;
+    }
+    if !views::syncs(m, t, 2) {
+        return false;
+    }
+    views::syncs(m, t, 3)
+}
+
+fn each_finishes(m: &[u32], t: u32) -> bool
+    requires { ⌜ t < 128 ⌝ }
+    ensures { λ r. ⌜ r ≡ eachQueue (finishes (now (m .entry)) t) ⌝ }
+{
+    if !finishes(m, t, 0) {
+        return false;
+    }
+    if !finishes(m, t, 1) {
+        return false;
+    }
+    if !finishes(m, t, 2) {
+        return false;
+    }
+    finishes(m, t, 3)
+}
+
+// The children are asked first: that takes no walk.
+fn waits(m: &[u32], t: u32) -> bool
+    ensures { λ r. ⌜ r ≡ either (blocked (now (m .entry)) t) (hasChild (now (m .entry)) t) ⌝ }
+{
+    if walks::has_child(m, t) {
+        return true;
+    }
+    walks::blocked(m, t)
+}
+
+// Sync on memory that passes the rules.
+pub fn sync(m: &mut [u32], t: u32) -> answers::Answer
+    ensures { λ a. ⌜ outcome a (now (m .exit)) ≡ syncTested (now (m .entry)) t ⌝ }
+{
+    if !walks::unfinished(m, t) {
+        return answers::Answer::Refused(4);
+    }
+    if waits(m, t) {
+        return answers::Answer::Waits;
+    }
+    if !each_syncs(m, t) {
+        return answers::Answer::Refused(2);
+    }
+    views::sync_all(m, t);
+    answers::Answer::Moved(0)
+}
+
+// Finish of the top.
+fn finish_top(m: &mut [u32]) -> answers::Answer
+    ensures { λ a. ⌜ outcome a (now (m .exit)) ≡ whenReduced (now (m .entry)) 0 (eachQueue (syncs (now (m .entry)) 0)) (outcome (Moved 0) (topFinished (now (m .entry)))) ⌝ }
+{
+    if !walks::unfinished(m, 0) {
+        return answers::Answer::Refused(4);
+    }
+    if waits(m, 0) {
+        return answers::Answer::Waits;
+    }
+    if !each_syncs(m, 0) {
+        return answers::Answer::Refused(2);
+    }
+    top_finished(m);
+    answers::Answer::Moved(0)
+}
+
+// Finish of another task.
+fn finish_task(m: &mut [u32], t: u32) -> answers::Answer
+    requires { ⌜ length (now m) ≡ 16384 ⌝ }
+    ensures { λ a. ⌜ outcome a (now (m .exit)) ≡ whenReduced (now (m .entry)) t (eachQueue (finishes (now (m .entry)) t)) (outcome (Moved 0) (finished (now (m .entry)) t)) ⌝ }
+{
+    if !walks::unfinished(m, t) {
+        return answers::Answer::Refused(4);
+    }
+    if waits(m, t) {
+        return answers::Answer::Waits;
+    }
+    if !each_finishes(m, t) {
+        return answers::Answer::Refused(2);
+    }
+    finished(m, t);
+    answers::Answer::Moved(0)
+}
+
+// Finish on memory that passes the rules.
+pub fn finish(m: &mut [u32], t: u32) -> answers::Answer
+    requires { ⌜ length (now m) ≡ 16384 ⌝ }
+    ensures { λ a. ⌜ outcome a (now (m .exit)) ≡ finishTested (now (m .entry)) t ⌝ }
+{
+    if t == 0 {
+        return finish_top(m);
+    }
+    finish_task(m, t)
 }

@@ -6,43 +6,33 @@ use Rattle.finishing.proofs.clear_record.Reads as reads
 use Rattle.finishing.proofs.clear_record.Lts as lts
 use Rattle.memory.proofs.clear.Reads as clear-reads
 
--- src/lib.rt:204:20
 mul-a : tie.Need-mul-a
 mul-a c = search needs
 
--- src/lib.rt:204:13
 add-a : tie.Need-add-a
 add-a c = search needs
 
--- src/lib.rt:205:29
 add-clear : tie.Need-add-clear
 add-clear c = search needs
 
--- src/lib.rt:205:19
 mul-clear : tie.Need-mul-clear
 mul-clear c = search needs
 
--- src/lib.rt:205:19
 sub-clear : tie.Need-sub-clear
 sub-clear c = search needs
 
--- src/lib.rt:205:19
 part-clear-start : tie.Need-part-clear-start
 part-clear-start c = search needs
 
--- src/lib.rt:205:19
 part-clear-end : tie.Need-part-clear-end
 part-clear-end c = search needs
 
--- src/lib.rt:205:5
 clear-requires : tie.Need-clear-requires
 clear-requires c κs = search needs
 
--- src/lib.rt:200:1
 same-length : tie.Need-same-length
 same-length c = search needs
 
--- src/lib.rt:200:1
 returns : tie.Need-returns
 returns c = record-cleared _ _ _ (c .before .before .before .before .before .pre .0) (c .before .before .before .before .before .pre .1) (c .before .before .clear .ensures)
 

@@ -7,19 +7,15 @@ use Rattle.finishing.proofs.finished_queue.Lts as lts
 use Rattle.finishing.proofs.queue_returned.Reads as queue-returned-reads
 use Rattle.finishing.proofs.views_returned.Reads as views-returned-reads
 
--- src/lib.rt:171:5
 views-returned-requires : tie.Need-views-returned-requires
 views-returned-requires c κs = search needs
 
--- src/lib.rt:172:5
 queue-returned-requires : tie.Need-queue-returned-requires
 queue-returned-requires c κs = search needs
 
--- src/lib.rt:167:1
 same-length : tie.Need-same-length
 same-length c = search needs
 
--- src/lib.rt:167:1
 returns : tie.Need-returns
 returns c = queue-done _ _ _ _ _ (c .before .before .before .before .before .before .views-returned .ensures) (c .before .before .queue-returned .ensures)
 

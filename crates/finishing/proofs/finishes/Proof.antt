@@ -9,35 +9,27 @@ use Rattle.views.proofs.head.Reads as head-reads
 use Rattle.views.proofs.reducible.Reads as reducible-reads
 use Rattle.views.proofs.tail.Reads as tail-reads
 
--- src/lib.rt:87:9
 head-requires : tie.Need-head-requires
 head-requires c κs = search needs
 
--- src/lib.rt:88:9
 tail-requires : tie.Need-tail-requires
 tail-requires c κs = search needs
 
--- src/lib.rt:89:9
 head-requires-2 : tie.Need-head-requires-2
 head-requires-2 c κs = search needs
 
--- src/lib.rt:90:9
 tail-requires-2 : tie.Need-tail-requires-2
 tail-requires-2 c κs = search needs
 
--- src/lib.rt:91:9
 reducible-requires : tie.Need-reducible-requires
 reducible-requires c κs = search needs
 
--- src/lib.rt:92:9
 returns : tie.Need-returns
 returns c = user-stops _ _ _ (c .before .before .before .before .before .head .ensures) (c .before .before .before .before .tail .ensures) (c .before .before .before .head2 .ensures) (c .before .before .tail2 .ensures) (c .before .reducible .ensures) (c .if1 .taken)
 
--- src/lib.rt:94:5
 right-fits-requires : tie.Need-right-fits-requires
 right-fits-requires c κs = search needs
 
--- src/lib.rt:83:1
 returns-2 : tie.Need-returns-2
 returns-2 c = user-goes _ _ _ (c .before .before .before .before .before .before .head .ensures) (c .before .before .before .before .before .tail .ensures) (c .before .before .before .before .head2 .ensures) (c .before .before .before .tail2 .ensures) (c .before .before .reducible .ensures) _ (c .before .if1 .left) (c .right-fits .ensures)
 

@@ -7,12 +7,10 @@ use Rattle.finishing.proofs.kind_at.Tie as tie
 use Rattle.finishing.proofs.kind_at.Reads as reads
 use Rattle.finishing.proofs.kind_at.Lts as lts
 
--- src/lib.rt:44:1
 returns : tie.Need-returns
 unfolding kindAt
 returns c = sym (halt _ _ (lt-ltb _ _ (c .if1 .taken)))
 
--- src/lib.rt:44:1
 returns-2 : tie.Need-returns-2
 unfolding kindAt
 returns-2 c = sym (pass _ (le-ltb _ _ (c .if1 .left)) refl)

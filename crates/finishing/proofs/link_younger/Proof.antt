@@ -6,19 +6,15 @@ use Rattle.finishing.proofs.link_younger.Reads as reads
 use Rattle.finishing.proofs.link_younger.Lts as lts
 use Rattle.memory.proofs.set_task.Reads as set-task-reads
 
--- src/lib.rt:180:9
 returns : tie.Need-returns
 returns c = no-older _ _ _ (c .if1 .taken)
 
--- src/lib.rt:182:5
 set-task-requires : tie.Need-set-task-requires
 set-task-requires c κs = search needs
 
--- src/lib.rt:176:1
 same-length : tie.Need-same-length
 same-length c = search needs
 
--- src/lib.rt:176:1
 returns-2 : tie.Need-returns-2
 returns-2 c = older-linked _ _ _ _ (c .before .before .before .before .if1 .left) (c .before .before .set-task .ensures)
 

@@ -6,27 +6,21 @@ use Rattle.finishing.proofs.no_views.Reads as reads
 use Rattle.finishing.proofs.no_views.Lts as lts
 use Rattle.finishing.proofs.empty_view.Reads as empty-view-reads
 
--- src/lib.rt:108:9
 empty-view-requires : tie.Need-empty-view-requires
 empty-view-requires c κs = search needs
 
--- src/lib.rt:109:9
 returns : tie.Need-returns
 returns c = user-stands _ _ _ (c .before .empty-view .ensures) (c .if1 .taken)
 
--- src/lib.rt:111:9
 empty-view-requires-2 : tie.Need-empty-view-requires-2
 empty-view-requires-2 c κs = search needs
 
--- src/lib.rt:112:9
 returns-2 : tie.Need-returns-2
 returns-2 c = children-stand _ _ _ (c .before .before .before .empty-view .ensures) (c .before .before .if1 .left) (c .before .empty-view2 .ensures) (c .if2 .taken)
 
--- src/lib.rt:114:5
 empty-view-requires-3 : tie.Need-empty-view-requires-3
 empty-view-requires-3 c κs = search needs
 
--- src/lib.rt:105:1
 returns-3 : tie.Need-returns-3
 returns-3 c = right-left _ _ _ (c .before .before .before .before .empty-view .ensures) (c .before .before .before .if1 .left) (c .before .before .empty-view2 .ensures) _ (c .before .if2 .left) (c .empty-view3 .ensures)
 

@@ -8,47 +8,36 @@ use Rattle.memory.proofs.set_task.Reads as set-task-reads
 use Rattle.memory.proofs.task.Reads as task-reads
 use Rattle.walks.proofs.heir.Reads as heir-reads
 
--- src/lib.rt:158:32
 add-task : tie.Need-add-task
 add-task c = search needs
 
--- src/lib.rt:158:9
 task-requires : tie.Need-task-requires
 task-requires c κs = search needs
 
--- src/lib.rt:160:9
 same-length : tie.Need-same-length
 same-length c = search needs
 
--- src/lib.rt:160:9
 returns : tie.Need-returns
 returns c = no-queue _ _ _ (c .before .task .ensures) (c .if1 .taken)
 
--- src/lib.rt:162:9
 heir-requires : tie.Need-heir-requires
 heir-requires c κs = search needs
 
--- src/lib.rt:163:28
 add-set-task : tie.Need-add-set-task
 add-set-task c = search needs
 
--- src/lib.rt:163:5
 set-task-requires : tie.Need-set-task-requires
 set-task-requires c κs = search needs
 
--- src/lib.rt:164:28
 add-set-task-2 : tie.Need-add-set-task-2
 add-set-task-2 c = search needs
 
--- src/lib.rt:164:5
 set-task-requires-2 : tie.Need-set-task-requires-2
 set-task-requires-2 c κs = search needs
 
--- src/lib.rt:154:1
 same-length-2 : tie.Need-same-length-2
 same-length-2 c = search needs
 
--- src/lib.rt:154:1
 returns-2 : tie.Need-returns-2
 returns-2 c = queue-goes _ _ _ (c .before .before .before .before .before .before .before .before .before .before .before .task .ensures) _ _ _ (c .before .before .before .before .before .before .before .before .before .before .if1 .left) (c .before .before .before .before .before .before .before .before .heir .ensures) (c .before .before .before .before .before .before .set-task .ensures) (c .before .before .set-task2 .ensures)
 

@@ -9,39 +9,30 @@ use Rattle.memory.proofs.header.Reads as header-reads
 use Rattle.memory.proofs.set_free_task.Reads as set-free-task-reads
 use Rattle.memory.proofs.set_header.Reads as set-header-reads
 
--- src/lib.rt:213:9
 header-requires : tie.Need-header-requires
 header-requires c κs = search needs
 
--- src/lib.rt:214:5
 clear-record-requires : tie.Need-clear-record-requires
 clear-record-requires c κs = search needs
 
--- src/lib.rt:216:9
 same-length : tie.Need-same-length
 same-length c = search needs
 
--- src/lib.rt:216:9
 returns : tie.Need-returns
 returns c = no-place _ _ _ (c .before .before .before .before .before .header .ensures) (c .before .before .before .clear-record .ensures) (c .if1 .taken)
 
--- src/lib.rt:218:5
 set-free-task-requires : tie.Need-set-free-task-requires
 set-free-task-requires c κs = search needs
 
--- src/lib.rt:219:30
 add-set-header : tie.Need-add-set-header
 add-set-header c = search needs
 
--- src/lib.rt:219:5
 set-header-requires : tie.Need-set-header-requires
 set-header-requires c κs = search needs
 
--- src/lib.rt:209:1
 same-length-2 : tie.Need-same-length-2
 same-length-2 c = search needs
 
--- src/lib.rt:209:1
 returns-2 : tie.Need-returns-2
 returns-2 c = place-taken _ _ _ (c .before .before .before .before .before .before .before .before .before .before .before .before .before .header .ensures) (c .before .before .before .before .before .before .before .before .before .before .before .clear-record .ensures) _ _ (c .before .before .before .before .before .before .before .before .if1 .left) (c .before .before .before .before .before .before .set-free-task .ensures) (c .before .before .set-header .ensures)
 

@@ -12,47 +12,36 @@ use Rattle.views.proofs.merge.Reads as merge-reads
 use Rattle.views.proofs.tail.Reads as tail-reads
 use Rattle.walks.proofs.task_at.Reads as task-at-reads
 
--- src/lib.rt:129:9
 head-requires : tie.Need-head-requires
 head-requires c κs = search needs
 
--- src/lib.rt:130:27
 tail-requires : tie.Need-tail-requires
 tail-requires c κs = search needs
 
--- src/lib.rt:130:8
 is-empty-requires : tie.Need-is-empty-requires
 is-empty-requires c κs = search needs
 
--- src/lib.rt:131:9
 same-length : tie.Need-same-length
 same-length c = search needs
 
--- src/lib.rt:131:9
 returns : tie.Need-returns
 returns c = empty-stays _ _ _ _ _ (c .before .before .before .before .head .ensures) (c .before .before .tail .ensures) (c .before .is-empty .ensures) (c .if1 .taken)
 
--- src/lib.rt:133:9
 way-requires : tie.Need-way-requires
 way-requires c κs = search needs
 
--- src/lib.rt:134:9
 kind-at-requires : tie.Need-kind-at-requires
 kind-at-requires c κs = search needs
 
--- src/lib.rt:135:24
 task-at-requires : tie.Need-task-at-requires
 task-at-requires c κs = search needs
 
--- src/lib.rt:135:5
 merge-requires : tie.Need-merge-requires
 merge-requires c κs = search needs
 
--- src/lib.rt:126:1
 same-length-2 : tie.Need-same-length-2
 same-length-2 c = search needs
 
--- src/lib.rt:126:1
 returns-2 : tie.Need-returns-2
 returns-2 c = view-goes _ _ _ _ _ (c .before .before .before .before .before .before .before .before .before .before .before .head .ensures) (c .before .before .before .before .before .before .before .before .before .tail .ensures) (c .before .before .before .before .before .before .before .before .is-empty .ensures) _ _ _ _ (c .before .before .before .before .before .before .before .if1 .left) (c .before .before .before .before .before .before .way .ensures) (c .before .before .before .before .before .kind-at .ensures) (c .before .before .before .task-at .ensures) (c .before .before .merge .ensures)
 

@@ -12,47 +12,36 @@ use Rattle.views.proofs.reduced_tail.Reads as reduced-tail-reads
 use Rattle.views.proofs.reducible.Reads as reducible-reads
 use Rattle.views.proofs.tail.Reads as tail-reads
 
--- src/lib.rt:70:9
 reduced-head-requires : tie.Need-reduced-head-requires
 reduced-head-requires c κs = search needs
 
--- src/lib.rt:71:9
 reduced-tail-requires : tie.Need-reduced-tail-requires
 reduced-tail-requires c κs = search needs
 
--- src/lib.rt:72:9
 head-requires : tie.Need-head-requires
 head-requires c κs = search needs
 
--- src/lib.rt:73:9
 tail-requires : tie.Need-tail-requires
 tail-requires c κs = search needs
 
--- src/lib.rt:74:9
 head-behind-requires : tie.Need-head-behind-requires
 head-behind-requires c κs = search needs
 
--- src/lib.rt:75:9
 reducible-requires : tie.Need-reducible-requires
 reducible-requires c κs = search needs
 
--- src/lib.rt:76:9
 returns : tie.Need-returns
 returns c = right-stops _ _ _ _ _ _ _ (c .before .before .before .before .before .before .reduced-head .ensures) (c .before .before .before .before .before .reduced-tail .ensures) (c .before .before .before .before .head .ensures) (c .before .before .before .tail .ensures) (c .before .before .head-behind .ensures) (c .before .reducible .ensures) (c .if1 .taken)
 
--- src/lib.rt:78:9
 reduced-head-requires-2 : tie.Need-reduced-head-requires-2
 reduced-head-requires-2 c κs = search needs
 
--- src/lib.rt:79:28
 reduced-tail-requires-2 : tie.Need-reduced-tail-requires-2
 reduced-tail-requires-2 c κs = search needs
 
--- src/lib.rt:79:5
 view-fits-requires : tie.Need-view-fits-requires
 view-fits-requires c κs = search needs
 
--- src/lib.rt:66:1
 returns-2 : tie.Need-returns-2
 returns-2 c = right-goes _ _ _ _ _ _ _ (c .before .before .before .before .before .before .before .before .before .reduced-head .ensures) (c .before .before .before .before .before .before .before .before .reduced-tail .ensures) (c .before .before .before .before .before .before .before .head .ensures) (c .before .before .before .before .before .before .tail .ensures) (c .before .before .before .before .before .head-behind .ensures) (c .before .before .before .before .reducible .ensures) _ _ _ (c .before .before .before .if1 .left) (c .before .before .reduced-head2 .ensures) (c .before .reduced-tail2 .ensures) (c .view-fits .ensures)
 

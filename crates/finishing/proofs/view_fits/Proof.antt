@@ -12,39 +12,30 @@ use Rattle.views.proofs.tail.Reads as tail-reads
 use Rattle.walks.proofs.returned_to.Reads as returned-to-reads
 use Rattle.walks.proofs.task_at.Reads as task-at-reads
 
--- src/lib.rt:55:8
 is-empty-requires : tie.Need-is-empty-requires
 is-empty-requires c κs = search needs
 
--- src/lib.rt:56:9
 returns : tie.Need-returns
 returns c = nothing-fits _ _ _ _ _ (c .before .is-empty .ensures) (c .if1 .taken)
 
--- src/lib.rt:58:9
 returned-to-requires : tie.Need-returned-to-requires
 returned-to-requires c κs = search needs
 
--- src/lib.rt:59:9
 kind-at-requires : tie.Need-kind-at-requires
 kind-at-requires c κs = search needs
 
--- src/lib.rt:60:9
 task-at-requires : tie.Need-task-at-requires
 task-at-requires c κs = search needs
 
--- src/lib.rt:61:9
 head-requires : tie.Need-head-requires
 head-requires c κs = search needs
 
--- src/lib.rt:62:26
 tail-requires : tie.Need-tail-requires
 tail-requires c κs = search needs
 
--- src/lib.rt:62:5
 reducible-requires : tie.Need-reducible-requires
 reducible-requires c κs = search needs
 
--- src/lib.rt:51:1
 returns-2 : tie.Need-returns-2
 returns-2 c = target-fits _ _ _ _ _ (c .before .before .before .before .before .before .before .is-empty .ensures) _ _ _ _ _ _ (c .before .before .before .before .before .before .if1 .left) (c .before .before .before .before .before .returned-to .ensures) (c .before .before .before .before .kind-at .ensures) (c .before .before .before .task-at .ensures) (c .before .before .head .ensures) (c .before .tail .ensures) (c .reducible .ensures)
 

@@ -9,43 +9,33 @@ use Rattle.finishing.proofs.return_view.Reads as return-view-reads
 use Rattle.views.proofs.merge.Reads as merge-reads
 use Rattle.walks.proofs.returned_to.Reads as returned-to-reads
 
--- src/lib.rt:143:8
 no-views-requires : tie.Need-no-views-requires
 no-views-requires c κs = search needs
 
--- src/lib.rt:144:9
 same-length : tie.Need-same-length
 same-length c = search needs
 
--- src/lib.rt:144:9
 returns : tie.Need-returns
 returns c = nothing-returned _ _ _ (c .before .no-views .ensures) (c .if1 .taken)
 
--- src/lib.rt:146:9
 returned-to-requires : tie.Need-returned-to-requires
 returned-to-requires c κs = search needs
 
--- src/lib.rt:147:9
 returned-to-requires-2 : tie.Need-returned-to-requires-2
 returned-to-requires-2 c κs = search needs
 
--- src/lib.rt:148:5
 merge-requires : tie.Need-merge-requires
 merge-requires c κs = search needs
 
--- src/lib.rt:149:5
 merge-requires-2 : tie.Need-merge-requires-2
 merge-requires-2 c κs = search needs
 
--- src/lib.rt:150:5
 return-view-requires : tie.Need-return-view-requires
 return-view-requires c κs = search needs
 
--- src/lib.rt:139:1
 same-length-2 : tie.Need-same-length-2
 same-length-2 c = search needs
 
--- src/lib.rt:139:1
 returns-2 : tie.Need-returns-2
 returns-2 c = views-go _ _ _ _ _ _ _ _ (c .before .before .before .before .before .before .before .before .before .before .before .before .before .before .returned-to .ensures) (c .before .before .before .before .before .before .before .before .before .before .before .before .returned-to2 .ensures) (c .before .before .before .before .before .before .before .before .before .before .merge .ensures) (c .before .before .before .before .before .before .merge2 .ensures) (c .before .before .return-view .ensures)
 

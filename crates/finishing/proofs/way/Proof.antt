@@ -6,11 +6,9 @@ use Rattle.finishing.proofs.way.Tie as tie
 use Rattle.finishing.proofs.way.Reads as reads
 use Rattle.finishing.proofs.way.Lts as lts
 
--- src/lib.rt:119:1
 returns : tie.Need-returns
 returns c = sym (halt _ _ (eq-eqb _ _ (c .if1 .taken)))
 
--- src/lib.rt:119:1
 returns-2 : tie.Need-returns-2
 returns-2 c = sym (pass _ (ne-eqb _ _ (c .if1 .left)) refl)
 
