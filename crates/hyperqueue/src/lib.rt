@@ -1,1 +1,1 @@
-// later
+// The first two refusals and packed answers: definitions and laws only.
