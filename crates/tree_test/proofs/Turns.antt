@@ -16,23 +16,17 @@ left h i l = omega arith
 
 module _ (m : List ℕ) (h i : ℕ) where
   module _ (l : i < h) (t : ℕ) (e : t ≡ load m (320 + i)) where
-    pub free-top : t < 1 → false ≡ freeFrom (h - i) m i
+    pub free-far : 127 < t → false ≡ freeFrom (h - i) m i
     unfolding freeFrom
-    free-top a = sym (ap (λ (k : ℕ). freeFrom k m i) (left h i l) ∙ rw (← e) (both-off _ (lt-leb 1 t a)))
+    free-far b = sym (ap (λ (k : ℕ). freeFrom k m i) (left h i l) ∙ rw (← e) (both-off _ (lt-leb t 127 b)))
 
-    pub free-far : 1 ≤ t → 127 < t → false ≡ freeFrom (h - i) m i
+    pub free-used : t ≤ 127 → (load m (1472 + t * 48) ≡ 0 → ⊥) → false ≡ freeFrom (h - i) m i
     unfolding freeFrom
-    free-far a b = sym (ap (λ (k : ℕ). freeFrom k m i) (left h i l) ∙ rw (← e) (both-on (le-leb 1 t a) ∙ both-off _ (lt-leb t 127 b)))
+    free-used b n = sym (ap (λ (k : ℕ). freeFrom k m i) (left h i l) ∙ rw (← e) (both-on (le-leb t 127 b) ∙ both-off _ (ne-eqb _ _ n)))
 
-    pub free-used : 1 ≤ t → t ≤ 127 → (load m (1472 + t * 48) ≡ 0 → ⊥) → false ≡ freeFrom (h - i) m i
+    pub free-on : t ≤ 127 → load m (1472 + t * 48) ≡ 0 → freeFrom (h - (i + 1)) m (i + 1) ≡ freeFrom (h - i) m i
     unfolding freeFrom
-    free-used a b n =
-        sym (ap (λ (k : ℕ). freeFrom k m i) (left h i l) ∙ rw (← e) (both-on (le-leb 1 t a) ∙ both-on (le-leb t 127 b) ∙ both-off _ (ne-eqb _ _ n)))
-
-    pub free-on : 1 ≤ t → t ≤ 127 → load m (1472 + t * 48) ≡ 0 → freeFrom (h - (i + 1)) m (i + 1) ≡ freeFrom (h - i) m i
-    unfolding freeFrom
-    free-on a b f =
-        sym (ap (λ (k : ℕ). freeFrom k m i) (left h i l) ∙ rw (← e) (both-on (le-leb 1 t a) ∙ both-on (le-leb t 127 b) ∙ both-on (eq-eqb _ _ f)))
+    free-on b f = sym (ap (λ (k : ℕ). freeFrom k m i) (left h i l) ∙ rw (← e) (both-on (le-leb t 127 b) ∙ both-on (eq-eqb _ _ f)))
 
     pub mark-on : (d : List ℕ) → markFrom (h - (i + 1)) m (i + 1) (store d t 1) ≡ markFrom (h - i) m i d
     unfolding markFrom

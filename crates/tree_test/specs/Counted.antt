@@ -17,13 +17,13 @@ use Rattle.rules.specs.Contents.{decode}
 use Rattle.rules.specs.Test.{idleTest}
 use Rattle.tree_test.specs.Idle.{idleFrom, idle-same}
 
--- the k records from place i of the stack on: tasks other than the top, with the status of a free record
+-- the k records from place i of the stack on are records of tasks, with the status of a free one
 unfoldable pub freeFrom : ℕ → List ℕ → ℕ → Bool
 freeFrom zero m i = true
 freeFrom (suc k) m i =
     let t = load m (320 + i) in
     let rest = freeFrom k m (i + 1) in
-    both (leb 1 t) (both (leb t 127) (both (eqb (load m (1472 + t * 48)) 0) rest))
+    both (leb t 127) (both (eqb (load m (1472 + t * 48)) 0) rest)
 
 -- the marks d with those of the same records
 unfoldable pub markFrom : ℕ → List ℕ → ℕ → List ℕ → List ℕ
@@ -112,63 +112,98 @@ zeros (suc k) (suc t) = zeros k t
 marks-none : Marks (replicate 256 0)
 marks-none t = let a = zeros 256 t in omega (arith, a)
 
+-- the top is not marked
+unfoldable pub topClear : List ℕ → Bool
+topClear d = eqb (load d 0) 0
+
+-- its mark stays
+stays : (k : ℕ) (m : List ℕ) (i : ℕ) (d : List ℕ) → size d ≡ 256 → load d 0 ≡ 1 → load (markFrom k m i d) 0 ≡ 1
+unfolding markFrom
+stays zero m i d s e = e
+stays (suc k) m i d s e =
+    stays k m (i + 1) (store d t 1) (size-store d t 1 ∙ s)
+    (⊎-elim
+    (λ q. ap (load (store d t 1)) (sym q) ∙ load-same d t 1 (omega (arith, q, s)))
+    (λ n. load-other d t 0 1 (λ q. n (sym q)) ∙ e)
+    (equal? t 0))
+  where
+    t : ℕ
+    t = load m (320 + i)
+
 both-no : (x : Bool) {y : Bool} → y ≡ false → both x y ≡ false
 unfolding both pick
 both-no true e = e
 both-no false e = refl
 
-meet : (low high free rest all clear more : Bool)
-    → (low ≡ true → high ≡ true → clear ≡ true → both rest all ≡ more)
-    → (low ≡ true → high ≡ true → clear ≡ false → all ≡ false)
-    → both (both low (both high (both free rest))) all ≡ both low (both high (both clear (both free more)))
+meet : (low high free rest top all clear more : Bool)
+    → (low ≡ true → high ≡ true → clear ≡ true → both rest (both top all) ≡ more)
+    → (high ≡ true → clear ≡ false → all ≡ false)
+    → (low ≡ false → top ≡ false)
+    → both (both high (both free rest)) (both top all) ≡ both low (both high (both clear (both free more)))
 unfolding both pick
-meet false high free rest all clear more f g = refl
-meet true false free rest all clear more f g = refl
-meet true true true rest all true more f g = f refl refl refl
-meet true true false rest all true more f g = refl
-meet true true free rest all false more f g = both-no (both free rest) (g refl refl refl)
+meet false high free rest top all clear more f g h = both-no (both high (both free rest)) (both-off all (h refl))
+meet true false free rest top all clear more f g h = refl
+meet true true true rest top all true more f g h = f refl refl refl
+meet true true false rest top all true more f g h = refl
+meet true true free rest top all false more f g h = both-no (both free rest) (both-no top (g refl refl))
 
-counted : (k : ℕ) (m : List ℕ) (i : ℕ) (d : List ℕ) → size d ≡ 256 → Marks d
-    → both (freeFrom k m i) (eqb (marks (markFrom k m i d)) (marks d + k)) ≡ idleFrom k m i d
-unfolding freeFrom markFrom idleFrom
-counted zero m i d s h = both-on refl ∙ eq-eqb (marks d) (marks d + 0) (omega arith)
-counted (suc k) m i d s h =
-    meet (leb 1 t) (leb t 127) (eqb (load m (1472 + t * 48)) 0) (freeFrom k m (i + 1)) (eqb all (marks d + suc k)) (eqb (load d t) 0)
-    (idleFrom k m (i + 1) (store d t 1))
+counted : (k : ℕ) (m : List ℕ) (i : ℕ) (d : List ℕ) → size d ≡ 256 → Marks d → load d 0 ≡ 0
+    → both (freeFrom k m i) (both (topClear (markFrom k m i d)) (eqb (marks (markFrom k m i d)) (marks d + k))) ≡ idleFrom k m i d
+unfolding freeFrom markFrom idleFrom topClear
+counted zero m i d s h o = both-on refl ∙ both-on (eq-eqb _ _ o) ∙ eq-eqb (marks d) (marks d + 0) (omega arith)
+counted (suc k) m i d s h o =
+    meet (leb 1 t) (leb t 127) (eqb (load m (1472 + t * 48)) 0) (freeFrom k m (i + 1)) (topClear after) (eqb (marks after) (marks d + suc k))
+    (eqb (load d t) 0) (idleFrom k m (i + 1) (store d t 1))
     (λ a b e.
+    let low = leb-true 1 t a in
     let l = leb-true t 127 b in
     let n = new d t s (omega (arith, l)) (eqb-true _ _ e) in
-    ap (λ (j : ℕ). both (freeFrom k m (i + 1)) (eqb all j)) (let z : marks d + suc k ≡ marks (store d t 1) + k = omega (arith, n) in z)
-    ∙ counted k m (i + 1) (store d t 1) (size-store d t 1 ∙ s) (marks-store d t s (omega (arith, l)) h))
-    (λ a b e.
+    ap (λ (j : ℕ). both (freeFrom k m (i + 1)) (both (topClear after) (eqb (marks after) j))) (let z : marks d + suc k ≡ marks (store d t 1) + k = omega (arith, n) in z)
+    ∙ counted k m (i + 1) (store d t 1) (size-store d t 1 ∙ s) (marks-store d t s (omega (arith, l)) h)
+    (load-other d t 0 1 (λ q. omega (arith, low, q)) ∙ o))
+    (λ b e.
     let l = leb-true t 127 b in
     let q = eqb-false (load d t) 0 e in
     let r = h t in
     let n = again d t s (omega (arith, l)) (omega (arith, q, r)) in
     let f = few k m (i + 1) (store d t 1) (size-store d t 1 ∙ s) in
-    ne-eqb all (marks d + suc k) (λ w. omega (arith, n, f, w)))
+    ne-eqb (marks after) (marks d + suc k) (λ w. omega (arith, n, f, w)))
+    (λ a.
+    let q = leb-false 1 t a in
+    let z : t ≡ 0 = omega (arith, q) in
+    let y = stays k m (i + 1) (store d t 1) (size-store d t 1 ∙ s) (ap (load (store d t 1)) (sym z) ∙ load-same d t 1 (omega (arith, z, s))) in
+    ne-eqb (load after 0) 0 (λ w. omega (arith, y, w)))
   where
     t : ℕ
     t = load m (320 + i)
 
-    all : ℕ
-    all = marks (markFrom k m (i + 1) (store d t 1))
+    after : List ℕ
+    after = markFrom k m (i + 1) (store d t 1)
 
 module _ (m : List ℕ) (s : size m ≡ 16384) (h : ℕ) (e : h ≡ read m freeTasks) (l : h ≤ 127) where
-  whole : both (freeFrom h m 0) (eqb (marks (markFrom h m 0 (replicate 256 0))) h) ≡ idleTest (decode m)
+  abbrev after : List ℕ
+  after = markFrom h m 0 (replicate 256 0)
+
+  whole : both (freeFrom h m 0) (both (topClear after) (eqb (marks after) h)) ≡ idleTest (decode m)
   unfolding size
   whole =
-      ap (λ (n : ℕ). both (freeFrom h m 0) (eqb (marks (markFrom h m 0 (replicate 256 0))) n)) (let a = none in let z : h ≡ marks (replicate 256 0) + h = omega (arith, a) in z)
-      ∙ counted h m 0 (replicate 256 0) refl marks-none
+      ap (λ (n : ℕ). both (freeFrom h m 0) (both (topClear after) (eqb (marks after) n))) (let a = none in let z : h ≡ marks (replicate 256 0) + h = omega (arith, a) in z)
+      ∙ counted h m 0 (replicate 256 0) refl marks-none (zeros 256 0)
       ∙ ap (λ (n : ℕ). idleFrom n m 0 (replicate 256 0)) e
       ∙ idle-same m s (omega (arith, e, l))
     where
       none : marks (replicate 256 0) ≡ 0
       none = unfold marks in total-zero 128 (load (replicate 256 0)) (λ y k. zeros 256 y)
 
-  -- the stack is right where its records are free ones and there are as many marks as records
+  -- the stack is right where its records are free ones, the top is not marked, and there are as many marks as records
   pub idle-wrong : freeFrom h m 0 ≡ false → false ≡ idleTest (decode m)
   idle-wrong f = sym (both-off _ f) ∙ whole
 
-  pub idle-count : (d : List ℕ) → freeFrom h m 0 ≡ true → d ≡ markFrom h m 0 (replicate 256 0) → eqb (marks d) h ≡ idleTest (decode m)
-  idle-count d f q = ap (λ (x : List ℕ). eqb (marks x) h) q ∙ sym (both-on f) ∙ whole
+  module _ (f : freeFrom h m 0 ≡ true) (d : List ℕ) (q : d ≡ after) where
+    pub idle-top : (load d 0 ≡ 0 → ⊥) → false ≡ idleTest (decode m)
+    unfolding topClear
+    idle-top n = sym (both-on f ∙ both-off _ (ne-eqb _ _ (λ z. n (ap (λ (x : List ℕ). load x 0) q ∙ z)))) ∙ whole
+
+    pub idle-count : load d 0 ≡ 0 → eqb (marks d) h ≡ idleTest (decode m)
+    unfolding topClear
+    idle-count z = ap (λ (x : List ℕ). eqb (marks x) h) q ∙ sym (both-on f ∙ both-on (eq-eqb _ _ (ap (λ (x : List ℕ). load x 0) (sym q) ∙ z))) ∙ whole

@@ -90,7 +90,7 @@ pub fn top_ok(m: &[u32]) -> bool
     top_alone(m)
 }
 
-// Marks the h free records in d, as far as they are tasks other than the top with the status of a free record.
+// Marks the h free records in d, as long as they are records of tasks with the status of a free one.
 fn mark_free(m: &[u32], d: &mut [u8], h: usize) -> bool
     requires { ⌜ (length (now m) ≡ 16384) × (length (now d) ≡ 256) × (h ≤ 127) ⌝ }
     ensures { λ r. ⌜ (r ≡ freeFrom h (now (m .entry)) 0) × (r ≡ true → now (d .exit) ≡ markFrom h (now (m .entry)) 0 (now (d .entry))) ⌝ }
@@ -98,9 +98,6 @@ fn mark_free(m: &[u32], d: &mut [u8], h: usize) -> bool
     let mut i: usize = 0;
     while i < h {
         let t = m[320 + i] as usize;
-        if t < 1 {
-            return false;
-        }
         if t > 127 {
             return false;
         }
@@ -139,6 +136,9 @@ pub fn idle_ok(m: &[u32]) -> bool
     }
     let mut d = [0u8; 256];
     if !mark_free(m, &mut d, h as usize) {
+        return false;
+    }
+    if d[0] != 0 {
         return false;
     }
     marks(&d) == h
