@@ -4,13 +4,13 @@ use mathlib.Core.Bool.{Bool, true, false, not}
 use mathlib.Core.List.{List}
 use Prim.Native.Nat.{ℕ}
 use borrow.Author.Tests.{not-true, not-false}
-use Rattle.words.specs.Words.{both, either, pass, halt, both-on, both-off}
+use Rattle.words.specs.Words.{both, either, pass, halt, both-on, both-off, both-true, true-both}
 use Rattle.layout.specs.Layout.{CHILDREN, USER, RIGHT, head, tail, read}
 use Rattle.rules.specs.Views.{View, view}
 use Rattle.calls.specs.Views.{viewOf, isEmpty, headOf, tailOf, reducible, behind, reduced, taskAt, kindAt, returnedTo}
 use Rattle.calls.specs.Finish.{finishes}
 use Rattle.views.proofs.Memory.{view-is}
-use Rattle.finishing.specs.Returning.{target, fits, rightFits, noViews, finishes-parts}
+use Rattle.finishing.specs.Returning.{target, fits, rightFits, noViews, behind-empty, finishes-parts}
 
 -- a view is its two ends
 pub view-ends : (v : View) (h e : ℕ) → h ≡ headOf v → e ≡ tailOf v → view h e ≡ v
@@ -87,3 +87,19 @@ module _ (m : List ℕ) (t q : ℕ) {h1 e1 h2 e2 : ℕ} {b : Bool} (p1 : h1 ≡ 
   user-goes r f er =
       on user-test f (er ∙ ap (λ (v : View). rightFits m t q v (view h2 e2)) (view-is m q t CHILDREN h1 e1 p1 g1) ∙ ap (rightFits m t q (viewOf m q t CHILDREN)) (view-is m q t USER h2 e2 p2 g2))
       ∙ finishes-parts m t q
+
+-- no view can be reduced, and nothing is returned
+pub nothing-finishes : (m : List ℕ) (t q : ℕ) {b : Bool} → b ≡ noViews m t q → b ≡ true → true ≡ finishes m t q
+unfolding noViews reducible either rightFits fits
+nothing-finishes m t q eb f =
+    let w = both-true _ _ (sym eb ∙ f) in
+    let z = both-true _ _ (w .1) in
+    let c = viewOf m q t CHILDREN in
+    let u = viewOf m q t USER in
+    let r = behind m c u (viewOf m q t RIGHT) in
+    let a : isEmpty (reduced m c u) ≡ true = ap isEmpty (left-none m c u (z .0)) ∙ w .0 in
+    let v : isEmpty (reduced m (reduced m c u) r) ≡ true = ap isEmpty (left-none m (reduced m c u) r a) ∙ behind-empty m c u (viewOf m q t RIGHT) ∙ z .1 in
+    sym (true-both (halt _ _ (z .0)) (true-both (halt _ _ a) (halt _ _ v))) ∙ finishes-parts m t q
+  where
+    left-none : (m : List ℕ) (a b : View) → isEmpty a ≡ true → reduced m a b ≡ b
+    left-none m a b e = unfold reduced in halt _ _ e

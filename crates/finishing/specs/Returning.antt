@@ -44,7 +44,7 @@ local-full h e l = both-off _ (ne-eqb h NONE (λ z. let a = ltb-true h NL l in o
 
 -- what is freed before a view changes neither that it is empty or not, nor its tail
 module _ (m : List ℕ) (a b : View) where
-  behind-empty : (w : View) → isEmpty (behind m a b w) ≡ isEmpty w
+  pub behind-empty : (w : View) → isEmpty (behind m a b w) ≡ isEmpty w
   unfolding behind frees headOf tailOf
   behind-empty (view h e) = go (both (frees m a b) (eqb h (tailOf a))) refl
     where

@@ -80,21 +80,6 @@ fn right_fits(m: &[u32], t: u32, q: u32, h1: u32, e1: u32, h2: u32, e2: u32) -> 
     view_fits(m, t, q, h4, views::reduced_tail(h, e, h3, e3))
 }
 
-// The paper has all reductions of queue q.
-pub fn finishes(m: &[u32], t: u32, q: u32) -> bool
-    requires { ⌜ (q < 4) × (t < 128) ⌝ }
-    ensures { λ r. ⌜ r ≡ finishes (now (m .entry)) t q ⌝ }
-{
-    let h1 = views::head(m, CHILDREN, t, q);
-    let e1 = views::tail(m, CHILDREN, t, q);
-    let h2 = views::head(m, USER, t, q);
-    let e2 = views::tail(m, USER, t, q);
-    if !views::reducible(h1, e1, h2, e2) {
-        return false;
-    }
-    right_fits(m, t, q, h1, e1, h2, e2)
-}
-
 fn empty_view(m: &[u32], k: u32, t: u32, q: u32) -> bool
     ensures { λ r. ⌜ r ≡ isEmpty (viewOf (now (m .entry)) q t k) ⌝ }
 {
@@ -113,6 +98,24 @@ fn no_views(m: &[u32], t: u32, q: u32) -> bool
         return false;
     }
     empty_view(m, RIGHT, t, q)
+}
+
+// The paper has all reductions of queue q. A task without a right to q has no views there.
+pub fn finishes(m: &[u32], t: u32, q: u32) -> bool
+    requires { ⌜ (q < 4) × (t < 128) ⌝ }
+    ensures { λ r. ⌜ r ≡ finishes (now (m .entry)) t q ⌝ }
+{
+    if no_views(m, t, q) {
+        return true;
+    }
+    let h1 = views::head(m, CHILDREN, t, q);
+    let e1 = views::tail(m, CHILDREN, t, q);
+    let h2 = views::head(m, USER, t, q);
+    let e2 = views::tail(m, USER, t, q);
+    if !views::reducible(h1, e1, h2, e2) {
+        return false;
+    }
+    right_fits(m, t, q, h1, e1, h2, e2)
 }
 
 // Which of the two ways a view with head h goes.
