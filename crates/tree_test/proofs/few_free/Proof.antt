@@ -9,15 +9,12 @@ use Rattle.tree_test.proofs.few_free.Reads as reads
 use Rattle.tree_test.proofs.few_free.Lts as lts
 use Rattle.memory.proofs.header.Reads as header-reads
 
--- src/lib.rt:49:5
 header-requires : tie.Need-header-requires
 header-requires c κs = tt
 
--- src/lib.rt:49:29
 header-requires-2 : tie.Need-header-requires-2
 header-requires-2 c κs = tt
 
--- src/lib.rt:45:1
 returns : tie.Need-returns
 unfolding size
 returns c = ap₂ leb (c .before .header .ensures) (c .header2 .ensures) ∙ free-few _ (c .before .before .before .pre .0) (c .before .before .before .pre .1)

@@ -10,83 +10,63 @@ use Rattle.tree_test.proofs.fitting.Reads as reads
 use Rattle.tree_test.proofs.fitting.Lts as lts
 use Rattle.rights.proofs.subset.Reads as subset-reads
 
--- src/lib.rt:92:9
 returns : tie.Need-returns
 returns c = fit-top _ _ _ _ _ (c .if1 .taken)
 
--- src/lib.rt:95:9
 returns-2 : tie.Need-returns-2
 returns-2 c = fit-far _ _ _ _ _ (c .before .if1 .left) (c .if2 .taken)
 
--- src/lib.rt:97:20
 mul-a : tie.Need-mul-a
 mul-a c = search needs
 
--- src/lib.rt:97:13
 add-a : tie.Need-add-a
 add-a c = search needs
 
--- src/lib.rt:98:8
 mul-if3 : tie.Need-mul-if3
 mul-if3 c = search needs
 
--- src/lib.rt:98:8
 shared-slice-read-if3 : tie.Need-shared-slice-read-if3
 shared-slice-read-if3 c = search needs
 
--- src/lib.rt:99:9
 returns-3 : tie.Need-returns-3
 returns-3 c = fit-free _ _ _ _ _ (c .before .before .before .if1 .left) (c .before .before .if2 .left) (λ e. c .if3 .taken (status-at (c .before .before .before .before .before .args .m .now) (c .before .before .before .before .before .args .t) ∙ e))
 
--- src/lib.rt:101:10
 add-if4 : tie.Need-add-if4
 add-if4 c = search needs
 
--- src/lib.rt:101:8
 mul-if4 : tie.Need-mul-if4
 mul-if4 c = search needs
 
--- src/lib.rt:101:8
 shared-slice-read-if4 : tie.Need-shared-slice-read-if4
 shared-slice-read-if4 c = search needs
 
--- src/lib.rt:102:9
 returns-4 : tie.Need-returns-4
 returns-4 c = fit-parent _ _ _ _ _ (c .before .before .before .before .before .if1 .left) (c .before .before .before .before .if2 .left) (sym (status-at (c .before .before .before .before .before .before .before .args .m .now) (c .before .before .before .before .before .before .before .args .t)) ∙ c .before .before .if3 .left) (λ e. c .if4 .taken (word-at (c .before .before .before .before .before .before .before .args .m .now) (c .before .before .before .before .before .before .before .args .t) 2 ∙ e))
 
--- src/lib.rt:104:10
 add-if5 : tie.Need-add-if5
 add-if5 c = search needs
 
--- src/lib.rt:104:8
 mul-if5 : tie.Need-mul-if5
 mul-if5 c = search needs
 
--- src/lib.rt:104:8
 shared-slice-read-if5 : tie.Need-shared-slice-read-if5
 shared-slice-read-if5 c = search needs
 
--- src/lib.rt:105:9
 returns-5 : tie.Need-returns-5
 returns-5 c = fit-younger _ _ _ _ _ (c .before .before .before .before .before .before .before .if1 .left) (c .before .before .before .before .before .before .if2 .left) (sym (status-at (c .before .before .before .before .before .before .before .before .before .args .m .now) (c .before .before .before .before .before .before .before .before .before .args .t)) ∙ c .before .before .before .before .if3 .left) (sym (word-at (c .before .before .before .before .before .before .before .before .before .args .m .now) (c .before .before .before .before .before .before .before .before .before .args .t) 2) ∙ c .before .before .if4 .left) (λ e. c .if5 .taken (word-at (c .before .before .before .before .before .before .before .before .before .args .m .now) (c .before .before .before .before .before .before .before .before .before .args .t) 4 ∙ e))
 
--- src/lib.rt:107:22
 add-subset : tie.Need-add-subset
 add-subset c = search needs
 
--- src/lib.rt:107:20
 mul-subset : tie.Need-mul-subset
 mul-subset c = search needs
 
--- src/lib.rt:107:20
 shared-slice-read-subset : tie.Need-shared-slice-read-subset
 shared-slice-read-subset c = search needs
 
--- src/lib.rt:107:5
 subset-requires : tie.Need-subset-requires
 subset-requires c κs = tt
 
--- src/lib.rt:87:1
 returns-6 : tie.Need-returns-6
 returns-6 c = c .subset .ensures ∙ ap (λ (w : ℕ). subset w (c .before .before .before .before .before .before .before .before .before .before .before .args .b)) (word-at (c .before .before .before .before .before .before .before .before .before .before .before .args .m .now) (c .before .before .before .before .before .before .before .before .before .before .before .args .t) 1) ∙ fit-rights _ _ _ _ _ (c .before .before .before .before .before .before .before .before .before .if1 .left) (c .before .before .before .before .before .before .before .before .if2 .left) (sym (status-at (c .before .before .before .before .before .before .before .before .before .before .before .args .m .now) (c .before .before .before .before .before .before .before .before .before .before .before .args .t)) ∙ c .before .before .before .before .before .before .if3 .left) (sym (word-at (c .before .before .before .before .before .before .before .before .before .before .before .args .m .now) (c .before .before .before .before .before .before .before .before .before .before .before .args .t) 2) ∙ c .before .before .before .before .if4 .left) (sym (word-at (c .before .before .before .before .before .before .before .before .before .before .before .args .m .now) (c .before .before .before .before .before .before .before .before .before .before .before .args .t) 4) ∙ c .before .before .if5 .left)
 

@@ -15,50 +15,39 @@ use Rattle.memory.proofs.header.Reads as header-reads
 use Rattle.tree_test.proofs.mark_free.Reads as mark-free-reads
 use Rattle.tree_test.proofs.marks.Reads as marks-reads
 
--- src/lib.rt:133:9
 header-requires : tie.Need-header-requires
 header-requires c κs = tt
 
--- src/lib.rt:135:9
 returns : tie.Need-returns
 unfolding size
 returns c = idle-many (c .before .before .before .args .m .now) (c .before .before .before .pre) (let a = c .before .header .ensures in let b = c .if1 .taken in omega (arith, a, b))
 
--- src/lib.rt:138:22
 slice-aggregate-mark-free : tie.Need-slice-aggregate-mark-free
 slice-aggregate-mark-free c = search needs
 
--- src/lib.rt:138:30
 cast-mark-free : tie.Need-cast-mark-free
 cast-mark-free c = search needs
 
--- src/lib.rt:138:9
 mark-free-requires : tie.Need-mark-free-requires
 mark-free-requires c κs = (c .before .before .before .before .pre, refl, c .before .if1 .left)
 
--- src/lib.rt:139:9
 returns-2 : tie.Need-returns-2
 unfolding size
 returns-2 c = idle-wrong (c .before .before .before .before .before .before .before .args .m .now) (c .before .before .before .before .before .before .before .pre) (c .before .before .before .before .before .header .result) (c .before .before .before .before .before .header .ensures) (c .before .before .before .before .if1 .left) (sym (c .before .before .mark-free .ensures .0) ∙ not-true _ (c .if2 .taken))
 
--- src/lib.rt:141:8
 array-read-if3 : tie.Need-array-read-if3
 array-read-if3 c = search needs
 
--- src/lib.rt:142:9
 returns-3 : tie.Need-returns-3
 unfolding size load
 returns-3 c = idle-top (c .before .before .before .before .before .before .before .before .args .m .now) (c .before .before .before .before .before .before .before .before .pre) (c .before .before .before .before .before .before .header .result) (c .before .before .before .before .before .before .header .ensures) (c .before .before .before .before .before .if1 .left) (sym (c .before .before .before .mark-free .ensures .0) ∙ not-false _ (c .before .if2 .left)) _ (c .before .before .before .mark-free .ensures .1 (not-false _ (c .before .if2 .left))) (c .if3 .taken)
 
--- src/lib.rt:144:11
 slice-aggregate-marks : tie.Need-slice-aggregate-marks
 slice-aggregate-marks c = search needs
 
--- src/lib.rt:144:5
 marks-requires : tie.Need-marks-requires
 marks-requires c κs = search needs
 
--- src/lib.rt:129:1
 returns-4 : tie.Need-returns-4
 unfolding size load
 returns-4 c = ap (λ (n : ℕ). eqb n (c .before .before .before .before .before .before .before .before .header .result)) (c .marks .ensures) ∙ idle-count (c .before .before .before .before .before .before .before .before .before .before .args .m .now) (c .before .before .before .before .before .before .before .before .before .before .pre) (c .before .before .before .before .before .before .before .before .header .result) (c .before .before .before .before .before .before .before .before .header .ensures) (c .before .before .before .before .before .before .before .if1 .left) (sym (c .before .before .before .before .before .mark-free .ensures .0) ∙ not-false _ (c .before .before .before .if2 .left)) _ (c .before .before .before .before .before .mark-free .ensures .1 (not-false _ (c .before .before .before .if2 .left))) (c .before .before .if3 .left)

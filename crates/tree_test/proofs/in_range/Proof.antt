@@ -5,27 +5,21 @@ use Rattle.tree_test.proofs.in_range.Tie as tie
 use Rattle.tree_test.proofs.in_range.Reads as reads
 use Rattle.tree_test.proofs.in_range.Lts as lts
 
--- src/lib.rt:30:9
 returns : tie.Need-returns
 returns c = short _ _ (c .if1 .taken)
 
--- src/lib.rt:33:9
 returns-2 : tie.Need-returns-2
 returns-2 c = long _ _ (c .if2 .taken)
 
--- src/lib.rt:36:9
 returns-3 : tie.Need-returns-3
 returns-3 c = few _ _ (c .if3 .taken)
 
--- src/lib.rt:39:9
 returns-4 : tie.Need-returns-4
 returns-4 c = many _ _ (c .if4 .taken)
 
--- src/lib.rt:41:5
 mul-result : tie.Need-mul-result
 mul-result c = let a = fits _ _ (c .before .before .if2 .left) (c .if4 .left) in omega (arith, a)
 
--- src/lib.rt:26:1
 returns-5 : tie.Need-returns-5
 returns-5 c = product _ _ (c .before .before .before .if1 .left) (c .before .before .if2 .left) (c .before .if3 .left) (c .if4 .left)
 

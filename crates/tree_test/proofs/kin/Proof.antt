@@ -11,19 +11,15 @@ use Rattle.tree_test.proofs.kin.Lts as lts
 use Rattle.memory.proofs.task.Reads as task-reads
 use Rattle.tree_test.proofs.fitting.Reads as fitting-reads
 
--- src/lib.rt:116:9
 returns : tie.Need-returns
 returns c = kin-none _ _ _ _ (c .if1 .taken)
 
--- src/lib.rt:118:25
 task-requires : tie.Need-task-requires
 task-requires c κs = tt
 
--- src/lib.rt:118:5
 fitting-requires : tie.Need-fitting-requires
 fitting-requires c κs = c .before .before .before .pre
 
--- src/lib.rt:111:1
 returns-2 : tie.Need-returns-2
 returns-2 c = c .fitting .ensures ∙ ap (λ (b : ℕ). fitting (decode (c .before .before .before .before .args .m .now)) (c .before .before .before .before .args .t) (c .before .before .before .before .args .p) (c .before .before .before .before .args .y) b) (c .before .task .ensures ∙ word-read (c .before .before .before .before .args .m .now) (c .before .before .before .before .args .p) 1) ∙ kin-some _ _ _ _ (c .before .before .if1 .left)
 

@@ -12,83 +12,63 @@ use Rattle.tree_test.proofs.left_next.Reads as reads
 use Rattle.tree_test.proofs.left_next.Lts as lts
 use Rattle.tree_test.proofs.fitting.Reads as fitting-reads
 
--- src/lib.rt:159:20
 mul-a : tie.Need-mul-a
 mul-a c = search needs
 
--- src/lib.rt:159:13
 add-a : tie.Need-add-a
 add-a c = search needs
 
--- src/lib.rt:160:15
 add-p : tie.Need-add-p
 add-p c = search needs
 
--- src/lib.rt:160:13
 mul-p : tie.Need-mul-p
 mul-p c = search needs
 
--- src/lib.rt:160:13
 shared-slice-read-p : tie.Need-shared-slice-read-p
 shared-slice-read-p c = search needs
 
--- src/lib.rt:162:9
 returns : tie.Need-returns
 returns c = left-out (decode (c .before .before .before .args .m .now)) (c .before .before .before .args .t) _ (word-at (c .before .before .before .args .m .now) (c .before .before .before .args .t) 2) (c .if1 .taken)
 
--- src/lib.rt:164:15
 add-u : tie.Need-add-u
 add-u c = search needs
 
--- src/lib.rt:164:13
 mul-u : tie.Need-mul-u
 mul-u c = search needs
 
--- src/lib.rt:164:13
 shared-slice-read-u : tie.Need-shared-slice-read-u
 shared-slice-read-u c = search needs
 
--- src/lib.rt:166:16
 add-result : tie.Need-add-result
 add-result c = search needs
 
--- src/lib.rt:166:9
 returns-2 : tie.Need-returns-2
 returns-2 c = left-up (decode (c .before .before .before .before .before .args .m .now)) (c .before .before .before .before .before .args .t) _ (word-at (c .before .before .before .before .before .args .m .now) (c .before .before .before .before .before .args .t) 2) (c .before .before .if1 .left) _ (word-at (c .before .before .before .before .before .args .m .now) (c .before .before .before .before .before .args .t) 3) (c .if2 .taken)
 
--- src/lib.rt:168:37
 cast-fitting : tie.Need-cast-fitting
 cast-fitting c = search needs
 
--- src/lib.rt:168:37
 mul-fitting : tie.Need-mul-fitting
 mul-fitting c = search needs
 
--- src/lib.rt:168:30
 add-fitting : tie.Need-add-fitting
 add-fitting c = search needs
 
--- src/lib.rt:168:30
 add-fitting-2 : tie.Need-add-fitting-2
 add-fitting-2 c = search needs
 
--- src/lib.rt:168:28
 mul-fitting-2 : tie.Need-mul-fitting-2
 mul-fitting-2 c = search needs
 
--- src/lib.rt:168:28
 shared-slice-read-fitting : tie.Need-shared-slice-read-fitting
 shared-slice-read-fitting c = search needs
 
--- src/lib.rt:168:8
 fitting-requires : tie.Need-fitting-requires
 fitting-requires c κs = c .before .before .before .before .before .before .pre .0
 
--- src/lib.rt:169:9
 returns-3 : tie.Need-returns-3
 returns-3 c = left-over (decode (c .before .before .before .before .before .before .before .before .args .m .now)) (c .before .before .before .before .before .before .before .before .args .t) _ (word-at (c .before .before .before .before .before .before .before .before .args .m .now) (c .before .before .before .before .before .before .before .before .args .t) 2) (c .before .before .before .before .before .if1 .left) _ (word-at (c .before .before .before .before .before .before .before .before .args .m .now) (c .before .before .before .before .before .before .before .before .args .t) 3) (c .before .before .before .if2 .left) (ap (fitting (decode (c .before .before .before .before .before .before .before .before .args .m .now)) _ _ (c .before .before .before .before .before .before .before .before .args .t)) (sym (word-at (c .before .before .before .before .before .before .before .before .args .m .now) (getD (c .before .before .before .before .before .before .before .before .args .m .now) (1472 + (c .before .before .before .before .before .before .before .before .args .t) * 48 + 2) 0) 1)) ∙ sym (c .before .fitting .ensures) ∙ c .if3 .taken)
 
--- src/lib.rt:155:1
 returns-4 : tie.Need-returns-4
 returns-4 c = left-wrong (decode (c .before .before .before .before .before .before .before .before .args .m .now)) (c .before .before .before .before .before .before .before .before .args .t) _ (word-at (c .before .before .before .before .before .before .before .before .args .m .now) (c .before .before .before .before .before .before .before .before .args .t) 2) (c .before .before .before .before .before .if1 .left) _ (word-at (c .before .before .before .before .before .before .before .before .args .m .now) (c .before .before .before .before .before .before .before .before .args .t) 3) (c .before .before .before .if2 .left) (ap (fitting (decode (c .before .before .before .before .before .before .before .before .args .m .now)) _ _ (c .before .before .before .before .before .before .before .before .args .t)) (sym (word-at (c .before .before .before .before .before .before .before .before .args .m .now) (getD (c .before .before .before .before .before .before .before .before .args .m .now) (1472 + (c .before .before .before .before .before .before .before .before .args .t) * 48 + 2) 0) 1)) ∙ sym (c .before .fitting .ensures) ∙ c .if3 .left)
 

@@ -10,31 +10,24 @@ use Rattle.tree_test.proofs.link_ok.Lts as lts
 use Rattle.memory.proofs.task.Reads as task-reads
 use Rattle.tree_test.proofs.kin.Reads as kin-reads
 
--- src/lib.rt:127:23
 task-requires : tie.Need-task-requires
 task-requires c κs = tt
 
--- src/lib.rt:127:9
 kin-requires : tie.Need-kin-requires
 kin-requires c κs = c .before .before .before .pre
 
--- src/lib.rt:127:9
 returns : tie.Need-returns
 returns c = c .kin .ensures ∙ link-met _ _ _ (c .before .before .if1 .taken) (c .before .task .ensures ∙ word-read (c .before .before .before .before .args .m .now) (c .before .before .before .before .args .x) 5)
 
--- src/lib.rt:130:12
 task-requires-2 : tie.Need-task-requires-2
 task-requires-2 c κs = tt
 
--- src/lib.rt:130:39
 task-requires-3 : tie.Need-task-requires-3
 task-requires-3 c κs = tt
 
--- src/lib.rt:130:5
 kin-requires-2 : tie.Need-kin-requires-2
 kin-requires-2 c κs = c .before .before .before .before .pre
 
--- src/lib.rt:122:1
 returns-2 : tie.Need-returns-2
 returns-2 c = c .kin2 .ensures ∙ link-left _ _ _ _ (c .before .before .before .if1 .left) (c .before .before .task2 .ensures ∙ word-read (c .before .before .before .before .before .args .m .now) ((c .before .before .before .before .before .args .x) - 128) 3) (c .before .task3 .ensures ∙ word-read (c .before .before .before .before .before .args .m .now) ((c .before .before .before .before .before .args .x) - 128) 2)
 

@@ -16,82 +16,63 @@ Inv-loop m d₀ h i₀ d i = (i ≤ h) × (length d ≡ 256) × (freeFrom (h - i
 abbrev μ-loop : tie.MeasureT-loop
 μ-loop m d₀ h i₀ d i = h - i
 
--- src/lib.rt:99:5
 loop-holds : tie.Need-loop-holds Inv-loop μ-loop
 loop-holds c = let w = first-free (c .args .m .now) (c .args .d .now) (c .args .h) in (omega arith, c .pre .1, w .0, w .1)
 
--- src/lib.rt:100:19
 add-t : tie.Need-add-t Inv-loop μ-loop
 add-t c = omega arith
 
--- src/lib.rt:100:17
 mul-t : tie.Need-mul-t Inv-loop μ-loop
 mul-t c = omega arith
 
--- src/lib.rt:100:17
 shared-slice-read-t : tie.Need-shared-slice-read-t Inv-loop μ-loop
 shared-slice-read-t c = let a = c .before .before .before .pre .0 in let b = c .before .before .before .pre .2 in let e = c .before .loop-test .taken in omega (arith, a, b, e)
 
--- src/lib.rt:100:17
 cast-t : tie.Need-cast-t Inv-loop μ-loop
 cast-t c = omega (arith, c .shared-slice-known .given (320 + c .before .before .loop .i))
 
--- src/lib.rt:102:13
 same-length : tie.Need-same-length Inv-loop μ-loop
 same-length c = c .before .before .before .loop .inv .1 ∙ sym (c .before .before .before .before .pre .1)
 
--- src/lib.rt:102:13
 returns : tie.Need-returns Inv-loop μ-loop
 unfolding load
 returns c = not-free (c .before .before .before .before .args .m .now) (c .before .before .before .before .args .h) (c .before .before .before .loop .i) _ _ (free-far (c .before .before .before .before .args .m .now) (c .before .before .before .before .args .h) (c .before .before .before .loop .i) (c .before .before .loop-test .taken) (getD (c .before .before .before .before .args .m .now) (320 + (c .before .before .before .loop .i)) 0) refl (c .if1 .taken)) (c .before .before .before .loop .inv .2)
 
--- src/lib.rt:104:21
 mul-if2 : tie.Need-mul-if2 Inv-loop μ-loop
 mul-if2 c = omega arith
 
--- src/lib.rt:104:14
 add-if2 : tie.Need-add-if2 Inv-loop μ-loop
 add-if2 c = omega arith
 
--- src/lib.rt:104:12
 mul-if2-2 : tie.Need-mul-if2-2 Inv-loop μ-loop
 mul-if2-2 c = omega arith
 
--- src/lib.rt:104:12
 shared-slice-read-if2 : tie.Need-shared-slice-read-if2 Inv-loop μ-loop
 shared-slice-read-if2 c = let a = c .before .before .before .before .before .pre .0 in let b = c .before .if1 .left in omega (arith, a, b)
 
--- src/lib.rt:105:13
 same-length-2 : tie.Need-same-length-2 Inv-loop μ-loop
 same-length-2 c = c .before .before .before .before .before .loop .inv .1 ∙ sym (c .before .before .before .before .before .before .pre .1)
 
--- src/lib.rt:105:13
 returns-2 : tie.Need-returns-2 Inv-loop μ-loop
 unfolding load
 returns-2 c = not-free (c .before .before .before .before .before .before .args .m .now) (c .before .before .before .before .before .before .args .h) (c .before .before .before .before .before .loop .i) _ _ (free-used (c .before .before .before .before .before .before .args .m .now) (c .before .before .before .before .before .before .args .h) (c .before .before .before .before .before .loop .i) (c .before .before .before .before .loop-test .taken) (getD (c .before .before .before .before .before .before .args .m .now) (320 + (c .before .before .before .before .before .loop .i)) 0) refl (c .before .before .if1 .left) (c .if2 .taken)) (c .before .before .before .before .before .loop .inv .2)
 
--- src/lib.rt:107:9
 slice-write-d : tie.Need-slice-write-d Inv-loop μ-loop
 slice-write-d c = let a = c .before .before .before .before .before .loop .inv .1 in let b = c .before .before .if1 .left in omega (arith, a, b)
 
--- src/lib.rt:108:9
 add-i : tie.Need-add-i Inv-loop μ-loop
 add-i c = omega arith
 
--- src/lib.rt:99:5
 loop-less : tie.Need-loop-less Inv-loop μ-loop
 loop-less c = omega arith
 
--- src/lib.rt:99:5
 loop-again : tie.Need-loop-again Inv-loop μ-loop
 unfolding load store
 loop-again c = (let a = c .before .before .before .before .loop-test .taken in omega (arith, a), length-set (c .before .before .before .before .before .loop .d) (getD (c .before .before .before .before .before .before .args .m .now) (320 + (c .before .before .before .before .before .loop .i)) 0) 1 ∙ c .before .before .before .before .before .loop .inv .1, free-on (c .before .before .before .before .before .before .args .m .now) (c .before .before .before .before .before .before .args .h) (c .before .before .before .before .before .loop .i) (c .before .before .before .before .loop-test .taken) (getD (c .before .before .before .before .before .before .args .m .now) (320 + (c .before .before .before .before .before .loop .i)) 0) refl (c .before .before .if1 .left) (c .if2 .left) ∙ c .before .before .before .before .before .loop .inv .2, mark-on (c .before .before .before .before .before .before .args .m .now) (c .before .before .before .before .before .before .args .h) (c .before .before .before .before .before .loop .i) (c .before .before .before .before .loop-test .taken) (getD (c .before .before .before .before .before .before .args .m .now) (320 + (c .before .before .before .before .before .loop .i)) 0) refl (c .before .before .before .before .before .loop .d) ∙ c .before .before .before .before .before .loop .inv .3)
 
--- src/lib.rt:94:1
 same-length-3 : tie.Need-same-length-3 Inv-loop μ-loop
 same-length-3 c = c .before .loop .inv .1 ∙ sym (c .before .before .pre .1)
 
--- src/lib.rt:94:1
 returns-3 : tie.Need-returns-3 Inv-loop μ-loop
 returns-3 c = all-free (c .before .before .args .m .now) (c .before .before .args .h) (c .before .loop .i) _ _ (c .loop-test .left) (c .before .loop .inv .2) (c .before .loop .inv .3)
 

@@ -20,37 +20,29 @@ Inv-loop d n₀ i₀ n i = (i ≤ 128) × (n ≤ 255 * i) × (n ≡ total i (loa
 abbrev μ-loop : tie.MeasureT-loop
 μ-loop d n₀ i₀ n i = 128 - i
 
--- src/lib.rt:122:5
 loop-holds : tie.Need-loop-holds Inv-loop μ-loop
 unfolding total
 loop-holds c = (omega arith, omega arith, refl)
 
--- src/lib.rt:123:14
 shared-slice-read-n : tie.Need-shared-slice-read-n Inv-loop μ-loop
 shared-slice-read-n c = let a = c .before .before .before .pre in let b = c .before .loop-test .taken in omega (arith, a, b)
 
--- src/lib.rt:123:14
 cast-n : tie.Need-cast-n Inv-loop μ-loop
 cast-n c = omega (arith, c .shared-slice-known .given (c .before .before .loop .i))
 
--- src/lib.rt:123:9
 add-n : tie.Need-add-n Inv-loop μ-loop
 add-n c = let a = c .shared-slice-known .given (c .before .before .loop .i) in let b = c .before .before .loop .inv .1 in let e = c .before .loop-test .taken in omega (arith, a, b, e)
 
--- src/lib.rt:124:9
 add-i : tie.Need-add-i Inv-loop μ-loop
 add-i c = omega arith
 
--- src/lib.rt:122:5
 loop-less : tie.Need-loop-less Inv-loop μ-loop
 loop-less c = omega arith
 
--- src/lib.rt:122:5
 loop-again : tie.Need-loop-again Inv-loop μ-loop
 unfolding load
 loop-again c = (let a = c .before .loop-test .taken in omega (arith, a), let a = c .shared-slice-known .given (c .before .before .loop .i) in let b = c .before .before .loop .inv .1 in omega (arith, a, b), sum-more (c .before .before .before .args .d .now) (c .before .before .loop .i) (c .before .before .loop .n) _ (c .before .before .loop .inv .2) refl)
 
--- src/lib.rt:116:1
 returns : tie.Need-returns Inv-loop μ-loop
 unfolding marks
 returns c = c .before .loop .inv .2 ∙ ap (λ (k : ℕ). total k (load (c .before .before .args .d .now))) (le-antisymm (c .before .loop .inv .0) (c .loop-test .left))

@@ -13,55 +13,42 @@ use Rattle.tree_test.proofs.met_next.Reads as reads
 use Rattle.tree_test.proofs.met_next.Lts as lts
 use Rattle.tree_test.proofs.fitting.Reads as fitting-reads
 
--- src/lib.rt:143:20
 mul-a : tie.Need-mul-a
 mul-a c = search needs
 
--- src/lib.rt:143:13
 add-a : tie.Need-add-a
 add-a c = search needs
 
--- src/lib.rt:144:15
 add-u : tie.Need-add-u
 add-u c = search needs
 
--- src/lib.rt:144:13
 mul-u : tie.Need-mul-u
 mul-u c = search needs
 
--- src/lib.rt:144:13
 shared-slice-read-u : tie.Need-shared-slice-read-u
 shared-slice-read-u c = search needs
 
--- src/lib.rt:146:16
 add-result : tie.Need-add-result
 add-result c = search needs
 
--- src/lib.rt:146:9
 returns : tie.Need-returns
 returns c = met-leaf (decode (c .before .before .before .args .m .now)) (c .before .before .before .args .t) _ (word-at (c .before .before .before .args .m .now) (c .before .before .before .args .t) 5) (c .if1 .taken)
 
--- src/lib.rt:148:33
 add-fitting : tie.Need-add-fitting
 add-fitting c = search needs
 
--- src/lib.rt:148:31
 mul-fitting : tie.Need-mul-fitting
 mul-fitting c = search needs
 
--- src/lib.rt:148:31
 shared-slice-read-fitting : tie.Need-shared-slice-read-fitting
 shared-slice-read-fitting c = search needs
 
--- src/lib.rt:148:8
 fitting-requires : tie.Need-fitting-requires
 fitting-requires c κs = c .before .before .before .before .pre .0
 
--- src/lib.rt:149:9
 returns-2 : tie.Need-returns-2
 returns-2 c = met-down (decode (c .before .before .before .before .before .before .args .m .now)) (c .before .before .before .before .before .before .args .t) _ (word-at (c .before .before .before .before .before .before .args .m .now) (c .before .before .before .before .before .before .args .t) 5) (c .before .before .before .if1 .left) (ap (fitting (decode (c .before .before .before .before .before .before .args .m .now)) _ (c .before .before .before .before .before .before .args .t) NONE) (sym (word-at (c .before .before .before .before .before .before .args .m .now) (c .before .before .before .before .before .before .args .t) 1)) ∙ sym (c .before .fitting .ensures) ∙ c .if2 .taken)
 
--- src/lib.rt:139:1
 returns-3 : tie.Need-returns-3
 returns-3 c = met-wrong (decode (c .before .before .before .before .before .before .args .m .now)) (c .before .before .before .before .before .before .args .t) _ (word-at (c .before .before .before .before .before .before .args .m .now) (c .before .before .before .before .before .before .args .t) 5) (c .before .before .before .if1 .left) (ap (fitting (decode (c .before .before .before .before .before .before .args .m .now)) _ (c .before .before .before .before .before .before .args .t) NONE) (sym (word-at (c .before .before .before .before .before .before .args .m .now) (c .before .before .before .before .before .before .args .t) 1)) ∙ sym (c .before .fitting .ensures) ∙ c .if2 .left)
 

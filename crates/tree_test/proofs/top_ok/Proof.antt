@@ -8,35 +8,27 @@ use Rattle.tree_test.proofs.top_ok.Lts as lts
 use Rattle.memory.proofs.task.Reads as task-reads
 use Rattle.tree_test.proofs.top_alone.Reads as top-alone-reads
 
--- src/lib.rt:72:9
 task-requires : tie.Need-task-requires
 task-requires c κs = tt
 
--- src/lib.rt:74:9
 top-alone-requires : tie.Need-top-alone-requires
 top-alone-requires c κs = tt
 
--- src/lib.rt:74:9
 returns : tie.Need-returns
 returns c = c .top-alone .ensures ∙ top-open _ (sym (c .before .before .task .ensures) ∙ c .before .if1 .taken)
 
--- src/lib.rt:77:9
 returns-2 : tie.Need-returns-2
 returns-2 c = top-other _ (λ e. c .before .if1 .left (c .before .before .task .ensures ∙ e)) (λ e. c .if2 .taken (c .before .before .task .ensures ∙ e))
 
--- src/lib.rt:79:8
 task-requires-2 : tie.Need-task-requires-2
 task-requires-2 c κs = tt
 
--- src/lib.rt:80:9
 returns-3 : tie.Need-returns-3
 returns-3 c = top-parent _ (λ e. c .before .before .before .if1 .left (c .before .before .before .before .task .ensures ∙ e)) (λ e. c .if3 .taken (c .before .task2 .ensures ∙ e))
 
--- src/lib.rt:82:5
 top-alone-requires-2 : tie.Need-top-alone-requires-2
 top-alone-requires-2 c κs = tt
 
--- src/lib.rt:69:1
 returns-4 : tie.Need-returns-4
 returns-4 c = c .top-alone2 .ensures ∙ top-closed _ (sym (c .before .before .before .before .before .task .ensures) ∙ c .before .before .before .if2 .left) (sym (c .before .before .task2 .ensures) ∙ c .before .if3 .left)
 
