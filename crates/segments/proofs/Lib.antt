@@ -1,4 +1,3 @@
 pub mod Ring
 pub mod Stack
-pub mod Walk
 pub mod Links

@@ -6,7 +6,7 @@ ghost use lib.ListN.{length};
 ghost use Rattle.words.specs.Words.{store, size};
 ghost use Rattle.words.specs.Blocks.{storeAll};
 ghost use Rattle.layout.specs.Layout.{recordOf, lengthWord, numberWord, freeSegments, segment, value, count, address, read, write};
-ghost use Rattle.tree.specs.Tour.{MARKS, entering, after, seek};
+ghost use Rattle.tree.specs.Tour.{MARKS, seek};
 ghost use Rattle.calls.specs.Segments.{place, valueAt, stored, dropped, noneFree, nextFree, taken, released};
 ghost use Rattle.calls.specs.Segments.{headIndex, linkedBy, renamed, linked};
 ghost use Rattle.segments.specs.Names.{held, nextIs, headHere};
@@ -127,29 +127,6 @@ pub fn release(m: &mut [u32], s: u32)
     memory::set_header(m, 2, n + 1);
 }
 
-// Where c is met on the tour, or its parent p left where c is no task.
-fn entering(p: u32, c: u32) -> u32
-    ensures { λ r. ⌜ r ≡ entering p c ⌝ }
-{
-    if c < 128 {
-        return c;
-    }
-    if p < 128 {
-        return 128 + p;
-    }
-    256
-}
-
-// The mark after x on the tour.
-fn after(m: &[u32], x: u32) -> u32
-    ensures { λ r. ⌜ r ≡ after (recordOf (now (m .entry))) x ⌝ }
-{
-    if x < 128 {
-        return entering(x, memory::task(m, x, 5));
-    }
-    entering(memory::task(m, x - 128, 2), memory::task(m, x - 128, 3))
-}
-
 // The place of s among the 16 heads of the views of task t; 16 where it is none of them.
 pub fn head_index(m: &[u32], s: u32, t: u32) -> u32
     ensures { λ r. ⌜ r ≡ headIndex (now (m .entry)) s t ⌝ }
@@ -186,7 +163,7 @@ fn head_task(m: &[u32], s: u32) -> u32
         if head_here(m, s, x) {
             return x;
         }
-        x = after(m, x);
+        x = walks::after(m, x);
         k -= 1;
     }
     256

@@ -5,12 +5,12 @@ use borrow.Author.Needs.{needs}
 use Rattle.layout.specs.Layout.{recordOf}
 use Rattle.tree.specs.Tour.{MARKS, seek}
 use Rattle.segments.specs.Names.{headHere}
-use Rattle.segments.proofs.Walk.{seek-more, seek-found, seek-end, seek-over}
+use Rattle.walks.specs.Steps.{seek-none, seek-end, seek-here, seek-on}
 use Rattle.segments.proofs.head_task.Statement.{statement}
 use Rattle.segments.proofs.head_task.Tie as tie
 use Rattle.segments.proofs.head_task.Reads as reads
 use Rattle.segments.proofs.head_task.Lts as lts
-use Rattle.segments.proofs.after.Reads as after-reads
+use Rattle.walks.proofs.after.Reads as after-reads
 use Rattle.segments.proofs.head_here.Reads as head-here-reads
 
 abbrev Inv-loop : tie.InvT-loop
@@ -23,13 +23,13 @@ loop-holds : tie.Need-loop-holds Inv-loop μ-loop
 loop-holds c = (omega arith, refl)
 
 returns : tie.Need-returns Inv-loop μ-loop
-returns c = seek-end _ _ _ _ (c .if1 .taken) ∙ c .before .before .loop .inv .1
+returns c = seek-end _ _ _ _ (c .before .loop-test .taken) (c .if1 .taken) ∙ c .before .before .loop .inv .1
 
 head-here-requires : tie.Need-head-here-requires Inv-loop μ-loop
 head-here-requires c κs = search needs
 
 returns-2 : tie.Need-returns-2 Inv-loop μ-loop
-returns-2 c = seek-found _ _ _ _ (c .before .before .before .loop-test .taken) (c .before .before .if1 .left) (sym (c .before .head-here .ensures) ∙ c .if2 .taken) ∙ c .before .before .before .before .loop .inv .1
+returns-2 c = seek-here _ _ _ _ (c .before .before .before .loop-test .taken) (c .before .before .if1 .left) (sym (c .before .head-here .ensures) ∙ c .if2 .taken) ∙ c .before .before .before .before .loop .inv .1
 
 after-requires : tie.Need-after-requires Inv-loop μ-loop
 after-requires c κs = search needs
@@ -41,10 +41,10 @@ loop-less : tie.Need-loop-less Inv-loop μ-loop
 loop-less c = omega arith
 
 loop-again : tie.Need-loop-again Inv-loop μ-loop
-loop-again c = (search needs, seek-more _ _ _ _ _ (c .before .before .before .before .loop-test .taken) (c .before .before .before .if1 .left) (sym (c .before .before .head-here .ensures) ∙ c .before .if2 .left) (c .after .ensures) ∙ c .before .before .before .before .before .loop .inv .1)
+loop-again c = (search needs, seek-on _ _ _ _ _ (c .before .before .before .before .loop-test .taken) (c .before .before .before .if1 .left) (sym (c .before .before .head-here .ensures) ∙ c .before .if2 .left) (c .after .ensures) ∙ c .before .before .before .before .before .loop .inv .1)
 
 returns-3 : tie.Need-returns-3 Inv-loop μ-loop
-returns-3 c = seek-over _ _ _ _ (c .loop-test .left) ∙ c .before .loop .inv .1
+returns-3 c = seek-none _ _ _ _ (c .loop-test .left) ∙ c .before .loop .inv .1
 
 pub head-task-spec : {M : Type 1} → statement M
 head-task-spec =
