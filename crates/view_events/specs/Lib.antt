@@ -1,0 +1,3 @@
+pub mod Events
+pub mod Run
+pub mod Place
