@@ -37,10 +37,10 @@ answered k d = pick (eqb k 0) wrong (placed k d)
 
 module _ (c : Contents) (small : c .number ≤ 256) where
   -- the tests of a list of segments, and what placing them gives
-  abbrev Right : List ℕ → List ℕ → Bool
+  abbrev pub Right : List ℕ → List ℕ → Bool
   Right l d = both (fresh (c .number) l d) (each (filled c) l)
 
-  abbrev Gives : List ℕ → ℕ → List ℕ → Placed
+  abbrev pub Gives : List ℕ → ℕ → List ℕ → Placed
   Gives l k d = pick (Right l d) (placed (k + length l) (marking l d)) wrong
 
   step : (a b z y : Bool) (k s : ℕ) (d d1 r : List ℕ) (p : Placed) → p ≡ Gives r (k + 1) d1

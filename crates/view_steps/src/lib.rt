@@ -1,22 +1,40 @@
-// One view of the memory test: its tail ends a chain, its head starts one.
+// One view of the memory test: its head starts a chain of segments, its tail ends one.
 ghost use mathlib.Core.Path.{_≡_};
-ghost use mathlib.Core.List.{List};
-ghost use Prim.Native.Nat.{ℕ, _<_, _≤_};
-ghost use Rattle.words.specs.Words.{load, size, both};
-ghost use Rattle.rules.specs.Contents.{decode};
+ghost use mathlib.Core.List.{_∷_};
+ghost use mathlib.Core.Bool.{not};
+ghost use Prim.Native.Nat.{ℕ, _<_, _%_};
+ghost use lib.Dec.{eqb};
+ghost use lib.ListN.{length, getD};
+ghost use Rattle.rules.specs.Contents.{decode, part};
 ghost use Rattle.rules.specs.Test.{passed};
-ghost use Rattle.view_events.specs.Events.{Event};
+ghost use Rattle.view_events.specs.Events.{queueOf, viewOf};
 ghost use Rattle.view_events.specs.Events.Event.{tail, head};
-ghost use Rattle.view_events.specs.Run.{run};
 ghost use Rattle.view_events.specs.Place.{placing, answered};
+ghost use Rattle.view_events.specs.Does.{Ready, DoesHeads, DoesTails};
 
 const NONE: u32 = 4294967295;
 const NL: u32 = 4294967294;
 
+// Count of segment s.
+fn count(m: &[u32], s: u32) -> u32
+    requires { ⌜ (length (now m) ≡ 16384) × (s < 256) ⌝ }
+    ensures { λ r. ⌜ r ≡ part (decode (now (m .entry))) s 1 ⌝ }
+{
+    m[449 + s as usize * 4]
+}
+
+// The segment behind s.
+fn next(m: &[u32], s: u32) -> u32
+    requires { ⌜ (length (now m) ≡ 16384) × (s < 256) ⌝ }
+    ensures { λ r. ⌜ r ≡ part (decode (now (m .entry))) s 2 ⌝ }
+{
+    m[450 + s as usize * 4]
+}
+
 // Places the segments of the chain from h on: their number, 0 where the chain is wrong.
-pub fn place(d: &mut [u8; 256], m: &[u32], h: u32) -> u32
-    requires { ⌜ (size (now m) ≡ 16384) × (load (now m) 1 ≤ 256) ⌝ }
-    ensures { λ r. ⌜ answered r (now (d .exit)) ≡ placing (decode (now (m .entry))) (load (now (m .entry)) 1) h 0 (now (d .entry)) ⌝ }
+fn place(d: &mut [u8; 256], m: &[u32], h: u32) -> u32
+    requires { ⌜ Ready (now m) ⌝ }
+    ensures { λ r. ⌜ answered r (now (d .exit)) ≡ placing (decode (now (m .entry))) (getD (now (m .entry)) 1 0) h 0 (now (d .entry)) ⌝ }
 {
     let n = m[1];
     let mut s = h;
@@ -30,22 +48,22 @@ pub fn place(d: &mut [u8; 256], m: &[u32], h: u32) -> u32
         }
         d[s as usize] = 1;
         k += 1;
-        let next = m[448 + s as usize * 4 + 2];
-        if next == NONE {
+        let behind = next(m, s);
+        if behind == NONE {
             return k;
         }
-        if m[448 + s as usize * 4 + 1] == 0 {
+        if count(m, s) == 0 {
             return 0;
         }
-        s = next;
+        s = behind;
     }
     0
 }
 
 // The head of a view: where it is local, its chain is placed.
-pub fn head(d: &mut [u8; 256], w: &mut [u32; 12], m: &[u32], h: u32) -> bool
-    requires { ⌜ (size (now m) ≡ 16384) × (load (now m) 1 ≤ 256) ⌝ }
-    ensures { λ r. ⌜ (f : List ℕ) (es : List Event) → both r (run (decode (now (m .entry))) es (now (d .exit)) f (now (w .exit))) ≡ run (decode (now (m .entry))) (head h ∷ es) (now (d .entry)) f (now (w .entry)) ⌝ }
+fn head(d: &mut [u8; 256], w: &mut [u32; 12], m: &[u32], h: u32) -> bool
+    requires { ⌜ Ready (now m) ⌝ }
+    ensures { λ r. ⌜ DoesHeads (now (m .entry)) (λ es. head h ∷ es) r (now (d .entry)) (now (w .entry)) (now (d .exit)) (now (w .exit)) ⌝ }
 {
     if h >= NL {
         return true;
@@ -60,8 +78,9 @@ pub fn head(d: &mut [u8; 256], w: &mut [u32; 12], m: &[u32], h: u32) -> bool
 }
 
 // The tail of a view: where it is local, it is the end of a chain that no other tail names.
-pub fn tail(f: &mut [u8; 256], w: &mut [u32; 12], m: &[u32], e: u32) -> bool
-    requires { ⌜ (size (now m) ≡ 16384) × (load (now m) 1 ≤ 256) ⌝ }
+fn tail(f: &mut [u8; 256], w: &mut [u32; 12], m: &[u32], e: u32) -> bool
+    requires { ⌜ Ready (now m) ⌝ }
+    ensures { λ r. ⌜ DoesTails (now (m .entry)) (λ es. tail e ∷ es) r (now (f .entry)) (now (w .entry)) (now (f .exit)) (now (w .exit)) ⌝ }
 {
     if e >= NL {
         return true;
@@ -72,72 +91,10 @@ pub fn tail(f: &mut [u8; 256], w: &mut [u32; 12], m: &[u32], e: u32) -> bool
     if f[e as usize] != 0 {
         return false;
     }
-    if m[448 + e as usize * 4 + 2] != NONE {
+    if next(m, e) != NONE {
         return false;
     }
     f[e as usize] = 1;
     w[10] = std::num::wrapping_add_u32(w[10], 1);
     true
-}
-
-pub fn passed(h: u32, e: u32, o: u32) -> u32
-    ensures { λ r. ⌜ r ≡ passed h e o ⌝ }
-{
-    if h == NONE {
-        if e == NONE {
-            return o;
-        }
-        return 2;
-    }
-    if e == NONE {
-        return 2;
-    }
-    if e == NL {
-        if o != 1 {
-            return 2;
-        }
-    } else {
-        if o != 0 {
-            return 2;
-        }
-    }
-    if h == NL {
-        return 1;
-    }
-    0
-}
-
-pub fn view(d: &mut [u8; 256], f: &mut [u8; 256], w: &mut [u32; 12], m: &[u32], h: u32, e: u32, r: u32, q: usize) -> bool
-    requires { ⌜ (size (now m) ≡ 16384) × (load (now m) 1 ≤ 256) × (q < 4) ⌝ }
-{
-    if h & e == NONE {
-        return true;
-    }
-    if r % 4 == 0 {
-        return false;
-    }
-    w[q] = passed(h, e, w[q]);
-    if !tail(f, w, m, e) {
-        return false;
-    }
-    head(d, w, m, h)
-}
-
-pub fn queue(d: &mut [u8; 256], w: &mut [u32; 12], m: &[u32], h: u32, r: u32, q: usize) -> bool
-    requires { ⌜ (size (now m) ≡ 16384) × (load (now m) 1 ≤ 256) × (q < 4) ⌝ }
-{
-    if h == NONE {
-        return true;
-    }
-    if r % 4 == 0 {
-        return false;
-    }
-    if h == NL {
-        return false;
-    }
-    if w[4 + q] != 0 {
-        return false;
-    }
-    w[4 + q] = 1;
-    head(d, w, m, h)
 }

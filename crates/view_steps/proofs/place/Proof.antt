@@ -1,117 +1,88 @@
+use Rattle.view_events.specs.Placing.{place-start}
+use Rattle.view_events.specs.Placing.{place-far, place-again, place-last, place-empty, place-more, place-out}
+use Rattle.view_events.specs.Place.{placing}
+use Rattle.rules.specs.Contents.{decode}
+use lib.ListN.{getD}
+use Prim.Native.Nat.{_≤_, _<_, _-_, _^_}
+use mathlib.Core.Path.{_≡_, refl, sym, _∙_}
+use borrow.Author.Needs.{needs}
+use native.Mathlib.Omega.{arith}
 use Rattle.view_steps.proofs.place.Statement.{statement}
 use Rattle.view_steps.proofs.place.Tie as tie
 use Rattle.view_steps.proofs.place.Reads as reads
 use Rattle.view_steps.proofs.place.Lts as lts
+use Rattle.view_steps.proofs.count.Reads as count-reads
+use Rattle.view_steps.proofs.next.Reads as next-reads
 
 abbrev Inv-loop : tie.InvT-loop
-Inv-loop d₀ m h n s₀ k₀ d s k = ?
+Inv-loop d₀ m h n s₀ k₀ d s k = (s < 2 ^ 32) × (k ≤ n) × (placing (decode m) (n - k) s k d ≡ placing (decode m) n h 0 d₀)
 
 abbrev μ-loop : tie.MeasureT-loop
-μ-loop d₀ m h n s₀ k₀ d s k = ?
+μ-loop d₀ m h n s₀ k₀ d s k = n - k
 
--- src/lib.rt:21:13
+-- src/lib.rt:39:13
 shared-slice-read-n : tie.Need-shared-slice-read-n Inv-loop μ-loop
-shared-slice-read-n c = ?
+shared-slice-read-n c = search needs
 
--- src/lib.rt:24:5
+-- src/lib.rt:42:5
 loop-holds : tie.Need-loop-holds Inv-loop μ-loop
-loop-holds c = ?
+loop-holds c = (search needs, omega arith, place-start _ _ _)
 
--- src/lib.rt:26:13
+-- src/lib.rt:44:13
 returns : tie.Need-returns Inv-loop μ-loop
-returns c = ?
+returns c = place-far _ _ _ _ _ (c .before .loop-test .taken) (c .if1 .taken) ∙ c .before .before .loop .inv .2
 
--- src/lib.rt:28:14
+-- src/lib.rt:46:14
 cast-if2 : tie.Need-cast-if2 Inv-loop μ-loop
-cast-if2 c = ?
+cast-if2 c = omega arith
 
--- src/lib.rt:28:12
+-- src/lib.rt:46:12
 element-copy-out-if2 : tie.Need-element-copy-out-if2 Inv-loop μ-loop
-element-copy-out-if2 c = ?
+element-copy-out-if2 c = omega arith
 
--- src/lib.rt:29:13
+-- src/lib.rt:47:13
 returns-2 : tie.Need-returns-2 Inv-loop μ-loop
-returns-2 c = ?
+returns-2 c = place-again _ _ _ _ _ (c .before .before .before .loop-test .taken) (c .before .before .if1 .left) (c .if2 .taken) ∙ c .before .before .before .before .loop .inv .2
 
--- src/lib.rt:31:11
+-- src/lib.rt:49:11
 cast-d : tie.Need-cast-d Inv-loop μ-loop
-cast-d c = ?
+cast-d c = omega arith
 
--- src/lib.rt:31:9
+-- src/lib.rt:49:9
 element-write-d : tie.Need-element-write-d Inv-loop μ-loop
-element-write-d c = ?
+element-write-d c = omega arith
 
--- src/lib.rt:32:9
+-- src/lib.rt:50:9
 add-k : tie.Need-add-k Inv-loop μ-loop
-add-k c = ?
+add-k c = omega arith
 
--- src/lib.rt:33:28
-cast-next : tie.Need-cast-next Inv-loop μ-loop
-cast-next c = ?
+-- src/lib.rt:51:13
+next-requires : tie.Need-next-requires Inv-loop μ-loop
+next-requires c κs = (search needs, omega arith)
 
--- src/lib.rt:33:28
-mul-next : tie.Need-mul-next Inv-loop μ-loop
-mul-next c = ?
-
--- src/lib.rt:33:22
-add-next : tie.Need-add-next Inv-loop μ-loop
-add-next c = ?
-
--- src/lib.rt:33:22
-add-next-2 : tie.Need-add-next-2 Inv-loop μ-loop
-add-next-2 c = ?
-
--- src/lib.rt:33:20
-mul-next-2 : tie.Need-mul-next-2 Inv-loop μ-loop
-mul-next-2 c = ?
-
--- src/lib.rt:33:20
-shared-slice-read-next : tie.Need-shared-slice-read-next Inv-loop μ-loop
-shared-slice-read-next c = ?
-
--- src/lib.rt:35:13
+-- src/lib.rt:53:13
 returns-3 : tie.Need-returns-3 Inv-loop μ-loop
-returns-3 c = ?
+returns-3 c = place-last _ _ _ _ _ (c .before .before .before .before .before .loop-test .taken) (c .before .before .before .before .if1 .left) (c .before .before .if2 .left) (c .before .next .ensures) (c .if3 .taken) ∙ c .before .before .before .before .before .before .loop .inv .2
 
--- src/lib.rt:37:20
-cast-if4 : tie.Need-cast-if4 Inv-loop μ-loop
-cast-if4 c = ?
+-- src/lib.rt:55:12
+count-requires : tie.Need-count-requires Inv-loop μ-loop
+count-requires c κs = (search needs, omega arith)
 
--- src/lib.rt:37:20
-mul-if4 : tie.Need-mul-if4 Inv-loop μ-loop
-mul-if4 c = ?
-
--- src/lib.rt:37:14
-add-if4 : tie.Need-add-if4 Inv-loop μ-loop
-add-if4 c = ?
-
--- src/lib.rt:37:14
-add-if4-2 : tie.Need-add-if4-2 Inv-loop μ-loop
-add-if4-2 c = ?
-
--- src/lib.rt:37:12
-mul-if4-2 : tie.Need-mul-if4-2 Inv-loop μ-loop
-mul-if4-2 c = ?
-
--- src/lib.rt:37:12
-shared-slice-read-if4 : tie.Need-shared-slice-read-if4 Inv-loop μ-loop
-shared-slice-read-if4 c = ?
-
--- src/lib.rt:38:13
+-- src/lib.rt:56:13
 returns-4 : tie.Need-returns-4 Inv-loop μ-loop
-returns-4 c = ?
+returns-4 c = place-empty _ _ _ _ _ (c .before .before .before .before .before .before .before .loop-test .taken) (c .before .before .before .before .before .before .if1 .left) (c .before .before .before .before .if2 .left) (c .before .before .before .next .ensures) _ (c .before .before .if3 .left) (sym (c .before .count .ensures) ∙ c .if4 .taken) ∙ c .before .before .before .before .before .before .before .before .loop .inv .2
 
--- src/lib.rt:24:5
+-- src/lib.rt:42:5
 loop-less : tie.Need-loop-less Inv-loop μ-loop
-loop-less c = ?
+loop-less c = omega arith
 
--- src/lib.rt:24:5
+-- src/lib.rt:42:5
 loop-again : tie.Need-loop-again Inv-loop μ-loop
-loop-again c = ?
+loop-again c = (search needs, omega arith, place-more _ _ _ _ _ (c .before .before .before .before .before .before .before .loop-test .taken) (c .before .before .before .before .before .before .if1 .left) (c .before .before .before .before .if2 .left) (c .before .before .before .next .ensures) (c .before .before .if3 .left) (λ e. c .if4 .left (c .before .count .ensures ∙ e)) ∙ c .before .before .before .before .before .before .before .before .loop .inv .2)
 
--- src/lib.rt:17:1
+-- src/lib.rt:35:1
 returns-5 : tie.Need-returns-5 Inv-loop μ-loop
-returns-5 c = ?
+returns-5 c = place-out _ _ _ _ _ (c .loop-test .left) ∙ c .before .loop .inv .2
 
 pub place-spec : {M : Type 1} → statement M
 place-spec =
@@ -128,19 +99,9 @@ place-spec =
     cast-d
     element-write-d
     add-k
-    cast-next
-    mul-next
-    add-next
-    add-next-2
-    mul-next-2
-    shared-slice-read-next
+    next-requires
     returns-3
-    cast-if4
-    mul-if4
-    add-if4
-    add-if4-2
-    mul-if4-2
-    shared-slice-read-if4
+    count-requires
     returns-4
     loop-less
     loop-again

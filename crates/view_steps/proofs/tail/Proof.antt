@@ -1,73 +1,60 @@
+use Rattle.view_events.specs.Steps.{tail-far, tail-out, tail-again, tail-inner, tail-right}
+use mathlib.Core.Path.{sym, _∙_}
 use borrow.Author.Needs.{needs}
 use Rattle.view_steps.proofs.tail.Statement.{statement}
 use Rattle.view_steps.proofs.tail.Tie as tie
 use Rattle.view_steps.proofs.tail.Reads as reads
 use Rattle.view_steps.proofs.tail.Lts as lts
 use Rattle.std.proofs.num.wrapping_add_u32.Reads as wrapping-add-u32-reads
+use Rattle.view_steps.proofs.next.Reads as next-reads
 
--- src/lib.rt:67:9
+-- src/lib.rt:86:9
 returns : tie.Need-returns
-returns c = search needs
+returns c = λ d es. tail-far _ es d _ _ _ (c .if1 .taken)
 
--- src/lib.rt:69:13
+-- src/lib.rt:88:13
 shared-slice-read-if2 : tie.Need-shared-slice-read-if2
-shared-slice-read-if2 c = ?
+shared-slice-read-if2 c = search needs
 
--- src/lib.rt:70:9
+-- src/lib.rt:89:9
 returns-2 : tie.Need-returns-2
-returns-2 c = search needs
+returns-2 c = λ d es. tail-out _ es d _ _ _ (c .before .before .if1 .left) _ (c .if2 .taken)
 
--- src/lib.rt:72:8
+-- src/lib.rt:91:8
 element-copy-out-if3 : tie.Need-element-copy-out-if3
-element-copy-out-if3 c = ?
+element-copy-out-if3 c = search needs
 
--- src/lib.rt:73:9
+-- src/lib.rt:92:9
 returns-3 : tie.Need-returns-3
-returns-3 c = search needs
+returns-3 c = λ d es. tail-again _ es d _ _ _ (c .before .before .before .before .if1 .left) (c .before .before .if2 .left) _ (c .if3 .taken)
 
--- src/lib.rt:75:16
-mul-if4 : tie.Need-mul-if4
-mul-if4 c = search needs
+-- src/lib.rt:94:8
+next-requires : tie.Need-next-requires
+next-requires c κs = search needs
 
--- src/lib.rt:75:10
-add-if4 : tie.Need-add-if4
-add-if4 c = search needs
-
--- src/lib.rt:75:10
-add-if4-2 : tie.Need-add-if4-2
-add-if4-2 c = search needs
-
--- src/lib.rt:75:8
-mul-if4-2 : tie.Need-mul-if4-2
-mul-if4-2 c = search needs
-
--- src/lib.rt:75:8
-shared-slice-read-if4 : tie.Need-shared-slice-read-if4
-shared-slice-read-if4 c = ?
-
--- src/lib.rt:76:9
+-- src/lib.rt:95:9
 returns-4 : tie.Need-returns-4
-returns-4 c = search needs
+returns-4 c = λ d es. tail-inner _ es d _ _ _ (c .before .before .before .before .before .before .if1 .left) (c .before .before .before .before .if2 .left) _ (c .before .before .if3 .left) (λ q. c .if4 .taken (c .before .next .ensures ∙ q))
 
--- src/lib.rt:78:5
+-- src/lib.rt:97:5
 element-write-f : tie.Need-element-write-f
-element-write-f c = ?
+element-write-f c = search needs
 
--- src/lib.rt:79:40
+-- src/lib.rt:98:40
 element-copy-out-wrapping-add-u32 : tie.Need-element-copy-out-wrapping-add-u32
 element-copy-out-wrapping-add-u32 c = search needs
 
--- src/lib.rt:79:13
+-- src/lib.rt:98:13
 wrapping-add-u32-requires : tie.Need-wrapping-add-u32-requires
 wrapping-add-u32-requires c κs = search needs
 
--- src/lib.rt:79:5
+-- src/lib.rt:98:5
 element-write-w : tie.Need-element-write-w
 element-write-w c = search needs
 
--- src/lib.rt:63:1
+-- src/lib.rt:81:1
 returns-5 : tie.Need-returns-5
-returns-5 c = search needs
+returns-5 c = λ d es. tail-right _ es d _ _ _ (c .before .before .before .before .before .before .before .before .if1 .left) (c .before .before .before .before .before .before .if2 .left) (c .before .before .before .before .if3 .left) (sym (c .before .before .before .next .ensures) ∙ c .before .before .if4 .left) _ (c .wrapping-add-u32 .ensures)
 
 pub tail-spec : {M : Type 1} → statement M
 tail-spec =
@@ -78,11 +65,7 @@ tail-spec =
     returns-2
     element-copy-out-if3
     returns-3
-    mul-if4
-    add-if4
-    add-if4-2
-    mul-if4-2
-    shared-slice-read-if4
+    next-requires
     returns-4
     element-write-f
     element-copy-out-wrapping-add-u32
