@@ -5,3 +5,4 @@ pub mod Does
 pub mod Parts
 pub mod Placing
 pub mod Steps
+pub mod Open

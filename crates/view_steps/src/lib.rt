@@ -6,11 +6,11 @@ ghost use Prim.Native.Nat.{ℕ, _<_, _%_};
 ghost use lib.Dec.{eqb};
 ghost use lib.ListN.{length, getD};
 ghost use Rattle.rules.specs.Contents.{decode, part};
-ghost use Rattle.rules.specs.Test.{passed};
+ghost use Rattle.rules.specs.Test.{marked, passed};
 ghost use Rattle.view_events.specs.Events.{queueOf, viewOf};
 ghost use Rattle.view_events.specs.Events.Event.{tail, head};
 ghost use Rattle.view_events.specs.Place.{placing, answered};
-ghost use Rattle.view_events.specs.Does.{Ready, DoesHeads, DoesTails};
+ghost use Rattle.view_events.specs.Does.{Ready, Does, DoesHeads, DoesTails};
 
 const NONE: u32 = 4294967295;
 const NL: u32 = 4294967294;
@@ -97,4 +97,78 @@ fn tail(f: &mut [u8; 256], w: &mut [u32; 12], m: &[u32], e: u32) -> bool
     f[e as usize] = 1;
     w[10] = std::num::wrapping_add_u32(w[10], 1);
     true
+}
+
+// 1 for a non-local end of a view.
+fn marked(w: u32) -> u32
+    ensures { λ r. ⌜ r ≡ marked w ⌝ }
+{
+    if w == NL { 1 } else { 0 }
+}
+
+// The order of a queue in front of a view with head h and tail e, where it is o behind it.
+fn passed(h: u32, e: u32, o: u32) -> u32
+    ensures { λ r. ⌜ r ≡ passed h e o ⌝ }
+{
+    if h == NONE {
+        if e == NONE {
+            return o;
+        }
+        return 2;
+    }
+    if e == NONE {
+        return 2;
+    }
+    if marked(e) != o {
+        return 2;
+    }
+    marked(h)
+}
+
+// A view of queue q with head h and tail e; the two low bits of r are the task's rights to q.
+pub fn view(
+    d: &mut [u8; 256],
+    f: &mut [u8; 256],
+    w: &mut [u32; 12],
+    m: &[u32],
+    h: u32,
+    e: u32,
+    r: u32,
+    q: usize,
+) -> bool
+    requires { ⌜ Ready (now m) × (q < 4) ⌝ }
+    ensures { λ b. ⌜ Does (now (m .entry)) (viewOf (not (eqb (r % 4) 0)) q h e) b (now (d .entry)) (now (f .entry)) (now (w .entry)) (now (d .exit)) (now (f .exit)) (now (w .exit)) ⌝ }
+{
+    if h & e == NONE {
+        return true;
+    }
+    if r % 4 == 0 {
+        return false;
+    }
+    w[q] = passed(h, e, w[q]);
+    if !tail(f, w, m, e) {
+        return false;
+    }
+    head(d, w, m, h)
+}
+
+// The queue view of queue q with head h.
+pub fn queue(d: &mut [u8; 256], w: &mut [u32; 12], m: &[u32], h: u32, r: u32, q: usize) -> bool
+    requires { ⌜ Ready (now m) × (q < 4) ⌝ }
+    ensures { λ b. ⌜ DoesHeads (now (m .entry)) (queueOf (not (eqb (r % 4) 0)) q h) b (now (d .entry)) (now (w .entry)) (now (d .exit)) (now (w .exit)) ⌝ }
+{
+    if h == NONE {
+        return true;
+    }
+    if r % 4 == 0 {
+        return false;
+    }
+    if h == NL {
+        return false;
+    }
+    if w[4 + q] != 0 {
+        return false;
+    }
+    w[4 + q] = 1;
+    head(d, w, m, h)
 }

@@ -1,0 +1,73 @@
+use Rattle.view_events.specs.Open.{stops, goes, and-none, and-some, view-none, view-refused, view-open}
+use borrow.Author.Tests.{eq-eqb, ne-eqb, not-true, not-false}
+use native.Mathlib.Omega.{arith}
+use mathlib.Core.Bool.{not}
+use mathlib.Core.Path.{ap, sym, _∙_}
+use borrow.Author.Needs.{needs}
+use Rattle.view_steps.proofs.view.Statement.{statement}
+use Rattle.view_steps.proofs.view.Tie as tie
+use Rattle.view_steps.proofs.view.Reads as reads
+use Rattle.view_steps.proofs.view.Lts as lts
+use Rattle.view_steps.proofs.head.Reads as head-reads
+use Rattle.view_steps.proofs.passed.Reads as passed-reads
+use Rattle.view_steps.proofs.tail.Reads as tail-reads
+
+-- src/lib.rt:143:9
+returns : tie.Need-returns
+returns c = λ es. view-none _ es _ _ _ _ _ _ _ (and-none _ _ (search needs) (search needs) (c .if1 .taken))
+
+-- src/lib.rt:146:9
+returns-2 : tie.Need-returns-2
+returns-2 c = λ es. view-refused _ es _ _ _ _ _ _ _ (and-some _ _ (c .before .if1 .left)) _ (ap not (eq-eqb _ _ (c .if2 .taken)))
+
+-- src/lib.rt:148:25
+mul-passed : tie.Need-mul-passed
+mul-passed c = search needs
+
+-- src/lib.rt:148:25
+element-copy-out-passed : tie.Need-element-copy-out-passed
+element-copy-out-passed c = search needs
+
+-- src/lib.rt:148:12
+passed-requires : tie.Need-passed-requires
+passed-requires c κs = search needs
+
+-- src/lib.rt:148:5
+mul-w : tie.Need-mul-w
+mul-w c = search needs
+
+-- src/lib.rt:148:5
+element-write-w : tie.Need-element-write-w
+element-write-w c = search needs
+
+-- src/lib.rt:149:9
+tail-requires : tie.Need-tail-requires
+tail-requires c κs = search needs
+
+-- src/lib.rt:150:9
+returns-3 : tie.Need-returns-3
+returns-3 c = λ es. stops _ _ (not-true _ (c .if3 .taken)) (c .before .tail .ensures _ _) ∙ view-open _ es _ _ _ _ _ _ _ (and-some _ _ (c .before .before .before .before .before .before .before .if1 .left)) _ (ap not (ne-eqb _ _ (c .before .before .before .before .before .before .if2 .left))) (c .before .before .before .before .passed .ensures)
+
+-- src/lib.rt:152:5
+head-requires : tie.Need-head-requires
+head-requires c κs = search needs
+
+-- src/lib.rt:129:1
+returns-4 : tie.Need-returns-4
+returns-4 c = λ es. c .head .ensures _ es ∙ goes (not-false _ (c .before .before .before .if3 .left)) (c .before .before .before .before .tail .ensures _ _) ∙ view-open _ es _ _ _ _ _ _ _ (and-some _ _ (c .before .before .before .before .before .before .before .before .before .before .if1 .left)) _ (ap not (ne-eqb _ _ (c .before .before .before .before .before .before .before .before .before .if2 .left))) (c .before .before .before .before .before .before .before .passed .ensures)
+
+pub view-spec : {M : Type 1} → statement M
+view-spec =
+    tie.close
+    (tie.spec
+    returns
+    returns-2
+    mul-passed
+    element-copy-out-passed
+    passed-requires
+    mul-w
+    element-write-w
+    tail-requires
+    returns-3
+    head-requires
+    returns-4)
