@@ -2,7 +2,7 @@
 ghost use mathlib.Core.Path.{_≡_};
 ghost use mathlib.Core.List.{_∷_};
 ghost use mathlib.Core.Bool.{not};
-ghost use Prim.Native.Nat.{ℕ, _<_, _%_};
+ghost use Prim.Native.Nat.{_+_, _<_, _%_};
 ghost use lib.Dec.{eqb};
 ghost use lib.ListN.{length, getD};
 ghost use Rattle.rules.specs.Contents.{decode, part};
@@ -125,20 +125,21 @@ fn passed(h: u32, e: u32, o: u32) -> u32
     marked(h)
 }
 
-// A view of queue q with head h and tail e; the two low bits of r are the task's rights to q.
+// The view of queue q whose head stands at address a; the two low bits of r are the task's rights to q.
 pub fn view(
     d: &mut [u8; 256],
     f: &mut [u8; 256],
     w: &mut [u32; 12],
     m: &[u32],
-    h: u32,
-    e: u32,
+    a: usize,
     r: u32,
     q: usize,
 ) -> bool
-    requires { ⌜ Ready (now m) × (q < 4) ⌝ }
-    ensures { λ b. ⌜ Does (now (m .entry)) (viewOf (not (eqb (r % 4) 0)) q h e) b (now (d .entry)) (now (f .entry)) (now (w .entry)) (now (d .exit)) (now (f .exit)) (now (w .exit)) ⌝ }
+    requires { ⌜ Ready (now m) × (a < 16000) × (q < 4) ⌝ }
+    ensures { λ b. ⌜ Does (now (m .entry)) (viewOf (not (eqb (r % 4) 0)) q (getD (now (m .entry)) a 0) (getD (now (m .entry)) (a + 12) 0)) b (now (d .entry)) (now (f .entry)) (now (w .entry)) (now (d .exit)) (now (f .exit)) (now (w .exit)) ⌝ }
 {
+    let h = m[a];
+    let e = m[a + 12];
     if h & e == NONE {
         return true;
     }
@@ -152,11 +153,12 @@ pub fn view(
     head(d, w, m, h)
 }
 
-// The queue view of queue q with head h.
-pub fn queue(d: &mut [u8; 256], w: &mut [u32; 12], m: &[u32], h: u32, r: u32, q: usize) -> bool
-    requires { ⌜ Ready (now m) × (q < 4) ⌝ }
-    ensures { λ b. ⌜ DoesHeads (now (m .entry)) (queueOf (not (eqb (r % 4) 0)) q h) b (now (d .entry)) (now (w .entry)) (now (d .exit)) (now (w .exit)) ⌝ }
+// The queue view of queue q whose head stands at address a.
+pub fn queue(d: &mut [u8; 256], w: &mut [u32; 12], m: &[u32], a: usize, r: u32, q: usize) -> bool
+    requires { ⌜ Ready (now m) × (a < 16000) × (q < 4) ⌝ }
+    ensures { λ b. ⌜ DoesHeads (now (m .entry)) (queueOf (not (eqb (r % 4) 0)) q (getD (now (m .entry)) a 0)) b (now (d .entry)) (now (w .entry)) (now (d .exit)) (now (w .exit)) ⌝ }
 {
+    let h = m[a];
     if h == NONE {
         return true;
     }
