@@ -15,8 +15,8 @@ Ready m = (length m ≡ 16384) × (getD m 1 0 ≤ 256)
 
 -- From the state d f w the events vs were met: with answer r and the state d' f' w' the test of any events behind them
 -- says what it says of all from the start.
-abbrev pub Does : List ℕ → (List Event → List Event) → Bool → List ℕ → List ℕ → List ℕ → List ℕ → List ℕ → List ℕ → Type 0
-Does m vs r d f w d' f' w' = (es : List Event) → both r (run (decode m) es d' f' w') ≡ run (decode m) (vs es) d f w
+pub record Does (m : List ℕ) (vs : List Event → List Event) (r : Bool) (d f w d' f' w' : List ℕ) : Type 0 where
+  pub same : (es : List Event) → both r (run (decode m) es d' f' w') ≡ run (decode m) (vs es) d f w
 
 -- the same of code that leaves f alone, and of code that leaves d alone
 abbrev pub DoesHeads : List ℕ → (List Event → List Event) → Bool → List ℕ → List ℕ → List ℕ → List ℕ → Type 0

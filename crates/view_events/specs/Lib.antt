@@ -6,3 +6,5 @@ pub mod Parts
 pub mod Placing
 pub mod Steps
 pub mod Open
+pub mod Groups
+pub mod Chain

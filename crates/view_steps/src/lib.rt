@@ -13,6 +13,7 @@ ghost use Rattle.view_events.specs.Place.{placing, answered};
 ghost use Rattle.view_events.specs.Does.{Ready, Does, DoesHeads, DoesTails};
 
 const NONE: u32 = 4294967295;
+
 const NL: u32 = 4294967294;
 
 // Count of segment s.

@@ -19,15 +19,15 @@ shared-slice-read-h c = search needs
 
 -- src/lib.rt:163:9
 returns : tie.Need-returns
-returns c = λ f es. queue-none _ es _ f _ _ _ _ (c .if1 .taken)
+returns c = λ f. record { same = λ es. queue-none _ es _ f _ _ _ _ (c .if1 .taken) }
 
 -- src/lib.rt:166:9
 returns-2 : tie.Need-returns-2
-returns-2 c = λ f es. queue-refused _ es _ f _ _ _ _ _ (c .before .if1 .left) (ap not (eq-eqb _ _ (c .if2 .taken)))
+returns-2 c = λ f. record { same = λ es. queue-refused _ es _ f _ _ _ _ _ (c .before .if1 .left) (ap not (eq-eqb _ _ (c .if2 .taken))) }
 
 -- src/lib.rt:169:9
 returns-3 : tie.Need-returns-3
-returns-3 c = λ f es. queue-far _ es _ f _ _ _ _ (c .before .before .if1 .left) (ap not (ne-eqb _ _ (c .before .if2 .left))) _ (c .if3 .taken)
+returns-3 c = λ f. record { same = λ es. queue-far _ es _ f _ _ _ _ (c .before .before .if1 .left) (ap not (ne-eqb _ _ (c .before .if2 .left))) _ (c .if3 .taken) }
 
 -- src/lib.rt:171:10
 add-if4 : tie.Need-add-if4
@@ -43,7 +43,7 @@ element-copy-out-if4 c = search needs
 
 -- src/lib.rt:172:9
 returns-4 : tie.Need-returns-4
-returns-4 c = λ f es. queue-twice _ es _ f _ _ _ _ (c .before .before .before .before .if1 .left) (ap not (ne-eqb _ _ (c .before .before .before .if2 .left))) _ (c .before .before .if3 .left) (c .if4 .taken)
+returns-4 c = λ f. record { same = λ es. queue-twice _ es _ f _ _ _ _ (c .before .before .before .before .if1 .left) (ap not (ne-eqb _ _ (c .before .before .before .if2 .left))) _ (c .before .before .if3 .left) (c .if4 .taken) }
 
 -- src/lib.rt:174:7
 add-w : tie.Need-add-w
@@ -63,7 +63,7 @@ head-requires c κs = search needs
 
 -- src/lib.rt:157:1
 returns-5 : tie.Need-returns-5
-returns-5 c = λ f es. c .head .ensures f es ∙ queue-open _ es _ f _ _ _ _ (c .before .before .before .before .before .before .before .if1 .left) (ap not (ne-eqb _ _ (c .before .before .before .before .before .before .if2 .left))) (c .before .before .before .before .before .if3 .left) (c .before .before .before .if4 .left)
+returns-5 c = λ f. record { same = λ es. c .head .ensures f .same es ∙ queue-open _ es _ f _ _ _ _ (c .before .before .before .before .before .before .before .if1 .left) (ap not (ne-eqb _ _ (c .before .before .before .before .before .before .if2 .left))) (c .before .before .before .before .before .if3 .left) (c .before .before .before .if4 .left) }
 
 pub queue-spec : {M : Type 1} → statement M
 queue-spec =

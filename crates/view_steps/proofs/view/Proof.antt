@@ -35,11 +35,11 @@ shared-slice-read-e c = search needs
 
 -- src/lib.rt:144:9
 returns : tie.Need-returns
-returns c = λ es. view-none _ es _ _ _ _ _ _ _ (and-none _ _ (omega (arith, c .before .before .before .shared-slice-known .given (c .before .before .before .before .args .a))) (omega (arith, c .before .before .before .shared-slice-known .given (c .before .before .before .before .args .a + 12))) (c .if1 .taken))
+returns c = record { same = λ es. view-none _ es _ _ _ _ _ _ _ (and-none _ _ (omega (arith, c .before .before .before .shared-slice-known .given (c .before .before .before .before .args .a))) (omega (arith, c .before .before .before .shared-slice-known .given (c .before .before .before .before .args .a + 12))) (c .if1 .taken)) }
 
 -- src/lib.rt:147:9
 returns-2 : tie.Need-returns-2
-returns-2 c = λ es. view-refused _ es _ _ _ _ _ _ _ (and-some _ _ (c .before .if1 .left)) _ (ap not (eq-eqb _ _ (c .if2 .taken)))
+returns-2 c = record { same = λ es. view-refused _ es _ _ _ _ _ _ _ (and-some _ _ (c .before .if1 .left)) _ (ap not (eq-eqb _ _ (c .if2 .taken))) }
 
 -- src/lib.rt:149:25
 mul-passed : tie.Need-mul-passed
@@ -67,7 +67,7 @@ tail-requires c κs = search needs
 
 -- src/lib.rt:151:9
 returns-3 : tie.Need-returns-3
-returns-3 c = λ es. stops _ _ (not-true _ (c .if3 .taken)) (c .before .tail .ensures _ _) ∙ view-open _ es _ _ _ _ _ _ _ (and-some _ _ (c .before .before .before .before .before .before .before .if1 .left)) _ (ap not (ne-eqb _ _ (c .before .before .before .before .before .before .if2 .left))) (c .before .before .before .before .passed .ensures)
+returns-3 c = record { same = λ es. stops _ _ (not-true _ (c .if3 .taken)) (c .before .tail .ensures _ .same _) ∙ view-open _ es _ _ _ _ _ _ _ (and-some _ _ (c .before .before .before .before .before .before .before .if1 .left)) _ (ap not (ne-eqb _ _ (c .before .before .before .before .before .before .if2 .left))) (c .before .before .before .before .passed .ensures) }
 
 -- src/lib.rt:153:5
 head-requires : tie.Need-head-requires
@@ -75,7 +75,7 @@ head-requires c κs = search needs
 
 -- src/lib.rt:129:1
 returns-4 : tie.Need-returns-4
-returns-4 c = λ es. c .head .ensures _ es ∙ goes (not-false _ (c .before .before .before .if3 .left)) (c .before .before .before .before .tail .ensures _ _) ∙ view-open _ es _ _ _ _ _ _ _ (and-some _ _ (c .before .before .before .before .before .before .before .before .before .before .if1 .left)) _ (ap not (ne-eqb _ _ (c .before .before .before .before .before .before .before .before .before .if2 .left))) (c .before .before .before .before .before .before .before .passed .ensures)
+returns-4 c = record { same = λ es. c .head .ensures _ .same es ∙ goes (not-false _ (c .before .before .before .if3 .left)) (c .before .before .before .before .tail .ensures _ .same _) ∙ view-open _ es _ _ _ _ _ _ _ (and-some _ _ (c .before .before .before .before .before .before .before .before .before .before .if1 .left)) _ (ap not (ne-eqb _ _ (c .before .before .before .before .before .before .before .before .before .if2 .left))) (c .before .before .before .before .before .before .before .passed .ensures) }
 
 pub view-spec : {M : Type 1} → statement M
 view-spec =

@@ -1,0 +1,134 @@
+// The memory test of views and segments: the views in the order of the tour, the free segments, all segment records.
+ghost use mathlib.Core.Path.{_≡_};
+ghost use mathlib.Core.Bool.{true};
+ghost use Prim.Native.Nat.{_+_, _*_, _<_, _≤_};
+ghost use lib.ListN.{length, getD};
+ghost use Rattle.layout.specs.Layout.{NONE, CHILDREN, USER, RIGHT};
+ghost use Rattle.rules.specs.Contents.{decode};
+ghost use Rattle.view_events.specs.Events.{queuesAt, kindAt, eventsAt};
+ghost use Rattle.view_events.specs.Groups.{Blank};
+ghost use Rattle.view_events.specs.Does.{Ready, Does, DoesHeads};
+
+const NONE: u32 = 4294967295;
+
+// The bits that four words from address a on share.
+fn shared(m: &[u32], a: usize) -> u32
+    requires { ⌜ (length (now m) ≡ 16384) × (a < 16000) ⌝ }
+    ensures { λ r. ⌜ (NONE ≤ r → Blank (now (m .entry)) a) ⌝ }
+{
+    m[a] & m[a + 1] & m[a + 2] & m[a + 3]
+}
+
+// The four views of kind k of task t are empty.
+fn empty(m: &[u32], t: usize, k: usize) -> bool
+    requires { ⌜ (length (now m) ≡ 16384) × (t < 128) × (k < 3) ⌝ }
+    ensures { λ r. ⌜ (r ≡ true → Blank (now (m .entry)) (1492 + t * 48 + k * 4) × Blank (now (m .entry)) (1504 + t * 48 + k * 4)) ⌝ }
+{
+    shared(m, 1492 + t * 48 + k * 4) & shared(m, 1504 + t * 48 + k * 4) == NONE
+}
+
+// The four views of kind k of task t.
+fn four(
+    d: &mut [u8; 256],
+    f: &mut [u8; 256],
+    w: &mut [u32; 12],
+    m: &[u32],
+    t: usize,
+    k: usize,
+) -> bool
+    requires { ⌜ Ready (now m) × (t < 128) × (k < 3) ⌝ }
+    ensures { λ b. ⌜ Does (now (m .entry)) (kindAt (decode (now (m .entry))) t k) b (now (d .entry)) (now (f .entry)) (now (w .entry)) (now (d .exit)) (now (f .exit)) (now (w .exit)) ⌝ }
+{
+    let r = m[1473 + t * 48];
+    let a = 1492 + t * 48 + k * 4;
+    if !view_steps::view(d, f, w, m, a, r, 0) {
+        return false;
+    }
+    if !view_steps::view(d, f, w, m, a + 1, r / 4, 1) {
+        return false;
+    }
+    if !view_steps::view(d, f, w, m, a + 2, r / 16, 2) {
+        return false;
+    }
+    view_steps::view(d, f, w, m, a + 3, r / 64, 3)
+}
+
+// The four queue views of task t.
+fn queues(d: &mut [u8; 256], w: &mut [u32; 12], m: &[u32], t: usize) -> bool
+    requires { ⌜ Ready (now m) × (t < 128) ⌝ }
+    ensures { λ b. ⌜ DoesHeads (now (m .entry)) (queuesAt (decode (now (m .entry))) t) b (now (d .entry)) (now (w .entry)) (now (d .exit)) (now (w .exit)) ⌝ }
+{
+    let r = m[1473 + t * 48];
+    let a = 1488 + t * 48;
+    if !view_steps::queue(d, w, m, a, r, 0) {
+        return false;
+    }
+    if !view_steps::queue(d, w, m, a + 1, r / 4, 1) {
+        return false;
+    }
+    if !view_steps::queue(d, w, m, a + 2, r / 16, 2) {
+        return false;
+    }
+    view_steps::queue(d, w, m, a + 3, r / 64, 3)
+}
+
+// The user views of task t.
+fn user(d: &mut [u8; 256], f: &mut [u8; 256], w: &mut [u32; 12], m: &[u32], t: usize) -> bool
+    requires { ⌜ Ready (now m) × (t < 128) ⌝ }
+    ensures { λ b. ⌜ Does (now (m .entry)) (kindAt (decode (now (m .entry))) t USER) b (now (d .entry)) (now (f .entry)) (now (w .entry)) (now (d .exit)) (now (f .exit)) (now (w .exit)) ⌝ }
+{
+    if empty(m, t, 1) {
+        return true;
+    }
+    four(d, f, w, m, t, 1)
+}
+
+// The right views of task t and, in front of them, its user views.
+fn right(d: &mut [u8; 256], f: &mut [u8; 256], w: &mut [u32; 12], m: &[u32], t: usize) -> bool
+    requires { ⌜ Ready (now m) × (t < 128) ⌝ }
+    ensures { λ b. ⌜ Does (now (m .entry)) (λ es. kindAt (decode (now (m .entry))) t RIGHT (kindAt (decode (now (m .entry))) t USER es)) b (now (d .entry)) (now (f .entry)) (now (w .entry)) (now (d .exit)) (now (f .exit)) (now (w .exit)) ⌝ }
+{
+    if empty(m, t, 2) {
+        return user(d, f, w, m, t);
+    }
+    if !four(d, f, w, m, t, 2) {
+        return false;
+    }
+    user(d, f, w, m, t)
+}
+
+// Task t where it is met.
+fn met(d: &mut [u8; 256], f: &mut [u8; 256], w: &mut [u32; 12], m: &[u32], t: usize) -> bool
+    requires { ⌜ Ready (now m) × (t < 128) ⌝ }
+    ensures { λ b. ⌜ Does (now (m .entry)) (λ es. queuesAt (decode (now (m .entry))) t (kindAt (decode (now (m .entry))) t RIGHT (kindAt (decode (now (m .entry))) t USER es))) b (now (d .entry)) (now (f .entry)) (now (w .entry)) (now (d .exit)) (now (f .exit)) (now (w .exit)) ⌝ }
+{
+    if shared(m, 1488 + t * 48) == NONE {
+        return right(d, f, w, m, t);
+    }
+    if !queues(d, w, m, t) {
+        return false;
+    }
+    right(d, f, w, m, t)
+}
+
+// Task t where it is left.
+fn left(d: &mut [u8; 256], f: &mut [u8; 256], w: &mut [u32; 12], m: &[u32], t: usize) -> bool
+    requires { ⌜ Ready (now m) × (t < 128) ⌝ }
+    ensures { λ b. ⌜ Does (now (m .entry)) (kindAt (decode (now (m .entry))) t CHILDREN) b (now (d .entry)) (now (f .entry)) (now (w .entry)) (now (d .exit)) (now (f .exit)) (now (w .exit)) ⌝ }
+{
+    if empty(m, t, 0) {
+        return true;
+    }
+    four(d, f, w, m, t, 0)
+}
+
+// A mark of the tour.
+fn mark(d: &mut [u8; 256], f: &mut [u8; 256], w: &mut [u32; 12], m: &[u32], x: u32) -> bool
+    requires { ⌜ Ready (now m) × (x < 256) ⌝ }
+    ensures { λ b. ⌜ Does (now (m .entry)) (eventsAt (decode (now (m .entry))) x) b (now (d .entry)) (now (f .entry)) (now (w .entry)) (now (d .exit)) (now (f .exit)) (now (w .exit)) ⌝ }
+{
+    if x < 128 {
+        return met(d, f, w, m, x as usize);
+    }
+    left(d, f, w, m, x as usize - 128)
+}
