@@ -8,3 +8,4 @@ pub mod Steps
 pub mod Open
 pub mod Groups
 pub mod Chain
+pub mod Walk

@@ -5,7 +5,9 @@ ghost use Prim.Native.Nat.{_+_, _*_, _<_, _≤_};
 ghost use lib.ListN.{length, getD};
 ghost use Rattle.layout.specs.Layout.{NONE, CHILDREN, USER, RIGHT};
 ghost use Rattle.rules.specs.Contents.{decode};
-ghost use Rattle.view_events.specs.Events.{queuesAt, kindAt, eventsAt};
+ghost use Rattle.view_events.specs.Events.{queuesAt, kindAt, eventsAt, events};
+ghost use Rattle.view_events.specs.Run.{ones, whole, run};
+ghost use Rattle.view_events.specs.Walk.{Marks};
 ghost use Rattle.view_events.specs.Groups.{Blank};
 ghost use Rattle.view_events.specs.Does.{Ready, Does, DoesHeads};
 
@@ -131,4 +133,53 @@ fn mark(d: &mut [u8; 256], f: &mut [u8; 256], w: &mut [u32; 12], m: &[u32], x: u
         return met(d, f, w, m, x as usize);
     }
     left(d, f, w, m, x as usize - 128)
+}
+
+// The four words of the state from a on are 1.
+fn ones(w: &[u32; 12], a: usize) -> bool
+    requires { ⌜ a < 9 ⌝ }
+    ensures { λ b. ⌜ b ≡ ones (now (w .entry)) a ⌝ }
+{
+    if w[a] != 1 {
+        return false;
+    }
+    if w[a + 1] != 1 {
+        return false;
+    }
+    if w[a + 2] != 1 {
+        return false;
+    }
+    w[a + 3] == 1
+}
+
+// The end: the order of each queue is right, each queue view was met, each segment placed, each chain has its tail.
+fn whole(w: &[u32; 12], m: &[u32]) -> bool
+    requires { ⌜ length (now m) ≡ 16384 ⌝ }
+    ensures { λ b. ⌜ b ≡ whole (decode (now (m .entry))) (now (w .entry)) ⌝ }
+{
+    if !ones(w, 0) {
+        return false;
+    }
+    if !ones(w, 4) {
+        return false;
+    }
+    if w[8] != m[1] {
+        return false;
+    }
+    w[9] == w[10]
+}
+
+// All marks of the tour.
+fn walk(d: &mut [u8; 256], f: &mut [u8; 256], w: &mut [u32; 12], m: &[u32], xs: &[u32]) -> bool
+    requires { ⌜ Ready (now m) × Marks (now xs) ⌝ }
+    ensures { λ b. ⌜ b ≡ run (decode (now (m .entry))) (events (decode (now (m .entry))) (now (xs .entry))) (now (d .entry)) (now (f .entry)) (now (w .entry)) ⌝ }
+{
+    let mut i = 0;
+    while i < xs.len() {
+        if !mark(d, f, w, m, xs[i]) {
+            return false;
+        }
+        i += 1;
+    }
+    whole(w, m)
 }
