@@ -1,0 +1,67 @@
+use Rattle.segment_test.specs.Records.{upto-more, upto-done, upto-start}
+use Rattle.rules.specs.Test.{segmentTest}
+use Rattle.rules.specs.Contents.{decode}
+use Rattle.lists.specs.Tests.{upto}
+use Rattle.words.specs.Words.{both}
+use Prim.Native.Nat.{_≤_, _-_}
+use mathlib.Core.Path.{_≡_, _∙_}
+use borrow.Author.Needs.{needs}
+use native.Mathlib.Omega.{arith}
+use Rattle.segment_test.proofs.segments_hold.Statement.{statement}
+use Rattle.segment_test.proofs.segments_hold.Tie as tie
+use Rattle.segment_test.proofs.segments_hold.Reads as reads
+use Rattle.segment_test.proofs.segments_hold.Lts as lts
+use Rattle.segment_test.proofs.sound.Reads as sound-reads
+
+abbrev Inv-loop : tie.InvT-loop
+Inv-loop m n good₀ s₀ good s = (s ≤ n) × (both good (upto (segmentTest (decode m)) (n - s) s) ≡ upto (segmentTest (decode m)) n 0)
+
+abbrev μ-loop : tie.MeasureT-loop
+μ-loop m n good₀ s₀ good s = n - s
+
+-- src/lib.rt:29:13
+shared-slice-read-n : tie.Need-shared-slice-read-n Inv-loop μ-loop
+shared-slice-read-n c = search needs
+
+-- src/lib.rt:29:13
+cast-n : tie.Need-cast-n Inv-loop μ-loop
+cast-n c = search needs
+
+-- src/lib.rt:32:5
+loop-holds : tie.Need-loop-holds Inv-loop μ-loop
+loop-holds c = (omega arith, upto-start _ _)
+
+-- src/lib.rt:33:23
+sound-requires : tie.Need-sound-requires Inv-loop μ-loop
+sound-requires c κs = (search needs, omega arith)
+
+-- src/lib.rt:34:9
+add-s : tie.Need-add-s Inv-loop μ-loop
+add-s c = omega arith
+
+-- src/lib.rt:32:5
+loop-less : tie.Need-loop-less Inv-loop μ-loop
+loop-less c = omega arith
+
+-- src/lib.rt:32:5
+loop-again : tie.Need-loop-again Inv-loop μ-loop
+loop-again c = (omega arith, upto-more _ _ _ _ _ (c .before .loop-test .taken) (c .sound .ensures) ∙ c .before .before .loop .inv .1)
+
+-- src/lib.rt:25:1
+returns : tie.Need-returns Inv-loop μ-loop
+returns c = upto-done _ _ _ _ (c .loop-test .left) ∙ c .before .loop .inv .1
+
+pub segments-hold-spec : {M : Type 1} → statement M
+segments-hold-spec =
+    tie.close
+    (tie.spec
+    Inv-loop
+    μ-loop
+    shared-slice-read-n
+    cast-n
+    loop-holds
+    sound-requires
+    add-s
+    loop-less
+    loop-again
+    returns)

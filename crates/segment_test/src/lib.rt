@@ -1,0 +1,59 @@
+// The memory test of segment records and of the stack of free segments.
+ghost use mathlib.Core.Path.{_≡_};
+ghost use mathlib.Core.Bool.{true};
+ghost use Prim.Native.Nat.{_<_, _≤_};
+ghost use lib.ListN.{length, getD};
+ghost use Rattle.lists.specs.Tests.{upto};
+ghost use Rattle.lists.specs.Distinct.{fresh};
+ghost use Rattle.rules.specs.Contents.{decode};
+ghost use Rattle.rules.specs.Test.{segmentTest};
+ghost use Rattle.view_events.specs.Run.{marking};
+ghost use Rattle.view_events.specs.Does.{Ready};
+
+const NONE: u32 = 4294967295;
+
+// First place, count and next of segment s. All three are looked at, so that a loop over segments has no early exit.
+fn sound(m: &[u32], s: usize) -> bool
+    requires { ⌜ (length (now m) ≡ 16384) × (s < 256) ⌝ }
+    ensures { λ b. ⌜ b ≡ segmentTest (decode (now (m .entry))) s ⌝ }
+{
+    let next = m[450 + s * 4];
+    (m[448 + s * 4] < m[0]) & (m[449 + s * 4] <= m[0]) & ((next < m[1]) | (next == NONE))
+}
+
+// All segments opened.
+pub fn segments_hold(m: &[u32]) -> bool
+    requires { ⌜ Ready (now m) ⌝ }
+    ensures { λ b. ⌜ b ≡ upto (segmentTest (decode (now (m .entry)))) (getD (now (m .entry)) 1 0) 0 ⌝ }
+{
+    let n = m[1] as usize;
+    let mut good = true;
+    let mut s: usize = 0;
+    while s < n {
+        good = good & sound(m, s);
+        s += 1;
+    }
+    good
+}
+
+// Marks the free segments; false where one is no segment opened, or stands on the stack twice.
+pub fn mark_free(d: &mut [u8; 256], m: &[u32]) -> bool
+    requires { ⌜ Ready (now m) × (getD (now m) 2 0 ≤ 256) ⌝ }
+    ensures { λ b. ⌜ (b ≡ fresh (decode (now (m .entry)) .number) (decode (now (m .entry)) .free) (now (d .entry))) × (b ≡ true → now (d .exit) ≡ marking (decode (now (m .entry)) .free) (now (d .entry))) ⌝ }
+{
+    let n = m[1];
+    let h = m[2] as usize;
+    let mut i: usize = 0;
+    while i < h {
+        let s = m[64 + i];
+        if s >= n {
+            return false;
+        }
+        if d[s as usize] != 0 {
+            return false;
+        }
+        d[s as usize] = 1;
+        i += 1;
+    }
+    true
+}
