@@ -4,3 +4,6 @@ pub mod Appended
 pub mod Conses
 pub mod Ends
 pub mod Says
+pub mod Tasks
+pub mod Counts
+pub mod Marks

@@ -1,0 +1,125 @@
+-- How often a segment is a head, and a tail, of the views of one task.
+use mathlib.Core.Path.{_≡_, refl, ap, ap₂, sym, _∙_}
+use mathlib.Core.Bool.{Bool, true, false, not}
+use mathlib.Core.List.{List, [], _∷_}
+use mathlib.Core.Logic.{⊎-elim}
+use Prim.Native.Nat.{ℕ, zero, suc, _+_, _*_, _<_, _≤_}
+use native.Mathlib.Omega.{arith}
+use lib.Dec.{leb, ltb, eqb}
+use lib.ListN.{drop}
+use lib.Seq.{drop-drop}
+use borrow.Author.Tests.{leb-true, leb-false, lt-ltb, le-ltb}
+use Rattle.words.specs.Words.{load, pick, both, pass, halt}
+use Rattle.lists.specs.Counting.{one, occurrences, total, occurs-nil, occurs-cons, total-ext}
+use Rattle.lists.specs.Sums.{total-first}
+use Rattle.layout.specs.Layout.{NONE, NL}
+use Rattle.rules.specs.Contents.{Contents, word, locals}
+use Rattle.rules_views.specs.Marks.{yes-no}
+use Rattle.rules_views.specs.Members.{load-drop}
+use Rattle.view_events.specs.Events.{Event, queueAt, viewAt, queuesAt, kindAt}
+use Rattle.view_events.specs.Events.Event.{tail, head}
+use Rattle.view_laws.specs.Good.{ownersOf, tailsOf, headsOf}
+use Rattle.view_laws.specs.Tasks.{four}
+
+-- 1 where the word x names segment s
+unfoldable pub names : ℕ → ℕ → ℕ
+names s x = pick (leb NL x) 0 (one (eqb x s))
+
+-- among the words of task t from word a on: four of them
+unfoldable pub namesAt : Contents → ℕ → ℕ → ℕ → ℕ
+namesAt c s t a = names s (word c t (a + 0)) + names s (word c t (a + 1)) + names s (word c t (a + 2)) + names s (word c t (a + 3))
+
+pub queues-owners : (c : Contents) (t : ℕ) (es : List Event) (q : ℕ) → q < 4 → ownersOf q (queuesAt c t es) ≡ one (not (eqb (word c t (16 + q)) NONE)) + ownersOf q es
+unfolding queuesAt queueAt ownersOf one both pick
+queues-owners c t es =
+    four (λ q. ownersOf q (queuesAt c t es) ≡ one (not (eqb (word c t (16 + q)) NONE)) + ownersOf q es)
+    (omega arith) (omega arith) (omega arith) (omega arith)
+
+module _ (s : ℕ) where
+  head-count : (h : ℕ) (es : List Event) → occurrences s (headsOf (head h ∷ es)) ≡ names s h + occurrences s (headsOf es)
+  unfolding headsOf names
+  head-count h es =
+      ⊎-elim
+      (λ e. let a = ap (occurrences s) (halt (headsOf es) (h ∷ headsOf es) e) in let b = halt 0 (one (eqb h s)) e in a ∙ (let z : occurrences s (headsOf es) ≡ pick (leb NL h) 0 (one (eqb h s)) + occurrences s (headsOf es) = omega (arith, b) in z))
+      (λ e. let a = ap (occurrences s) (pass (headsOf es) e refl) in let b = pass 0 e refl in a ∙ occurs-cons h s (headsOf es) ∙ ap (λ (k : ℕ). k + occurrences s (headsOf es)) (sym b))
+      (yes-no (leb NL h))
+
+  tail-count : (x : ℕ) (es : List Event) → occurrences s (tailsOf (tail x ∷ es)) ≡ names s x + occurrences s (tailsOf es)
+  unfolding tailsOf names
+  tail-count x es =
+      ⊎-elim
+      (λ e. let a = ap (occurrences s) (halt (tailsOf es) (x ∷ tailsOf es) e) in let b = halt 0 (one (eqb x s)) e in a ∙ (let z : occurrences s (tailsOf es) ≡ pick (leb NL x) 0 (one (eqb x s)) + occurrences s (tailsOf es) = omega (arith, b) in z))
+      (λ e. let a = ap (occurrences s) (pass (tailsOf es) e refl) in let b = pass 0 e refl in a ∙ occurs-cons x s (tailsOf es) ∙ ap (λ (k : ℕ). k + occurrences s (tailsOf es)) (sym b))
+      (yes-no (leb NL x))
+
+  module _ (c : Contents) (t : ℕ) where
+    view-heads : (k q : ℕ) (es : List Event) → occurrences s (headsOf (viewAt c t k q es)) ≡ names s (word c t (20 + k * 4 + q)) + occurrences s (headsOf es)
+    unfolding viewAt headsOf
+    view-heads k q es = head-count (word c t (20 + k * 4 + q)) es
+
+    view-tails : (k q : ℕ) (es : List Event) → occurrences s (tailsOf (viewAt c t k q es)) ≡ names s (word c t (32 + k * 4 + q)) + occurrences s (tailsOf es)
+    unfolding viewAt tailsOf
+    view-tails k q es = tail-count (word c t (32 + k * 4 + q)) es
+
+    queue-heads : (q : ℕ) (es : List Event) → occurrences s (headsOf (queueAt c t q es)) ≡ names s (word c t (16 + q)) + occurrences s (headsOf es)
+    unfolding queueAt headsOf
+    queue-heads q es = head-count (word c t (16 + q)) es
+
+    pub kind-heads : (k : ℕ) (es : List Event) → occurrences s (headsOf (kindAt c t k es)) ≡ namesAt c s t (20 + k * 4) + occurrences s (headsOf es)
+    unfolding kindAt namesAt
+    kind-heads k es =
+        let v3 = view-heads k 3 es in
+        let v2 = view-heads k 2 (viewAt c t k 3 es) in
+        let v1 = view-heads k 1 (viewAt c t k 2 (viewAt c t k 3 es)) in
+        let v0 = view-heads k 0 (viewAt c t k 1 (viewAt c t k 2 (viewAt c t k 3 es))) in
+        omega (arith, v0, v1, v2, v3)
+
+    pub kind-tails : (k : ℕ) (es : List Event) → occurrences s (tailsOf (kindAt c t k es)) ≡ namesAt c s t (32 + k * 4) + occurrences s (tailsOf es)
+    unfolding kindAt namesAt
+    kind-tails k es =
+        let v3 = view-tails k 3 es in
+        let v2 = view-tails k 2 (viewAt c t k 3 es) in
+        let v1 = view-tails k 1 (viewAt c t k 2 (viewAt c t k 3 es)) in
+        let v0 = view-tails k 0 (viewAt c t k 1 (viewAt c t k 2 (viewAt c t k 3 es))) in
+        omega (arith, v0, v1, v2, v3)
+
+    pub queues-heads : (es : List Event) → occurrences s (headsOf (queuesAt c t es)) ≡ namesAt c s t 16 + occurrences s (headsOf es)
+    unfolding queuesAt namesAt
+    queues-heads es =
+        let v3 = queue-heads 3 es in
+        let v2 = queue-heads 2 (queueAt c t 3 es) in
+        let v1 = queue-heads 1 (queueAt c t 2 (queueAt c t 3 es)) in
+        let v0 = queue-heads 0 (queueAt c t 1 (queueAt c t 2 (queueAt c t 3 es))) in
+        omega (arith, v0, v1, v2, v3)
+
+    pub queues-tails : (es : List Event) → tailsOf (queuesAt c t es) ≡ tailsOf es
+    unfolding queuesAt queueAt tailsOf
+    queues-tails es = refl
+
+  -- the words below NL of a record
+  local-count : (x : ℕ) (l : List ℕ) → occurrences s (pick (ltb x NL) (x ∷ l) l) ≡ names s x + occurrences s l
+  unfolding names
+  local-count x l =
+      ⊎-elim
+      (λ e. let a = ap (occurrences s) (pass (x ∷ l) (le-ltb x NL (leb-true _ _ e)) refl) in let b = halt 0 (one (eqb x s)) e in a ∙ (let z : occurrences s l ≡ pick (leb NL x) 0 (one (eqb x s)) + occurrences s l = omega (arith, b) in z))
+      (λ e. let a = ap (occurrences s) (halt (x ∷ l) l (lt-ltb x NL (leb-false _ _ e))) in let b = pass 0 e refl in a ∙ occurs-cons x s l ∙ ap (λ (k : ℕ). k + occurrences s l) (sym b))
+      (yes-no (leb NL x))
+
+  locals-count : (n a : ℕ) (rec : List ℕ) → occurrences s (locals n (drop a rec)) ≡ total n (λ j. names s (load rec (a + j)))
+  unfolding locals
+  locals-count zero a rec = occurs-nil s ∙ (unfold total in refl)
+  locals-count (suc n) a rec =
+      local-count (load (drop a rec) 0) (locals n (drop 1 (drop a rec)))
+      ∙ ap₂ (λ (x y : ℕ). names s x + y) (load-drop rec a 0)
+      (ap (λ (l : List ℕ). occurrences s (locals n l)) (drop-drop 1 a rec)
+      ∙ locals-count n (a + 1) rec
+      ∙ total-ext n _ _ (λ j l. ap (λ (i : ℕ). names s (load rec i)) (let z : a + 1 + j ≡ a + suc j = omega arith in z)))
+      ∙ sym (total-first n (λ j. names s (load rec (a + j))))
+
+  pub heads-count : (c : Contents) (t : ℕ) → occurrences s (locals 16 (drop 16 (c .recs t))) ≡ namesAt c s t 16 + namesAt c s t 20 + namesAt c s t 24 + namesAt c s t 28
+  unfolding namesAt total word
+  heads-count c t = locals-count 16 16 (c .recs t) ∙ omega arith
+
+  pub tails-count : (c : Contents) (t : ℕ) → occurrences s (locals 12 (drop 32 (c .recs t))) ≡ namesAt c s t 32 + namesAt c s t 36 + namesAt c s t 40
+  unfolding namesAt total word
+  tails-count c t = locals-count 12 32 (c .recs t) ∙ omega arith
