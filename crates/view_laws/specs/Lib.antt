@@ -7,3 +7,4 @@ pub mod Says
 pub mod Tasks
 pub mod Counts
 pub mod Marks
+pub mod Toured

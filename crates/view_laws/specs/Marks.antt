@@ -39,11 +39,11 @@ met-past : (x : ℕ) (xs : List ℕ) → 128 ≤ x → met (x ∷ xs) ≡ met xs
 unfolding met
 met-past x xs l = pass _ (le-ltb x 128 l) refl
 
-lefts-here : (x : ℕ) (xs : List ℕ) → 128 ≤ x → lefts (x ∷ xs) ≡ (x - 128) ∷ lefts xs
+pub lefts-here : (x : ℕ) (xs : List ℕ) → 128 ≤ x → lefts (x ∷ xs) ≡ (x - 128) ∷ lefts xs
 unfolding lefts
 lefts-here x xs l = pass _ (le-ltb x 128 l) refl
 
-lefts-past : (x : ℕ) (xs : List ℕ) → x < 128 → lefts (x ∷ xs) ≡ lefts xs
+pub lefts-past : (x : ℕ) (xs : List ℕ) → x < 128 → lefts (x ∷ xs) ≡ lefts xs
 unfolding lefts
 lefts-past x xs l = halt _ _ (lt-ltb x 128 l)
 
@@ -118,16 +118,16 @@ module _ (c : Contents) where
   -- HEADS AND TAILS
   module _ (s : ℕ) where
     -- where a task is met, and where it is left
-    abbrev headsMet : ℕ → ℕ
+    abbrev pub headsMet : ℕ → ℕ
     headsMet t = namesAt c s t 16 + namesAt c s t 28 + namesAt c s t 24
 
-    abbrev headsLeft : ℕ → ℕ
+    abbrev pub headsLeft : ℕ → ℕ
     headsLeft t = namesAt c s t 20
 
-    abbrev tailsMet : ℕ → ℕ
+    abbrev pub tailsMet : ℕ → ℕ
     tailsMet t = namesAt c s t 40 + namesAt c s t 36
 
-    abbrev tailsLeft : ℕ → ℕ
+    abbrev pub tailsLeft : ℕ → ℕ
     tailsLeft t = namesAt c s t 32
 
     over-here : (x : ℕ) (xs : List ℕ) (g h : ℕ → ℕ) → x < 128 → over (met (x ∷ xs)) g + over (lefts (x ∷ xs)) h ≡ g x + (over (met xs) g + over (lefts xs) h)
