@@ -8,3 +8,4 @@ pub mod Tasks
 pub mod Counts
 pub mod Marks
 pub mod Toured
+pub mod Held
