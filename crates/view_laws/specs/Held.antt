@@ -42,16 +42,16 @@ chains-long c (h ∷ hs) =
     some zero = unfold chain in omega arith
     some (suc k) = unfold chain in omega arith
 
-module _ (c : Contents) (small : c .number ≤ 256) where
-  -- the marks of the free segments
-  abbrev pub D : List ℕ
-  D = marking (c .free) (replicate 256 0)
+-- the marks of the free segments
+abbrev pub D : Contents → List ℕ
+D c = marking (c .free) (replicate 256 0)
 
+module _ (c : Contents) (small : c .number ≤ 256) where
   module _ (hs ts : List ℕ) where
     pub record Holds : Type 0 where
       pub free : fresh (c .number) (c .free) (replicate 256 0) ≡ true
-      pub heads : Chained c hs D (length (c .free))
-      pub tails : Ended c ts D
+      pub heads : Chained c hs (D c) (length (c .free))
+      pub tails : Ended c ts (D c)
       pub many : (0 + length hs) % 2 ^ 32 ≡ (0 + length ts) % 2 ^ 32
 
     pub holds-held : Holds → heldTest c hs ts ≡ true
@@ -69,7 +69,7 @@ module _ (c : Contents) (small : c .number ≤ 256) where
         true-both a (true-both (eq-eqb (length (c .free) + length (chains c hs)) (c .number) (omega (arith, x, p, s, small)))
         (true-both (h .heads .full) (true-both b (true-both (eq-eqb (length ts) (length hs) (omega (arith, x, y, p, q, m, l, small))) (h .tails .lasts)))))
       where
-        apart : (l : List ℕ) → fresh (c .number) l D ≡ true → distinct (c .number) (c .free ++ l) ≡ true
+        apart : (l : List ℕ) → fresh (c .number) l (D c) ≡ true → distinct (c .number) (c .free ++ l) ≡ true
         apart l e = unfold distinct in fresh-append (c .number) (c .free) l (replicate 256 0) ∙ true-both (h .free) e
 
     pub held-holds : heldTest c hs ts ≡ true → Holds
@@ -92,7 +92,7 @@ module _ (c : Contents) (small : c .number ≤ 256) where
         }
       where
         parts : (l : List ℕ) → distinct (c .number) (c .free ++ l) ≡ true
-            → (fresh (c .number) (c .free) (replicate 256 0) ≡ true) × (fresh (c .number) l D ≡ true)
+            → (fresh (c .number) (c .free) (replicate 256 0) ≡ true) × (fresh (c .number) l (D c) ≡ true)
         parts l z = unfold distinct in both-true _ _ (sym (fresh-append (c .number) (c .free) l (replicate 256 0)) ∙ z)
 
   -- the test looks only at how often each segment is a head, and a tail

@@ -9,3 +9,4 @@ pub mod Counts
 pub mod Marks
 pub mod Toured
 pub mod Held
+pub mod Whole
