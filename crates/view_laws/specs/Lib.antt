@@ -10,3 +10,4 @@ pub mod Marks
 pub mod Toured
 pub mod Held
 pub mod Whole
+pub mod Begun

@@ -5,11 +5,13 @@ ghost use Prim.Native.Nat.{_+_, _*_, _<_, _≤_};
 ghost use lib.ListN.{length, getD};
 ghost use Rattle.layout.specs.Layout.{NONE, CHILDREN, USER, RIGHT};
 ghost use Rattle.rules.specs.Contents.{decode};
+ghost use Rattle.rules.specs.Test.{viewTests};
 ghost use Rattle.view_events.specs.Events.{queuesAt, kindAt, eventsAt, events};
 ghost use Rattle.view_events.specs.Run.{ones, whole, run};
 ghost use Rattle.view_events.specs.Walk.{Marks};
 ghost use Rattle.view_events.specs.Groups.{Blank};
 ghost use Rattle.view_events.specs.Does.{Ready, Does, DoesHeads};
+ghost use Rattle.view_laws.specs.Begun.{Begun};
 
 const NONE: u32 = 4294967295;
 
@@ -182,4 +184,22 @@ fn walk(d: &mut [u8; 256], f: &mut [u8; 256], w: &mut [u32; 12], m: &[u32], xs: 
         i += 1;
     }
     whole(w, m)
+}
+
+// The memory test of views and segments; xs are the marks of the tour.
+pub fn views_hold(m: &[u32], xs: &[u32]) -> bool
+    requires { ⌜ Begun (now m) (now xs) ⌝ }
+    ensures { λ b. ⌜ b ≡ viewTests (decode (now (m .entry))) (now (xs .entry)) ⌝ }
+{
+    if !segment_test::segments_hold(m) {
+        return false;
+    }
+    let mut d = [0u8; 256];
+    if !segment_test::mark_free(&mut d, m) {
+        return false;
+    }
+    let mut f = d;
+    let mut w = [0u32; 12];
+    w[8] = m[2];
+    walk(&mut d, &mut f, &mut w, m, xs)
 }

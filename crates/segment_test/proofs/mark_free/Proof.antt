@@ -20,71 +20,54 @@ Inv-loop d₀ m n h i₀ d i = (i ≤ h) × (fresh (decode m .number) (rest m h 
 abbrev μ-loop : tie.MeasureT-loop
 μ-loop d₀ m n h i₀ d i = h - i
 
--- src/lib.rt:44:13
 shared-slice-read-n : tie.Need-shared-slice-read-n Inv-loop μ-loop
 shared-slice-read-n c = search needs
 
--- src/lib.rt:45:13
 shared-slice-read-h : tie.Need-shared-slice-read-h Inv-loop μ-loop
 shared-slice-read-h c = search needs
 
--- src/lib.rt:45:13
 cast-h : tie.Need-cast-h Inv-loop μ-loop
 cast-h c = search needs
 
--- src/lib.rt:47:5
 loop-holds : tie.Need-loop-holds Inv-loop μ-loop
 loop-holds c = (omega arith, ap (λ (l : List ℕ). fresh (decode (c .before .before .args .m .now) .number) l (c .before .before .args .d .now)) (rest-all (c .before .before .args .m .now)), ap (λ (l : List ℕ). marking l (c .before .before .args .d .now)) (rest-all (c .before .before .args .m .now)))
 
--- src/lib.rt:48:19
 add-s : tie.Need-add-s Inv-loop μ-loop
 add-s c = omega arith
 
--- src/lib.rt:48:17
 mul-s : tie.Need-mul-s Inv-loop μ-loop
 mul-s c = search needs
 
--- src/lib.rt:48:17
 shared-slice-read-s : tie.Need-shared-slice-read-s Inv-loop μ-loop
 shared-slice-read-s c = omega arith
 
--- src/lib.rt:50:13
 returns : tie.Need-returns Inv-loop μ-loop
 returns c = (free-far (c .before .before .before .before .before .before .args .m .now) _ _ _ (c .before .before .loop-test .taken) (omega arith) (c .if1 .taken) ∙ c .before .before .before .loop .inv .1, λ e. absurd (false≢true e))
 
--- src/lib.rt:52:14
 cast-if2 : tie.Need-cast-if2 Inv-loop μ-loop
 cast-if2 c = omega arith
 
--- src/lib.rt:52:12
 element-copy-out-if2 : tie.Need-element-copy-out-if2 Inv-loop μ-loop
 element-copy-out-if2 c = omega arith
 
--- src/lib.rt:53:13
 returns-2 : tie.Need-returns-2 Inv-loop μ-loop
 returns-2 c = (free-again (c .before .before .before .before .before .before .before .before .args .m .now) _ _ _ (c .before .before .before .before .loop-test .taken) (omega arith) (c .before .before .if1 .left) (c .if2 .taken) ∙ c .before .before .before .before .before .loop .inv .1, λ e. absurd (false≢true e))
 
--- src/lib.rt:55:11
 cast-d : tie.Need-cast-d Inv-loop μ-loop
 cast-d c = omega arith
 
--- src/lib.rt:55:9
 element-write-d : tie.Need-element-write-d Inv-loop μ-loop
 element-write-d c = omega arith
 
--- src/lib.rt:56:9
 add-i : tie.Need-add-i Inv-loop μ-loop
 add-i c = omega arith
 
--- src/lib.rt:47:5
 loop-less : tie.Need-loop-less Inv-loop μ-loop
 loop-less c = omega arith
 
--- src/lib.rt:47:5
 loop-again : tie.Need-loop-again Inv-loop μ-loop
 loop-again c = (omega arith, free-more (c .before .before .before .before .before .before .before .before .args .m .now) _ _ _ (c .before .before .before .before .loop-test .taken) (omega arith) (c .before .before .if1 .left) (c .if2 .left) ∙ c .before .before .before .before .before .loop .inv .1, marking-more (c .before .before .before .before .before .before .before .before .args .m .now) _ _ _ (c .before .before .before .before .loop-test .taken) (omega arith) ∙ c .before .before .before .before .before .loop .inv .2)
 
--- src/lib.rt:40:1
 returns-3 : tie.Need-returns-3 Inv-loop μ-loop
 returns-3 c = (free-done (c .before .before .before .before .args .m .now) _ _ _ (c .loop-test .left) ∙ c .before .loop .inv .1, λ e. marking-done (c .before .before .before .before .args .m .now) _ _ _ (c .loop-test .left) ∙ c .before .loop .inv .2)
 

@@ -19,35 +19,27 @@ Inv-loop m n good₀ s₀ good s = (s ≤ n) × (both good (upto (segmentTest (d
 abbrev μ-loop : tie.MeasureT-loop
 μ-loop m n good₀ s₀ good s = n - s
 
--- src/lib.rt:29:13
 shared-slice-read-n : tie.Need-shared-slice-read-n Inv-loop μ-loop
 shared-slice-read-n c = search needs
 
--- src/lib.rt:29:13
 cast-n : tie.Need-cast-n Inv-loop μ-loop
 cast-n c = search needs
 
--- src/lib.rt:32:5
 loop-holds : tie.Need-loop-holds Inv-loop μ-loop
 loop-holds c = (omega arith, upto-start _ _)
 
--- src/lib.rt:33:23
 sound-requires : tie.Need-sound-requires Inv-loop μ-loop
 sound-requires c κs = (search needs, omega arith)
 
--- src/lib.rt:34:9
 add-s : tie.Need-add-s Inv-loop μ-loop
 add-s c = omega arith
 
--- src/lib.rt:32:5
 loop-less : tie.Need-loop-less Inv-loop μ-loop
 loop-less c = omega arith
 
--- src/lib.rt:32:5
 loop-again : tie.Need-loop-again Inv-loop μ-loop
 loop-again c = (omega arith, upto-more _ _ _ _ _ (c .before .loop-test .taken) (c .sound .ensures) ∙ c .before .before .loop .inv .1)
 
--- src/lib.rt:25:1
 returns : tie.Need-returns Inv-loop μ-loop
 returns c = upto-done _ _ _ _ (c .loop-test .left) ∙ c .before .loop .inv .1
 

@@ -5,67 +5,51 @@ use Rattle.segment_test.proofs.sound.Tie as tie
 use Rattle.segment_test.proofs.sound.Reads as reads
 use Rattle.segment_test.proofs.sound.Lts as lts
 
--- src/lib.rt:20:24
 mul-next : tie.Need-mul-next
 mul-next c = search needs
 
--- src/lib.rt:20:18
 add-next : tie.Need-add-next
 add-next c = search needs
 
--- src/lib.rt:20:16
 mul-next-2 : tie.Need-mul-next-2
 mul-next-2 c = search needs
 
--- src/lib.rt:20:16
 shared-slice-read-next : tie.Need-shared-slice-read-next
 shared-slice-read-next c = search needs
 
--- src/lib.rt:21:14
 mul-result : tie.Need-mul-result
 mul-result c = search needs
 
--- src/lib.rt:21:8
 add-result : tie.Need-add-result
 add-result c = search needs
 
--- src/lib.rt:21:6
 mul-result-2 : tie.Need-mul-result-2
 mul-result-2 c = search needs
 
--- src/lib.rt:21:6
 shared-slice-read-result : tie.Need-shared-slice-read-result
 shared-slice-read-result c = search needs
 
--- src/lib.rt:21:23
 shared-slice-read-result-2 : tie.Need-shared-slice-read-result-2
 shared-slice-read-result-2 c = search needs
 
--- src/lib.rt:21:40
 mul-result-3 : tie.Need-mul-result-3
 mul-result-3 c = search needs
 
--- src/lib.rt:21:34
 add-result-2 : tie.Need-add-result-2
 add-result-2 c = search needs
 
--- src/lib.rt:21:32
 mul-result-4 : tie.Need-mul-result-4
 mul-result-4 c = search needs
 
--- src/lib.rt:21:32
 shared-slice-read-result-3 : tie.Need-shared-slice-read-result-3
 shared-slice-read-result-3 c = search needs
 
--- src/lib.rt:21:50
 shared-slice-read-result-4 : tie.Need-shared-slice-read-result-4
 shared-slice-read-result-4 c = search needs
 
--- src/lib.rt:21:67
 shared-slice-read-result-5 : tie.Need-shared-slice-read-result-5
 shared-slice-read-result-5 c = search needs
 
--- src/lib.rt:16:1
 returns : tie.Need-returns
 returns c = sound-at (c .before .before .before .before .before .before .args .m .now) (c .before .before .before .before .before .before .args .s)
 

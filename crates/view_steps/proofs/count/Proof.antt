@@ -6,23 +6,18 @@ use Rattle.view_steps.proofs.count.Tie as tie
 use Rattle.view_steps.proofs.count.Reads as reads
 use Rattle.view_steps.proofs.count.Lts as lts
 
--- src/lib.rt:23:13
 mul-result : tie.Need-mul-result
 mul-result c = search needs
 
--- src/lib.rt:23:7
 add-result : tie.Need-add-result
 add-result c = search needs
 
--- src/lib.rt:23:5
 mul-result-2 : tie.Need-mul-result-2
 mul-result-2 c = search needs
 
--- src/lib.rt:23:5
 shared-slice-read-result : tie.Need-shared-slice-read-result
 shared-slice-read-result c = search needs
 
--- src/lib.rt:19:1
 returns : tie.Need-returns
 returns c = part-at _ _ 1 _ (omega arith)
 

@@ -7,43 +7,33 @@ use Rattle.view_steps.proofs.head.Lts as lts
 use Rattle.std.proofs.num.wrapping_add_u32.Reads as wrapping-add-u32-reads
 use Rattle.view_steps.proofs.place.Reads as place-reads
 
--- src/lib.rt:69:9
 returns : tie.Need-returns
 returns c = λ f. record { same = λ es. head-far _ es _ f _ _ (c .if1 .taken) }
 
--- src/lib.rt:71:9
 place-requires : tie.Need-place-requires
 place-requires c κs = search needs
 
--- src/lib.rt:73:9
 returns-2 : tie.Need-returns-2
 returns-2 c = λ f. record { same = λ es. head-wrong _ es _ f _ _ _ _ (c .before .before .before .before .before .pre .1) (c .before .before .before .if1 .left) (c .before .place .ensures) _ (c .if2 .taken) }
 
--- src/lib.rt:75:39
 element-copy-out-wrapping-add-u32 : tie.Need-element-copy-out-wrapping-add-u32
 element-copy-out-wrapping-add-u32 c = search needs
 
--- src/lib.rt:75:12
 wrapping-add-u32-requires : tie.Need-wrapping-add-u32-requires
 wrapping-add-u32-requires c κs = search needs
 
--- src/lib.rt:75:5
 element-write-w : tie.Need-element-write-w
 element-write-w c = search needs
 
--- src/lib.rt:76:39
 element-copy-out-wrapping-add-u32-2 : tie.Need-element-copy-out-wrapping-add-u32-2
 element-copy-out-wrapping-add-u32-2 c = search needs
 
--- src/lib.rt:76:12
 wrapping-add-u32-requires-2 : tie.Need-wrapping-add-u32-requires-2
 wrapping-add-u32-requires-2 c κs = search needs
 
--- src/lib.rt:76:5
 element-write-w-2 : tie.Need-element-write-w-2
 element-write-w-2 c = search needs
 
--- src/lib.rt:64:1
 returns-3 : tie.Need-returns-3
 returns-3 c = λ f. record { same = λ es. head-right _ es _ f _ _ _ _ (c .before .before .before .before .before .before .before .before .before .pre .1) (c .before .before .before .before .before .before .before .if1 .left) (c .before .before .before .before .before .place .ensures) (c .before .before .before .before .if2 .left) _ _ (c .before .before .wrapping-add-u32 .ensures) (c .wrapping-add-u322 .ensures) }
 

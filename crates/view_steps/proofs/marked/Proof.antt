@@ -4,11 +4,9 @@ use Rattle.view_steps.proofs.marked.Tie as tie
 use Rattle.view_steps.proofs.marked.Reads as reads
 use Rattle.view_steps.proofs.marked.Lts as lts
 
--- src/lib.rt:103:1
 returns : tie.Need-returns
 returns c = marked-nl _ (c .if1 .taken)
 
--- src/lib.rt:103:1
 returns-2 : tie.Need-returns-2
 returns-2 c = marked-other _ (c .if1 .left)
 

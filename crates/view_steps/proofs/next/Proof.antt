@@ -6,23 +6,18 @@ use Rattle.view_steps.proofs.next.Tie as tie
 use Rattle.view_steps.proofs.next.Reads as reads
 use Rattle.view_steps.proofs.next.Lts as lts
 
--- src/lib.rt:31:13
 mul-result : tie.Need-mul-result
 mul-result c = search needs
 
--- src/lib.rt:31:7
 add-result : tie.Need-add-result
 add-result c = search needs
 
--- src/lib.rt:31:5
 mul-result-2 : tie.Need-mul-result-2
 mul-result-2 c = search needs
 
--- src/lib.rt:31:5
 shared-slice-read-result : tie.Need-shared-slice-read-result
 shared-slice-read-result c = search needs
 
--- src/lib.rt:27:1
 returns : tie.Need-returns
 returns c = part-at _ _ 2 _ (omega arith)
 

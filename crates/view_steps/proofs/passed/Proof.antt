@@ -7,31 +7,24 @@ use Rattle.view_steps.proofs.passed.Reads as reads
 use Rattle.view_steps.proofs.passed.Lts as lts
 use Rattle.view_steps.proofs.marked.Reads as marked-reads
 
--- src/lib.rt:115:13
 returns : tie.Need-returns
 returns c = passed-empty _ _ _ (c .before .if1 .taken) (c .if2 .taken)
 
--- src/lib.rt:117:9
 returns-2 : tie.Need-returns-2
 returns-2 c = passed-headless _ _ _ (c .before .if1 .taken) (c .if2 .left)
 
--- src/lib.rt:120:9
 returns-3 : tie.Need-returns-3
 returns-3 c = passed-tailless _ _ _ (c .before .if1 .left) (c .if3 .taken)
 
--- src/lib.rt:122:8
 marked-requires : tie.Need-marked-requires
 marked-requires c κs = search needs
 
--- src/lib.rt:123:9
 returns-4 : tie.Need-returns-4
 returns-4 c = passed-broken _ _ _ (c .before .before .before .if1 .left) (λ q. c .if4 .taken (c .before .marked .ensures ∙ q))
 
--- src/lib.rt:125:5
 marked-requires-2 : tie.Need-marked-requires-2
 marked-requires-2 c κs = search needs
 
--- src/lib.rt:110:1
 returns-5 : tie.Need-returns-5
 returns-5 c = c .marked2 .ensures ∙ passed-right _ _ _ (c .before .before .before .before .if1 .left) (c .before .before .before .if3 .left) (sym (c .before .before .marked .ensures) ∙ c .before .if4 .left)
 

@@ -20,67 +20,51 @@ Inv-loop d₀ m h n s₀ k₀ d s k = (s < 2 ^ 32) × (k ≤ n) × (placing (dec
 abbrev μ-loop : tie.MeasureT-loop
 μ-loop d₀ m h n s₀ k₀ d s k = n - k
 
--- src/lib.rt:39:13
 shared-slice-read-n : tie.Need-shared-slice-read-n Inv-loop μ-loop
 shared-slice-read-n c = search needs
 
--- src/lib.rt:42:5
 loop-holds : tie.Need-loop-holds Inv-loop μ-loop
 loop-holds c = (search needs, omega arith, place-start _ _ _)
 
--- src/lib.rt:44:13
 returns : tie.Need-returns Inv-loop μ-loop
 returns c = place-far _ _ _ _ _ (c .before .loop-test .taken) (c .if1 .taken) ∙ c .before .before .loop .inv .2
 
--- src/lib.rt:46:14
 cast-if2 : tie.Need-cast-if2 Inv-loop μ-loop
 cast-if2 c = omega arith
 
--- src/lib.rt:46:12
 element-copy-out-if2 : tie.Need-element-copy-out-if2 Inv-loop μ-loop
 element-copy-out-if2 c = omega arith
 
--- src/lib.rt:47:13
 returns-2 : tie.Need-returns-2 Inv-loop μ-loop
 returns-2 c = place-again _ _ _ _ _ (c .before .before .before .loop-test .taken) (c .before .before .if1 .left) (c .if2 .taken) ∙ c .before .before .before .before .loop .inv .2
 
--- src/lib.rt:49:11
 cast-d : tie.Need-cast-d Inv-loop μ-loop
 cast-d c = omega arith
 
--- src/lib.rt:49:9
 element-write-d : tie.Need-element-write-d Inv-loop μ-loop
 element-write-d c = omega arith
 
--- src/lib.rt:50:9
 add-k : tie.Need-add-k Inv-loop μ-loop
 add-k c = omega arith
 
--- src/lib.rt:51:13
 next-requires : tie.Need-next-requires Inv-loop μ-loop
 next-requires c κs = (search needs, omega arith)
 
--- src/lib.rt:53:13
 returns-3 : tie.Need-returns-3 Inv-loop μ-loop
 returns-3 c = place-last _ _ _ _ _ (c .before .before .before .before .before .loop-test .taken) (c .before .before .before .before .if1 .left) (c .before .before .if2 .left) (c .before .next .ensures) (c .if3 .taken) ∙ c .before .before .before .before .before .before .loop .inv .2
 
--- src/lib.rt:55:12
 count-requires : tie.Need-count-requires Inv-loop μ-loop
 count-requires c κs = (search needs, omega arith)
 
--- src/lib.rt:56:13
 returns-4 : tie.Need-returns-4 Inv-loop μ-loop
 returns-4 c = place-empty _ _ _ _ _ (c .before .before .before .before .before .before .before .loop-test .taken) (c .before .before .before .before .before .before .if1 .left) (c .before .before .before .before .if2 .left) (c .before .before .before .next .ensures) _ (c .before .before .if3 .left) (sym (c .before .count .ensures) ∙ c .if4 .taken) ∙ c .before .before .before .before .before .before .before .before .loop .inv .2
 
--- src/lib.rt:42:5
 loop-less : tie.Need-loop-less Inv-loop μ-loop
 loop-less c = omega arith
 
--- src/lib.rt:42:5
 loop-again : tie.Need-loop-again Inv-loop μ-loop
 loop-again c = (search needs, omega arith, place-more _ _ _ _ _ (c .before .before .before .before .before .before .before .loop-test .taken) (c .before .before .before .before .before .before .if1 .left) (c .before .before .before .before .if2 .left) (c .before .before .before .next .ensures) (c .before .before .if3 .left) (λ e. c .if4 .left (c .before .count .ensures ∙ e)) ∙ c .before .before .before .before .before .before .before .before .loop .inv .2)
 
--- src/lib.rt:35:1
 returns-5 : tie.Need-returns-5 Inv-loop μ-loop
 returns-5 c = place-out _ _ _ _ _ (c .loop-test .left) ∙ c .before .loop .inv .2
 

@@ -9,59 +9,45 @@ use Rattle.view_steps.proofs.queue.Reads as reads
 use Rattle.view_steps.proofs.queue.Lts as lts
 use Rattle.view_steps.proofs.head.Reads as head-reads
 
--- src/lib.rt:161:13
 mul-h : tie.Need-mul-h
 mul-h c = search needs
 
--- src/lib.rt:161:13
 shared-slice-read-h : tie.Need-shared-slice-read-h
 shared-slice-read-h c = search needs
 
--- src/lib.rt:163:9
 returns : tie.Need-returns
 returns c = λ f. record { same = λ es. queue-none _ es _ f _ _ _ _ (c .if1 .taken) }
 
--- src/lib.rt:166:9
 returns-2 : tie.Need-returns-2
 returns-2 c = λ f. record { same = λ es. queue-refused _ es _ f _ _ _ _ _ (c .before .if1 .left) (ap not (eq-eqb _ _ (c .if2 .taken))) }
 
--- src/lib.rt:169:9
 returns-3 : tie.Need-returns-3
 returns-3 c = λ f. record { same = λ es. queue-far _ es _ f _ _ _ _ (c .before .before .if1 .left) (ap not (ne-eqb _ _ (c .before .if2 .left))) _ (c .if3 .taken) }
 
--- src/lib.rt:171:10
 add-if4 : tie.Need-add-if4
 add-if4 c = search needs
 
--- src/lib.rt:171:8
 mul-if4 : tie.Need-mul-if4
 mul-if4 c = search needs
 
--- src/lib.rt:171:8
 element-copy-out-if4 : tie.Need-element-copy-out-if4
 element-copy-out-if4 c = search needs
 
--- src/lib.rt:172:9
 returns-4 : tie.Need-returns-4
 returns-4 c = λ f. record { same = λ es. queue-twice _ es _ f _ _ _ _ (c .before .before .before .before .if1 .left) (ap not (ne-eqb _ _ (c .before .before .before .if2 .left))) _ (c .before .before .if3 .left) (c .if4 .taken) }
 
--- src/lib.rt:174:7
 add-w : tie.Need-add-w
 add-w c = search needs
 
--- src/lib.rt:174:5
 mul-w : tie.Need-mul-w
 mul-w c = search needs
 
--- src/lib.rt:174:5
 element-write-w : tie.Need-element-write-w
 element-write-w c = search needs
 
--- src/lib.rt:175:5
 head-requires : tie.Need-head-requires
 head-requires c κs = search needs
 
--- src/lib.rt:157:1
 returns-5 : tie.Need-returns-5
 returns-5 c = λ f. record { same = λ es. c .head .ensures f .same es ∙ queue-open _ es _ f _ _ _ _ (c .before .before .before .before .before .before .before .if1 .left) (ap not (ne-eqb _ _ (c .before .before .before .before .before .before .if2 .left))) (c .before .before .before .before .before .if3 .left) (c .before .before .before .if4 .left) }
 

@@ -8,51 +8,39 @@ use Rattle.view_steps.proofs.tail.Lts as lts
 use Rattle.std.proofs.num.wrapping_add_u32.Reads as wrapping-add-u32-reads
 use Rattle.view_steps.proofs.next.Reads as next-reads
 
--- src/lib.rt:86:9
 returns : tie.Need-returns
 returns c = λ d. record { same = λ es. tail-far _ es d _ _ _ (c .if1 .taken) }
 
--- src/lib.rt:88:13
 shared-slice-read-if2 : tie.Need-shared-slice-read-if2
 shared-slice-read-if2 c = search needs
 
--- src/lib.rt:89:9
 returns-2 : tie.Need-returns-2
 returns-2 c = λ d. record { same = λ es. tail-out _ es d _ _ _ (c .before .before .if1 .left) _ (c .if2 .taken) }
 
--- src/lib.rt:91:8
 element-copy-out-if3 : tie.Need-element-copy-out-if3
 element-copy-out-if3 c = search needs
 
--- src/lib.rt:92:9
 returns-3 : tie.Need-returns-3
 returns-3 c = λ d. record { same = λ es. tail-again _ es d _ _ _ (c .before .before .before .before .if1 .left) (c .before .before .if2 .left) _ (c .if3 .taken) }
 
--- src/lib.rt:94:8
 next-requires : tie.Need-next-requires
 next-requires c κs = search needs
 
--- src/lib.rt:95:9
 returns-4 : tie.Need-returns-4
 returns-4 c = λ d. record { same = λ es. tail-inner _ es d _ _ _ (c .before .before .before .before .before .before .if1 .left) (c .before .before .before .before .if2 .left) _ (c .before .before .if3 .left) (λ q. c .if4 .taken (c .before .next .ensures ∙ q)) }
 
--- src/lib.rt:97:5
 element-write-f : tie.Need-element-write-f
 element-write-f c = search needs
 
--- src/lib.rt:98:40
 element-copy-out-wrapping-add-u32 : tie.Need-element-copy-out-wrapping-add-u32
 element-copy-out-wrapping-add-u32 c = search needs
 
--- src/lib.rt:98:13
 wrapping-add-u32-requires : tie.Need-wrapping-add-u32-requires
 wrapping-add-u32-requires c κs = search needs
 
--- src/lib.rt:98:5
 element-write-w : tie.Need-element-write-w
 element-write-w c = search needs
 
--- src/lib.rt:81:1
 returns-5 : tie.Need-returns-5
 returns-5 c = λ d. record { same = λ es. tail-right _ es d _ _ _ (c .before .before .before .before .before .before .before .before .if1 .left) (c .before .before .before .before .before .before .if2 .left) (c .before .before .before .before .if3 .left) (sym (c .before .before .before .next .ensures) ∙ c .before .before .if4 .left) _ (c .wrapping-add-u32 .ensures) }
 

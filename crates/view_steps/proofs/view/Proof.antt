@@ -13,67 +13,51 @@ use Rattle.view_steps.proofs.head.Reads as head-reads
 use Rattle.view_steps.proofs.passed.Reads as passed-reads
 use Rattle.view_steps.proofs.tail.Reads as tail-reads
 
--- src/lib.rt:141:13
 mul-h : tie.Need-mul-h
 mul-h c = search needs
 
--- src/lib.rt:141:13
 shared-slice-read-h : tie.Need-shared-slice-read-h
 shared-slice-read-h c = search needs
 
--- src/lib.rt:142:15
 add-e : tie.Need-add-e
 add-e c = search needs
 
--- src/lib.rt:142:13
 mul-e : tie.Need-mul-e
 mul-e c = search needs
 
--- src/lib.rt:142:13
 shared-slice-read-e : tie.Need-shared-slice-read-e
 shared-slice-read-e c = search needs
 
--- src/lib.rt:144:9
 returns : tie.Need-returns
 returns c = record { same = λ es. view-none _ es _ _ _ _ _ _ _ (and-none _ _ (omega (arith, c .before .before .before .shared-slice-known .given (c .before .before .before .before .args .a))) (omega (arith, c .before .before .before .shared-slice-known .given (c .before .before .before .before .args .a + 12))) (c .if1 .taken)) }
 
--- src/lib.rt:147:9
 returns-2 : tie.Need-returns-2
 returns-2 c = record { same = λ es. view-refused _ es _ _ _ _ _ _ _ (and-some _ _ (c .before .if1 .left)) _ (ap not (eq-eqb _ _ (c .if2 .taken))) }
 
--- src/lib.rt:149:25
 mul-passed : tie.Need-mul-passed
 mul-passed c = search needs
 
--- src/lib.rt:149:25
 element-copy-out-passed : tie.Need-element-copy-out-passed
 element-copy-out-passed c = search needs
 
--- src/lib.rt:149:12
 passed-requires : tie.Need-passed-requires
 passed-requires c κs = search needs
 
--- src/lib.rt:149:5
 mul-w : tie.Need-mul-w
 mul-w c = search needs
 
--- src/lib.rt:149:5
 element-write-w : tie.Need-element-write-w
 element-write-w c = search needs
 
--- src/lib.rt:150:9
 tail-requires : tie.Need-tail-requires
 tail-requires c κs = search needs
 
--- src/lib.rt:151:9
 returns-3 : tie.Need-returns-3
 returns-3 c = record { same = λ es. stops _ _ (not-true _ (c .if3 .taken)) (c .before .tail .ensures _ .same _) ∙ view-open _ es _ _ _ _ _ _ _ (and-some _ _ (c .before .before .before .before .before .before .before .if1 .left)) _ (ap not (ne-eqb _ _ (c .before .before .before .before .before .before .if2 .left))) (c .before .before .before .before .passed .ensures) }
 
--- src/lib.rt:153:5
 head-requires : tie.Need-head-requires
 head-requires c κs = search needs
 
--- src/lib.rt:129:1
 returns-4 : tie.Need-returns-4
 returns-4 c = record { same = λ es. c .head .ensures _ .same es ∙ goes (not-false _ (c .before .before .before .if3 .left)) (c .before .before .before .before .tail .ensures _ .same _) ∙ view-open _ es _ _ _ _ _ _ _ (and-some _ _ (c .before .before .before .before .before .before .before .before .before .before .if1 .left)) _ (ap not (ne-eqb _ _ (c .before .before .before .before .before .before .before .before .before .if2 .left))) (c .before .before .before .before .before .before .before .passed .ensures) }
 

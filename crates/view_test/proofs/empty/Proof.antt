@@ -7,47 +7,36 @@ use Rattle.view_test.proofs.empty.Reads as reads
 use Rattle.view_test.proofs.empty.Lts as lts
 use Rattle.view_test.proofs.shared.Reads as shared-reads
 
--- src/lib.rt:27:22
 mul-shared : tie.Need-mul-shared
 mul-shared c = search needs
 
--- src/lib.rt:27:15
 add-shared : tie.Need-add-shared
 add-shared c = search needs
 
--- src/lib.rt:27:31
 mul-shared-2 : tie.Need-mul-shared-2
 mul-shared-2 c = search needs
 
--- src/lib.rt:27:15
 add-shared-2 : tie.Need-add-shared-2
 add-shared-2 c = search needs
 
--- src/lib.rt:27:5
 shared-requires : tie.Need-shared-requires
 shared-requires c κs = search needs
 
--- src/lib.rt:27:57
 mul-shared-3 : tie.Need-mul-shared-3
 mul-shared-3 c = search needs
 
--- src/lib.rt:27:50
 add-shared-3 : tie.Need-add-shared-3
 add-shared-3 c = search needs
 
--- src/lib.rt:27:66
 mul-shared-4 : tie.Need-mul-shared-4
 mul-shared-4 c = search needs
 
--- src/lib.rt:27:50
 add-shared-4 : tie.Need-add-shared-4
 add-shared-4 c = search needs
 
--- src/lib.rt:27:40
 shared-requires-2 : tie.Need-shared-requires-2
 shared-requires-2 c κs = search needs
 
--- src/lib.rt:23:1
 returns : tie.Need-returns
 returns c = λ e. let x = both-full _ _ (eqb-true _ _ e) in (c .before .shared .ensures (x .0), c .shared2 .ensures (x .1))
 

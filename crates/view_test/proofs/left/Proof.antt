@@ -7,19 +7,15 @@ use Rattle.view_test.proofs.left.Lts as lts
 use Rattle.view_test.proofs.empty.Reads as empty-reads
 use Rattle.view_test.proofs.four.Reads as four-reads
 
--- src/lib.rt:112:8
 empty-requires : tie.Need-empty-requires
 empty-requires c κs = search needs
 
--- src/lib.rt:113:9
 returns : tie.Need-returns
 returns c = kind-none _ (c .before .before .before .args .t) 0 (c .before .empty .ensures (c .if1 .taken))
 
--- src/lib.rt:115:5
 four-requires : tie.Need-four-requires
 four-requires c κs = search needs
 
--- src/lib.rt:108:1
 returns-2 : tie.Need-returns-2
 returns-2 c = search needs
 

@@ -7,23 +7,18 @@ use Rattle.view_test.proofs.mark.Lts as lts
 use Rattle.view_test.proofs.left.Reads as left-reads
 use Rattle.view_test.proofs.met.Reads as met-reads
 
--- src/lib.rt:124:9
 met-requires : tie.Need-met-requires
 met-requires c κs = search needs
 
--- src/lib.rt:124:9
 returns : tie.Need-returns
 returns c = mark-met _ _ (c .before .before .before .before .if1 .taken) (c .met .ensures)
 
--- src/lib.rt:126:22
 sub-left : tie.Need-sub-left
 sub-left c = search needs
 
--- src/lib.rt:126:5
 left-requires : tie.Need-left-requires
 left-requires c κs = search needs
 
--- src/lib.rt:119:1
 returns-2 : tie.Need-returns-2
 returns-2 c = mark-left _ _ (c .before .before .before .before .if1 .left) (c .left .ensures)
 

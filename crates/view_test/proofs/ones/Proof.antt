@@ -8,66 +8,51 @@ use Rattle.view_test.proofs.ones.Tie as tie
 use Rattle.view_test.proofs.ones.Reads as reads
 use Rattle.view_test.proofs.ones.Lts as lts
 
--- src/lib.rt:143:8
 mul-if1 : tie.Need-mul-if1
 mul-if1 c = search needs
 
--- src/lib.rt:143:8
 element-copy-out-if1 : tie.Need-element-copy-out-if1
 element-copy-out-if1 c = search needs
 
--- src/lib.rt:144:9
 returns : tie.Need-returns
 unfolding ones load
 returns c = sym (both-off _ (ne-eqb _ _ (c .if1 .taken)))
 
--- src/lib.rt:146:10
 add-if2 : tie.Need-add-if2
 add-if2 c = search needs
 
--- src/lib.rt:146:8
 mul-if2 : tie.Need-mul-if2
 mul-if2 c = search needs
 
--- src/lib.rt:146:8
 element-copy-out-if2 : tie.Need-element-copy-out-if2
 element-copy-out-if2 c = search needs
 
--- src/lib.rt:147:9
 returns-2 : tie.Need-returns-2
 unfolding ones load
 returns-2 c = sym (both-on (eq-eqb _ _ (c .before .before .if1 .left)) ∙ both-off _ (ne-eqb _ _ (c .if2 .taken)))
 
--- src/lib.rt:149:10
 add-if3 : tie.Need-add-if3
 add-if3 c = search needs
 
--- src/lib.rt:149:8
 mul-if3 : tie.Need-mul-if3
 mul-if3 c = search needs
 
--- src/lib.rt:149:8
 element-copy-out-if3 : tie.Need-element-copy-out-if3
 element-copy-out-if3 c = search needs
 
--- src/lib.rt:150:9
 returns-3 : tie.Need-returns-3
 unfolding ones load
 returns-3 c = sym (both-on (eq-eqb _ _ (c .before .before .before .before .if1 .left)) ∙ both-on (eq-eqb _ _ (c .before .before .if2 .left)) ∙ both-off _ (ne-eqb _ _ (c .if3 .taken)))
 
--- src/lib.rt:152:7
 add-result : tie.Need-add-result
 add-result c = search needs
 
--- src/lib.rt:152:5
 mul-result : tie.Need-mul-result
 mul-result c = search needs
 
--- src/lib.rt:152:5
 element-copy-out-result : tie.Need-element-copy-out-result
 element-copy-out-result c = search needs
 
--- src/lib.rt:139:1
 returns-4 : tie.Need-returns-4
 unfolding ones load
 returns-4 c = sym (both-on (eq-eqb _ _ (c .before .before .before .before .before .if1 .left)) ∙ both-on (eq-eqb _ _ (c .before .before .before .if2 .left)) ∙ both-on (eq-eqb _ _ (c .before .if3 .left)))

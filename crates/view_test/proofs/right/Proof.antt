@@ -10,31 +10,24 @@ use Rattle.view_test.proofs.empty.Reads as empty-reads
 use Rattle.view_test.proofs.four.Reads as four-reads
 use Rattle.view_test.proofs.user.Reads as user-reads
 
--- src/lib.rt:84:8
 empty-requires : tie.Need-empty-requires
 empty-requires c κs = search needs
 
--- src/lib.rt:85:9
 user-requires : tie.Need-user-requires
 user-requires c κs = search needs
 
--- src/lib.rt:85:9
 returns : tie.Need-returns
 returns c = follow _ _ _ refl (kind-none _ (c .before .before .before .before .before .before .before .args .t) 2 (c .before .before .before .before .before .empty .ensures (c .before .before .before .before .if1 .taken))) (c .user .ensures)
 
--- src/lib.rt:87:9
 four-requires : tie.Need-four-requires
 four-requires c κs = search needs
 
--- src/lib.rt:88:9
 returns-2 : tie.Need-returns-2
 returns-2 c = end _ _ _ (not-true _ (c .if2 .taken)) (c .before .four .ensures)
 
--- src/lib.rt:90:5
 user-requires-2 : tie.Need-user-requires-2
 user-requires-2 c κs = search needs
 
--- src/lib.rt:80:1
 returns-3 : tie.Need-returns-3
 returns-3 c = follow _ _ _ (not-false _ (c .before .before .before .before .if2 .left)) (c .before .before .before .before .before .four .ensures) (c .user2 .ensures)
 

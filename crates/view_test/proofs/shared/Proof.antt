@@ -7,51 +7,39 @@ use Rattle.view_test.proofs.shared.Tie as tie
 use Rattle.view_test.proofs.shared.Reads as reads
 use Rattle.view_test.proofs.shared.Lts as lts
 
--- src/lib.rt:19:5
 mul-result : tie.Need-mul-result
 mul-result c = search needs
 
--- src/lib.rt:19:5
 shared-slice-read-result : tie.Need-shared-slice-read-result
 shared-slice-read-result c = search needs
 
--- src/lib.rt:19:14
 add-result : tie.Need-add-result
 add-result c = search needs
 
--- src/lib.rt:19:12
 mul-result-2 : tie.Need-mul-result-2
 mul-result-2 c = search needs
 
--- src/lib.rt:19:12
 shared-slice-read-result-2 : tie.Need-shared-slice-read-result-2
 shared-slice-read-result-2 c = search needs
 
--- src/lib.rt:19:25
 add-result-2 : tie.Need-add-result-2
 add-result-2 c = search needs
 
--- src/lib.rt:19:23
 mul-result-3 : tie.Need-mul-result-3
 mul-result-3 c = search needs
 
--- src/lib.rt:19:23
 shared-slice-read-result-3 : tie.Need-shared-slice-read-result-3
 shared-slice-read-result-3 c = search needs
 
--- src/lib.rt:19:36
 add-result-3 : tie.Need-add-result-3
 add-result-3 c = search needs
 
--- src/lib.rt:19:34
 mul-result-4 : tie.Need-mul-result-4
 mul-result-4 c = search needs
 
--- src/lib.rt:19:34
 shared-slice-read-result-4 : tie.Need-shared-slice-read-result-4
 shared-slice-read-result-4 c = search needs
 
--- src/lib.rt:15:1
 returns : tie.Need-returns
 returns c = full-blank (c .before .before .before .before .args .m .now) (c .before .before .before .before .args .a) (omega (arith, c .before .before .before .shared-slice-known .given (c .before .before .before .before .args .a))) (omega (arith, c .before .before .before .shared-slice-known .given (c .before .before .before .before .args .a + 1))) (omega (arith, c .before .before .before .shared-slice-known .given (c .before .before .before .before .args .a + 2))) (omega (arith, c .before .before .before .shared-slice-known .given (c .before .before .before .before .args .a + 3)))
 

@@ -21,43 +21,33 @@ Inv-loop d₀ f₀ w₀ m xs i₀ d f w i = (i ≤ length xs) × (run (decode m)
 abbrev μ-loop : tie.MeasureT-loop
 μ-loop d₀ f₀ w₀ m xs i₀ d f w i = length xs - i
 
--- src/lib.rt:179:5
 loop-holds : tie.Need-loop-holds Inv-loop μ-loop
 loop-holds c = (omega arith, refl)
 
--- src/lib.rt:180:30
 mul-mark : tie.Need-mul-mark Inv-loop μ-loop
 mul-mark c = search needs
 
--- src/lib.rt:180:30
 shared-slice-read-mark : tie.Need-shared-slice-read-mark Inv-loop μ-loop
 shared-slice-read-mark c = omega arith
 
--- src/lib.rt:180:13
 mark-requires : tie.Need-mark-requires Inv-loop μ-loop
 mark-requires c κs = (search needs, c .before .before .before .before .before .before .before .before .pre .1 _ (c .before .before .before .before .loop-test .taken))
 
--- src/lib.rt:181:13
 returns : tie.Need-returns Inv-loop μ-loop
 returns c = walk-stop _ _ _ (c .before .before .before .before .before .before .loop-test .taken) (c .before .mark .ensures) (not-true _ (c .if1 .taken)) ∙ c .before .before .before .before .before .before .before .loop .inv .1
 
--- src/lib.rt:183:9
 add-i : tie.Need-add-i Inv-loop μ-loop
 add-i c = omega arith
 
--- src/lib.rt:179:5
 loop-less : tie.Need-loop-less Inv-loop μ-loop
 loop-less c = omega arith
 
--- src/lib.rt:179:5
 loop-again : tie.Need-loop-again Inv-loop μ-loop
 loop-again c = (omega arith, walk-more _ _ _ (c .before .before .before .before .before .before .loop-test .taken) (c .before .mark .ensures) (not-false _ (c .if1 .left)) ∙ c .before .before .before .before .before .before .before .loop .inv .1)
 
--- src/lib.rt:185:5
 whole-requires : tie.Need-whole-requires Inv-loop μ-loop
 whole-requires c κs = search needs
 
--- src/lib.rt:174:1
 returns-2 : tie.Need-returns-2 Inv-loop μ-loop
 returns-2 c = c .whole .ensures ∙ walk-done _ _ _ _ _ _ (c .before .before .loop-test .left) ∙ c .before .before .before .loop .inv .1
 

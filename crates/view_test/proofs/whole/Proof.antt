@@ -10,46 +10,36 @@ use Rattle.view_test.proofs.whole.Reads as reads
 use Rattle.view_test.proofs.whole.Lts as lts
 use Rattle.view_test.proofs.ones.Reads as ones-reads
 
--- src/lib.rt:160:9
 ones-requires : tie.Need-ones-requires
 ones-requires c κs = search needs
 
--- src/lib.rt:161:9
 returns : tie.Need-returns
 unfolding whole
 returns c = sym (both-off _ (sym (c .before .ones .ensures) ∙ not-true _ (c .if1 .taken)))
 
--- src/lib.rt:163:9
 ones-requires-2 : tie.Need-ones-requires-2
 ones-requires-2 c κs = search needs
 
--- src/lib.rt:164:9
 returns-2 : tie.Need-returns-2
 unfolding whole
 returns-2 c = sym (both-on (sym (c .before .before .before .ones .ensures) ∙ not-false _ (c .before .before .if1 .left)) ∙ both-off _ (sym (c .before .ones2 .ensures) ∙ not-true _ (c .if2 .taken)))
 
--- src/lib.rt:166:8
 element-copy-out-if3 : tie.Need-element-copy-out-if3
 element-copy-out-if3 c = search needs
 
--- src/lib.rt:166:16
 shared-slice-read-if3 : tie.Need-shared-slice-read-if3
 shared-slice-read-if3 c = search needs
 
--- src/lib.rt:167:9
 returns-3 : tie.Need-returns-3
 unfolding whole load read address
 returns-3 c = sym (both-on (sym (c .before .before .before .before .before .before .ones .ensures) ∙ not-false _ (c .before .before .before .before .before .if1 .left)) ∙ both-on (sym (c .before .before .before .before .ones2 .ensures) ∙ not-false _ (c .before .before .before .if2 .left)) ∙ both-off _ (ne-eqb _ _ (c .if3 .taken)))
 
--- src/lib.rt:169:5
 element-copy-out-result : tie.Need-element-copy-out-result
 element-copy-out-result c = search needs
 
--- src/lib.rt:169:13
 element-copy-out-result-2 : tie.Need-element-copy-out-result-2
 element-copy-out-result-2 c = search needs
 
--- src/lib.rt:156:1
 returns-4 : tie.Need-returns-4
 unfolding whole load read address
 returns-4 c = sym (both-on (sym (c .before .before .before .before .before .before .before .before .ones .ensures) ∙ not-false _ (c .before .before .before .before .before .before .before .if1 .left)) ∙ both-on (sym (c .before .before .before .before .before .before .ones2 .ensures) ∙ not-false _ (c .before .before .before .before .before .if2 .left)) ∙ both-on (eq-eqb _ _ (c .before .before .if3 .left)))
