@@ -1,56 +1,47 @@
--- One turn over the free records: i of h are tested and marked.
-use mathlib.Core.Path.{_≡_, refl, ap, sym, _∙_}
-use mathlib.Core.Bool.{true, false, false≢true}
+-- One turn over the free records, i of h of them done; one turn over the marks.
+use mathlib.Core.Path.{_≡_, refl, ap, sym}
 use mathlib.Core.List.{List}
-use Prim.Native.Nat.{ℕ, suc, _+_, _-_, _*_, _<_, _≤_}
+use Prim.Native.Nat.{ℕ, suc, _+_, _-_, _*_, _/_, _%_, _<_, _≤_}
 use native.Mathlib.Omega.{arith}
 use native.Mathlib.Numerals.{add-one}
-use borrow.Author.Tests.{le-leb, lt-leb, ne-eqb, eq-eqb}
-use Rattle.words.specs.Words.{load, store, both-on, both-off}
+use Rattle.words.specs.Words.{load, store}
 use Rattle.lists.specs.Counting.{total}
-use Rattle.tree_test.specs.Counted.{freeFrom, markFrom}
+use Rattle.tree_test.specs.Counted.{faultsFrom, nearFrom}
 
 -- what is left
 left : (h i : ℕ) → i < h → h - i ≡ suc (h - (i + 1))
 left h i l = omega arith
 
+none : (h i : ℕ) → h ≤ i → h - i ≡ 0
+none h i l = omega arith
+
 module _ (m : List ℕ) (h i : ℕ) where
-  module _ (l : i < h) (t : ℕ) (e : t ≡ load m (320 + i)) where
-    pub free-far : 127 < t → false ≡ freeFrom (h - i) m i
-    unfolding freeFrom
-    free-far b = sym (ap (λ (k : ℕ). freeFrom k m i) (left h i l) ∙ rw (← e) (both-off _ (lt-leb t 127 b)))
+  -- w is the sum so far
+  pub faults-more : (w : ℕ) → i < h → w + faultsFrom (h - i) m i ≡ faultsFrom h m 0
+      → w + (load m (320 + i) / 128 + load m (1472 + load m (320 + i) % 128 * 48)) + faultsFrom (h - (i + 1)) m (i + 1) ≡ faultsFrom h m 0
+  unfolding faultsFrom
+  faults-more w l e = let a = ap (λ (k : ℕ). faultsFrom k m i) (left h i l) in omega (arith, a, e)
 
-    pub free-used : t ≤ 127 → (load m (1472 + t * 48) ≡ 0 → ⊥) → false ≡ freeFrom (h - i) m i
-    unfolding freeFrom
-    free-used b n = sym (ap (λ (k : ℕ). freeFrom k m i) (left h i l) ∙ rw (← e) (both-on (le-leb t 127 b) ∙ both-off _ (ne-eqb _ _ n)))
+  pub near-more : (d : List ℕ) → i < h → nearFrom (h - (i + 1)) m (i + 1) (store d (load m (320 + i) % 128) 1) ≡ nearFrom (h - i) m i d
+  unfolding nearFrom
+  near-more d l = sym (ap (λ (k : ℕ). nearFrom k m i d) (left h i l))
 
-    pub free-on : t ≤ 127 → load m (1472 + t * 48) ≡ 0 → freeFrom (h - (i + 1)) m (i + 1) ≡ freeFrom (h - i) m i
-    unfolding freeFrom
-    free-on b f = sym (ap (λ (k : ℕ). freeFrom k m i) (left h i l) ∙ rw (← e) (both-on (le-leb t 127 b) ∙ both-on (eq-eqb _ _ f)))
+  pub faults-done : (w : ℕ) → h ≤ i → w + faultsFrom (h - i) m i ≡ faultsFrom h m 0 → w ≡ faultsFrom h m 0
+  unfolding faultsFrom
+  faults-done w l e = let a = ap (λ (k : ℕ). faultsFrom k m i) (none h i l) in omega (arith, a, e)
 
-    pub mark-on : (d : List ℕ) → markFrom (h - (i + 1)) m (i + 1) (store d t 1) ≡ markFrom (h - i) m i d
-    unfolding markFrom
-    mark-on d = ap (λ (u : ℕ). markFrom (h - (i + 1)) m (i + 1) (store d u 1)) e ∙ sym (ap (λ (k : ℕ). markFrom k m i d) (left h i l))
+  pub near-done : (d : List ℕ) → h ≤ i → d ≡ nearFrom (h - i) m i d
+  unfolding nearFrom
+  near-done d l = sym (ap (λ (k : ℕ). nearFrom k m i d) (none h i l))
 
-  -- no record is left
-  none : h ≤ i → h - i ≡ 0
-  none l = omega arith
+-- before the first record
+pub faults-first : (m d : List ℕ) (h : ℕ) → (0 + faultsFrom (h - 0) m 0 ≡ faultsFrom h m 0) × (nearFrom (h - 0) m 0 d ≡ nearFrom h m 0 d)
+faults-first m d h =
+    let z : h - 0 ≡ h = omega arith in
+    let a = ap (λ (k : ℕ). faultsFrom k m 0) z in
+    (omega (arith, a), ap (λ (k : ℕ). nearFrom k m 0 d) z)
 
-  pub all-free : (d d' : List ℕ) → h ≤ i → freeFrom (h - i) m i ≡ freeFrom h m 0 → markFrom (h - i) m i d ≡ markFrom h m 0 d'
-      → (true ≡ freeFrom h m 0) × (true ≡ true → d ≡ markFrom h m 0 d')
-  unfolding freeFrom markFrom
-  all-free d d' l f g =
-      (sym (ap (λ (k : ℕ). freeFrom k m i) (none l)) ∙ f, λ t. sym (ap (λ (k : ℕ). markFrom k m i d) (none l)) ∙ g)
-
-  pub not-free : (d d' : List ℕ) → false ≡ freeFrom (h - i) m i → freeFrom (h - i) m i ≡ freeFrom h m 0
-      → (false ≡ freeFrom h m 0) × (false ≡ true → d ≡ markFrom h m 0 d')
-  not-free d d' e f = (e ∙ f, λ t. absurd (false≢true t))
-
--- one term more of a sum
+-- one mark more
 pub sum-more : (d : List ℕ) (i n v : ℕ) → n ≡ total i (load d) → v ≡ load d i → n + v ≡ total (i + 1) (load d)
 unfolding total
 sum-more d i n v e f = rw (add-one i, e, f) refl
-
--- before the first record
-pub first-free : (m d : List ℕ) (h : ℕ) → (freeFrom (h - 0) m 0 ≡ freeFrom h m 0) × (markFrom (h - 0) m 0 d ≡ markFrom h m 0 d)
-first-free m d h = let z : h - 0 ≡ h = omega arith in (ap (λ (k : ℕ). freeFrom k m 0) z, ap (λ (k : ℕ). markFrom k m 0 d) z)

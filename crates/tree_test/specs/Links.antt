@@ -1,9 +1,9 @@
 -- One link of the task tree, test by test, as the code makes them.
 use mathlib.Core.Path.{_≡_, refl, ap, sym, _∙_}
 use mathlib.Core.Bool.{Bool, true, false}
-use Prim.Native.Nat.{ℕ, _+_, _-_, _<_, _≤_}
+use Prim.Native.Nat.{ℕ, _-_, _<_, _≤_}
 use native.Mathlib.Omega.{arith}
-use lib.Dec.{leb, ltb, eqb}
+use lib.Dec.{leb, eqb}
 use borrow.Author.Tests.{lt-ltb, le-ltb, leb-true, le-leb, lt-leb, eqb-true, ne-eqb, eq-eqb}
 use Rattle.words.specs.Words.{pick, pass, halt, both, both-on, both-off, both-true, true-both, either}
 use Rattle.layout.specs.Layout.{NONE, UNFINISHED, STATUS, RIGHTS, PARENT, OLDER, YOUNGER, YOUNGEST}

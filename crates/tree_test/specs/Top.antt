@@ -1,13 +1,13 @@
 -- The opening numbers and the top, test by test, as the code makes them.
-use mathlib.Core.Path.{_≡_, refl, ap, sym, _∙_}
+use mathlib.Core.Path.{_≡_, refl, sym, _∙_}
 use mathlib.Core.Bool.{Bool, true, false}
 use mathlib.Core.List.{List}
 use Prim.Native.Nat.{ℕ, _<_, _≤_, _*_}
 use native.Mathlib.Nat.{mul-le-mul}
 use lib.Dec.{leb, eqb}
-use borrow.Author.Tests.{le-leb, lt-leb, ne-eqb, eq-eqb}
-use Rattle.words.specs.Words.{pick, both, both-on, both-off, either, true-left, true-right}
-use Rattle.layout.specs.Layout.{NONE, UNFINISHED, FINISHED, STATUS, RIGHTS, PARENT, OLDER, YOUNGER, YOUNGEST, task, read, recordOf}
+use borrow.Author.Tests.{leb-true, le-leb, lt-leb, ne-eqb, eq-eqb}
+use Rattle.words.specs.Words.{pick, both, both-true, both-on, both-off, either, true-left, true-right}
+use Rattle.layout.specs.Layout.{NONE, UNFINISHED, FINISHED, STATUS, RIGHTS, PARENT, OLDER, YOUNGER, YOUNGEST, task, read}
 use Rattle.layout.specs.Frame.{record-word}
 use Rattle.rules.specs.Contents.{decode, word}
 use Rattle.rules.specs.Test.{within, inRange, topTest}
@@ -38,6 +38,10 @@ module _ (l n : ℕ) where
   unfolding inRange within
   product a b c d =
       sym (both-on (both-on (le-leb 1 l a) ∙ le-leb l 64 b) ∙ both-on (both-on (le-leb 4 n c) ∙ le-leb n 256 d))
+
+  pub few-opened : inRange l n ≡ true → n ≤ 256
+  unfolding inRange within
+  few-opened e = leb-true n 256 (both-true _ _ (both-true _ _ (both-true _ _ e .1) .0) .1)
 
   -- their product is a word
   pub fits : l ≤ 64 → n ≤ 256 → l * n ≤ 16384

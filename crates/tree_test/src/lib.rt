@@ -9,7 +9,7 @@ ghost use Rattle.tree.specs.Tour.{tour};
 ghost use Rattle.rules.specs.Contents.{decode};
 ghost use Rattle.rules.specs.Test.{inRange, topTest, idleTest, kin, linkTest, treeTest};
 ghost use Rattle.tree_test.specs.Top.{topAlone};
-ghost use Rattle.tree_test.specs.Counted.{freeFrom, markFrom, marks};
+ghost use Rattle.tree_test.specs.Counted.{faultsFrom, nearFrom, marks};
 ghost use Rattle.tree_test.specs.Links.{fitting};
 ghost use Rattle.tree_test.specs.Walk.{metNext, leftNext};
 ghost use Rattle.tree_test.specs.Led.{Led};
@@ -90,24 +90,22 @@ pub fn top_ok(m: &[u32]) -> bool
     top_alone(m)
 }
 
-// Marks the h free records in d, as long as they are records of tasks with the status of a free one.
-fn mark_free(m: &[u32], d: &mut [u8], h: usize) -> bool
+// What is wrong with the h free records, summed up: 0 where they are records of tasks with the status of a free one. They
+// are marked in d. There is no branch for a record, since that is faster.
+fn mark_free(m: &[u32], d: &mut [u8], h: usize) -> u64
     requires { ⌜ (length (now m) ≡ 16384) × (length (now d) ≡ 256) × (h ≤ 127) ⌝ }
-    ensures { λ r. ⌜ (r ≡ freeFrom h (now (m .entry)) 0) × (r ≡ true → now (d .exit) ≡ markFrom h (now (m .entry)) 0 (now (d .entry))) ⌝ }
+    ensures { λ r. ⌜ (r ≡ faultsFrom h (now (m .entry)) 0) × (now (d .exit) ≡ nearFrom h (now (m .entry)) 0 (now (d .entry))) ⌝ }
 {
+    let mut w: u64 = 0;
     let mut i: usize = 0;
     while i < h {
         let t = m[320 + i] as usize;
-        if t > 127 {
-            return false;
-        }
-        if m[1472 + t * 48] != 0 {
-            return false;
-        }
-        d[t] = 1;
+        let near = t % 128;
+        w += t as u64 / 128 + m[1472 + near * 48] as u64;
+        d[near] = 1;
         i += 1;
     }
-    true
+    w
 }
 
 // How many tasks are marked in d.
@@ -125,7 +123,7 @@ fn marks(d: &[u8]) -> u32
 }
 
 // At most 127 free records, none twice, none of them task 0, each with the status of a free one. None stands on the
-// stack twice where there are as many marks as records: counting the marks is faster than a look at each before it is set.
+// stack twice where there are as many marks as records.
 pub fn idle_ok(m: &[u32]) -> bool
     requires { ⌜ length (now m) ≡ 16384 ⌝ }
     ensures { λ r. ⌜ r ≡ idleTest (decode (now (m .entry))) ⌝ }
@@ -135,7 +133,7 @@ pub fn idle_ok(m: &[u32]) -> bool
         return false;
     }
     let mut d = [0u8; 256];
-    if !mark_free(m, &mut d, h as usize) {
+    if mark_free(m, &mut d, h as usize) != 0 {
         return false;
     }
     if d[0] != 0 {
@@ -227,13 +225,14 @@ fn left_next(m: &[u32], t: u32) -> u32
     END
 }
 
-// Where the walk along the tree stands: so many marks are written, and the next one; END where a link is wrong.
+// Where the walk along the tree stands: the next mark, or END where a link is wrong; and how many marks are written.
 struct Spot {
     mark: u32,
     written: usize,
 }
 
-// From where task t0 is left, with i0 marks written: up to where an older sibling is met or the top is left.
+// From where task t0 is left, with i0 marks written: up to where an older sibling is met, or to the top. The mark where
+// the top is left is for the caller to write, since it is the last.
 fn climb(m: &[u32], xs: &mut [u32], n: usize, t0: u32, i0: usize) -> Spot
     requires { ⌜ (length (now m) ≡ 16384) × (length (now xs) ≡ 256) × (n ≤ 256) × (t0 < 128) ⌝ }
     ensures { λ r. ⌜ Led (decode (now (m .entry))) n (128 + t0) i0 (now (xs .entry)) (r .mark) (r .written) (now (xs .exit)) × (i0 ≤ r .written) ⌝ }
@@ -270,7 +269,7 @@ fn climb(m: &[u32], xs: &mut [u32], n: usize, t0: u32, i0: usize) -> Spot
     }
 }
 
-// From where task t is met, with i marks written: to where the next one is met or the top is left.
+// From where task t is met, with i marks written: to where the next task is met or the top is left.
 fn onward(m: &[u32], xs: &mut [u32], n: usize, t: u32, i: usize) -> Spot
     requires { ⌜ (length (now m) ≡ 16384) × (length (now xs) ≡ 256) × (n ≤ 256) × (t < 128) × (i < n) ⌝ }
     ensures { λ r. ⌜ Led (decode (now (m .entry))) n t i (now (xs .entry)) (r .mark) (r .written) (now (xs .exit)) × (i < r .written) ⌝ }
@@ -292,7 +291,7 @@ fn onward(m: &[u32], xs: &mut [u32], n: usize, t: u32, i: usize) -> Spot
     climb(m, xs, n, y - 128, i + 1)
 }
 
-// The tour has k marks, and each link that it follows is right. They are left in xs.
+// The tour of the tree has k marks, and each link that it follows is right. The marks are left in xs.
 pub fn tree_ok(m: &[u32], xs: &mut [u32], k: u32) -> bool
     requires { ⌜ (length (now m) ≡ 16384) × (length (now xs) ≡ 256) × (k ≤ 256) ⌝ }
     ensures { λ r. ⌜ (r ≡ treeTest (decode (now (m .entry))) k 0) × (r ≡ true → take k (now (xs .exit)) ≡ tour k (recordOf (now (m .entry))) 0) ⌝ }

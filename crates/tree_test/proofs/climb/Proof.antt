@@ -1,12 +1,11 @@
-use Rattle.tree_test.specs.Led.{Same, Led, same-here, same-on, same-step, led-here, led-wrong, walk-none, walk-wrong}
+use Rattle.tree_test.specs.Led.{Same, same-here, same-on, same-step, led-here, led-wrong, walk-none, walk-wrong}
 use Rattle.tree_test.specs.Walk.{next-up}
 use Rattle.rules.specs.Contents.{decode}
-use mathlib.Core.List.{List}
-use lib.ListN.{length, length-set, set}
+use lib.ListN.{length, length-set}
 use Prim.Native.Nat.{ℕ, _≤_, _<_, _-_, _+_}
 use native.Mathlib.Omega.{arith}
 use borrow.Author.Needs.{needs}
-use mathlib.Core.Path.{_≡_, refl, sym, _∙_, ap, subst}
+use mathlib.Core.Path.{_≡_, sym, _∙_, subst}
 use Rattle.tree_test.proofs.climb.Statement.{statement}
 use Rattle.tree_test.proofs.climb.Tie as tie
 use Rattle.tree_test.proofs.climb.Reads as reads

@@ -2,7 +2,6 @@ use Rattle.tree_test.specs.Stacks.{free-few}
 use Rattle.words.specs.Words.{size}
 use lib.Dec.{leb}
 use mathlib.Core.Path.{ap₂, _∙_}
-use borrow.Author.Needs.{needs}
 use Rattle.tree_test.proofs.few_free.Statement.{statement}
 use Rattle.tree_test.proofs.few_free.Tie as tie
 use Rattle.tree_test.proofs.few_free.Reads as reads

@@ -2,10 +2,9 @@ use Rattle.tree_test.specs.Idle.{idle-many}
 use Rattle.tree_test.specs.Counted.{idle-wrong, idle-top, idle-count}
 use Rattle.words.specs.Words.{load, size}
 use native.Mathlib.Omega.{arith}
-use borrow.Author.Tests.{not-true, not-false}
 use lib.Dec.{eqb}
 use Prim.Native.Nat.{ℕ}
-use mathlib.Core.Path.{ap, refl, sym, _∙_}
+use mathlib.Core.Path.{ap, refl, _∙_}
 use borrow.Author.Needs.{needs}
 use Rattle.tree_test.proofs.idle_ok.Statement.{statement}
 use Rattle.tree_test.proofs.idle_ok.Tie as tie
@@ -33,14 +32,14 @@ mark-free-requires c κs = (c .before .before .before .before .pre, refl, c .bef
 
 returns-2 : tie.Need-returns-2
 unfolding size
-returns-2 c = idle-wrong (c .before .before .before .before .before .before .before .args .m .now) (c .before .before .before .before .before .before .before .pre) (c .before .before .before .before .before .header .result) (c .before .before .before .before .before .header .ensures) (c .before .before .before .before .if1 .left) (sym (c .before .before .mark-free .ensures .0) ∙ not-true _ (c .if2 .taken))
+returns-2 c = idle-wrong (c .before .before .before .before .before .before .before .args .m .now) (c .before .before .before .before .before .before .before .pre) (c .before .before .before .before .before .header .result) (c .before .before .before .before .before .header .ensures) (c .before .before .before .before .if1 .left) _ (c .before .before .mark-free .ensures .0) (c .if2 .taken)
 
 array-read-if3 : tie.Need-array-read-if3
 array-read-if3 c = search needs
 
 returns-3 : tie.Need-returns-3
 unfolding size load
-returns-3 c = idle-top (c .before .before .before .before .before .before .before .before .args .m .now) (c .before .before .before .before .before .before .before .before .pre) (c .before .before .before .before .before .before .header .result) (c .before .before .before .before .before .before .header .ensures) (c .before .before .before .before .before .if1 .left) (sym (c .before .before .before .mark-free .ensures .0) ∙ not-false _ (c .before .if2 .left)) _ (c .before .before .before .mark-free .ensures .1 (not-false _ (c .before .if2 .left))) (c .if3 .taken)
+returns-3 c = idle-top (c .before .before .before .before .before .before .before .before .args .m .now) (c .before .before .before .before .before .before .before .before .pre) (c .before .before .before .before .before .before .header .result) (c .before .before .before .before .before .before .header .ensures) (c .before .before .before .before .before .if1 .left) _ (c .before .before .before .mark-free .ensures .0) (c .before .if2 .left) _ (c .before .before .before .mark-free .ensures .1) (c .if3 .taken)
 
 slice-aggregate-marks : tie.Need-slice-aggregate-marks
 slice-aggregate-marks c = search needs
@@ -50,7 +49,7 @@ marks-requires c κs = search needs
 
 returns-4 : tie.Need-returns-4
 unfolding size load
-returns-4 c = ap (λ (n : ℕ). eqb n (c .before .before .before .before .before .before .before .before .header .result)) (c .marks .ensures) ∙ idle-count (c .before .before .before .before .before .before .before .before .before .before .args .m .now) (c .before .before .before .before .before .before .before .before .before .before .pre) (c .before .before .before .before .before .before .before .before .header .result) (c .before .before .before .before .before .before .before .before .header .ensures) (c .before .before .before .before .before .before .before .if1 .left) (sym (c .before .before .before .before .before .mark-free .ensures .0) ∙ not-false _ (c .before .before .before .if2 .left)) _ (c .before .before .before .before .before .mark-free .ensures .1 (not-false _ (c .before .before .before .if2 .left))) (c .before .before .if3 .left)
+returns-4 c = ap (λ (n : ℕ). eqb n (c .before .before .before .before .before .before .before .before .header .result)) (c .marks .ensures) ∙ idle-count (c .before .before .before .before .before .before .before .before .before .before .args .m .now) (c .before .before .before .before .before .before .before .before .before .before .pre) (c .before .before .before .before .before .before .before .before .header .result) (c .before .before .before .before .before .before .before .before .header .ensures) (c .before .before .before .before .before .before .before .if1 .left) _ (c .before .before .before .before .before .mark-free .ensures .0) (c .before .before .before .if2 .left) _ (c .before .before .before .before .before .mark-free .ensures .1) (c .before .before .if3 .left)
 
 pub idle-ok-spec : {M : Type 1} → statement M
 idle-ok-spec =

@@ -3,7 +3,6 @@ use Rattle.tree_test.specs.Records.{word-read}
 use Rattle.rules.specs.Contents.{decode}
 use Prim.Native.Nat.{ℕ}
 use mathlib.Core.Path.{ap, _∙_}
-use borrow.Author.Needs.{needs}
 use Rattle.tree_test.proofs.kin.Statement.{statement}
 use Rattle.tree_test.proofs.kin.Tie as tie
 use Rattle.tree_test.proofs.kin.Reads as reads

@@ -1,8 +1,7 @@
 use Rattle.tree_test.specs.Links.{link-met, link-left}
 use Rattle.tree_test.specs.Records.{word-read}
-use Prim.Native.Nat.{ℕ, _-_}
+use Prim.Native.Nat.{_-_}
 use mathlib.Core.Path.{_∙_}
-use borrow.Author.Needs.{needs}
 use Rattle.tree_test.proofs.link_ok.Statement.{statement}
 use Rattle.tree_test.proofs.link_ok.Tie as tie
 use Rattle.tree_test.proofs.link_ok.Reads as reads

@@ -1,23 +1,23 @@
-use Rattle.tree_test.proofs.Turns.{free-far, free-used, free-on, mark-on, all-free, not-free, first-free}
-use Rattle.tree_test.specs.Counted.{freeFrom, markFrom}
+use Rattle.tree_test.proofs.Turns.{faults-more, near-more, faults-done, near-done, faults-first}
+use Rattle.tree_test.specs.Counted.{faultsFrom, nearFrom}
 use Rattle.words.specs.Words.{load, store}
 use lib.ListN.{length, length-set, getD}
-use Prim.Native.Nat.{_≤_, _-_, _+_}
+use Prim.Native.Nat.{_≤_, _-_, _+_, _*_, _%_}
 use native.Mathlib.Omega.{arith}
-use mathlib.Core.Path.{_≡_, refl, sym, _∙_}
+use mathlib.Core.Path.{_≡_, sym, _∙_}
 use Rattle.tree_test.proofs.mark_free.Statement.{statement}
 use Rattle.tree_test.proofs.mark_free.Tie as tie
 use Rattle.tree_test.proofs.mark_free.Reads as reads
 use Rattle.tree_test.proofs.mark_free.Lts as lts
 
 abbrev Inv-loop : tie.InvT-loop
-Inv-loop m d₀ h i₀ d i = (i ≤ h) × (length d ≡ 256) × (freeFrom (h - i) m i ≡ freeFrom h m 0) × (markFrom (h - i) m i d ≡ markFrom h m 0 d₀)
+Inv-loop m d₀ h w₀ i₀ d w i = (i ≤ h) × (length d ≡ 256) × (w ≤ i * 4328521728) × (w + faultsFrom (h - i) m i ≡ faultsFrom h m 0) × (nearFrom (h - i) m i d ≡ nearFrom h m 0 d₀)
 
 abbrev μ-loop : tie.MeasureT-loop
-μ-loop m d₀ h i₀ d i = h - i
+μ-loop m d₀ h w₀ i₀ d w i = h - i
 
 loop-holds : tie.Need-loop-holds Inv-loop μ-loop
-loop-holds c = let w = first-free (c .args .m .now) (c .args .d .now) (c .args .h) in (omega arith, c .pre .1, w .0, w .1)
+loop-holds c = let w = faults-first (c .args .m .now) (c .args .d .now) (c .args .h) in (omega arith, c .pre .1, omega arith, w .0, w .1)
 
 add-t : tie.Need-add-t Inv-loop μ-loop
 add-t c = omega arith
@@ -29,36 +29,31 @@ shared-slice-read-t : tie.Need-shared-slice-read-t Inv-loop μ-loop
 shared-slice-read-t c = let a = c .before .before .before .pre .0 in let b = c .before .before .before .pre .2 in let e = c .before .loop-test .taken in omega (arith, a, b, e)
 
 cast-t : tie.Need-cast-t Inv-loop μ-loop
-cast-t c = omega (arith, c .shared-slice-known .given (320 + c .before .before .loop .i))
+cast-t c = omega (arith, c .shared-slice-known .given (320 + (c .before .before .loop .i)))
 
-same-length : tie.Need-same-length Inv-loop μ-loop
-same-length c = c .before .before .before .loop .inv .1 ∙ sym (c .before .before .before .before .pre .1)
+mul-w : tie.Need-mul-w Inv-loop μ-loop
+mul-w c = omega arith
 
-returns : tie.Need-returns Inv-loop μ-loop
-unfolding load
-returns c = not-free (c .before .before .before .before .args .m .now) (c .before .before .before .before .args .h) (c .before .before .before .loop .i) _ _ (free-far (c .before .before .before .before .args .m .now) (c .before .before .before .before .args .h) (c .before .before .before .loop .i) (c .before .before .loop-test .taken) (getD (c .before .before .before .before .args .m .now) (320 + (c .before .before .before .loop .i)) 0) refl (c .if1 .taken)) (c .before .before .before .loop .inv .2)
+add-w : tie.Need-add-w Inv-loop μ-loop
+add-w c = omega arith
 
-mul-if2 : tie.Need-mul-if2 Inv-loop μ-loop
-mul-if2 c = omega arith
+mul-w-2 : tie.Need-mul-w-2 Inv-loop μ-loop
+mul-w-2 c = omega arith
 
-add-if2 : tie.Need-add-if2 Inv-loop μ-loop
-add-if2 c = omega arith
+shared-slice-read-w : tie.Need-shared-slice-read-w Inv-loop μ-loop
+shared-slice-read-w c = let a = c .before .before .before .before .pre .0 in omega (arith, a)
 
-mul-if2-2 : tie.Need-mul-if2-2 Inv-loop μ-loop
-mul-if2-2 c = omega arith
+cast-w : tie.Need-cast-w Inv-loop μ-loop
+cast-w c = omega (arith, c .before .shared-slice-known .given (1472 + (getD (c .before .before .before .before .args .m .now) (320 + (c .before .before .before .loop .i)) 0) % 128 * 48))
 
-shared-slice-read-if2 : tie.Need-shared-slice-read-if2 Inv-loop μ-loop
-shared-slice-read-if2 c = let a = c .before .before .before .before .before .pre .0 in let b = c .before .if1 .left in omega (arith, a, b)
+add-w-2 : tie.Need-add-w-2 Inv-loop μ-loop
+add-w-2 c = let g = c .before .shared-slice-known .given (320 + (c .before .before .before .loop .i)) in let f = c .before .shared-slice-known .given (1472 + (getD (c .before .before .before .before .args .m .now) (320 + (c .before .before .before .loop .i)) 0) % 128 * 48) in omega (arith, f, g)
 
-same-length-2 : tie.Need-same-length-2 Inv-loop μ-loop
-same-length-2 c = c .before .before .before .before .before .loop .inv .1 ∙ sym (c .before .before .before .before .before .before .pre .1)
-
-returns-2 : tie.Need-returns-2 Inv-loop μ-loop
-unfolding load
-returns-2 c = not-free (c .before .before .before .before .before .before .args .m .now) (c .before .before .before .before .before .before .args .h) (c .before .before .before .before .before .loop .i) _ _ (free-used (c .before .before .before .before .before .before .args .m .now) (c .before .before .before .before .before .before .args .h) (c .before .before .before .before .before .loop .i) (c .before .before .before .before .loop-test .taken) (getD (c .before .before .before .before .before .before .args .m .now) (320 + (c .before .before .before .before .before .loop .i)) 0) refl (c .before .before .if1 .left) (c .if2 .taken)) (c .before .before .before .before .before .loop .inv .2)
+add-w-3 : tie.Need-add-w-3 Inv-loop μ-loop
+add-w-3 c = let l = c .before .before .loop-test .taken in let q = c .before .before .before .before .pre .2 in let b = c .before .before .before .loop .inv .2 in let g = c .before .shared-slice-known .given (320 + (c .before .before .before .loop .i)) in let f = c .before .shared-slice-known .given (1472 + (getD (c .before .before .before .before .args .m .now) (320 + (c .before .before .before .loop .i)) 0) % 128 * 48) in omega (arith, f, g, l, q, b)
 
 slice-write-d : tie.Need-slice-write-d Inv-loop μ-loop
-slice-write-d c = let a = c .before .before .before .before .before .loop .inv .1 in let b = c .before .before .if1 .left in omega (arith, a, b)
+slice-write-d c = let a = c .before .before .before .loop .inv .1 in omega (arith, a)
 
 add-i : tie.Need-add-i Inv-loop μ-loop
 add-i c = omega arith
@@ -68,13 +63,13 @@ loop-less c = omega arith
 
 loop-again : tie.Need-loop-again Inv-loop μ-loop
 unfolding load store
-loop-again c = (let a = c .before .before .before .before .loop-test .taken in omega (arith, a), length-set (c .before .before .before .before .before .loop .d) (getD (c .before .before .before .before .before .before .args .m .now) (320 + (c .before .before .before .before .before .loop .i)) 0) 1 ∙ c .before .before .before .before .before .loop .inv .1, free-on (c .before .before .before .before .before .before .args .m .now) (c .before .before .before .before .before .before .args .h) (c .before .before .before .before .before .loop .i) (c .before .before .before .before .loop-test .taken) (getD (c .before .before .before .before .before .before .args .m .now) (320 + (c .before .before .before .before .before .loop .i)) 0) refl (c .before .before .if1 .left) (c .if2 .left) ∙ c .before .before .before .before .before .loop .inv .2, mark-on (c .before .before .before .before .before .before .args .m .now) (c .before .before .before .before .before .before .args .h) (c .before .before .before .before .before .loop .i) (c .before .before .before .before .loop-test .taken) (getD (c .before .before .before .before .before .before .args .m .now) (320 + (c .before .before .before .before .before .loop .i)) 0) refl (c .before .before .before .before .before .loop .d) ∙ c .before .before .before .before .before .loop .inv .3)
+loop-again c = (let a = c .before .before .loop-test .taken in omega (arith, a), length-set (c .before .before .before .loop .d) ((getD (c .before .before .before .before .args .m .now) (320 + (c .before .before .before .loop .i)) 0) % 128) 1 ∙ c .before .before .before .loop .inv .1, let l = c .before .before .loop-test .taken in let q = c .before .before .before .before .pre .2 in let b = c .before .before .before .loop .inv .2 in let g = c .before .shared-slice-known .given (320 + (c .before .before .before .loop .i)) in let f = c .before .shared-slice-known .given (1472 + (getD (c .before .before .before .before .args .m .now) (320 + (c .before .before .before .loop .i)) 0) % 128 * 48) in omega (arith, f, g, b), faults-more (c .before .before .before .before .args .m .now) (c .before .before .before .before .args .h) (c .before .before .before .loop .i) (c .before .before .before .loop .w) (c .before .before .loop-test .taken) (c .before .before .before .loop .inv .3), near-more (c .before .before .before .before .args .m .now) (c .before .before .before .before .args .h) (c .before .before .before .loop .i) (c .before .before .before .loop .d) (c .before .before .loop-test .taken) ∙ c .before .before .before .loop .inv .4)
 
-same-length-3 : tie.Need-same-length-3 Inv-loop μ-loop
-same-length-3 c = c .before .loop .inv .1 ∙ sym (c .before .before .pre .1)
+same-length : tie.Need-same-length Inv-loop μ-loop
+same-length c = c .before .loop .inv .1 ∙ sym (c .before .before .pre .1)
 
-returns-3 : tie.Need-returns-3 Inv-loop μ-loop
-returns-3 c = all-free (c .before .before .args .m .now) (c .before .before .args .h) (c .before .loop .i) _ _ (c .loop-test .left) (c .before .loop .inv .2) (c .before .loop .inv .3)
+returns : tie.Need-returns Inv-loop μ-loop
+returns c = (faults-done (c .before .before .args .m .now) (c .before .before .args .h) (c .before .loop .i) (c .before .loop .w) (c .loop-test .left) (c .before .loop .inv .3), near-done (c .before .before .args .m .now) (c .before .before .args .h) (c .before .loop .i) (c .before .loop .d) (c .loop-test .left) ∙ c .before .loop .inv .4)
 
 pub mark-free-spec : {M : Type 1} → statement M
 mark-free-spec =
@@ -87,17 +82,16 @@ mark-free-spec =
     mul-t
     shared-slice-read-t
     cast-t
-    same-length
-    returns
-    mul-if2
-    add-if2
-    mul-if2-2
-    shared-slice-read-if2
-    same-length-2
-    returns-2
+    mul-w
+    add-w
+    mul-w-2
+    shared-slice-read-w
+    cast-w
+    add-w-2
+    add-w-3
     slice-write-d
     add-i
     loop-less
     loop-again
-    same-length-3
-    returns-3)
+    same-length
+    returns)

@@ -2,13 +2,10 @@ use Rattle.tree_test.proofs.Turns.{sum-more}
 use Rattle.lists.specs.Counting.{total}
 use Rattle.tree_test.specs.Counted.{marks}
 use Rattle.words.specs.Words.{load}
-use mathlib.Core.List.{List}
-use lib.ListN.{length, getD}
-use Prim.Native.Nat.{ℕ, _≤_, _<_, _-_, _+_, _*_}
+use Prim.Native.Nat.{ℕ, _≤_, _-_, _*_}
 use native.Mathlib.Omega.{arith}
 use native.Mathlib.Nat.{le-antisymm}
-use borrow.Author.Needs.{needs}
-use mathlib.Core.Path.{_≡_, refl, sym, _∙_, ap}
+use mathlib.Core.Path.{_≡_, refl, _∙_, ap}
 use Rattle.tree_test.proofs.marks.Statement.{statement}
 use Rattle.tree_test.proofs.marks.Tie as tie
 use Rattle.tree_test.proofs.marks.Reads as reads

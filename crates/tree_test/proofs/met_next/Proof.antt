@@ -3,8 +3,6 @@ use Rattle.tree_test.specs.Links.{fitting}
 use Rattle.tree_test.specs.Records.{word-at}
 use Rattle.rules.specs.Contents.{decode}
 use Rattle.layout.specs.Layout.{NONE}
-use lib.ListN.{getD}
-use Prim.Native.Nat.{ℕ, _+_, _*_}
 use mathlib.Core.Path.{ap, sym, _∙_}
 use borrow.Author.Needs.{needs}
 use Rattle.tree_test.proofs.met_next.Statement.{statement}

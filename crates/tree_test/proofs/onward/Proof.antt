@@ -1,11 +1,10 @@
-use Rattle.tree_test.specs.Led.{Led, same-step, led-on, led-here, led-wrong, walk-wrong}
+use Rattle.tree_test.specs.Led.{same-step, led-on, led-here, led-wrong, walk-wrong}
 use Rattle.tree_test.specs.Walk.{next-met}
 use Rattle.rules.specs.Contents.{decode}
-use mathlib.Core.List.{List}
-use lib.ListN.{length, length-set, set}
-use Prim.Native.Nat.{ℕ, _≤_, _<_, _-_, _+_}
+use lib.ListN.{length-set}
+use Prim.Native.Nat.{_-_, _+_}
 use native.Mathlib.Omega.{arith}
-use mathlib.Core.Path.{_≡_, refl, sym, _∙_}
+use mathlib.Core.Path.{_≡_, _∙_}
 use borrow.Author.Needs.{needs}
 use Rattle.tree_test.proofs.onward.Statement.{statement}
 use Rattle.tree_test.proofs.onward.Tie as tie

@@ -5,7 +5,6 @@ use lib.Dec.{eqb}
 use Prim.Native.Nat.{ℕ}
 use borrow.Author.Tests.{eq-eqb, ne-eqb}
 use mathlib.Core.Path.{ap, sym, _∙_}
-use borrow.Author.Needs.{needs}
 use Rattle.tree_test.proofs.top_alone.Statement.{statement}
 use Rattle.tree_test.proofs.top_alone.Tie as tie
 use Rattle.tree_test.proofs.top_alone.Reads as reads

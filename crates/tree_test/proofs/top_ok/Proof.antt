@@ -1,6 +1,5 @@
 use Rattle.tree_test.specs.Top.{top-open, top-closed, top-other, top-parent}
 use mathlib.Core.Path.{sym, _∙_}
-use borrow.Author.Needs.{needs}
 use Rattle.tree_test.proofs.top_ok.Statement.{statement}
 use Rattle.tree_test.proofs.top_ok.Tie as tie
 use Rattle.tree_test.proofs.top_ok.Reads as reads

@@ -1,11 +1,10 @@
-use Rattle.tree_test.specs.Led.{Same, Led, same-here, same-on, walk-none, walk-fails, walk-ends}
+use Rattle.tree_test.specs.Led.{Same, same-here, same-on, walk-none, walk-fails, walk-ends}
 use Rattle.rules.specs.Contents.{decode}
-use mathlib.Core.List.{List}
-use lib.ListN.{length, length-set, set}
-use Prim.Native.Nat.{ℕ, _≤_, _<_, _-_, _+_}
+use lib.ListN.{length, length-set}
+use Prim.Native.Nat.{_<_, _-_}
 use native.Mathlib.Omega.{arith}
 use borrow.Author.Needs.{needs}
-use mathlib.Core.Path.{_≡_, refl, sym, _∙_}
+use mathlib.Core.Path.{_≡_, sym, _∙_}
 use Rattle.tree_test.proofs.tree_ok.Statement.{statement}
 use Rattle.tree_test.proofs.tree_ok.Tie as tie
 use Rattle.tree_test.proofs.tree_ok.Reads as reads
