@@ -3,7 +3,6 @@ use mathlib.Core.Path.{_≡_, refl, ap, sym, _∙_}
 use mathlib.Core.Bool.{Bool, true, false, not}
 use mathlib.Core.List.{List}
 use Prim.Native.Nat.{ℕ, _<_}
-use lib.Dec.{eqb}
 use borrow.Author.Tests.{eq-eqb, ne-eqb, ltb-true, not-false}
 use Rattle.words.specs.Words.{either, pass, halt, both-true, true-right}
 use Rattle.layout.specs.Layout.{FINISHED, STATUS, task, write}
@@ -13,7 +12,7 @@ use Rattle.tree.specs.Rights.{eachQueue}
 use Rattle.calls.specs.Waits.{unfinished, blocked, hasChild}
 use Rattle.calls.specs.Sync.{syncs, synced, whenReduced}
 use Rattle.calls.specs.Finish.{finishes, finishedQueue, unlinked, recordFreed, finished, topFinished, finishTested}
-use Rattle.finishing.proofs.Deciding.{stop, on}
+use Rattle.returning.proofs.Deciding.{stop, on}
 
 -- a test of each queue
 module _ (f : ℕ → Bool) {b0 : Bool} (e0 : b0 ≡ f 0) where

@@ -1,4 +1,2 @@
-pub mod Deciding
-pub mod Views
 pub mod Records
 pub mod Ladder

@@ -4,7 +4,7 @@ use Rattle.finishing.proofs.each_finishes.Statement.{statement}
 use Rattle.finishing.proofs.each_finishes.Tie as tie
 use Rattle.finishing.proofs.each_finishes.Reads as reads
 use Rattle.finishing.proofs.each_finishes.Lts as lts
-use Rattle.finishing.proofs.finishes.Reads as finishes-reads
+use Rattle.returning.proofs.finishes.Reads as finishes-reads
 
 finishes-requires : tie.Need-finishes-requires
 finishes-requires c κs = search needs

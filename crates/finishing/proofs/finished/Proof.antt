@@ -4,7 +4,7 @@ use Rattle.finishing.proofs.finished.Statement.{statement}
 use Rattle.finishing.proofs.finished.Tie as tie
 use Rattle.finishing.proofs.finished.Reads as reads
 use Rattle.finishing.proofs.finished.Lts as lts
-use Rattle.finishing.proofs.finished_queue.Reads as finished-queue-reads
+use Rattle.returning.proofs.finished_queue.Reads as finished-queue-reads
 use Rattle.finishing.proofs.record_freed.Reads as record-freed-reads
 use Rattle.finishing.proofs.unlink.Reads as unlink-reads
 
