@@ -1,0 +1,37 @@
+use Rattle.hyperqueue.specs.Packed.{turned-down, goes-on, passes}
+use Rattle.calls.specs.Finish.{finishOutcome}
+use Rattle.words.specs.Words.{size}
+use mathlib.Core.Path.{_∙_}
+use borrow.Author.Needs.{needs}
+use Rattle.hyperqueue.proofs.finish.Statement.{statement}
+use Rattle.hyperqueue.proofs.finish.Tie as tie
+use Rattle.hyperqueue.proofs.finish.Reads as reads
+use Rattle.hyperqueue.proofs.finish.Lts as lts
+use Rattle.finishing.proofs.finish.Reads as finish-reads
+use Rattle.hyperqueue.proofs.refusal.Reads as refusal-reads
+
+refusal-requires : tie.Need-refusal-requires
+refusal-requires c κs = search needs
+
+same-length : tie.Need-same-length
+same-length c = search needs
+
+returns : tie.Need-returns
+unfolding finishOutcome
+returns c = turned-down _ _ _ (c .before .refusal .ensures) (c .if1 .taken)
+
+finish-requires : tie.Need-finish-requires
+unfolding size
+finish-requires c κs = passes _ (c .before .before .refusal .ensures) (c .before .if1 .left) .0
+
+same-length-2 : tie.Need-same-length-2
+same-length-2 c = search needs
+
+returns-2 : tie.Need-returns-2
+unfolding finishOutcome
+returns-2 c = c .before .before .finish .ensures ∙ goes-on _ _ _ (c .before .before .before .before .before .refusal .ensures) (c .before .before .before .before .if1 .left)
+
+pub finish-spec : {M : Type 1} → statement M
+finish-spec =
+    tie.close
+    (tie.spec refusal-requires same-length returns finish-requires same-length-2 returns-2)

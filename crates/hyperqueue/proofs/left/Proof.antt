@@ -1,0 +1,28 @@
+use Rattle.hyperqueue.specs.Packed.{turned-down, goes-on, passes}
+use Rattle.calls.specs.Left.{leftOutcome}
+use Rattle.words.specs.Words.{size}
+use mathlib.Core.Path.{_∙_}
+use borrow.Author.Needs.{needs}
+use Rattle.hyperqueue.proofs.left.Statement.{statement}
+use Rattle.hyperqueue.proofs.left.Tie as tie
+use Rattle.hyperqueue.proofs.left.Reads as reads
+use Rattle.hyperqueue.proofs.left.Lts as lts
+use Rattle.hyperqueue.proofs.refusal.Reads as refusal-reads
+use Rattle.leaving.proofs.left.Reads as left-reads
+
+refusal-requires : tie.Need-refusal-requires
+refusal-requires c κs = search needs
+
+returns : tie.Need-returns
+unfolding leftOutcome
+returns c = turned-down _ _ _ (c .before .refusal .ensures) (c .if1 .taken)
+
+left-requires : tie.Need-left-requires
+left-requires c κs = search needs
+
+returns-2 : tie.Need-returns-2
+unfolding leftOutcome
+returns-2 c = c .left .ensures ∙ goes-on _ _ _ (c .before .before .refusal .ensures) (c .before .if1 .left)
+
+pub left-spec : {M : Type 1} → statement M
+left-spec = tie.close (tie.spec refusal-requires returns left-requires returns-2)

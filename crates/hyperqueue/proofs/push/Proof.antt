@@ -1,0 +1,36 @@
+use Rattle.hyperqueue.specs.Packed.{turned-down, goes-on, passes}
+use Rattle.calls.specs.Push.{pushOutcome}
+use Rattle.words.specs.Words.{size}
+use mathlib.Core.Path.{_∙_}
+use borrow.Author.Needs.{needs}
+use Rattle.hyperqueue.proofs.push.Statement.{statement}
+use Rattle.hyperqueue.proofs.push.Tie as tie
+use Rattle.hyperqueue.proofs.push.Reads as reads
+use Rattle.hyperqueue.proofs.push.Lts as lts
+use Rattle.hyperqueue.proofs.refusal.Reads as refusal-reads
+use Rattle.pushing.proofs.push.Reads as push-reads
+
+refusal-requires : tie.Need-refusal-requires
+refusal-requires c κs = search needs
+
+same-length : tie.Need-same-length
+same-length c = search needs
+
+returns : tie.Need-returns
+unfolding pushOutcome
+returns c = turned-down _ _ _ (c .before .refusal .ensures) (c .if1 .taken)
+
+push-requires : tie.Need-push-requires
+unfolding size
+push-requires c κs = passes _ (c .before .before .refusal .ensures) (c .before .if1 .left)
+
+same-length-2 : tie.Need-same-length-2
+same-length-2 c = search needs
+
+returns-2 : tie.Need-returns-2
+unfolding pushOutcome
+returns-2 c = c .before .before .push .ensures ∙ goes-on _ _ _ (c .before .before .before .before .before .refusal .ensures) (c .before .before .before .before .if1 .left)
+
+pub push-spec : {M : Type 1} → statement M
+push-spec =
+    tie.close (tie.spec refusal-requires same-length returns push-requires same-length-2 returns-2)

@@ -1,0 +1,26 @@
+use Rattle.hyperqueue.specs.Packed.{other-length, rules-fail, may-call}
+use Rattle.words.specs.Words.{size}
+use borrow.Author.Needs.{needs}
+use Rattle.hyperqueue.proofs.refusal.Statement.{statement}
+use Rattle.hyperqueue.proofs.refusal.Tie as tie
+use Rattle.hyperqueue.proofs.refusal.Reads as reads
+use Rattle.hyperqueue.proofs.refusal.Lts as lts
+use Rattle.memory_test.proofs.rules_hold.Reads as rules-hold-reads
+
+returns : tie.Need-returns
+unfolding size
+returns c = other-length _ (c .if1 .taken)
+
+rules-hold-requires : tie.Need-rules-hold-requires
+rules-hold-requires c κs = search needs
+
+returns-2 : tie.Need-returns-2
+unfolding size
+returns-2 c = rules-fail _ (c .before .before .if1 .left) (c .before .rules-hold .ensures) (c .if2 .taken)
+
+returns-3 : tie.Need-returns-3
+unfolding size
+returns-3 c = may-call _ (c .before .before .if1 .left) (c .before .rules-hold .ensures) (c .if2 .left)
+
+pub refusal-spec : {M : Type 1} → statement M
+refusal-spec = tie.close (tie.spec returns rules-hold-requires returns-2 returns-3)

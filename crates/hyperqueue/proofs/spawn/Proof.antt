@@ -1,0 +1,37 @@
+use Rattle.hyperqueue.specs.Packed.{turned-down, goes-on, passes}
+use Rattle.calls.specs.Spawn.{spawnOutcome}
+use Rattle.words.specs.Words.{size}
+use mathlib.Core.Path.{_∙_}
+use borrow.Author.Needs.{needs}
+use Rattle.hyperqueue.proofs.spawn.Statement.{statement}
+use Rattle.hyperqueue.proofs.spawn.Tie as tie
+use Rattle.hyperqueue.proofs.spawn.Reads as reads
+use Rattle.hyperqueue.proofs.spawn.Lts as lts
+use Rattle.hyperqueue.proofs.refusal.Reads as refusal-reads
+use Rattle.spawning.proofs.spawn.Reads as spawn-reads
+
+refusal-requires : tie.Need-refusal-requires
+refusal-requires c κs = search needs
+
+same-length : tie.Need-same-length
+same-length c = search needs
+
+returns : tie.Need-returns
+unfolding spawnOutcome
+returns c = turned-down _ _ _ (c .before .refusal .ensures) (c .if1 .taken)
+
+spawn-requires : tie.Need-spawn-requires
+unfolding size
+spawn-requires c κs = passes _ (c .before .before .refusal .ensures) (c .before .if1 .left)
+
+same-length-2 : tie.Need-same-length-2
+same-length-2 c = search needs
+
+returns-2 : tie.Need-returns-2
+unfolding spawnOutcome
+returns-2 c = c .before .before .spawn .ensures ∙ goes-on _ _ _ (c .before .before .before .before .before .refusal .ensures) (c .before .before .before .before .if1 .left)
+
+pub spawn-spec : {M : Type 1} → statement M
+spawn-spec =
+    tie.close
+    (tie.spec refusal-requires same-length returns spawn-requires same-length-2 returns-2)

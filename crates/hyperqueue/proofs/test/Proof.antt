@@ -1,0 +1,28 @@
+use Rattle.hyperqueue.specs.Packed.{turned-down, goes-on, passes}
+use Rattle.calls.specs.Find.{testOutcome}
+use Rattle.words.specs.Words.{size}
+use mathlib.Core.Path.{_∙_}
+use borrow.Author.Needs.{needs}
+use Rattle.hyperqueue.proofs.test.Statement.{statement}
+use Rattle.hyperqueue.proofs.test.Tie as tie
+use Rattle.hyperqueue.proofs.test.Reads as reads
+use Rattle.hyperqueue.proofs.test.Lts as lts
+use Rattle.finding.proofs.test.Reads as test-reads
+use Rattle.hyperqueue.proofs.refusal.Reads as refusal-reads
+
+refusal-requires : tie.Need-refusal-requires
+refusal-requires c κs = search needs
+
+returns : tie.Need-returns
+unfolding testOutcome
+returns c = turned-down _ _ _ (c .before .refusal .ensures) (c .if1 .taken)
+
+test-requires : tie.Need-test-requires
+test-requires c κs = search needs
+
+returns-2 : tie.Need-returns-2
+unfolding testOutcome
+returns-2 c = c .test .ensures ∙ goes-on _ _ _ (c .before .before .refusal .ensures) (c .before .if1 .left)
+
+pub test-spec : {M : Type 1} → statement M
+test-spec = tie.close (tie.spec refusal-requires returns test-requires returns-2)
