@@ -1,0 +1,85 @@
+/* The queue core: four queues and a tree of tasks, in memory lent by the host.
+ *
+ * Every call gets the host's words and their number, which should be HQ_WORDS.
+ * Nothing has to be checked before a call: any words, any number of words and
+ * any arguments give an answer. A call that is refused or waits changes no
+ * word. Words outside words[0] to words[len - 1] are neither read nor written,
+ * and nothing is kept between calls, so a host may have many cores.
+ * Two calls on the same words must not run at the same time.
+ *
+ * Link with libhyperqueue.a. */
+#ifndef HYPERQUEUE_H
+#define HYPERQUEUE_H
+
+#include <stddef.h>
+#include <stdint.h>
+
+#ifdef __cplusplus
+extern "C" {
+#endif
+
+/* Words that the core needs; any other number is refused with 1. */
+#define HQ_WORDS 16384
+
+/* An answer: the status in the high 32 bits, the value in the low 32 bits.
+ * The value is 0 unless the call moved. */
+#define HQ_STATUS(answer) ((uint32_t)((answer) >> 32))
+#define HQ_VALUE(answer) ((uint32_t)(answer))
+
+/* The statuses. 1 to 20 are refusals: the same call is refused again until
+ * something else changes. A call that waits may be made again once other tasks
+ * have moved. */
+enum {
+    HQ_MOVED = 0,
+    HQ_LENGTH_WRONG = 1,  /* len is not HQ_WORDS */
+    HQ_RULES_FAIL = 2,    /* the words are not a core's memory */
+    HQ_NUMBERS_WRONG = 3, /* open: length or segments out of range */
+    HQ_NO_SUCH_TASK = 4,  /* no unfinished task has this number */
+    HQ_NO_SUCH_QUEUE = 5, /* queues are 0 to 3 */
+    HQ_NO_RIGHT = 6,      /* the task lacks the right */
+    HQ_PAST_THE_END = 7,  /* pop, left: no value is there */
+    HQ_NO_RECORD = 8,     /* spawn: 128 tasks are unfinished */
+    HQ_NO_SEGMENT = 9,    /* push: no segment is free */
+    HQ_WAITS = 32,
+    HQ_EMPTY = 33,    /* test: a pop would find no value */
+    HQ_NOT_EMPTY = 34 /* test: a pop would find a value */
+};
+
+/* Rights of a task on a queue from 0 to 3; add them up for several. */
+#define HQ_MAY_PUSH(queue) ((uint32_t)1 << (2 * (queue)))
+#define HQ_MAY_POP(queue) ((uint32_t)2 << (2 * (queue)))
+
+/* Writes all words: an open core whose only task is 0, the top, with all
+ * rights. A segment holds `length` values, 1 to 64; `segments` of them, 4 to
+ * 256, hold at most 8,192 values together. */
+uint64_t hq_open(uint32_t *words, size_t len, uint32_t length,
+                 uint32_t segments);
+
+/* A child of `task`, with some of its rights; the value is its number. */
+uint64_t hq_spawn(uint32_t *words, size_t len, uint32_t task, uint32_t rights);
+
+/* The value of the answer is the one pushed. */
+uint64_t hq_push(uint32_t *words, size_t len, uint32_t task, uint32_t queue,
+                 uint32_t value);
+
+/* The value of the answer is the one taken: the next in the order of a run in
+ * which every child ends before its parent goes on. */
+uint64_t hq_pop(uint32_t *words, size_t len, uint32_t task, uint32_t queue);
+
+/* HQ_EMPTY or HQ_NOT_EMPTY; no word changes. */
+uint64_t hq_test(uint32_t *words, size_t len, uint32_t task, uint32_t queue);
+
+/* Moves once `task` has no unfinished child. */
+uint64_t hq_sync(uint32_t *words, size_t len, uint32_t task);
+
+/* Ends `task`, which must have no unfinished child; its number is used again. */
+uint64_t hq_finish(uint32_t *words, size_t len, uint32_t task);
+
+/* Value number `index`, from 0, still in the queue once the top has finished. */
+uint64_t hq_left(uint32_t *words, size_t len, uint32_t queue, uint32_t index);
+
+#ifdef __cplusplus
+}
+#endif
+
+#endif
