@@ -1,0 +1,131 @@
+//! Random calls and memories.
+
+use host::call::Call;
+use host::layout::*;
+use host::order::Order;
+use host::play::Player;
+use host::random::Random;
+
+/// Numbers at which something ends.
+const EDGES: [u32; 26] = [
+    0,
+    1,
+    2,
+    3,
+    4,
+    5,
+    8,
+    16,
+    31,
+    32,
+    63,
+    64,
+    65,
+    127,
+    128,
+    129,
+    255,
+    256,
+    257,
+    8_192,
+    16_384,
+    65_536,
+    1 << 30,
+    1 << 31,
+    NL,
+    NONE,
+];
+
+/// Any argument: an edge, a small number or any word.
+fn argument(r: &mut Random) -> u32 {
+    match r.below(4) {
+        0 => r.pick(&EDGES),
+        1 => r.below(5),
+        2 => r.below(260),
+        _ => r.word(),
+    }
+}
+
+/// A call with any arguments.
+pub fn hostile_call(r: &mut Random) -> Call {
+    let (a, b, c) = (argument(r), argument(r), argument(r));
+    call_of(r.below(8), a, b, c)
+}
+
+/// The call of this kind with these arguments.
+pub fn call_of(kind: u32, a: u32, b: u32, c: u32) -> Call {
+    match kind {
+        0 => Call::Open {
+            length: a,
+            segments: b,
+        },
+        1 => Call::Spawn { task: a, rights: b },
+        2 => Call::Push {
+            task: a,
+            queue: b,
+            value: c,
+        },
+        3 => Call::Pop { task: a, queue: b },
+        4 => Call::Test { task: a, queue: b },
+        5 => Call::Sync { task: a },
+        6 => Call::Finish { task: a },
+        _ => Call::Left { queue: a, index: b },
+    }
+}
+
+/// A call of this kind that may well move on this memory, if it passes.
+pub fn likely_call(r: &mut Random, m: &[u32], kind: u32) -> Call {
+    let task = likely_task(r, m, kind);
+    let queue = if r.chance(2) { 4 } else { r.below(QUEUES) };
+    match kind {
+        0 => call_of(0, r.within(1, 8), r.within(4, 100), 0),
+        1 if r.chance(90) && task < TASKS => call_of(1, task, rights(m, task) & r.word(), 0),
+        1 => call_of(1, task, r.word(), 0),
+        7 => call_of(7, queue, r.below(12), 0),
+        _ => call_of(kind, task, queue, r.word()),
+    }
+}
+
+/// An unfinished task; for sync and finish mostly one without children.
+fn likely_task(r: &mut Random, m: &[u32], kind: u32) -> u32 {
+    let ends = kind >= 5 && r.chance(80);
+    let fits = |t: &u32| status(m, *t) == UNFINISHED && (!ends || youngest(m, *t) == NONE);
+    let tasks: Vec<u32> = (0..TASKS).filter(fits).collect();
+    if tasks.is_empty() || r.chance(3) {
+        return r.below(TASKS + 2);
+    }
+    r.pick(&tasks)
+}
+
+/// Memory after some calls of a random program, made on the model.
+pub fn reached(r: &mut Random) -> Vec<u32> {
+    let mut m = vec![0; WORDS];
+    let mut order = Order::new();
+    let mut player = Player::new(Random::new(u64::from(r.word())));
+    player.opening().make(&mut m);
+    let calls = r.pick(&[0, 3, 20, 80, 200]);
+    while player.calls < calls && !player.ended() {
+        let call = player.next(&order);
+        if call.make(&mut m).moved() {
+            order.note(call);
+        }
+    }
+    m
+}
+
+/// One to four words changed to any words.
+pub fn plain_damage(r: &mut Random, m: &mut [u32]) {
+    for _ in 0..r.within(1, 4) {
+        // The last half are values, of which the rules say nothing.
+        let most = r.pick(&[448, 1_472, 8_192, WORDS as u32]);
+        let address = r.below(most) as usize;
+        let word = argument(r);
+        put(m, address, word);
+    }
+}
+
+/// Words without any order; small ones come closer to passing.
+pub fn noise(r: &mut Random, number: u32) -> Vec<u32> {
+    let limit = r.pick(&[2, 4, 128, 300, u32::MAX]);
+    (0..number).map(|_| r.below(limit)).collect()
+}
