@@ -42,10 +42,6 @@ pub fn passing() -> Vec<Named> {
     add("aunt with a shared pop right", aunt());
     add("local head in a children view", local_children_head(4));
     add("the same, non-local tail", local_children_head(NL));
-    add(
-        "local head in the children view of the top",
-        local_top_head(),
-    );
     list
 }
 

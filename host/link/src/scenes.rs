@@ -189,7 +189,7 @@ mod tests {
     fn again_and_again() {
         for scene in all() {
             let mut m = after(&scene);
-            for _ in 0..1_000 {
+            for _ in 0..200 {
                 for call in &scene.again {
                     let answer = call.make(&mut m);
                     let refused = matches!(answer, Answer::Refused(_));
