@@ -1,11 +1,12 @@
 /* The queue core: four queues and a tree of tasks, in memory lent by the host.
  *
- * Every call gets the host's words and their number, which should be HQ_WORDS.
- * Nothing has to be checked before a call: any words, any number of words and
- * any arguments give an answer. A call that is refused or waits changes no
- * word. Words outside words[0] to words[len - 1] are neither read nor written,
- * and nothing is kept between calls, so a host may have many cores.
- * Two calls on the same words must not run at the same time.
+ * Every call gets the host's words and their number: words points to len words
+ * that may be written, and len should be HQ_WORDS. Nothing else has to be
+ * checked before a call: any contents, any len and any arguments give an
+ * answer. A call that is refused or waits changes no word. Nothing outside
+ * words[0] to words[len - 1] is read or written, and nothing is kept between
+ * calls, so a host may have many cores. Two calls on the same words must not
+ * run at the same time.
  *
  * Link with libhyperqueue.a. */
 #ifndef HYPERQUEUE_H
@@ -26,13 +27,12 @@ extern "C" {
 #define HQ_STATUS(answer) ((uint32_t)((answer) >> 32))
 #define HQ_VALUE(answer) ((uint32_t)(answer))
 
-/* The statuses. 1 to 20 are refusals: the same call is refused again until
- * something else changes. A call that waits may be made again once other tasks
- * have moved. */
+/* The statuses. 1 to 20 are refusals, of which 1 to 9 are in use. A call that
+ * waits may be made again once other tasks have moved. */
 enum {
     HQ_MOVED = 0,
     HQ_LENGTH_WRONG = 1,  /* len is not HQ_WORDS */
-    HQ_RULES_FAIL = 2,    /* the words are not a core's memory */
+    HQ_RULES_FAIL = 2,    /* the words are not such as calls leave behind */
     HQ_NUMBERS_WRONG = 3, /* open: length or segments out of range */
     HQ_NO_SUCH_TASK = 4,  /* no unfinished task has this number */
     HQ_NO_SUCH_QUEUE = 5, /* queues are 0 to 3 */
@@ -72,7 +72,8 @@ uint64_t hq_test(uint32_t *words, size_t len, uint32_t task, uint32_t queue);
 /* Moves once `task` has no unfinished child. */
 uint64_t hq_sync(uint32_t *words, size_t len, uint32_t task);
 
-/* Ends `task`, which must have no unfinished child; its number is used again. */
+/* Ends `task` once it has no unfinished child. Its number is used again, but
+ * the top's is not. */
 uint64_t hq_finish(uint32_t *words, size_t len, uint32_t task);
 
 /* Value number `index`, from 0, still in the queue once the top has finished. */
