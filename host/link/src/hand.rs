@@ -215,7 +215,7 @@ fn local_children_head(tail: u32) -> Core {
 fn local_top_head() -> Core {
     let mut core = with_child(8);
     core.set_segment(4, &[6], NONE);
-    core.set_views(0, 0, [(4, NL), E, (NL, 4)]);
+    core.set_views(0, 0, [(4, NL), E, E]);
     core.set_views(1, 0, [E, (NL, 0), E]);
     core
 }
