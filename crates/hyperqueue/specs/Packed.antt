@@ -72,3 +72,11 @@ module _ (m : List ℕ) (o : Outcome) (k : ℕ) (e : k ≡ memoryRefusal m) wher
 pub passes : (m : List ℕ) {k : ℕ} → k ≡ memoryRefusal m → k ≡ 0 → (size m ≡ 16384) × (rulesHold m ≡ true)
 unfolding memoryRefusal
 passes m e z = let a = rung _ 0 _ (sym e ∙ z) in let b = rung _ 1 _ (a .1) in (eqb-true _ _ (not-false _ (a .0)), not-false _ (b .0))
+
+-- a host is handed the packed answer r and the words m of an outcome
+abbrev pub Handed : ℕ → List ℕ → Outcome → Type 0
+Handed r m o = (r ≡ packed (answerOf o)) × (m ≡ wordsOf o)
+
+pub handed : {a : Answer} {r : ℕ} {m : List ℕ} {o : Outcome} → outcome a m ≡ o → r ≡ packed a → Handed r m o
+unfolding answerOf wordsOf
+handed e f = (f ∙ ap (λ (x : Outcome). packed (answerOf x)) e, ap wordsOf e)

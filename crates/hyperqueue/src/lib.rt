@@ -9,7 +9,7 @@ ghost use Rattle.calls.specs.Find.{popOutcome, testOutcome};
 ghost use Rattle.calls.specs.Sync.{syncOutcome};
 ghost use Rattle.calls.specs.Finish.{finishOutcome};
 ghost use Rattle.calls.specs.Left.{leftOutcome};
-ghost use Rattle.hyperqueue.specs.Packed.{memoryRefusal};
+ghost use Rattle.hyperqueue.specs.Packed.{memoryRefusal, packed, Handed};
 
 // 1 "a lent memory has another length", 2 "the memory rules fail"; 0 where a call may be made.
 fn refusal(m: &[u32]) -> u32
@@ -98,4 +98,81 @@ pub fn left(m: &[u32], q: u32, i: u32) -> answers::Answer
         return answers::Answer::Refused(k);
     }
     leaving::left(m, q, i)
+}
+
+// FOR HOSTS IN OTHER LANGUAGES: a slice is a pointer and a length, an answer one number (include/hyperqueue.h).
+
+fn wide(x: u32) -> u64
+    ensures { λ r. ⌜ r ≡ x ⌝ }
+{
+    x as u64
+}
+
+// An answer as one number: the status in the high half, the value in the low half.
+pub fn pack(a: answers::Answer) -> u64
+    ensures { λ r. ⌜ r ≡ packed a ⌝ }
+{
+    match a {
+        answers::Answer::Moved(v) => wide(v),
+        answers::Answer::Empty => 141733920768,
+        answers::Answer::NotEmpty => 146028888064,
+        answers::Answer::Waits => 137438953472,
+        answers::Answer::Refused(k) => wide(k) * 4294967296,
+    }
+}
+
+#[no_mangle]
+pub extern "C" fn hq_open(words: &mut [u32], length: u32, segments: u32) -> u64
+    ensures { λ r. ⌜ Handed r (now (words .exit)) (openOutcome (now (words .entry)) length segments) ⌝ }
+{
+    pack(open(words, length, segments))
+}
+
+#[no_mangle]
+pub extern "C" fn hq_spawn(words: &mut [u32], task: u32, rights: u32) -> u64
+    ensures { λ r. ⌜ Handed r (now (words .exit)) (spawnOutcome (now (words .entry)) task rights) ⌝ }
+{
+    pack(spawn(words, task, rights))
+}
+
+#[no_mangle]
+pub extern "C" fn hq_push(words: &mut [u32], task: u32, queue: u32, value: u32) -> u64
+    ensures { λ r. ⌜ Handed r (now (words .exit)) (pushOutcome (now (words .entry)) task queue value) ⌝ }
+{
+    pack(push(words, task, queue, value))
+}
+
+#[no_mangle]
+pub extern "C" fn hq_pop(words: &mut [u32], task: u32, queue: u32) -> u64
+    ensures { λ r. ⌜ Handed r (now (words .exit)) (popOutcome (now (words .entry)) task queue) ⌝ }
+{
+    pack(pop(words, task, queue))
+}
+
+#[no_mangle]
+pub extern "C" fn hq_test(words: &[u32], task: u32, queue: u32) -> u64
+    ensures { λ r. ⌜ Handed r (now (words .entry)) (testOutcome (now (words .entry)) task queue) ⌝ }
+{
+    pack(test(words, task, queue))
+}
+
+#[no_mangle]
+pub extern "C" fn hq_sync(words: &mut [u32], task: u32) -> u64
+    ensures { λ r. ⌜ Handed r (now (words .exit)) (syncOutcome (now (words .entry)) task) ⌝ }
+{
+    pack(sync(words, task))
+}
+
+#[no_mangle]
+pub extern "C" fn hq_finish(words: &mut [u32], task: u32) -> u64
+    ensures { λ r. ⌜ Handed r (now (words .exit)) (finishOutcome (now (words .entry)) task) ⌝ }
+{
+    pack(finish(words, task))
+}
+
+#[no_mangle]
+pub extern "C" fn hq_left(words: &[u32], queue: u32, index: u32) -> u64
+    ensures { λ r. ⌜ Handed r (now (words .entry)) (leftOutcome (now (words .entry)) queue index) ⌝ }
+{
+    pack(left(words, queue, index))
 }

@@ -1,0 +1,23 @@
+use Rattle.hyperqueue.specs.Packed.{handed}
+use borrow.Author.Needs.{needs}
+use Rattle.hyperqueue.proofs.hq_sync.Statement.{statement}
+use Rattle.hyperqueue.proofs.hq_sync.Tie as tie
+use Rattle.hyperqueue.proofs.hq_sync.Reads as reads
+use Rattle.hyperqueue.proofs.hq_sync.Lts as lts
+use Rattle.hyperqueue.proofs.pack.Reads as pack-reads
+use Rattle.hyperqueue.proofs.sync.Reads as sync-reads
+
+sync-requires : tie.Need-sync-requires
+sync-requires c κs = search needs
+
+pack-requires : tie.Need-pack-requires
+pack-requires c κs = search needs
+
+same-length : tie.Need-same-length
+same-length c = search needs
+
+returns : tie.Need-returns
+returns c = handed (c .before .before .before .sync .ensures) (c .pack .ensures)
+
+pub hq-sync-spec : {M : Type 1} → statement M
+hq-sync-spec = tie.close (tie.spec sync-requires pack-requires same-length returns)
