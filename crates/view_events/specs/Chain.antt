@@ -10,10 +10,10 @@ use borrow.Author.Tests.{lt-ltb, le-ltb}
 use Rattle.words.specs.Words.{pass, halt, both-on, both-off}
 use Rattle.layout.specs.Layout.{CHILDREN, USER, RIGHT}
 use Rattle.rules.specs.Contents.{decode}
-use Rattle.view_events.specs.Events.{Event, queueOf, viewOf, queueAt, viewAt, queuesAt, kindAt, eventsAt}
+use Rattle.view_events.specs.Events.{Event, queueOf, queueAt, queuesAt, kindAt, eventsAt}
 use Rattle.view_events.specs.Run.{run}
 use Rattle.view_events.specs.Does.{Does}
-use Rattle.view_events.specs.Groups.{Blank, queue-at, view-at, queues-skip, kind-skip}
+use Rattle.view_events.specs.Groups.{Blank, queue-at, queues-skip, kind-skip}
 
 module _ (m : List ℕ) where
   -- a step that the others follow
@@ -38,23 +38,8 @@ module _ (m : List ℕ) where
     first : R ≡ R / 4 ^ 0
     first = omega arith
 
-    abbrev A : ℕ → ℕ
-    A k = 1492 + t * 48 + k * 4
-
     abbrev Q : ℕ
     Q = 1488 + t * 48
-
-    -- the views of queue 0 and of queue q, of kind k
-    module _ (k : ℕ) {b : Bool} {d f w d1 f1 w1 : List ℕ} where
-      pub view-first : Does m (viewOf (not (eqb (R % 4) 0)) 0 (getD m (A k) 0) (getD m (A k + 12) 0)) b d f w d1 f1 w1
-          → Does m (viewAt (decode m) t k 0) b d f w d1 f1 w1
-      view-first s =
-          record { same = λ es. s .same es ∙ ap (λ (x : List Event). run (decode m) x d f w) (view-at m t k 0 R (A k) first (omega arith) es) }
-
-      pub view-later : (q : ℕ) → Does m (viewOf (not (eqb (R / 4 ^ q % 4) 0)) q (getD m (A k + q) 0) (getD m (A k + q + 12) 0)) b d f w d1 f1 w1
-          → Does m (viewAt (decode m) t k q) b d f w d1 f1 w1
-      view-later q s =
-          record { same = λ es. s .same es ∙ ap (λ (x : List Event). run (decode m) x d f w) (view-at m t k q (R / 4 ^ q) (A k + q) refl refl es) }
 
     -- the queue views
     module _ {b : Bool} {d f w d1 f1 w1 : List ℕ} where

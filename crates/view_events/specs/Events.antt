@@ -1,7 +1,7 @@
 -- What the views of the tasks give to the test, in the order in which the code meets it: a list of events, mark by mark.
 use mathlib.Core.Bool.{Bool, true, false}
 use mathlib.Core.List.{List, [], _∷_, _++_}
-use Prim.Native.Nat.{ℕ, _+_, _-_, _*_}
+use Prim.Native.Nat.{ℕ, zero, suc, _+_, _-_, _*_}
 use lib.Dec.{ltb}
 use Rattle.words.specs.Words.{pick}
 use Rattle.layout.specs.Layout.{RIGHTS, CHILDREN, USER, RIGHT}
@@ -41,6 +41,11 @@ module _ (c : Contents) where
 
   unfoldable pub kindAt : ℕ → ℕ → List Event → List Event
   kindAt t k es = viewAt t k 0 (viewAt t k 1 (viewAt t k 2 (viewAt t k 3 es)))
+
+  -- the n views of kind k of task t from queue q on
+  unfoldable pub viewsFrom : ℕ → ℕ → ℕ → ℕ → List Event → List Event
+  viewsFrom t k zero q es = es
+  viewsFrom t k (suc n) q es = viewAt t k q (viewsFrom t k n (q + 1) es)
 
   -- the events of mark x in front of others
   unfoldable pub eventsAt : ℕ → List Event → List Event

@@ -8,4 +8,5 @@ pub mod Steps
 pub mod Open
 pub mod Groups
 pub mod Chain
+pub mod Kinds
 pub mod Walk

@@ -43,18 +43,17 @@ fn four(
     requires { ⌜ Ready (now m) × (t < 128) × (k < 3) ⌝ }
     ensures { λ b. ⌜ Does (now (m .entry)) (kindAt (decode (now (m .entry))) t k) b (now (d .entry)) (now (f .entry)) (now (w .entry)) (now (d .exit)) (now (f .exit)) (now (w .exit)) ⌝ }
 {
-    let r = m[1473 + t * 48];
     let a = 1492 + t * 48 + k * 4;
-    if !view_steps::view(d, f, w, m, a, r, 0) {
-        return false;
+    let mut r = m[1473 + t * 48];
+    let mut q: usize = 0;
+    while q < 4 {
+        if !view_steps::view(d, f, w, m, a + q, r, q) {
+            return false;
+        }
+        r = r / 4;
+        q += 1;
     }
-    if !view_steps::view(d, f, w, m, a + 1, r / 4, 1) {
-        return false;
-    }
-    if !view_steps::view(d, f, w, m, a + 2, r / 16, 2) {
-        return false;
-    }
-    view_steps::view(d, f, w, m, a + 3, r / 64, 3)
+    true
 }
 
 // The four queue views of task t.

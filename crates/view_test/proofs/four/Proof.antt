@@ -1,95 +1,89 @@
-use Rattle.view_events.specs.Events.{kindAt}
-use Rattle.view_events.specs.Chain.{follow, end, view-first, view-later}
+use Rattle.view_events.specs.Kinds.{Left, next-rights, left-start, left-more, left-stop, left-done}
+use lib.ListN.{getD}
+use Prim.Native.Nat.{_+_, _-_, _*_, _/_, _^_, _<_, _≤_}
+use mathlib.Core.Path.{_≡_, refl}
 use borrow.Author.Tests.{not-true, not-false}
-use native.Mathlib.Omega.{arith}
 use borrow.Author.Needs.{needs}
+use native.Mathlib.Omega.{arith}
 use Rattle.view_test.proofs.four.Statement.{statement}
 use Rattle.view_test.proofs.four.Tie as tie
 use Rattle.view_test.proofs.four.Reads as reads
 use Rattle.view_test.proofs.four.Lts as lts
 use Rattle.view_steps.proofs.view.Reads as view-reads
 
-mul-r : tie.Need-mul-r
-mul-r c = search needs
+abbrev Inv-loop : tie.InvT-loop
+Inv-loop d₀ f₀ w₀ m t k a r₀ q₀ d f w r q = (q ≤ 4) × (r < 2 ^ 32) × (r ≡ getD m (1473 + t * 48) 0 / 4 ^ q) × Left m t k q d₀ f₀ w₀ d f w
 
-add-r : tie.Need-add-r
-add-r c = search needs
+abbrev μ-loop : tie.MeasureT-loop
+μ-loop d₀ f₀ w₀ m t k a r₀ q₀ d f w r q = 4 - q
 
-mul-r-2 : tie.Need-mul-r-2
-mul-r-2 c = search needs
-
-shared-slice-read-r : tie.Need-shared-slice-read-r
-shared-slice-read-r c = search needs
-
-mul-a : tie.Need-mul-a
+mul-a : tie.Need-mul-a Inv-loop μ-loop
 mul-a c = search needs
 
-add-a : tie.Need-add-a
+add-a : tie.Need-add-a Inv-loop μ-loop
 add-a c = search needs
 
-mul-a-2 : tie.Need-mul-a-2
+mul-a-2 : tie.Need-mul-a-2 Inv-loop μ-loop
 mul-a-2 c = search needs
 
-add-a-2 : tie.Need-add-a-2
+add-a-2 : tie.Need-add-a-2 Inv-loop μ-loop
 add-a-2 c = search needs
 
-view-requires : tie.Need-view-requires
-view-requires c κs = search needs
+mul-r : tie.Need-mul-r Inv-loop μ-loop
+mul-r c = search needs
 
-returns : tie.Need-returns
-unfolding kindAt
-returns c = end _ _ _ (not-true _ (c .if1 .taken)) (view-first _ (c .before .before .before .before .before .before .before .args .t) (c .before .before .before .before .before .before .before .args .k) (c .before .view .ensures))
+add-r : tie.Need-add-r Inv-loop μ-loop
+add-r c = search needs
 
-add-view : tie.Need-add-view
-add-view c = search needs
+mul-r-2 : tie.Need-mul-r-2 Inv-loop μ-loop
+mul-r-2 c = search needs
 
-view-requires-2 : tie.Need-view-requires-2
-view-requires-2 c κs = search needs
+shared-slice-read-r : tie.Need-shared-slice-read-r Inv-loop μ-loop
+shared-slice-read-r c = search needs
 
-returns-2 : tie.Need-returns-2
-unfolding kindAt
-returns-2 c = follow _ _ _ (not-false _ (c .before .before .before .before .before .if1 .left)) (view-first _ (c .before .before .before .before .before .before .before .before .before .before .before .before .args .t) (c .before .before .before .before .before .before .before .before .before .before .before .before .args .k) (c .before .before .before .before .before .before .view .ensures)) (end _ _ _ (not-true _ (c .if2 .taken)) (view-later _ (c .before .before .before .before .before .before .before .before .before .before .before .before .args .t) (c .before .before .before .before .before .before .before .before .before .before .before .before .args .k) 1 (c .before .view2 .ensures)))
+loop-holds : tie.Need-loop-holds Inv-loop μ-loop
+loop-holds c = (omega arith, omega (arith, c .before .shared-slice-known .given (1473 + c .before .before .args .t * 48)), omega arith, left-start _ _ _)
 
-add-view-2 : tie.Need-add-view-2
-add-view-2 c = search needs
+add-view : tie.Need-add-view Inv-loop μ-loop
+add-view c = omega arith
 
-view-requires-3 : tie.Need-view-requires-3
-view-requires-3 c κs = search needs
+view-requires : tie.Need-view-requires Inv-loop μ-loop
+view-requires c κs = (search needs, omega arith, omega arith)
 
-returns-3 : tie.Need-returns-3
-unfolding kindAt
-returns-3 c = follow _ _ _ (not-false _ (c .before .before .before .before .before .before .before .before .before .before .if1 .left)) (view-first _ (c .before .before .before .before .before .before .before .before .before .before .before .before .before .before .before .before .before .args .t) (c .before .before .before .before .before .before .before .before .before .before .before .before .before .before .before .before .before .args .k) (c .before .before .before .before .before .before .before .before .before .before .before .view .ensures)) (follow _ _ _ (not-false _ (c .before .before .before .before .before .if2 .left)) (view-later _ (c .before .before .before .before .before .before .before .before .before .before .before .before .before .before .before .before .before .args .t) (c .before .before .before .before .before .before .before .before .before .before .before .before .before .before .before .before .before .args .k) 1 (c .before .before .before .before .before .before .view2 .ensures)) (end _ _ _ (not-true _ (c .if3 .taken)) (view-later _ (c .before .before .before .before .before .before .before .before .before .before .before .before .before .before .before .before .before .args .t) (c .before .before .before .before .before .before .before .before .before .before .before .before .before .before .before .before .before .args .k) 2 (c .before .view3 .ensures))))
+returns : tie.Need-returns Inv-loop μ-loop
+returns c = left-stop _ (c .before .before .before .before .before .before .before .before .before .args .t) (c .before .before .before .before .before .before .before .before .before .args .k) _ _ (c .before .before .before .before .before .loop-test .taken) (c .before .before .before .before .before .before .loop .inv .2) (c .before .view .ensures) (c .before .before .before .before .before .before .loop .inv .3) (not-true _ (c .if1 .taken))
 
-add-view-3 : tie.Need-add-view-3
-add-view-3 c = search needs
+add-q : tie.Need-add-q Inv-loop μ-loop
+add-q c = omega arith
 
-view-requires-4 : tie.Need-view-requires-4
-view-requires-4 c κs = search needs
+loop-less : tie.Need-loop-less Inv-loop μ-loop
+loop-less c = omega arith
 
-returns-4 : tie.Need-returns-4
-unfolding kindAt
-returns-4 c = follow _ _ _ (not-false _ (c .before .before .before .before .before .before .before .before .before .before .before .before .before .before .if1 .left)) (view-first _ (c .before .before .before .before .before .before .before .before .before .before .before .before .before .before .before .before .before .before .before .before .before .args .t) (c .before .before .before .before .before .before .before .before .before .before .before .before .before .before .before .before .before .before .before .before .before .args .k) (c .before .before .before .before .before .before .before .before .before .before .before .before .before .before .before .view .ensures)) (follow _ _ _ (not-false _ (c .before .before .before .before .before .before .before .before .before .if2 .left)) (view-later _ (c .before .before .before .before .before .before .before .before .before .before .before .before .before .before .before .before .before .before .before .before .before .args .t) (c .before .before .before .before .before .before .before .before .before .before .before .before .before .before .before .before .before .before .before .before .before .args .k) 1 (c .before .before .before .before .before .before .before .before .before .before .view2 .ensures)) (follow _ _ _ (not-false _ (c .before .before .before .before .if3 .left)) (view-later _ (c .before .before .before .before .before .before .before .before .before .before .before .before .before .before .before .before .before .before .before .before .before .args .t) (c .before .before .before .before .before .before .before .before .before .before .before .before .before .before .before .before .before .before .before .before .before .args .k) 2 (c .before .before .before .before .before .view3 .ensures)) (view-later _ (c .before .before .before .before .before .before .before .before .before .before .before .before .before .before .before .before .before .before .before .before .before .args .t) (c .before .before .before .before .before .before .before .before .before .before .before .before .before .before .before .before .before .before .before .before .before .args .k) 3 (c .view4 .ensures))))
+loop-again : tie.Need-loop-again Inv-loop μ-loop
+loop-again c = (omega arith, omega arith, next-rights _ _ _ (c .before .before .before .before .before .loop-test .taken) (c .before .before .before .before .before .before .loop .inv .2), left-more _ (c .before .before .before .before .before .before .before .before .before .args .t) (c .before .before .before .before .before .before .before .before .before .args .k) _ _ (c .before .before .before .before .before .loop-test .taken) (c .before .before .before .before .before .before .loop .inv .2) (c .before .view .ensures) (c .before .before .before .before .before .before .loop .inv .3) (not-false _ (c .if1 .left)))
+
+returns-2 : tie.Need-returns-2 Inv-loop μ-loop
+returns-2 c = left-done _ (c .before .before .before .before .args .t) (c .before .before .before .before .args .k) _ (c .loop-test .left) (c .before .loop .inv .3)
 
 pub four-spec : {M : Type 1} → statement M
 four-spec =
     tie.close
     (tie.spec
-    mul-r
-    add-r
-    mul-r-2
-    shared-slice-read-r
+    Inv-loop
+    μ-loop
     mul-a
     add-a
     mul-a-2
     add-a-2
+    mul-r
+    add-r
+    mul-r-2
+    shared-slice-read-r
+    loop-holds
+    add-view
     view-requires
     returns
-    add-view
-    view-requires-2
-    returns-2
-    add-view-2
-    view-requires-3
-    returns-3
-    add-view-3
-    view-requires-4
-    returns-4)
+    add-q
+    loop-less
+    loop-again
+    returns-2)
