@@ -2,14 +2,14 @@
 use mathlib.Core.Path.{_≡_, refl, ap, ap₂, sym, _∙_}
 use mathlib.Core.Bool.{Bool, true, false, _&&_, _||_}
 use mathlib.Core.List.{List}
-use Prim.Native.Nat.{ℕ, zero, suc, _+_, _-_, _*_, _<_, _≤_}
+use Prim.Native.Nat.{ℕ, suc, _+_, _-_, _*_, _<_, _≤_}
 use native.Mathlib.Omega.{arith}
 use lib.Dec.{leb, ltb, eqb}
 use lib.ListN.{getD}
 use Rattle.words.specs.Words.{pick, both, either}
 use Rattle.lists.specs.Tests.{upto}
 use Rattle.layout.specs.Layout.{NONE}
-use Rattle.rules.specs.Contents.{Contents, decode, part}
+use Rattle.rules.specs.Contents.{decode}
 use Rattle.rules.specs.Test.{segmentTest}
 use Rattle.view_events.specs.Parts.{part-at, length-at, number-at}
 

@@ -1,6 +1,6 @@
 -- What the views of the tasks give to the test, in the order in which the code meets it: a list of events, mark by mark.
-use mathlib.Core.Bool.{Bool, true, false}
-use mathlib.Core.List.{List, [], _∷_, _++_}
+use mathlib.Core.Bool.{Bool}
+use mathlib.Core.List.{List, [], _∷_}
 use Prim.Native.Nat.{ℕ, zero, suc, _+_, _-_, _*_}
 use lib.Dec.{ltb}
 use Rattle.words.specs.Words.{pick}

@@ -1,13 +1,13 @@
 -- The four views of a kind, by the addresses of their words; what the code finds of all of them at once.
 use mathlib.Core.Path.{_≡_, refl, ap, ap₂, sym, _∙_}
-use mathlib.Core.Bool.{Bool, true, false, not}
+use mathlib.Core.Bool.{Bool, not}
 use mathlib.Core.List.{List}
-use Prim.Native.Nat.{ℕ, _+_, _*_, _/_, _%_, _^_, _<_, _≤_}
+use Prim.Native.Nat.{ℕ, _+_, _*_, _/_, _%_, _^_, _≤_}
 use native.Mathlib.Omega.{arith}
 use lib.Bits.{bitAnd, and-le-l, and-le-r}
 use lib.Dec.{eqb}
 use lib.ListN.{getD}
-use Rattle.words.specs.Words.{both, both-on}
+use Rattle.words.specs.Words.{both-on}
 use Rattle.layout.specs.Layout.{NONE, RIGHTS}
 use Rattle.tree.specs.Rights.{uses, bits}
 use Rattle.rules.specs.Contents.{Contents, decode, word}

@@ -2,20 +2,20 @@
 use mathlib.Core.Path.{_≡_, refl, ap, sym, _∙_}
 use mathlib.Core.Bool.{Bool, true, false, not}
 use mathlib.Core.List.{List, _∷_}
-use mathlib.Core.Logic.{_⊎_, inl, inr, ⊎-elim}
-use Prim.Native.Nat.{ℕ, _+_, _<_, _≤_}
+use mathlib.Core.Logic.{⊎-elim}
+use Prim.Native.Nat.{ℕ, _+_, _≤_}
 use native.Mathlib.Omega.{arith}
 use lib.Bits.{bitAnd, and-le-l, and-le-r, and-self}
 use lib.Dec.{eqb}
 use lib.ListN.{getD, set}
 use borrow.Author.Tests.{le-leb, eq-eqb, ne-eqb}
-use Rattle.words.specs.Words.{load, store, pick, both, either, pass, halt, both-on, both-off, true-left, true-right}
+use Rattle.words.specs.Words.{load, store, both, either, pass, halt, both-on, both-off, true-left, true-right}
 use Rattle.lists.specs.Counting.{equal?}
 use Rattle.layout.specs.Layout.{NONE, NL}
 use Rattle.rules.specs.Contents.{Contents}
 use Rattle.rules.specs.Test.{marked, passed}
 use Rattle.view_events.specs.Events.{Event, queueOf, viewOf}
-use Rattle.view_events.specs.Events.Event.{entry, owner, order, tail, head}
+use Rattle.view_events.specs.Events.Event.{tail, head}
 use Rattle.view_events.specs.Run.{run}
 
 -- a step that stops the test, and one after which it goes on

@@ -1,7 +1,7 @@
 -- Placing a chain step by step: what the code's loop finds at segment s, where k of n segments were placed before it.
 use mathlib.Core.Path.{_≡_, refl, ap, sym, _∙_}
 use mathlib.Core.List.{List}
-use Prim.Native.Nat.{ℕ, zero, suc, _+_, _-_, _<_, _≤_}
+use Prim.Native.Nat.{ℕ, suc, _+_, _-_, _<_, _≤_}
 use native.Mathlib.Omega.{arith}
 use lib.Dec.{eqb}
 use lib.ListN.{getD, set}
@@ -9,7 +9,7 @@ use borrow.Author.Tests.{lt-ltb, le-ltb, eq-eqb, ne-eqb}
 use Rattle.words.specs.Words.{load, store, pick, pass, halt}
 use Rattle.layout.specs.Layout.{NONE}
 use Rattle.rules.specs.Contents.{Contents, decode, part}
-use Rattle.view_events.specs.Place.{Placed, placing, answered}
+use Rattle.view_events.specs.Place.{placing, answered}
 use Rattle.view_events.specs.Place.Placed.{placed, wrong}
 use Rattle.view_events.specs.Parts.{number-at}
 

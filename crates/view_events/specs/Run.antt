@@ -2,9 +2,9 @@
 -- d has the marks of the segments placed, f those of the free segments and of the tails met;
 -- w 0 to 3 is the order of each queue, w 4 to 7 whether its queue view was met,
 -- w 8 is the number of segments placed, w 9 that of the heads met, w 10 that of the tails met.
-use mathlib.Core.Bool.{Bool, true, false, not}
+use mathlib.Core.Bool.{Bool, not}
 use mathlib.Core.List.{List, [], _∷_}
-use Prim.Native.Nat.{ℕ, zero, suc, _+_, _%_, _^_}
+use Prim.Native.Nat.{ℕ, _+_, _%_, _^_}
 use lib.Dec.{leb, ltb, eqb}
 use lib.ListN.{length}
 use Rattle.words.specs.Words.{load, store, pick, both, either}

@@ -2,12 +2,12 @@
 use mathlib.Core.Path.{_≡_, refl, ap, ap₂, sym, _∙_}
 use mathlib.Core.Bool.{Bool, true, false}
 use mathlib.Core.List.{List, _∷_}
-use Prim.Native.Nat.{ℕ, suc, _+_, _%_, _^_, _<_, _≤_}
+use Prim.Native.Nat.{ℕ, _+_, _%_, _^_, _<_, _≤_}
 use native.Mathlib.Omega.{arith}
 use lib.Dec.{ltb}
 use lib.ListN.{length, getD, set}
 use borrow.Author.Tests.{lt-ltb, le-ltb, le-leb, lt-leb, eq-eqb, ne-eqb}
-use Rattle.words.specs.Words.{load, store, pick, both, pass, halt, both-on, both-off, both-true}
+use Rattle.words.specs.Words.{load, store, pick, both, pass, halt, both-on, both-off}
 use Rattle.lists.specs.Tests.{each}
 use Rattle.lists.specs.Distinct.{fresh}
 use Rattle.layout.specs.Layout.{NONE, NL}
@@ -16,7 +16,7 @@ use Rattle.rules.specs.Test.{chain}
 use Rattle.view_events.specs.Events.{Event}
 use Rattle.view_events.specs.Events.Event.{tail, head}
 use Rattle.view_events.specs.Run.{marking, raised, filled, run}
-use Rattle.view_events.specs.Place.{Placed, placing, answered, placing-chain}
+use Rattle.view_events.specs.Place.{placing, answered, placing-chain}
 use Rattle.view_events.specs.Place.Placed.{placed, wrong}
 use Rattle.view_events.specs.Parts.{number-at}
 

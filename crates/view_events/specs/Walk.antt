@@ -10,7 +10,7 @@ use lib.ListN.{length, getD, drop}
 use lib.Seq.{drop-cons}
 use Rattle.words.specs.Words.{both-on, both-off}
 use Rattle.rules.specs.Contents.{Contents, decode}
-use Rattle.view_events.specs.Events.{Event, eventsAt, events}
+use Rattle.view_events.specs.Events.{eventsAt, events}
 use Rattle.view_events.specs.Run.{whole, run}
 use Rattle.view_events.specs.Does.{Does}
 

@@ -3,18 +3,18 @@ use mathlib.Core.Path.{_≡_, refl, ap, sym, _∙_, subst⁻¹}
 use mathlib.Core.Bool.{Bool, true, false}
 use mathlib.Core.List.{List, [], _∷_}
 use mathlib.Core.Logic.{⊎-elim}
-use Prim.Native.Nat.{ℕ, zero, suc, _+_, _-_, _*_, _<_, _≤_}
+use Prim.Native.Nat.{ℕ, zero, suc, _<_, _≤_}
 use native.Mathlib.Omega.{arith}
 use native.Mathlib.Nat.{le-of-suc-le-suc}
 use lib.Dec.{leb}
 use lib.ListN.{length, getD, set, replicate, take, drop, length-drop}
 use borrow.Author.Tests.{le-leb, leb-true, leb-false}
-use Rattle.words.specs.Words.{load, store, size, pick, both, pass, halt, both-true, both-on, both-off}
+use Rattle.words.specs.Words.{load, store, size, pass, halt, both-true, both-on, both-off}
 use Rattle.lists.specs.Tests.{upto}
 use Rattle.lists.specs.Distinct.{fresh}
 use Rattle.layout.specs.Layout.{WORDS, lengthWord, numberWord, freeSegments, read, address}
 use Rattle.tree.specs.Tour.{END, after, tour}
-use Rattle.rules.specs.Contents.{Contents, decode}
+use Rattle.rules.specs.Contents.{decode}
 use Rattle.rules.specs.Test.{within, inRange, topTest, idleTest, treeTest, segmentTest, viewTests}
 use Rattle.rules_views.specs.Marks.{yes-no}
 use Rattle.view_events.specs.Events.{events}

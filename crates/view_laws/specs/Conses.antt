@@ -1,26 +1,22 @@
 -- What the rules of the events say with one event more, both ways.
 use mathlib.Core.Path.{_≡_, refl, ap, sym, _∙_, subst}
 use mathlib.Core.Bool.{Bool, true, false, not}
-use mathlib.Core.List.{List, [], _∷_, _++_}
+use mathlib.Core.List.{List, _∷_}
 use mathlib.Core.Logic.{⊎-elim}
-use Prim.Native.Nat.{ℕ, suc, _+_, _%_, _^_, _<_, _≤_}
+use Prim.Native.Nat.{ℕ, _+_, _%_, _^_, _<_, _≤_}
 use native.Mathlib.Omega.{arith}
-use lib.Dec.{leb, ltb, eqb}
-use lib.ListN.{length, length-append}
-use borrow.Author.Tests.{le-leb, lt-leb, lt-ltb, eq-eqb, ne-eqb, eqb-true, ltb-true, not-true, eqb-false}
-use Rattle.words.specs.Words.{load, store, pick, both, either, pass, halt, both-true, true-both, both-on, both-off, pick-true, pick-false}
+use lib.Dec.{eqb}
+use lib.ListN.{length}
+use borrow.Author.Tests.{le-leb, eq-eqb, ne-eqb, not-true, eqb-false}
+use Rattle.words.specs.Words.{pick, both, either, pass, halt, both-true, true-both, both-on, both-off, pick-true, pick-false}
 use Rattle.lists.specs.Counting.{one, equal?}
-use Rattle.lists.specs.Tests.{each}
-use Rattle.lists.specs.Distinct.{fresh}
 use Rattle.layout.specs.Layout.{NONE, NL}
-use Rattle.rules.specs.Contents.{Contents, part}
-use Rattle.rules.specs.Test.{passed, chain, chains}
+use Rattle.rules.specs.Contents.{Contents}
+use Rattle.rules.specs.Test.{passed}
 use Rattle.view_events.specs.Events.{Event}
 use Rattle.view_events.specs.Events.Event.{entry, owner, order, tail, head}
-use Rattle.view_events.specs.Run.{marking, filled}
 use Rattle.view_events.specs.Open.{passed-empty}
-use Rattle.view_laws.specs.Good.{Good, Chained, Ended, allowed, turned, orderFrom, ownersOf, tailsOf, headsOf, last}
-use Rattle.view_laws.specs.Appended.{fresh-append, each-append}
+use Rattle.view_laws.specs.Good.{Good, Chained, Ended, allowed, turned, orderFrom, ownersOf, tailsOf, headsOf}
 
 -- lists of events of which all rules see the same
 pub record Same (es vs : List Event) : Type 0 where

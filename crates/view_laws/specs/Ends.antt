@@ -1,13 +1,13 @@
 -- What the rules of the events say with one head or one tail more, both ways.
 use mathlib.Core.Path.{_≡_, refl, ap, sym, _∙_, subst}
-use mathlib.Core.Bool.{true, false}
-use mathlib.Core.List.{List, _∷_, _++_}
+use mathlib.Core.Bool.{true}
+use mathlib.Core.List.{List, _∷_}
 use Prim.Native.Nat.{ℕ, suc, _+_, _%_, _^_, _<_}
 use native.Mathlib.Omega.{arith}
-use lib.Dec.{leb, ltb, eqb}
+use lib.Dec.{ltb, eqb}
 use lib.ListN.{length, length-append}
 use borrow.Author.Tests.{lt-leb}
-use Rattle.words.specs.Words.{load, store, both, pass, both-true, true-both}
+use Rattle.words.specs.Words.{load, store, pass, both-true, true-both}
 use Rattle.lists.specs.Tests.{each}
 use Rattle.lists.specs.Distinct.{fresh}
 use Rattle.layout.specs.Layout.{NL}

@@ -1,22 +1,22 @@
 -- The rules of heads and tails of the events, and the test of held segments.
 use mathlib.Core.Path.{_≡_, refl, ap, sym, _∙_}
-use mathlib.Core.Bool.{Bool, true, false, not}
+use mathlib.Core.Bool.{true}
 use mathlib.Core.List.{List, [], _∷_, _++_}
-use Prim.Native.Nat.{ℕ, zero, suc, _+_, _%_, _^_, _<_, _≤_}
+use Prim.Native.Nat.{ℕ, zero, suc, _+_, _%_, _^_, _≤_}
 use native.Mathlib.Omega.{arith}
-use lib.Dec.{leb, eqb}
+use lib.Dec.{leb}
 use lib.ListN.{length, length-append, replicate}
-use borrow.Author.Tests.{eq-eqb, eqb-true, leb-true}
-use Rattle.words.specs.Words.{both, both-true, true-both}
+use borrow.Author.Tests.{eq-eqb, eqb-true}
+use Rattle.words.specs.Words.{both-true, true-both}
 use Rattle.lists.specs.Counting.{occurrences, length-total, total-ones}
 use Rattle.lists.specs.Sums.{total-le}
-use Rattle.lists.specs.Tests.{each, upto}
+use Rattle.lists.specs.Tests.{upto}
 use Rattle.lists.specs.Distinct.{fresh, distinct, distinct-says}
 use Rattle.rules.specs.Contents.{Contents}
 use Rattle.rules.specs.Test.{chain, chains, segmentTest, heldTest}
 use Rattle.rules_segments.specs.Segments.{segments-say, says-segments, rules-by-counts}
 use Rattle.view_events.specs.Run.{marking, filled}
-use Rattle.view_laws.specs.Good.{Chained, Ended, last}
+use Rattle.view_laws.specs.Good.{Chained, Ended}
 use Rattle.view_laws.specs.Appended.{fresh-append}
 
 -- a list without repetition of numbers below n has at most n of them

@@ -1,27 +1,27 @@
 -- THE TEST OVER EVENTS says exactly the rules of the events.
 use mathlib.Core.Path.{_≡_, refl, ap, sym, _∙_}
-use mathlib.Core.Bool.{Bool, true, false, not}
+use mathlib.Core.Bool.{true, not}
 use mathlib.Core.List.{List, [], _∷_}
-use mathlib.Core.Logic.{_⊎_, inl, inr, ⊎-elim}
-use Prim.Native.Nat.{ℕ, zero, suc, _+_, _%_, _^_, _<_, _≤_}
+use mathlib.Core.Logic.{⊎-elim}
+use Prim.Native.Nat.{ℕ, _+_, _<_, _≤_}
 use native.Mathlib.Omega.{arith}
-use lib.Dec.{leb, ltb, eqb}
+use lib.Dec.{leb, eqb}
 use lib.ListN.{length}
-use borrow.Author.Tests.{leb-true, leb-false, le-leb, lt-leb, eq-eqb, ne-eqb, eqb-true, eqb-false, not-true}
-use Rattle.words.specs.Words.{load, store, pick, both, either, pass, halt, both-true, true-both, both-on, both-off}
+use borrow.Author.Tests.{leb-true, leb-false, eq-eqb, ne-eqb, eqb-true, eqb-false, not-true}
+use Rattle.words.specs.Words.{load, store, both, pass, halt, both-true, true-both}
 use Rattle.lists.specs.Counting.{equal?}
 use Rattle.lists.specs.Tests.{each}
 use Rattle.lists.specs.Distinct.{fresh}
 use Rattle.layout.specs.Layout.{NONE, NL}
-use Rattle.rules.specs.Contents.{Contents, part}
-use Rattle.rules.specs.Test.{passed, chain, chains}
+use Rattle.rules.specs.Contents.{Contents}
+use Rattle.rules.specs.Test.{chains}
 use Rattle.rules_views.specs.Marks.{yes-no}
 use Rattle.view_events.specs.Events.{Event}
 use Rattle.view_events.specs.Events.Event.{entry, owner, order, tail, head}
-use Rattle.view_events.specs.Run.{ones, whole, run, raised, marking, filled}
-use Rattle.view_laws.specs.Good.{Good, Chained, Ended, Queued, allowed, orderFrom, ownersOf, tailsOf, headsOf, last}
+use Rattle.view_events.specs.Run.{ones, whole, run, raised, marking}
+use Rattle.view_laws.specs.Good.{Good, Queued, allowed, orderFrom, ownersOf, tailsOf, headsOf}
 use Rattle.view_laws.specs.State.{Reads, reads-order, reads-owner, reads-tail, reads-head}
-use Rattle.view_laws.specs.Conses.{metAt, same-good, same-back, no-owner, no-order, no-tail, no-head, add-entry, off-entry, add-owner, off-owner, add-order, off-order}
+use Rattle.view_laws.specs.Conses.{same-good, same-back, no-owner, no-order, no-tail, no-head, add-entry, off-entry, add-owner, off-owner, add-order, off-order}
 use Rattle.view_laws.specs.Ends.{segs, add-head, off-head, add-tail, off-tail}
 
 -- the end: four words of the state

@@ -1,21 +1,20 @@
 -- What each rule sees of the views of one task.
-use mathlib.Core.Path.{_≡_, refl, ap, ap₂, sym, _∙_}
+use mathlib.Core.Path.{_≡_, refl, ap, sym, _∙_}
 use mathlib.Core.Bool.{Bool, true, false, not}
-use mathlib.Core.List.{List, [], _∷_}
+use mathlib.Core.List.{List}
 use mathlib.Core.Logic.{⊎-elim}
 use Prim.Native.Nat.{ℕ, zero, suc, _+_, _*_, _<_}
 use native.Mathlib.Omega.{arith}
-use lib.Dec.{leb, ltb, eqb}
+use lib.Dec.{eqb}
 use borrow.Author.Tests.{eq-eqb, ne-eqb, eqb-true, eqb-false, not-true}
-use Rattle.words.specs.Words.{pick, both, either, pass, halt, both-true, true-both, either-true, true-left, true-right, pick-true, pick-false}
-use Rattle.lists.specs.Counting.{one, occurrences, equal?, occurs-cons}
+use Rattle.words.specs.Words.{pick, either, both-true, true-both, either-true, true-left, true-right}
 use Rattle.layout.specs.Layout.{NONE, NL, RIGHTS}
 use Rattle.tree.specs.Rights.{uses}
 use Rattle.rules.specs.Contents.{Contents, word}
 use Rattle.rules.specs.Test.{passedAt}
 use Rattle.rules_views.specs.Marks.{yes-no}
 use Rattle.view_events.specs.Events.{Event, queueAt, viewAt, queuesAt, kindAt}
-use Rattle.view_laws.specs.Good.{Queued, allowed, orderFrom, ownersOf, tailsOf, headsOf}
+use Rattle.view_laws.specs.Good.{Queued, allowed, orderFrom, ownersOf}
 
 -- one of four
 pub four : (P : ℕ → Type 0) → P 0 → P 1 → P 2 → P 3 → (q : ℕ) → q < 4 → P q

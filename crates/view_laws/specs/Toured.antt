@@ -3,12 +3,12 @@
 use mathlib.Core.Path.{_≡_, refl, ap, ap₂, sym, _∙_, subst}
 use mathlib.Core.Bool.{true, false}
 use mathlib.Core.List.{List, [], _∷_}
-use mathlib.Core.Logic.{_⊎_, ⊎-elim}
-use Prim.Native.Nat.{ℕ, _+_, _-_, _*_, _/_, _%_, _<_, _≤_}
+use mathlib.Core.Logic.{⊎-elim}
+use Prim.Native.Nat.{ℕ, _+_, _-_, _*_, _%_, _<_, _≤_}
 use native.Mathlib.Omega.{arith}
 use native.Mathlib.Nat.{eq-zero-or-pos}
 use lib.ListN.{drop}
-use Rattle.lists.specs.Counting.{one, occurrences, over, equal?, occurs-nil, occurs-here, occurs-past, over-same}
+use Rattle.lists.specs.Counting.{occurrences, over, equal?, occurs-nil, occurs-here, occurs-past, over-same}
 use Rattle.lists.specs.Tests.{each}
 use Rattle.layout.specs.Layout.{NONE, NL, RIGHTS, CHILDREN, USER, RIGHT}
 use Rattle.tree.specs.Rights.{uses}
@@ -16,7 +16,7 @@ use Rattle.tree.specs.Tour.{met}
 use Rattle.rules.specs.Contents.{Contents, word, locals, heads, tails, holders}
 use Rattle.rules.specs.Rules.{Holder}
 use Rattle.rules.specs.Test.{viewWord, viewsTest}
-use Rattle.rules_tasks.specs.Holders.{below?, met-count, met-below, holder-below, holder-once, holders-hold, holder?}
+use Rattle.rules_tasks.specs.Holders.{below?, met-below, holder-below, holder-once, holders-hold, holder?}
 use Rattle.rules_views.specs.Members.{met-mark}
 use Rattle.rules_views.specs.Toured.{Toured, over-heads, over-tails, holder-met}
 use Rattle.rules_views.specs.Tested.{split, word-none, word-head, word-right, words-say, says-words}

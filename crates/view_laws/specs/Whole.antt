@@ -1,19 +1,19 @@
 -- THE CODE'S TEST of views and segments says what `viewTests` says.
-use mathlib.Core.Path.{_≡_, refl, ap, sym, _∙_}
-use mathlib.Core.Bool.{Bool, true, false}
+use mathlib.Core.Path.{_≡_, refl, sym, _∙_}
+use mathlib.Core.Bool.{Bool, true}
 use mathlib.Core.List.{List}
-use Prim.Native.Nat.{ℕ, _+_, _-_, _*_, _%_, _^_, _<_, _≤_}
+use Prim.Native.Nat.{ℕ, _+_, _-_, _*_, _^_, _<_, _≤_}
 use native.Mathlib.Omega.{arith}
 use lib.Dec.{leb, eqb}
 use lib.ListN.{length, replicate}
 use borrow.Author.Tests.{eq-eqb, eqb-true, leb-true}
 use Rattle.words.specs.Words.{load, store, size, both, both-true, true-both, same-test}
 use Rattle.lists.specs.Counting.{occurrences}
-use Rattle.lists.specs.Tests.{each, upto}
+use Rattle.lists.specs.Tests.{upto}
 use Rattle.lists.specs.Distinct.{fresh}
 use Rattle.tree.specs.Tour.{tour, met}
 use Rattle.rules.specs.Contents.{Contents, heads, tails, owners}
-use Rattle.rules.specs.Test.{topTest, idleTest, treeTest, viewsTest, orderOf, orderTest, ownersTest, segmentTest, heldTest, viewTests}
+use Rattle.rules.specs.Test.{topTest, idleTest, treeTest, orderOf, orderTest, ownersTest, segmentTest, viewTests}
 use Rattle.rules_tasks.specs.Tested.{idle-says}
 use Rattle.rules_tasks.specs.Visits.{marks-once}
 use Rattle.rules_tasks.specs.Tasks.{tour-whole, met-holders, marks-held, holders-left}
@@ -21,13 +21,13 @@ use Rattle.rules_views.specs.Toured.{Toured}
 use Rattle.rules_views.specs.Tested.{each-queue, queue-each}
 use Rattle.view_events.specs.Events.{events}
 use Rattle.view_events.specs.Run.{run}
-use Rattle.view_laws.specs.Good.{Good, tailsOf, headsOf}
+use Rattle.view_laws.specs.Good.{tailsOf, headsOf}
 use Rattle.view_laws.specs.State.{Reads}
 use Rattle.view_laws.specs.Says.{run-says, says-run}
 use Rattle.view_laws.specs.Tasks.{four}
 use Rattle.view_laws.specs.Marks.{order-marks, owners-marks, queued-marks}
 use Rattle.view_laws.specs.Toured.{heads-same, tails-same, words-there, words-back}
-use Rattle.view_laws.specs.Held.{D, Holds, holds-held, held-holds, held-counts}
+use Rattle.view_laws.specs.Held.{D, holds-held, held-holds, held-counts}
 
 -- the state at the start, where n segments are free
 abbrev pub W : ℕ → List ℕ

@@ -2,11 +2,10 @@ use Rattle.segment_test.specs.Stack.{rest, rest-all, free-far, free-agai
 use Rattle.view_events.specs.Run.{marking}
 use Rattle.rules.specs.Contents.{decode}
 use Rattle.lists.specs.Distinct.{fresh}
-use lib.ListN.{length}
 use Prim.Native.Nat.{ℕ, _≤_, _-_}
 use mathlib.Core.List.{List}
 use mathlib.Core.Bool.{false≢true}
-use mathlib.Core.Path.{_≡_, refl, ap, _∙_}
+use mathlib.Core.Path.{_≡_, ap, _∙_}
 use borrow.Author.Needs.{needs}
 use native.Mathlib.Omega.{arith}
 use Rattle.segment_test.proofs.mark_free.Statement.{statement}

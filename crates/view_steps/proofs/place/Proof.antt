@@ -2,9 +2,8 @@ use Rattle.view_events.specs.Placing.{place-start}
 use Rattle.view_events.specs.Placing.{place-far, place-again, place-last, place-empty, place-more, place-out}
 use Rattle.view_events.specs.Place.{placing}
 use Rattle.rules.specs.Contents.{decode}
-use lib.ListN.{getD}
 use Prim.Native.Nat.{_≤_, _<_, _-_, _^_}
-use mathlib.Core.Path.{_≡_, refl, sym, _∙_}
+use mathlib.Core.Path.{_≡_, sym, _∙_}
 use borrow.Author.Needs.{needs}
 use native.Mathlib.Omega.{arith}
 use Rattle.view_steps.proofs.place.Statement.{statement}

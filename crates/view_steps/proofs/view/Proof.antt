@@ -3,7 +3,7 @@ use Rattle.view_events.specs.Open.{stops, goes, and-none, and-some, view-none, 
 use borrow.Author.Tests.{eq-eqb, ne-eqb, not-true, not-false}
 use native.Mathlib.Omega.{arith}
 use mathlib.Core.Bool.{not}
-use mathlib.Core.Path.{ap, sym, _∙_}
+use mathlib.Core.Path.{ap, _∙_}
 use borrow.Author.Needs.{needs}
 use Rattle.view_steps.proofs.view.Statement.{statement}
 use Rattle.view_steps.proofs.view.Tie as tie

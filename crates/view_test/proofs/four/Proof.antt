@@ -1,7 +1,7 @@
 use Rattle.view_events.specs.Kinds.{Left, next-rights, left-start, left-more, left-stop, left-done}
 use lib.ListN.{getD}
 use Prim.Native.Nat.{_+_, _-_, _*_, _/_, _^_, _<_, _≤_}
-use mathlib.Core.Path.{_≡_, refl}
+use mathlib.Core.Path.{_≡_}
 use borrow.Author.Tests.{not-true, not-false}
 use borrow.Author.Needs.{needs}
 use native.Mathlib.Omega.{arith}

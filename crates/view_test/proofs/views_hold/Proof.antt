@@ -1,6 +1,6 @@
 use Rattle.view_laws.specs.Begun.{ready, height, below, no-segments, no-free, all-views}
 use borrow.Author.Tests.{not-true, not-false}
-use mathlib.Core.Path.{sym, _∙_}
+use mathlib.Core.Path.{_∙_}
 use native.Mathlib.Omega.{arith}
 use borrow.Author.Needs.{needs}
 use Rattle.view_test.proofs.views_hold.Statement.{statement}
