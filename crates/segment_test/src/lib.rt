@@ -39,7 +39,8 @@ pub fn segments_hold(m: &[u32]) -> bool
 // Marks the free segments; false where one is no segment opened, or stands on the stack twice.
 pub fn mark_free(d: &mut [u8; 256], m: &[u32]) -> bool
     requires { ⌜ Ready (now m) × (getD (now m) 2 0 ≤ 256) ⌝ }
-    ensures { λ b. ⌜ (b ≡ fresh (decode (now (m .entry)) .number) (decode (now (m .entry)) .free) (now (d .entry))) × (b ≡ true → now (d .exit) ≡ marking (decode (now (m .entry)) .free) (now (d .entry))) ⌝ }
+    ensures { λ b. ⌜ (b ≡ fresh (decode (now (m .entry)) .number) (decode (now (m .entry)) .free) (now (d .entry)))
+        × (b ≡ true → now (d .exit) ≡ marking (decode (now (m .entry)) .free) (now (d .entry))) ⌝ }
 {
     let n = m[1];
     let h = m[2] as usize;

@@ -36,21 +36,28 @@ queues-owners c t es =
     (omega arith) (omega arith) (omega arith) (omega arith)
 
 module _ (s : ℕ) where
-  head-count : (h : ℕ) (es : List Event) → occurrences s (headsOf (head h ∷ es)) ≡ names s h + occurrences s (headsOf es)
-  unfolding headsOf names
-  head-count h es =
+  -- a list with x in front where x is a segment
+  front : (x : ℕ) (l : List ℕ) → occurrences s (pick (leb NL x) l (x ∷ l)) ≡ names s x + occurrences s l
+  unfolding names
+  front x l =
       ⊎-elim
-      (λ e. let a = ap (occurrences s) (halt (headsOf es) (h ∷ headsOf es) e) in let b = halt 0 (one (eqb h s)) e in a ∙ (let z : occurrences s (headsOf es) ≡ pick (leb NL h) 0 (one (eqb h s)) + occurrences s (headsOf es) = omega (arith, b) in z))
-      (λ e. let a = ap (occurrences s) (pass (headsOf es) e refl) in let b = pass 0 e refl in a ∙ occurs-cons h s (headsOf es) ∙ ap (λ (k : ℕ). k + occurrences s (headsOf es)) (sym b))
-      (yes-no (leb NL h))
+      (λ e.
+      let a = ap (occurrences s) (halt l (x ∷ l) e) in
+      let b = halt 0 (one (eqb x s)) e in
+      a ∙ (let z : occurrences s l ≡ pick (leb NL x) 0 (one (eqb x s)) + occurrences s l = omega (arith, b) in z))
+      (λ e.
+      ap (occurrences s) (pass l e refl)
+      ∙ occurs-cons x s l
+      ∙ ap (λ (k : ℕ). k + occurrences s l) (sym (pass 0 e refl)))
+      (yes-no (leb NL x))
+
+  head-count : (h : ℕ) (es : List Event) → occurrences s (headsOf (head h ∷ es)) ≡ names s h + occurrences s (headsOf es)
+  unfolding headsOf
+  head-count h es = front h (headsOf es)
 
   tail-count : (x : ℕ) (es : List Event) → occurrences s (tailsOf (tail x ∷ es)) ≡ names s x + occurrences s (tailsOf es)
-  unfolding tailsOf names
-  tail-count x es =
-      ⊎-elim
-      (λ e. let a = ap (occurrences s) (halt (tailsOf es) (x ∷ tailsOf es) e) in let b = halt 0 (one (eqb x s)) e in a ∙ (let z : occurrences s (tailsOf es) ≡ pick (leb NL x) 0 (one (eqb x s)) + occurrences s (tailsOf es) = omega (arith, b) in z))
-      (λ e. let a = ap (occurrences s) (pass (tailsOf es) e refl) in let b = pass 0 e refl in a ∙ occurs-cons x s (tailsOf es) ∙ ap (λ (k : ℕ). k + occurrences s (tailsOf es)) (sym b))
-      (yes-no (leb NL x))
+  unfolding tailsOf
+  tail-count x es = front x (tailsOf es)
 
   module _ (c : Contents) (t : ℕ) where
     view-heads : (k q : ℕ) (es : List Event) → occurrences s (headsOf (viewAt c t k q es)) ≡ names s (word c t (20 + k * 4 + q)) + occurrences s (headsOf es)
@@ -98,12 +105,14 @@ module _ (s : ℕ) where
 
   -- the words below NL of a record
   local-count : (x : ℕ) (l : List ℕ) → occurrences s (pick (ltb x NL) (x ∷ l) l) ≡ names s x + occurrences s l
-  unfolding names
-  local-count x l =
-      ⊎-elim
-      (λ e. let a = ap (occurrences s) (pass (x ∷ l) (le-ltb x NL (leb-true _ _ e)) refl) in let b = halt 0 (one (eqb x s)) e in a ∙ (let z : occurrences s l ≡ pick (leb NL x) 0 (one (eqb x s)) + occurrences s l = omega (arith, b) in z))
-      (λ e. let a = ap (occurrences s) (halt (x ∷ l) l (lt-ltb x NL (leb-false _ _ e))) in let b = pass 0 e refl in a ∙ occurs-cons x s l ∙ ap (λ (k : ℕ). k + occurrences s l) (sym b))
-      (yes-no (leb NL x))
+  local-count x l = ap (occurrences s) other ∙ front x l
+    where
+      other : pick (ltb x NL) (x ∷ l) l ≡ pick (leb NL x) l (x ∷ l)
+      other =
+          ⊎-elim
+          (λ e. pass _ (le-ltb x NL (leb-true _ _ e)) refl ∙ sym (halt _ _ e))
+          (λ e. halt _ _ (lt-ltb x NL (leb-false _ _ e)) ∙ sym (pass _ e refl))
+          (yes-no (leb NL x))
 
   locals-count : (n a : ℕ) (rec : List ℕ) → occurrences s (locals n (drop a rec)) ≡ total n (λ j. names s (load rec (a + j)))
   unfolding locals

@@ -64,7 +64,8 @@ fn place(d: &mut [u8; 256], m: &[u32], h: u32) -> u32
 // The head of a view: where it is local, its chain is placed.
 fn head(d: &mut [u8; 256], w: &mut [u32; 12], m: &[u32], h: u32) -> bool
     requires { ⌜ Ready (now m) ⌝ }
-    ensures { λ r. ⌜ DoesHeads (now (m .entry)) (λ es. head h ∷ es) r (now (d .entry)) (now (w .entry)) (now (d .exit)) (now (w .exit)) ⌝ }
+    ensures { λ r. ⌜ DoesHeads (now (m .entry)) (λ es. head h ∷ es) r
+        (now (d .entry)) (now (w .entry)) (now (d .exit)) (now (w .exit)) ⌝ }
 {
     if h >= NL {
         return true;
@@ -81,7 +82,8 @@ fn head(d: &mut [u8; 256], w: &mut [u32; 12], m: &[u32], h: u32) -> bool
 // The tail of a view: where it is local, it is the end of a chain that no other tail names.
 fn tail(f: &mut [u8; 256], w: &mut [u32; 12], m: &[u32], e: u32) -> bool
     requires { ⌜ Ready (now m) ⌝ }
-    ensures { λ r. ⌜ DoesTails (now (m .entry)) (λ es. tail e ∷ es) r (now (f .entry)) (now (w .entry)) (now (f .exit)) (now (w .exit)) ⌝ }
+    ensures { λ r. ⌜ DoesTails (now (m .entry)) (λ es. tail e ∷ es) r
+        (now (f .entry)) (now (w .entry)) (now (f .exit)) (now (w .exit)) ⌝ }
 {
     if e >= NL {
         return true;
@@ -137,7 +139,9 @@ pub fn view(
     q: usize,
 ) -> bool
     requires { ⌜ Ready (now m) × (a < 16000) × (q < 4) ⌝ }
-    ensures { λ b. ⌜ Does (now (m .entry)) (viewOf (not (eqb (r % 4) 0)) q (getD (now (m .entry)) a 0) (getD (now (m .entry)) (a + 12) 0)) b (now (d .entry)) (now (f .entry)) (now (w .entry)) (now (d .exit)) (now (f .exit)) (now (w .exit)) ⌝ }
+    ensures { λ b. ⌜ Does (now (m .entry)) (viewOf (not (eqb (r % 4) 0)) q
+        (getD (now (m .entry)) a 0) (getD (now (m .entry)) (a + 12) 0)) b
+        (now (d .entry)) (now (f .entry)) (now (w .entry)) (now (d .exit)) (now (f .exit)) (now (w .exit)) ⌝ }
 {
     let h = m[a];
     let e = m[a + 12];
@@ -157,7 +161,8 @@ pub fn view(
 // The queue view of queue q whose head stands at address a.
 pub fn queue(d: &mut [u8; 256], w: &mut [u32; 12], m: &[u32], a: usize, r: u32, q: usize) -> bool
     requires { ⌜ Ready (now m) × (a < 16000) × (q < 4) ⌝ }
-    ensures { λ b. ⌜ DoesHeads (now (m .entry)) (queueOf (not (eqb (r % 4) 0)) q (getD (now (m .entry)) a 0)) b (now (d .entry)) (now (w .entry)) (now (d .exit)) (now (w .exit)) ⌝ }
+    ensures { λ b. ⌜ DoesHeads (now (m .entry)) (queueOf (not (eqb (r % 4) 0)) q (getD (now (m .entry)) a 0)) b
+        (now (d .entry)) (now (w .entry)) (now (d .exit)) (now (w .exit)) ⌝ }
 {
     let h = m[a];
     if h == NONE {

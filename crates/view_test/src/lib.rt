@@ -41,7 +41,8 @@ fn four(
     k: usize,
 ) -> bool
     requires { ⌜ Ready (now m) × (t < 128) × (k < 3) ⌝ }
-    ensures { λ b. ⌜ Does (now (m .entry)) (kindAt (decode (now (m .entry))) t k) b (now (d .entry)) (now (f .entry)) (now (w .entry)) (now (d .exit)) (now (f .exit)) (now (w .exit)) ⌝ }
+    ensures { λ b. ⌜ Does (now (m .entry)) (kindAt (decode (now (m .entry))) t k) b
+        (now (d .entry)) (now (f .entry)) (now (w .entry)) (now (d .exit)) (now (f .exit)) (now (w .exit)) ⌝ }
 {
     let a = 1492 + t * 48 + k * 4;
     let mut r = m[1473 + t * 48];
@@ -59,7 +60,8 @@ fn four(
 // The four queue views of task t.
 fn queues(d: &mut [u8; 256], w: &mut [u32; 12], m: &[u32], t: usize) -> bool
     requires { ⌜ Ready (now m) × (t < 128) ⌝ }
-    ensures { λ b. ⌜ DoesHeads (now (m .entry)) (queuesAt (decode (now (m .entry))) t) b (now (d .entry)) (now (w .entry)) (now (d .exit)) (now (w .exit)) ⌝ }
+    ensures { λ b. ⌜ DoesHeads (now (m .entry)) (queuesAt (decode (now (m .entry))) t) b
+        (now (d .entry)) (now (w .entry)) (now (d .exit)) (now (w .exit)) ⌝ }
 {
     let r = m[1473 + t * 48];
     let a = 1488 + t * 48;
@@ -78,7 +80,8 @@ fn queues(d: &mut [u8; 256], w: &mut [u32; 12], m: &[u32], t: usize) -> bool
 // The user views of task t.
 fn user(d: &mut [u8; 256], f: &mut [u8; 256], w: &mut [u32; 12], m: &[u32], t: usize) -> bool
     requires { ⌜ Ready (now m) × (t < 128) ⌝ }
-    ensures { λ b. ⌜ Does (now (m .entry)) (kindAt (decode (now (m .entry))) t USER) b (now (d .entry)) (now (f .entry)) (now (w .entry)) (now (d .exit)) (now (f .exit)) (now (w .exit)) ⌝ }
+    ensures { λ b. ⌜ Does (now (m .entry)) (kindAt (decode (now (m .entry))) t USER) b
+        (now (d .entry)) (now (f .entry)) (now (w .entry)) (now (d .exit)) (now (f .exit)) (now (w .exit)) ⌝ }
 {
     if empty(m, t, 1) {
         return true;
@@ -89,7 +92,8 @@ fn user(d: &mut [u8; 256], f: &mut [u8; 256], w: &mut [u32; 12], m: &[u32], t: u
 // The right views of task t and, in front of them, its user views.
 fn right(d: &mut [u8; 256], f: &mut [u8; 256], w: &mut [u32; 12], m: &[u32], t: usize) -> bool
     requires { ⌜ Ready (now m) × (t < 128) ⌝ }
-    ensures { λ b. ⌜ Does (now (m .entry)) (λ es. kindAt (decode (now (m .entry))) t RIGHT (kindAt (decode (now (m .entry))) t USER es)) b (now (d .entry)) (now (f .entry)) (now (w .entry)) (now (d .exit)) (now (f .exit)) (now (w .exit)) ⌝ }
+    ensures { λ b. ⌜ Does (now (m .entry)) (λ es. kindAt (decode (now (m .entry))) t RIGHT (kindAt (decode (now (m .entry))) t USER es)) b
+        (now (d .entry)) (now (f .entry)) (now (w .entry)) (now (d .exit)) (now (f .exit)) (now (w .exit)) ⌝ }
 {
     if empty(m, t, 2) {
         return user(d, f, w, m, t);
@@ -103,7 +107,9 @@ fn right(d: &mut [u8; 256], f: &mut [u8; 256], w: &mut [u32; 12], m: &[u32], t: 
 // Task t where it is met.
 fn met(d: &mut [u8; 256], f: &mut [u8; 256], w: &mut [u32; 12], m: &[u32], t: usize) -> bool
     requires { ⌜ Ready (now m) × (t < 128) ⌝ }
-    ensures { λ b. ⌜ Does (now (m .entry)) (λ es. queuesAt (decode (now (m .entry))) t (kindAt (decode (now (m .entry))) t RIGHT (kindAt (decode (now (m .entry))) t USER es))) b (now (d .entry)) (now (f .entry)) (now (w .entry)) (now (d .exit)) (now (f .exit)) (now (w .exit)) ⌝ }
+    ensures { λ b. ⌜ Does (now (m .entry)) (λ es. queuesAt (decode (now (m .entry))) t
+        (kindAt (decode (now (m .entry))) t RIGHT (kindAt (decode (now (m .entry))) t USER es))) b
+        (now (d .entry)) (now (f .entry)) (now (w .entry)) (now (d .exit)) (now (f .exit)) (now (w .exit)) ⌝ }
 {
     if shared(m, 1488 + t * 48) == NONE {
         return right(d, f, w, m, t);
@@ -117,7 +123,8 @@ fn met(d: &mut [u8; 256], f: &mut [u8; 256], w: &mut [u32; 12], m: &[u32], t: us
 // Task t where it is left.
 fn left(d: &mut [u8; 256], f: &mut [u8; 256], w: &mut [u32; 12], m: &[u32], t: usize) -> bool
     requires { ⌜ Ready (now m) × (t < 128) ⌝ }
-    ensures { λ b. ⌜ Does (now (m .entry)) (kindAt (decode (now (m .entry))) t CHILDREN) b (now (d .entry)) (now (f .entry)) (now (w .entry)) (now (d .exit)) (now (f .exit)) (now (w .exit)) ⌝ }
+    ensures { λ b. ⌜ Does (now (m .entry)) (kindAt (decode (now (m .entry))) t CHILDREN) b
+        (now (d .entry)) (now (f .entry)) (now (w .entry)) (now (d .exit)) (now (f .exit)) (now (w .exit)) ⌝ }
 {
     if empty(m, t, 0) {
         return true;
@@ -128,7 +135,8 @@ fn left(d: &mut [u8; 256], f: &mut [u8; 256], w: &mut [u32; 12], m: &[u32], t: u
 // A mark of the tour.
 fn mark(d: &mut [u8; 256], f: &mut [u8; 256], w: &mut [u32; 12], m: &[u32], x: u32) -> bool
     requires { ⌜ Ready (now m) × (x < 256) ⌝ }
-    ensures { λ b. ⌜ Does (now (m .entry)) (eventsAt (decode (now (m .entry))) x) b (now (d .entry)) (now (f .entry)) (now (w .entry)) (now (d .exit)) (now (f .exit)) (now (w .exit)) ⌝ }
+    ensures { λ b. ⌜ Does (now (m .entry)) (eventsAt (decode (now (m .entry))) x) b
+        (now (d .entry)) (now (f .entry)) (now (w .entry)) (now (d .exit)) (now (f .exit)) (now (w .exit)) ⌝ }
 {
     if x < 128 {
         return met(d, f, w, m, x as usize);
@@ -173,7 +181,8 @@ fn whole(w: &[u32; 12], m: &[u32]) -> bool
 // All marks of the tour.
 fn walk(d: &mut [u8; 256], f: &mut [u8; 256], w: &mut [u32; 12], m: &[u32], xs: &[u32]) -> bool
     requires { ⌜ Ready (now m) × Marks (now xs) ⌝ }
-    ensures { λ b. ⌜ b ≡ run (decode (now (m .entry))) (events (decode (now (m .entry))) (now (xs .entry))) (now (d .entry)) (now (f .entry)) (now (w .entry)) ⌝ }
+    ensures { λ b. ⌜ b ≡ run (decode (now (m .entry))) (events (decode (now (m .entry))) (now (xs .entry)))
+        (now (d .entry)) (now (f .entry)) (now (w .entry)) ⌝ }
 {
     let mut i = 0;
     while i < xs.len() {
