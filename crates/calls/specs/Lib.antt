@@ -9,5 +9,6 @@ pub mod Sync
 pub mod Finish
 pub mod Left
 pub mod Outcomes
+pub mod Keeps
 pub mod Table
 pub mod Cases
