@@ -11,6 +11,7 @@ use Rattle.lists.specs.Tests.{upto}
 use Rattle.layout.specs.Layout.{NONE}
 use Rattle.rules.specs.Contents.{decode}
 use Rattle.rules.specs.Test.{segmentTest}
+use Rattle.view_events.specs.Both.{grouped}
 use Rattle.view_events.specs.Parts.{part-at, length-at, number-at}
 
 -- the code computes both sides
@@ -23,11 +24,6 @@ or-either : (a b : Bool) → a || b ≡ either a b
 unfolding either pick
 or-either true b = refl
 or-either false b = refl
-
-grouped : (a b x : Bool) → both (both a b) x ≡ both a (both b x)
-unfolding both pick
-grouped true b x = refl
-grouped false b x = refl
 
 three : (a b x y : Bool) → (a && b) && (x || y) ≡ both a (both b (either x y))
 three a b x y =

@@ -1,3 +1,4 @@
+pub mod Both
 pub mod Events
 pub mod Run
 pub mod Place

@@ -13,6 +13,7 @@ use Rattle.lists.specs.Distinct.{fresh}
 use Rattle.layout.specs.Layout.{NONE, NL}
 use Rattle.rules.specs.Contents.{Contents, decode, part}
 use Rattle.rules.specs.Test.{chain}
+use Rattle.view_events.specs.Both.{grouped}
 use Rattle.view_events.specs.Events.{Event}
 use Rattle.view_events.specs.Events.Event.{tail, head}
 use Rattle.view_events.specs.Run.{marking, raised, filled, run}
@@ -54,11 +55,6 @@ module _ (m : List ℕ) (es : List Event) where
           found
           ∙ ap (λ (j : ℕ). placing c j h 0 d) (number-at m)
           ∙ placing-chain c (rw (number-at m) at small) (c .number) h 0 d
-
-      grouped : (a b x : Bool) → both (both a b) x ≡ both a (both b x)
-      unfolding both pick
-      grouped true b x = refl
-      grouped false b x = refl
 
       pub head-wrong : (x : Bool) → k ≡ 0 → both false x ≡ run c (head h ∷ es) d f w
       unfolding run

@@ -1,18 +1,14 @@
 -- Tests of two lists, one behind the other.
 use mathlib.Core.Path.{_≡_, refl, ap, sym, _∙_}
-use mathlib.Core.Bool.{Bool, true, false}
+use mathlib.Core.Bool.{Bool}
 use mathlib.Core.List.{List, [], _∷_, _++_}
 use Prim.Native.Nat.{ℕ}
 use lib.Dec.{ltb, eqb}
 use Rattle.words.specs.Words.{load, store, pick, both}
 use Rattle.lists.specs.Tests.{each}
 use Rattle.lists.specs.Distinct.{fresh}
+use Rattle.view_events.specs.Both.{grouped}
 use Rattle.view_events.specs.Run.{marking}
-
-pub grouped : (a b x : Bool) → both (both a b) x ≡ both a (both b x)
-unfolding both pick
-grouped true b x = refl
-grouped false b x = refl
 
 pub fresh-append : (n : ℕ) (xs ys d : List ℕ) → fresh n (xs ++ ys) d ≡ both (fresh n xs d) (fresh n ys (marking xs d))
 unfolding fresh marking
