@@ -1,0 +1,1 @@
+// The views of one queue and the chains of segments between the spots; laws only.
