@@ -2,10 +2,12 @@
 //! readings of the open places and docs/LAYOUT.md, and from nothing else.
 
 pub mod answer;
+pub mod asm;
 pub mod call;
 pub mod calls;
 pub mod check;
 pub mod damage;
+pub mod dis;
 pub mod fast;
 pub mod foreign;
 pub mod job;
@@ -18,5 +20,6 @@ pub mod pools;
 pub mod random;
 pub mod refusal;
 pub mod rules;
+pub mod source;
 pub mod tree;
 pub mod views;

@@ -90,6 +90,13 @@ const fn operation(name: &'static str, which: Which, operand: Operand) -> Operat
     }
 }
 
+/// The number of the operation of that name.
+pub fn named(name: &str) -> Option<u8> {
+    let mut numbered = (0..).zip(&OPERATIONS);
+    let found = numbered.find(|(_, operation)| operation.name == name);
+    found.map(|(number, _)| number)
+}
+
 /// May the last instruction of a body be of this operation?
 pub fn may_be_last(operation: u8) -> bool {
     operation == RETURN || operation == GO
