@@ -1,5 +1,6 @@
-//! A model of the queue core, written from document 01, document 003, the
-//! readings of the open places and docs/LAYOUT.md, and from nothing else.
+//! A model of the queue core and of its jobs, written from document 01,
+//! document 003, the readings of the open places and docs/LAYOUT.md, and from
+//! nothing else.
 
 pub mod answer;
 pub mod asm;
@@ -7,6 +8,7 @@ pub mod call;
 pub mod calls;
 pub mod check;
 pub mod damage;
+pub mod damaged_jobs;
 pub mod dis;
 pub mod fast;
 pub mod foreign;
@@ -19,6 +21,8 @@ pub mod plain;
 pub mod play;
 pub mod pools;
 pub mod random;
+pub mod random_bodies;
+pub mod random_jobs;
 pub mod refusal;
 pub mod rules;
 pub mod serial;

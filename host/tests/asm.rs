@@ -143,56 +143,31 @@ fn faults_of_numbers() {
     }
 }
 
+/// Whole texts, and what is said of each.
+#[rustfmt::skip]
+const WHOLE: [(&str, &str); 16] = [
+    ("", "line 1: no line `length L`"),
+    ("procedure top all\nreturn\n", "line 2: no line `length L`"),
+    ("length 0", "line 1: length `0` is not 1 to 64"),
+    ("length 65", "line 1: length `65` is not 1 to 64"),
+    ("length", "line 1: the form is `length L`"),
+    ("length 1\nlength 1", "line 2: the length is given twice"),
+    ("length 1\n", "line 1: the number of procedures is not 1 to 64"),
+    ("queue a 4", "line 1: queue number `4` is not 0 to 3"),
+    ("queue a", "line 1: the form is `queue NAME NUMBER`"),
+    ("queue 7 0", "line 1: `7` is not a name"),
+    ("queue a 0\nqueue a 1", "line 2: queue `a` is named twice"),
+    ("return", "line 1: no procedure stands before this line"),
+    ("here: return", "line 1: no procedure stands before this line"),
+    ("procedure", "line 1: the form is `procedure NAME RIGHTS`"),
+    ("procedure 5 all", "line 1: `5` is not a name"),
+    ("procedure a\nreturn\nprocedure a", "line 3: procedure `a` stands twice"),
+];
+
 #[test]
 fn faults_of_the_whole() {
-    let top = "procedure top all\nreturn\n";
-    let cases = [
-        ("".to_string(), "line 1: no line `length L`"),
-        (top.to_string(), "line 2: no line `length L`"),
-        ("length 0".to_string(), "line 1: length `0` is not 1 to 64"),
-        (
-            "length 65".to_string(),
-            "line 1: length `65` is not 1 to 64",
-        ),
-        ("length".to_string(), "line 1: the form is `length L`"),
-        (
-            "length 1\nlength 1".to_string(),
-            "line 2: the length is given twice",
-        ),
-        (
-            "length 1\n".to_string(),
-            "line 1: the number of procedures is not 1 to 64",
-        ),
-        (
-            "queue a 4".to_string(),
-            "line 1: queue number `4` is not 0 to 3",
-        ),
-        (
-            "queue a".to_string(),
-            "line 1: the form is `queue NAME NUMBER`",
-        ),
-        ("queue 7 0".to_string(), "line 1: `7` is not a name"),
-        (
-            "queue a 0\nqueue a 1".to_string(),
-            "line 2: queue `a` is named twice",
-        ),
-        (
-            "return".to_string(),
-            "line 1: no procedure stands before this line",
-        ),
-        (
-            "here: return".to_string(),
-            "line 1: no procedure stands before this line",
-        ),
-        (
-            "procedure".to_string(),
-            "line 1: the form is `procedure NAME RIGHTS`",
-        ),
-        ("procedure 5 all".to_string(), "line 1: `5` is not a name"),
-        (top.repeat(2), "line 3: procedure `top` stands twice"),
-    ];
-    for (text, said) in cases {
-        assert_eq!(fault(&text), said);
+    for (text, said) in WHOLE {
+        assert_eq!(fault(text), said);
     }
 }
 
