@@ -1,15 +1,14 @@
 -- One link of the task tree, test by test, as the code makes them.
-use mathlib.Core.Path.{_≡_, refl, ap, sym, _∙_}
+use mathlib.Core.Path.{_≡_, sym, _∙_}
 use mathlib.Core.Bool.{Bool, true, false}
-use Prim.Native.Nat.{ℕ, _-_, _<_, _≤_}
+use Prim.Native.Nat.{ℕ, _<_, _≤_}
 use native.Mathlib.Omega.{arith}
 use lib.Dec.{leb, eqb}
-use borrow.Author.Tests.{lt-ltb, le-ltb, leb-true, le-leb, lt-leb, eqb-true, ne-eqb, eq-eqb}
-use Rattle.words.specs.Words.{pick, pass, halt, both, both-on, both-off, both-true, true-both, either}
-use Rattle.layout.specs.Layout.{NONE, UNFINISHED, STATUS, RIGHTS, PARENT, OLDER, YOUNGER, YOUNGEST}
+use borrow.Author.Tests.{leb-true, le-leb, lt-leb, eqb-true, ne-eqb, eq-eqb}
+use Rattle.words.specs.Words.{both, both-on, both-off, both-true, true-both}
+use Rattle.layout.specs.Layout.{UNFINISHED, STATUS, RIGHTS, PARENT, YOUNGER}
 use Rattle.tree.specs.Rights.{subset}
 use Rattle.rules.specs.Contents.{Contents, word}
-use Rattle.rules.specs.Test.{within, kin, linkTest}
 use Rattle.rules_tasks.specs.Marks.{Kin}
 
 module _ (c : Contents) where
@@ -49,20 +48,6 @@ module _ (c : Contents) where
         unfolding fitting
         fit-rights e f g = sym (in-reach _ ∙ both-on (eq-eqb _ _ e) ∙ both-on (eq-eqb _ _ f) ∙ both-on (eq-eqb _ _ g))
 
-  -- a link to no task, and one to a task
-  pub kin-none : (t p y : ℕ) → t ≡ NONE → true ≡ kin c t p y
-  unfolding kin either
-  kin-none t p y e = sym (halt _ _ (eq-eqb _ _ e))
-
-  flat : (x y z : Bool) → both x (both y z) ≡ both (both x y) z
-  unfolding both pick
-  flat true y z = refl
-  flat false y z = refl
-
-  pub kin-some : (t p y : ℕ) → (t ≡ NONE → ⊥) → fitting t p y (word c p RIGHTS) ≡ kin c t p y
-  unfolding kin either fitting within
-  kin-some t p y n = flat _ _ _ ∙ sym (pass _ (ne-eqb _ _ n) refl)
-
   -- what the tests say together
   pub fit-says : (t p y : ℕ) → fitting t p y (word c p RIGHTS) ≡ true → Kin c t p y
   unfolding fitting
@@ -90,12 +75,3 @@ module _ (c : Contents) where
       let b = w .below in
       true-both (le-leb 1 t (omega (arith, a))) (true-both (le-leb t 127 (omega (arith, b)))
       (true-both (eq-eqb _ _ (w .status)) (true-both (eq-eqb _ _ (w .parent)) (true-both (eq-eqb _ _ (w .younger)) (w .rights)))))
-
-  -- the link followed where a task is met, and where one is left
-  pub link-met : (x t : ℕ) → x < 128 → t ≡ word c x YOUNGEST → kin c t x NONE ≡ linkTest c x
-  unfolding linkTest
-  link-met x t l e = ap (λ (u : ℕ). kin c u x NONE) e ∙ sym (halt _ _ (lt-ltb x 128 l))
-
-  pub link-left : (x t p : ℕ) → 128 ≤ x → t ≡ word c (x - 128) OLDER → p ≡ word c (x - 128) PARENT → kin c t p (x - 128) ≡ linkTest c x
-  unfolding linkTest
-  link-left x t p l e f = ap (λ (u : ℕ). kin c u p (x - 128)) e ∙ ap (λ (u : ℕ). kin c (word c (x - 128) OLDER) u (x - 128)) f ∙ sym (pass _ (le-ltb x 128 l) refl)

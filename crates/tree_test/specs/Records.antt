@@ -6,8 +6,7 @@ use native.Mathlib.Omega.{arith}
 use lib.ListN.{getD}
 use lib.Seq.{getD-drop}
 use Rattle.words.specs.Words.{load}
-use Rattle.layout.specs.Layout.{task, read, recordOf}
-use Rattle.layout.specs.Frame.{record-word}
+use Rattle.layout.specs.Layout.{recordOf}
 use Rattle.rules.specs.Contents.{decode, word}
 
 module _ (m : List ℕ) (t : ℕ) where
@@ -17,7 +16,3 @@ module _ (m : List ℕ) (t : ℕ) where
 
   pub status-at : getD m (1472 + t * 48) 0 ≡ word (decode m) t 0
   status-at = ap (λ (a : ℕ). getD m a 0) (let z : 1472 + t * 48 ≡ 1472 + t * 48 + 0 = omega arith in z) ∙ word-at 0
-
-  pub word-read : (k : ℕ) → read m (task t k) ≡ word (decode m) t k
-  unfolding word
-  word-read k = sym (record-word m t k)

@@ -7,7 +7,7 @@ ghost use lib.ListN.{length, take};
 ghost use Rattle.layout.specs.Layout.{read, header, recordOf};
 ghost use Rattle.tree.specs.Tour.{tour};
 ghost use Rattle.rules.specs.Contents.{decode};
-ghost use Rattle.rules.specs.Test.{inRange, topTest, idleTest, kin, linkTest, treeTest};
+ghost use Rattle.rules.specs.Test.{inRange, topTest, idleTest, treeTest};
 ghost use Rattle.tree_test.specs.Top.{topAlone};
 ghost use Rattle.tree_test.specs.Counted.{faultsFrom, nearFrom, marks};
 ghost use Rattle.tree_test.specs.Links.{fitting};
@@ -164,29 +164,6 @@ fn fitting(m: &[u32], t: u32, p: u32, y: u32, b: u32) -> bool
         return false;
     }
     rights::subset(m[a + 1], b)
-}
-
-// t is no task, or may stand in the tree with parent p and younger sibling y.
-pub fn kin(m: &[u32], t: u32, p: u32, y: u32) -> bool
-    requires { ⌜ length (now m) ≡ 16384 ⌝ }
-    ensures { λ r. ⌜ r ≡ kin (decode (now (m .entry))) t p y ⌝ }
-{
-    if t == NONE {
-        return true;
-    }
-    fitting(m, t, p, y, memory::task(m, p, RIGHTS))
-}
-
-// The link that is followed at mark x.
-pub fn link_ok(m: &[u32], x: u32) -> bool
-    requires { ⌜ length (now m) ≡ 16384 ⌝ }
-    ensures { λ r. ⌜ r ≡ linkTest (decode (now (m .entry))) x ⌝ }
-{
-    if x < 128 {
-        return kin(m, memory::task(m, x, YOUNGEST), x, NONE);
-    }
-    let t = x - 128;
-    kin(m, memory::task(m, t, OLDER), memory::task(m, t, PARENT), t)
 }
 
 // The mark after the one where task t is met; END where the link is wrong.
