@@ -10,6 +10,7 @@ use lib.ListN.{replicate, length-replicate}
 use borrow.Author.Tests.{ltb-true, eqb-true, eq-eqb, lt-ltb}
 use Rattle.words.specs.Words.{load, store, size, size-store, load-same, load-other, both, both-true, true-both}
 use Rattle.lists.specs.Counting.{occurrences, equal?, occurs-nil, occurs-here, occurs-past, occurs-append}
+use Rattle.lists.specs.Marks.{zeros}
 
 -- the numbers of a list are below n, none stands in it twice, and none was marked in d
 unfoldable pub fresh : ℕ → List ℕ → List ℕ → Bool
@@ -18,12 +19,6 @@ fresh n (x ∷ xs) d = let rest = fresh n xs (store d x 1) in both (ltb x n) (bo
 
 unfoldable pub distinct : ℕ → List ℕ → Bool
 distinct n xs = fresh n xs (replicate 256 0)
-
-zeros : (k s : ℕ) → load (replicate k 0) s ≡ 0
-unfolding load
-zeros zero s = refl
-zeros (suc k) zero = refl
-zeros (suc k) (suc s) = zeros k s
 
 module _ (n : ℕ) where
   -- what it says

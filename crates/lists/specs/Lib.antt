@@ -1,4 +1,5 @@
 pub mod Counting
 pub mod Sums
 pub mod Tests
+pub mod Marks
 pub mod Distinct

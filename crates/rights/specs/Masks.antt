@@ -6,7 +6,7 @@ use native.Mathlib.Omega.{arith}
 use lib.Dec.{eqb}
 use lib.Bits.{bitAnd, and-zero-r, and-lt, and-block, and-shr, and-mod}
 use borrow.Author.Tests.{lt-ltb, le-ltb, eq-eqb, ne-eqb, eqb-true, eqb-false}
-use Rattle.words.specs.Words.{pick, both, either, pass, halt}
+use Rattle.words.specs.Words.{pick, both, both-right-on, either, pass, halt}
 use Rattle.tree.specs.Rights.{bits, pushes, pops, eachQueue, someQueue, sharesPop, subset}
 
 -- a fact of the numbers below 4 by its four cases
@@ -157,15 +157,10 @@ covered-next : (a b q : ℕ) → q < 4 → coveredAt (a / 4) (b / 4) q ≡ cover
 unfolding pushes pops
 covered-next a b q h = ap₂ coveredPair (bits-next a q h) (bits-next b q h)
 
-both-true-right : (b : Bool) → both b true ≡ b
-unfolding both pick
-both-true-right true = refl
-both-true-right false = refl
-
 covered-last : (a b : ℕ) → a < 4 → eqb (bitAnd a b) a ≡ coveredAt a b 0
 covered-last a b h =
     covered-from a b ∙ ap (λ (n : ℕ). both (coveredAt a b 0) (eqb (bitAnd n (b / 4)) n)) (none a h)
-    ∙ both-true-right (coveredAt a b 0)
+    ∙ both-right-on (coveredAt a b 0) refl
   where
     none : (a : ℕ) → a < 4 → a / 4 ≡ 0
     none a h = omega arith

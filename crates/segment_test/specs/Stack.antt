@@ -10,9 +10,9 @@ use lib.Seq.{drop-cons}
 use borrow.Author.Tests.{lt-ltb, le-ltb, eq-eqb, ne-eqb}
 use Rattle.words.specs.Words.{load, store, both-on, both-off}
 use Rattle.lists.specs.Distinct.{fresh}
+use Rattle.lists.specs.Marks.{marking}
 use Rattle.layout.specs.Layout.{read, address}
 use Rattle.rules.specs.Contents.{decode}
-use Rattle.view_events.specs.Run.{marking}
 use Rattle.view_events.specs.Parts.{number-at}
 
 -- the places from i on, of h

@@ -5,9 +5,9 @@ ghost use Prim.Native.Nat.{_<_, _≤_};
 ghost use lib.ListN.{length, getD};
 ghost use Rattle.lists.specs.Tests.{upto};
 ghost use Rattle.lists.specs.Distinct.{fresh};
+ghost use Rattle.lists.specs.Marks.{marking};
 ghost use Rattle.rules.specs.Contents.{decode};
 ghost use Rattle.rules.specs.Test.{segmentTest};
-ghost use Rattle.view_events.specs.Run.{marking};
 ghost use Rattle.view_events.specs.Does.{Ready};
 
 const NONE: u32 = 4294967295;

@@ -1,3 +1,4 @@
 pub mod Ring
 pub mod Stack
+pub mod Free
 pub mod Links

@@ -1,16 +1,15 @@
--- What names a segment: its place among a task's heads, the stack of free segments, the segment before it.
+-- What names a segment: its place among a task's heads, the segment before it.
 use mathlib.Core.Path.{_≡_, refl, ap, sym, _∙_}
 use mathlib.Core.Bool.{Bool, true, false}
-use mathlib.Core.List.{List, [], _∷_}
+use mathlib.Core.List.{List}
 use Prim.Native.Nat.{ℕ, zero, suc, _+_, _-_, _*_, _<_, _≤_}
 use native.Mathlib.Omega.{arith}
 use lib.Dec.{ltb, eqb}
-use lib.ListN.{length, take, drop, getD, length-drop}
-use lib.Seq.{drop-cons, drop-drop, getD-drop}
+use lib.ListN.{drop, getD}
+use lib.Seq.{drop-drop, getD-drop}
 use borrow.Author.Tests.{eq-eqb, ne-eqb, lt-ltb, le-ltb}
 use Rattle.words.specs.Words.{load, pick, both, pass, halt}
-use Rattle.lists.specs.Counting.{occurrences, occurs-nil, occurs-here, occurs-past}
-use Rattle.layout.specs.Layout.{numberWord, freeSegments, freeSegment, segment, task, address, read, write, recordOf}
+use Rattle.layout.specs.Layout.{numberWord, segment, task, address, read, write, recordOf}
 use Rattle.tree.specs.Tour.{MARKS, seek}
 use Rattle.calls.specs.Segments.{indexOf, headIndex, linkedBy, renamed, released, linked}
 use Rattle.segments.specs.Names.{held, nextIs, headHere}
@@ -72,56 +71,6 @@ head-none m s t i h g =
     let a = ap (λ (n : ℕ). indexOf s n (drop (16 + i) (recordOf m t))) (none 16 i g) in
     let b = index-none s (drop (16 + i) (recordOf m t)) in
     omega (arith, a, b)
-
--- THE STACK of free segments: how often y stands in it from place i on
-unfoldable pub stackFrom : List ℕ → ℕ → ℕ → ℕ → ℕ
-stackFrom m h y i = occurrences y (take (h - i) (drop (64 + i) m))
-
-pub stack-start : (m : List ℕ) (h y : ℕ) → h ≡ read m freeSegments → eqb (stackFrom m h y 0) 0 ≡ held m y
-unfolding stackFrom held
-stack-start m h y e = ap (λ (k : ℕ). eqb (occurrences y (take (k - 0) (drop 64 m))) 0) e ∙ ap (λ (k : ℕ). eqb (occurrences y (take k (drop 64 m))) 0) (whole (read m freeSegments))
-  where
-    whole : (k : ℕ) → k - 0 ≡ k
-    whole k = omega arith
-
-stack-cons : (m : List ℕ) (h i : ℕ) → i < h → 64 + i < length m
-    → take (h - i) (drop (64 + i) m) ≡ getD m (64 + i) 0 ∷ take (h - (i + 1)) (drop (64 + (i + 1)) m)
-stack-cons m h i l g =
-    let q : suc (64 + i) ≡ 64 + (i + 1) = omega arith in
-    ap (λ (n : ℕ). take n (drop (64 + i) m)) (less h i l) ∙ ap (take (suc (h - (i + 1)))) (drop-cons m (64 + i) 0 g)
-    ∙ ap (λ (n : ℕ). getD m (64 + i) 0 ∷ take (h - (i + 1)) (drop n m)) q
-
-pub stack-found : (m : List ℕ) (h y i w : ℕ) → i < h → 64 + i < length m → w ≡ read m (freeSegment i) → w ≡ y → false ≡ eqb (stackFrom m h y i) 0
-unfolding stackFrom read address load
-stack-found m h y i w l g ew e =
-    let a = ap (occurrences y) (stack-cons m h i l g) in
-    let b = occurs-here (getD m (64 + i) 0) y (take (h - (i + 1)) (drop (64 + (i + 1)) m)) (sym ew ∙ e) in
-    sym (ne-eqb (occurrences y (take (h - i) (drop (64 + i) m))) 0 (λ q. omega arith))
-
-pub stack-next : (m : List ℕ) (h y i w : ℕ) → i < h → 64 + i < length m → w ≡ read m (freeSegment i) → (w ≡ y → ⊥) → stackFrom m h y (i + 1) ≡ stackFrom m h y i
-unfolding stackFrom read address load
-stack-next m h y i w l g ew e =
-    sym (ap (occurrences y) (stack-cons m h i l g)
-    ∙ occurs-past (getD m (64 + i) 0) y (take (h - (i + 1)) (drop (64 + (i + 1)) m)) (λ q. e (ew ∙ q)))
-
-nothing : (m : List ℕ) (a : ℕ) → length m ≤ a → drop a m ≡ []
-nothing m a h = go (drop a m) (let e = length-drop a m in omega (arith, e))
-  where
-    go : (xs : List ℕ) → length xs ≤ 0 → xs ≡ []
-    go [] h = refl
-    go (x ∷ xs) h = let z : ⊥ = omega arith in absurd z
-
-take-none : (n : ℕ) → _≡_ {A = List ℕ} (take n []) []
-take-none zero = refl
-take-none (suc n) = refl
-
-pub stack-out : (m : List ℕ) (h y i : ℕ) → length m ≤ 64 + i → true ≡ eqb (stackFrom m h y i) 0
-unfolding stackFrom
-stack-out m h y i g = sym (eq-eqb _ _ (ap (λ (xs : List ℕ). occurrences y (take (h - i) xs)) (nothing m (64 + i) g) ∙ ap (occurrences y) (take-none (h - i)) ∙ occurs-nil y))
-
-pub stack-end : (m : List ℕ) (h y i : ℕ) → h ≤ i → true ≡ eqb (stackFrom m h y i) 0
-unfolding stackFrom
-stack-end m h y i g = sym (eq-eqb _ _ (ap (λ (n : ℕ). occurrences y (take n (drop (64 + i) m))) (none h i g) ∙ occurs-nil y))
 
 -- THE SEGMENT BEFORE s
 pub next-other : (m : List ℕ) (s y w : ℕ) → w ≡ read m (segment y 2) → (w ≡ s → ⊥) → false ≡ nextIs m s y

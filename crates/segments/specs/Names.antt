@@ -3,15 +3,24 @@ use mathlib.Core.Bool.{Bool}
 use mathlib.Core.List.{List}
 use Prim.Native.Nat.{ℕ}
 use lib.Dec.{ltb, eqb}
-use lib.ListN.{take, drop}
+use lib.ListN.{replicate, take, drop}
 use Rattle.words.specs.Words.{both}
 use Rattle.lists.specs.Counting.{occurrences}
+use Rattle.lists.specs.Marks.{marking}
 use Rattle.layout.specs.Layout.{freeSegments, next, read}
 use Rattle.calls.specs.Segments.{headIndex}
 
--- segment y is not on the stack of free segments
+-- the stack of free segments
+abbrev pub freeStack : List ℕ → List ℕ
+freeStack m = take (read m freeSegments) (drop 64 m)
+
+-- segment y is not on it
 unfoldable pub held : List ℕ → ℕ → Bool
-held m y = eqb (occurrences y (take (read m freeSegments) (drop 64 m))) 0
+held m y = eqb (occurrences y (freeStack m)) 0
+
+-- a mark for each free segment below 256
+unfoldable pub freeMarks : List ℕ → List ℕ
+freeMarks m = marking (freeStack m) (replicate 256 0)
 
 -- segment y is held and has s as its next
 unfoldable pub nextIs : List ℕ → ℕ → ℕ → Bool

@@ -5,11 +5,12 @@ ghost use Prim.Native.Nat.{_+_, _*_, _<_, _≤_};
 ghost use lib.ListN.{length};
 ghost use Rattle.words.specs.Words.{store, size};
 ghost use Rattle.words.specs.Blocks.{storeAll};
+ghost use Rattle.lists.specs.Marks.{marking};
 ghost use Rattle.layout.specs.Layout.{recordOf, lengthWord, numberWord, freeSegments, segment, value, count, address, read, write};
 ghost use Rattle.tree.specs.Tour.{MARKS, seek};
 ghost use Rattle.calls.specs.Segments.{place, valueAt, stored, dropped, noneFree, nextFree, taken, released};
 ghost use Rattle.calls.specs.Segments.{headIndex, linkedBy, renamed, linked};
-ghost use Rattle.segments.specs.Names.{held, nextIs, headHere};
+ghost use Rattle.segments.specs.Names.{freeStack, held, freeMarks, nextIs, headHere};
 
 // The place of value number k in a ring of l places, the first value at place f.
 pub fn place(l: u32, f: u32, k: u32) -> u32
@@ -187,11 +188,42 @@ fn held(m: &[u32], y: u32) -> bool
     true
 }
 
-fn next_is(m: &[u32], s: u32, y: u32) -> bool
+// Marks segment y, where d has a place for it.
+fn mark(d: &mut [u8], y: u32)
+    ensures { λ _. ⌜ now (d .exit) ≡ store (now (d .entry)) y 1 ⌝ }
+{
+    let i = y as usize;
+    if i < d.len() {
+        d[i] = 1;
+    }
+}
+
+// Marks the free segments.
+fn mark_free(m: &[u32], d: &mut [u8])
+    ensures { λ _. ⌜ now (d .exit) ≡ marking (freeStack (now (m .entry))) (now (d .entry)) ⌝ }
+{
+    let h = memory::header(m, 2);
+    let mut i: u32 = 0;
+    while i < h {
+        if m.len() <= 64 + i as usize {
+            return;
+        }
+        mark(d, memory::free_segment(m, i));
+        i += 1;
+    }
+}
+
+// Segment y is held and has s as its next. The free segments below 256 are marked in d. Memory that passes the rules
+// has no others, so the stack is not looked through for each segment.
+fn next_is(m: &[u32], d: &[u8; 256], s: u32, y: u32) -> bool
+    requires { ⌜ now d ≡ freeMarks (now m) ⌝ }
     ensures { λ r. ⌜ r ≡ nextIs (now (m .entry)) s y ⌝ }
 {
     if memory::segment(m, y, 2) != s {
         return false;
+    }
+    if y < 256 {
+        return d[y as usize] == 0;
     }
     held(m, y)
 }
@@ -200,10 +232,12 @@ fn next_is(m: &[u32], s: u32, y: u32) -> bool
 pub fn linked_by(m: &[u32], s: u32) -> u32
     ensures { λ r. ⌜ r ≡ linkedBy (read (now (m .entry)) numberWord) (now (m .entry)) s 0 ⌝ }
 {
+    let mut d = [0u8; 256];
+    mark_free(m, &mut d);
     let n = memory::header(m, 1);
     let mut y: u32 = 0;
     while y < n {
-        if next_is(m, s, y) {
+        if next_is(m, &d, s, y) {
             return y;
         }
         y += 1;

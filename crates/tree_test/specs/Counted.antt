@@ -9,9 +9,10 @@ use native.Mathlib.Omega.{arith}
 use lib.Dec.{leb, eqb}
 use lib.ListN.{replicate}
 use borrow.Author.Tests.{leb-true, leb-false, eqb-true, eqb-false, le-leb, ne-eqb, eq-eqb}
-use Rattle.words.specs.Words.{load, store, size, size-store, load-same, load-other, pick, both, both-on, both-off, both-true, true-both, same-test}
+use Rattle.words.specs.Words.{load, store, size, size-store, load-same, load-other, pick, both, both-on, both-off, both-right-off, both-true, true-both, same-test}
 use Rattle.lists.specs.Counting.{one, total, equal?, one-yes, one-no, total-ext, total-zero, total-plus, total-at}
 use Rattle.lists.specs.Sums.{total-le}
+use Rattle.lists.specs.Marks.{zeros}
 use Rattle.layout.specs.Layout.{freeTasks, read}
 use Rattle.rules.specs.Contents.{decode}
 use Rattle.rules.specs.Test.{idleTest}
@@ -103,12 +104,6 @@ marks-store d t s l h y =
     (λ n. let a = load-other d t y 1 (λ q. n (sym q)) in let b = h y in omega (arith, a, b))
     (equal? t y)
 
-zeros : (k t : ℕ) → load (replicate k 0) t ≡ 0
-unfolding load
-zeros zero t = refl
-zeros (suc k) zero = refl
-zeros (suc k) (suc t) = zeros k t
-
 marks-none : Marks (replicate 256 0)
 marks-none t = let a = zeros 256 t in omega (arith, a)
 
@@ -130,22 +125,17 @@ stays (suc k) m i d s e =
     t : ℕ
     t = load m (320 + i)
 
-both-no : (x : Bool) {y : Bool} → y ≡ false → both x y ≡ false
-unfolding both pick
-both-no true e = e
-both-no false e = refl
-
 meet : (low high free rest top all clear more : Bool)
     → (low ≡ true → high ≡ true → clear ≡ true → both rest (both top all) ≡ more)
     → (high ≡ true → clear ≡ false → all ≡ false)
     → (low ≡ false → top ≡ false)
     → both (both high (both free rest)) (both top all) ≡ both low (both high (both clear (both free more)))
 unfolding both pick
-meet false high free rest top all clear more f g h = both-no (both high (both free rest)) (both-off all (h refl))
+meet false high free rest top all clear more f g h = both-right-off (both high (both free rest)) (both-off all (h refl))
 meet true false free rest top all clear more f g h = refl
 meet true true true rest top all true more f g h = f refl refl refl
 meet true true false rest top all true more f g h = refl
-meet true true free rest top all false more f g h = both-no (both free rest) (both-no top (g refl refl))
+meet true true free rest top all false more f g h = both-right-off (both free rest) (both-right-off top (g refl refl))
 
 counted : (k : ℕ) (m : List ℕ) (i : ℕ) (d : List ℕ) → size d ≡ 256 → Marks d → load d 0 ≡ 0
     → both (freeFrom k m i) (both (topClear (markFrom k m i d)) (eqb (marks (markFrom k m i d)) (marks d + k))) ≡ idleFrom k m i d

@@ -6,16 +6,11 @@ use Prim.Native.Nat.{ℕ, _<_, _≤_, _*_}
 use native.Mathlib.Nat.{mul-le-mul}
 use lib.Dec.{leb, eqb}
 use borrow.Author.Tests.{leb-true, le-leb, lt-leb, ne-eqb, eq-eqb}
-use Rattle.words.specs.Words.{pick, both, both-true, both-on, both-off, either, true-left, true-right}
+use Rattle.words.specs.Words.{pick, both, both-true, both-on, both-off, both-right-off, either, true-left, true-right}
 use Rattle.layout.specs.Layout.{NONE, UNFINISHED, FINISHED, STATUS, RIGHTS, PARENT, OLDER, YOUNGER, YOUNGEST, task, read}
 use Rattle.layout.specs.Frame.{record-word}
 use Rattle.rules.specs.Contents.{decode, word}
 use Rattle.rules.specs.Test.{within, inRange, topTest}
-
-both-right : (a : Bool) {b : Bool} → b ≡ false → both a b ≡ false
-unfolding both pick
-both-right true e = e
-both-right false e = refl
 
 module _ (l n : ℕ) where
   pub short : l < 1 → false ≡ inRange l n
@@ -24,15 +19,15 @@ module _ (l n : ℕ) where
 
   pub long : 64 < l → false ≡ inRange l n
   unfolding inRange within
-  long h = sym (both-off _ (both-right _ (lt-leb l 64 h)))
+  long h = sym (both-off _ (both-right-off _ (lt-leb l 64 h)))
 
   pub few : n < 4 → false ≡ inRange l n
   unfolding inRange within
-  few h = sym (both-right _ (both-off _ (both-off _ (lt-leb 4 n h))))
+  few h = sym (both-right-off _ (both-off _ (both-off _ (lt-leb 4 n h))))
 
   pub many : 256 < n → false ≡ inRange l n
   unfolding inRange within
-  many h = sym (both-right _ (both-off _ (both-right _ (lt-leb n 256 h))))
+  many h = sym (both-right-off _ (both-off _ (both-right-off _ (lt-leb n 256 h))))
 
   pub product : 1 ≤ l → l ≤ 64 → 4 ≤ n → n ≤ 256 → leb (l * n) 8192 ≡ inRange l n
   unfolding inRange within
@@ -79,4 +74,4 @@ module _ (m : List ℕ) where
 
   pub top-parent : (read m (task 0 STATUS) ≡ UNFINISHED → ⊥) → (read m (task 0 YOUNGEST) ≡ NONE → ⊥) → false ≡ topTest (decode m)
   unfolding topTest
-  top-parent n o = sym (both-off _ (neither (ne-eqb _ _ (λ e. n (sym (state STATUS) ∙ e))) (both-right _ (ne-eqb _ _ (λ e. o (sym (state YOUNGEST) ∙ e))))))
+  top-parent n o = sym (both-off _ (neither (ne-eqb _ _ (λ e. n (sym (state STATUS) ∙ e))) (both-right-off _ (ne-eqb _ _ (λ e. o (sym (state YOUNGEST) ∙ e))))))

@@ -10,10 +10,11 @@ use borrow.Author.Tests.{le-ltb}
 use Rattle.words.specs.Words.{load, store, pick, both, either, both-off, pass}
 use Rattle.lists.specs.Tests.{each}
 use Rattle.lists.specs.Distinct.{fresh}
+use Rattle.lists.specs.Marks.{marking}
 use Rattle.layout.specs.Layout.{NONE}
 use Rattle.rules.specs.Contents.{Contents, part}
 use Rattle.rules.specs.Test.{chain}
-use Rattle.view_events.specs.Run.{marking, filled}
+use Rattle.view_events.specs.Run.{filled}
 
 -- what placing a chain gives: the number of its segments and the marks with theirs; nothing where the chain is wrong
 pub data Placed : Type 0 where

@@ -10,16 +10,12 @@ use lib.ListN.{length}
 use Rattle.words.specs.Words.{load, store, pick, both, either}
 use Rattle.lists.specs.Tests.{each}
 use Rattle.lists.specs.Distinct.{fresh}
+use Rattle.lists.specs.Marks.{marking}
 use Rattle.layout.specs.Layout.{NONE, NL}
 use Rattle.rules.specs.Contents.{Contents, part}
 use Rattle.rules.specs.Test.{passed, chain}
 use Rattle.view_events.specs.Events.{Event}
 use Rattle.view_events.specs.Events.Event.{entry, owner, order, tail, head}
-
--- the marks with those of the numbers of a list
-unfoldable pub marking : List ℕ → List ℕ → List ℕ
-marking [] d = d
-marking (x ∷ xs) d = marking xs (store d x 1)
 
 -- word k of the state with v more
 unfoldable pub raised : List ℕ → ℕ → ℕ → List ℕ

@@ -10,13 +10,14 @@ use borrow.Author.Tests.{lt-ltb, le-ltb, le-leb, lt-leb, eq-eqb, ne-eqb}
 use Rattle.words.specs.Words.{load, store, pick, both, pass, halt, both-on, both-off}
 use Rattle.lists.specs.Tests.{each}
 use Rattle.lists.specs.Distinct.{fresh}
+use Rattle.lists.specs.Marks.{marking}
 use Rattle.layout.specs.Layout.{NONE, NL}
 use Rattle.rules.specs.Contents.{Contents, decode, part}
 use Rattle.rules.specs.Test.{chain}
 use Rattle.view_events.specs.Both.{grouped}
 use Rattle.view_events.specs.Events.{Event}
 use Rattle.view_events.specs.Events.Event.{tail, head}
-use Rattle.view_events.specs.Run.{marking, raised, filled, run}
+use Rattle.view_events.specs.Run.{raised, filled, run}
 use Rattle.view_events.specs.Place.{placing, answered, placing-chain}
 use Rattle.view_events.specs.Place.Placed.{placed, wrong}
 use Rattle.view_events.specs.Parts.{number-at}

@@ -7,8 +7,8 @@ use lib.Dec.{ltb, eqb}
 use Rattle.words.specs.Words.{load, store, pick, both}
 use Rattle.lists.specs.Tests.{each}
 use Rattle.lists.specs.Distinct.{fresh}
+use Rattle.lists.specs.Marks.{marking}
 use Rattle.view_events.specs.Both.{grouped}
-use Rattle.view_events.specs.Run.{marking}
 
 pub fresh-append : (n : ℕ) (xs ys d : List ℕ) → fresh n (xs ++ ys) d ≡ both (fresh n xs d) (fresh n ys (marking xs d))
 unfolding fresh marking

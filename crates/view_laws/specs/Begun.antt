@@ -12,13 +12,14 @@ use borrow.Author.Tests.{le-leb, leb-true, leb-false}
 use Rattle.words.specs.Words.{load, store, size, pass, halt, both-true, both-on, both-off}
 use Rattle.lists.specs.Tests.{upto}
 use Rattle.lists.specs.Distinct.{fresh}
+use Rattle.lists.specs.Marks.{marking}
 use Rattle.layout.specs.Layout.{WORDS, lengthWord, numberWord, freeSegments, read, address}
 use Rattle.tree.specs.Tour.{END, after, tour}
 use Rattle.rules.specs.Contents.{decode}
 use Rattle.rules.specs.Test.{within, inRange, topTest, idleTest, treeTest, segmentTest, viewTests}
 use Rattle.rules_views.specs.Marks.{yes-no}
 use Rattle.view_events.specs.Events.{events}
-use Rattle.view_events.specs.Run.{run, marking}
+use Rattle.view_events.specs.Run.{run}
 use Rattle.view_events.specs.Does.{Ready}
 use Rattle.view_events.specs.Walk.{Marks}
 use Rattle.view_events.specs.Parts.{number-at}

@@ -10,12 +10,13 @@ use borrow.Author.Tests.{lt-leb}
 use Rattle.words.specs.Words.{load, store, pass, both-true, true-both}
 use Rattle.lists.specs.Tests.{each}
 use Rattle.lists.specs.Distinct.{fresh}
+use Rattle.lists.specs.Marks.{marking}
 use Rattle.layout.specs.Layout.{NL}
 use Rattle.rules.specs.Contents.{Contents}
 use Rattle.rules.specs.Test.{chain, chains}
 use Rattle.view_events.specs.Events.{Event}
 use Rattle.view_events.specs.Events.Event.{tail, head}
-use Rattle.view_events.specs.Run.{marking, filled}
+use Rattle.view_events.specs.Run.{filled}
 use Rattle.view_laws.specs.Good.{Good, Chained, Ended, allowed, orderFrom, ownersOf, tailsOf, headsOf, last}
 use Rattle.view_laws.specs.Appended.{fresh-append, each-append}
 

@@ -12,10 +12,11 @@ use Rattle.lists.specs.Counting.{occurrences, length-total, total-ones}
 use Rattle.lists.specs.Sums.{total-le}
 use Rattle.lists.specs.Tests.{upto}
 use Rattle.lists.specs.Distinct.{fresh, distinct, distinct-says}
+use Rattle.lists.specs.Marks.{marking}
 use Rattle.rules.specs.Contents.{Contents}
 use Rattle.rules.specs.Test.{chain, chains, segmentTest, heldTest}
 use Rattle.rules_segments.specs.Segments.{segments-say, says-segments, rules-by-counts}
-use Rattle.view_events.specs.Run.{marking, filled}
+use Rattle.view_events.specs.Run.{filled}
 use Rattle.view_laws.specs.Good.{Chained, Ended}
 use Rattle.view_laws.specs.Appended.{fresh-append}
 

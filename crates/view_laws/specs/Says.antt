@@ -12,13 +12,14 @@ use Rattle.words.specs.Words.{load, store, both, pass, halt, both-true, true-bo
 use Rattle.lists.specs.Counting.{equal?}
 use Rattle.lists.specs.Tests.{each}
 use Rattle.lists.specs.Distinct.{fresh}
+use Rattle.lists.specs.Marks.{marking}
 use Rattle.layout.specs.Layout.{NONE, NL}
 use Rattle.rules.specs.Contents.{Contents}
 use Rattle.rules.specs.Test.{chains}
 use Rattle.rules_views.specs.Marks.{yes-no}
 use Rattle.view_events.specs.Events.{Event}
 use Rattle.view_events.specs.Events.Event.{entry, owner, order, tail, head}
-use Rattle.view_events.specs.Run.{ones, whole, run, raised, marking}
+use Rattle.view_events.specs.Run.{ones, whole, run, raised}
 use Rattle.view_laws.specs.Good.{Good, Queued, allowed, orderFrom, ownersOf, tailsOf, headsOf}
 use Rattle.view_laws.specs.State.{Reads, reads-order, reads-owner, reads-tail, reads-head}
 use Rattle.view_laws.specs.Conses.{same-good, same-back, no-owner, no-order, no-tail, no-head, add-entry, off-entry, add-owner, off-owner, add-order, off-order}

@@ -88,6 +88,17 @@ pub both-off : {a : Bool} (b : Bool) → a ≡ false → both a b ≡ false
 unfolding both pick
 both-off b e = rw e refl
 
+-- and where the second part is known
+pub both-right-on : (a : Bool) {b : Bool} → b ≡ true → both a b ≡ a
+unfolding both pick
+both-right-on true e = e
+both-right-on false e = refl
+
+pub both-right-off : (a : Bool) {b : Bool} → b ≡ false → both a b ≡ false
+unfolding both pick
+both-right-off true e = e
+both-right-off false e = refl
+
 -- two tests that say the same
 pub same-test : (a b : Bool) → (a ≡ true → b ≡ true) → (b ≡ true → a ≡ true) → a ≡ b
 same-test true b f g = sym (f refl)

@@ -1,7 +1,7 @@
 use Rattle.segment_test.specs.Stack.{rest, rest-all, free-far, free-again, free-more, marking-more, free-done, marking-done}
-use Rattle.view_events.specs.Run.{marking}
 use Rattle.rules.specs.Contents.{decode}
 use Rattle.lists.specs.Distinct.{fresh}
+use Rattle.lists.specs.Marks.{marking}
 use Prim.Native.Nat.{ℕ, _≤_, _-_}
 use mathlib.Core.List.{List}
 use mathlib.Core.Bool.{false≢true}

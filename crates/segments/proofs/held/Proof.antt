@@ -1,10 +1,11 @@
-use mathlib.Core.Path.{_≡_, _∙_, ap}
-use Prim.Native.Nat.{ℕ, _≤_, _<_, _-_, _^_}
+use mathlib.Core.Path.{_≡_, _∙_}
+use Prim.Native.Nat.{_≤_, _<_, _-_, _^_}
 use native.Mathlib.Omega.{arith}
 use borrow.Author.Needs.{needs}
 use lib.Dec.{eqb}
+use Rattle.lists.specs.Counting.{occurrences}
 use Rattle.segments.specs.Names.{held}
-use Rattle.segments.proofs.Links.{stackFrom, stack-start, stack-found, stack-next, stack-out, stack-end}
+use Rattle.segments.proofs.Free.{rest, rest-out, rest-end, held-start, held-found, held-next, held-none}
 use Rattle.segments.proofs.held.Statement.{statement}
 use Rattle.segments.proofs.held.Tie as tie
 use Rattle.segments.proofs.held.Reads as reads
@@ -13,7 +14,7 @@ use Rattle.memory.proofs.free_segment.Reads as free-segment-reads
 use Rattle.memory.proofs.header.Reads as header-reads
 
 abbrev Inv-loop : tie.InvT-loop
-Inv-loop m y h i₀ i = (i ≤ h) × (h < 2 ^ 32) × (eqb (stackFrom m h y i) 0 ≡ held m y)
+Inv-loop m y h i₀ i = (i ≤ h) × (h < 2 ^ 32) × (eqb (occurrences y (rest m h i)) 0 ≡ held m y)
 
 abbrev μ-loop : tie.MeasureT-loop
 μ-loop m y h i₀ i = h - i
@@ -22,7 +23,7 @@ header-requires : tie.Need-header-requires Inv-loop μ-loop
 header-requires c κs = search needs
 
 loop-holds : tie.Need-loop-holds Inv-loop μ-loop
-loop-holds c = (omega arith, search needs, stack-start _ _ _ (c .header .ensures))
+loop-holds c = (omega arith, search needs, held-start _ _ _ (c .header .ensures))
 
 cast-if1 : tie.Need-cast-if1 Inv-loop μ-loop
 cast-if1 c = omega arith
@@ -31,13 +32,13 @@ add-if1 : tie.Need-add-if1 Inv-loop μ-loop
 add-if1 c = omega arith
 
 returns : tie.Need-returns Inv-loop μ-loop
-returns c = stack-out _ _ _ _ (c .if1 .taken) ∙ c .before .before .loop .inv .2
+returns c = held-none _ _ _ _ (rest-out _ _ _ (c .if1 .taken)) ∙ c .before .before .loop .inv .2
 
 free-segment-requires : tie.Need-free-segment-requires Inv-loop μ-loop
 free-segment-requires c κs = search needs
 
 returns-2 : tie.Need-returns-2 Inv-loop μ-loop
-returns-2 c = stack-found _ _ _ _ _ (c .before .before .before .loop-test .taken) (c .before .before .if1 .left) (c .before .free-segment .ensures) (c .if2 .taken) ∙ c .before .before .before .before .loop .inv .2
+returns-2 c = held-found _ _ _ _ _ (c .before .before .before .loop-test .taken) (c .before .before .if1 .left) (c .before .free-segment .ensures) (c .if2 .taken) ∙ c .before .before .before .before .loop .inv .2
 
 add-i : tie.Need-add-i Inv-loop μ-loop
 add-i c = omega arith
@@ -46,10 +47,10 @@ loop-less : tie.Need-loop-less Inv-loop μ-loop
 loop-less c = omega arith
 
 loop-again : tie.Need-loop-again Inv-loop μ-loop
-loop-again c = (omega arith, omega arith, ap (λ (n : ℕ). eqb n 0) (stack-next _ _ _ _ _ (c .before .before .before .loop-test .taken) (c .before .before .if1 .left) (c .before .free-segment .ensures) (c .if2 .left)) ∙ c .before .before .before .before .loop .inv .2)
+loop-again c = (omega arith, omega arith, held-next _ _ _ _ _ (c .before .before .before .loop-test .taken) (c .before .before .if1 .left) (c .before .free-segment .ensures) (c .if2 .left) ∙ c .before .before .before .before .loop .inv .2)
 
 returns-3 : tie.Need-returns-3 Inv-loop μ-loop
-returns-3 c = stack-end _ _ _ _ (c .loop-test .left) ∙ c .before .loop .inv .2
+returns-3 c = held-none _ _ _ _ (rest-end _ _ _ (c .loop-test .left)) ∙ c .before .loop .inv .2
 
 pub held-spec : {M : Type 1} → statement M
 held-spec =

@@ -1,22 +1,30 @@
-use mathlib.Core.Path.{_≡_, sym, _∙_}
+use mathlib.Core.Path.{_≡_, refl, sym, _∙_}
 use Prim.Native.Nat.{_≤_, _<_, _-_, _^_}
 use native.Mathlib.Omega.{arith}
 use borrow.Author.Needs.{needs}
 use Rattle.layout.specs.Layout.{numberWord, read}
 use Rattle.calls.specs.Segments.{linkedBy}
+use Rattle.segments.specs.Names.{freeMarks}
 use Rattle.segments.proofs.Links.{by-start, by-found, by-next, by-end}
 use Rattle.segments.proofs.linked_by.Statement.{statement}
 use Rattle.segments.proofs.linked_by.Tie as tie
 use Rattle.segments.proofs.linked_by.Reads as reads
 use Rattle.segments.proofs.linked_by.Lts as lts
 use Rattle.memory.proofs.header.Reads as header-reads
+use Rattle.segments.proofs.mark_free.Reads as mark-free-reads
 use Rattle.segments.proofs.next_is.Reads as next-is-reads
 
 abbrev Inv-loop : tie.InvT-loop
-Inv-loop m s n y₀ y = (y ≤ n) × (n < 2 ^ 32) × (linkedBy (n - y) m s y ≡ linkedBy (read m numberWord) m s 0)
+Inv-loop m s d n y₀ y = (y ≤ n) × (n < 2 ^ 32) × (linkedBy (n - y) m s y ≡ linkedBy (read m numberWord) m s 0)
 
 abbrev μ-loop : tie.MeasureT-loop
-μ-loop m s n y₀ y = n - y
+μ-loop m s d n y₀ y = n - y
+
+slice-aggregate-mark-free : tie.Need-slice-aggregate-mark-free Inv-loop μ-loop
+slice-aggregate-mark-free c = refl
+
+mark-free-requires : tie.Need-mark-free-requires Inv-loop μ-loop
+mark-free-requires c κs = search needs
 
 header-requires : tie.Need-header-requires Inv-loop μ-loop
 header-requires c κs = search needs
@@ -25,10 +33,11 @@ loop-holds : tie.Need-loop-holds Inv-loop μ-loop
 loop-holds c = (omega arith, search needs, by-start _ _ _ (c .header .ensures))
 
 next-is-requires : tie.Need-next-is-requires Inv-loop μ-loop
-next-is-requires c κs = search needs
+unfolding freeMarks
+next-is-requires c κs = c .before .before .before .before .before .mark-free .ensures
 
 returns : tie.Need-returns Inv-loop μ-loop
-returns c = by-found _ _ _ _ (c .before .before .loop-test .taken) (sym (c .before .next-is .ensures) ∙ c .if1 .taken) ∙ c .before .before .before .loop .inv .2
+returns c = by-found _ _ _ _ (c .before .before .before .loop-test .taken) (sym (c .before .next-is .ensures) ∙ c .if1 .taken) ∙ c .before .before .before .before .loop .inv .2
 
 add-y : tie.Need-add-y Inv-loop μ-loop
 add-y c = omega arith
@@ -37,7 +46,7 @@ loop-less : tie.Need-loop-less Inv-loop μ-loop
 loop-less c = omega arith
 
 loop-again : tie.Need-loop-again Inv-loop μ-loop
-loop-again c = (omega arith, omega arith, by-next _ _ _ _ (c .before .before .loop-test .taken) (sym (c .before .next-is .ensures) ∙ c .if1 .left) ∙ c .before .before .before .loop .inv .2)
+loop-again c = (omega arith, omega arith, by-next _ _ _ _ (c .before .before .before .loop-test .taken) (sym (c .before .next-is .ensures) ∙ c .if1 .left) ∙ c .before .before .before .before .loop .inv .2)
 
 returns-2 : tie.Need-returns-2 Inv-loop μ-loop
 returns-2 c = by-end _ _ _ _ (c .loop-test .left) ∙ c .before .loop .inv .2
@@ -48,6 +57,8 @@ linked-by-spec =
     (tie.spec
     Inv-loop
     μ-loop
+    slice-aggregate-mark-free
+    mark-free-requires
     header-requires
     loop-holds
     next-is-requires

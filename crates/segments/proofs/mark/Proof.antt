@@ -1,0 +1,25 @@
+use mathlib.Core.Path.{sym}
+use lib.Seq.{set-out}
+use Rattle.words.specs.Words.{store}
+use borrow.Author.Needs.{needs}
+use Rattle.segments.proofs.mark.Statement.{statement}
+use Rattle.segments.proofs.mark.Tie as tie
+use Rattle.segments.proofs.mark.Reads as reads
+use Rattle.segments.proofs.mark.Lts as lts
+
+slice-write-d : tie.Need-slice-write-d
+slice-write-d c = search needs
+
+same-length : tie.Need-same-length
+same-length c = search needs
+
+returns : tie.Need-returns
+unfolding store
+returns c = search needs
+
+returns-2 : tie.Need-returns-2
+unfolding store
+returns-2 c = sym (set-out _ _ _ (c .if1 .left))
+
+pub mark-spec : {M : Type 1} → statement M
+mark-spec = tie.close (tie.spec slice-write-d same-length returns returns-2)

@@ -1,0 +1,80 @@
+use mathlib.Core.Path.{_≡_, refl, _∙_}
+use Prim.Native.Nat.{_≤_, _<_, _-_, _^_}
+use native.Mathlib.Omega.{arith}
+use borrow.Author.Needs.{needs}
+use lib.ListN.{length}
+use Rattle.lists.specs.Marks.{marking}
+use Rattle.segments.specs.Names.{freeStack}
+use Rattle.segments.proofs.Free.{rest, rest-out, rest-end, marks-start, marks-next, marks-none}
+use Rattle.segments.proofs.mark_free.Statement.{statement}
+use Rattle.segments.proofs.mark_free.Tie as tie
+use Rattle.segments.proofs.mark_free.Reads as reads
+use Rattle.segments.proofs.mark_free.Lts as lts
+use Rattle.memory.proofs.free_segment.Reads as free-segment-reads
+use Rattle.memory.proofs.header.Reads as header-reads
+use Rattle.segments.proofs.mark.Reads as mark-reads
+
+abbrev Inv-loop : tie.InvT-loop
+Inv-loop m d₀ h i₀ d i = (i ≤ h) × (h < 2 ^ 32) × (length d ≡ length d₀) × (marking (rest m h i) d ≡ marking (freeStack m) d₀)
+
+abbrev μ-loop : tie.MeasureT-loop
+μ-loop m d₀ h i₀ d i = h - i
+
+header-requires : tie.Need-header-requires Inv-loop μ-loop
+header-requires c κs = search needs
+
+loop-holds : tie.Need-loop-holds Inv-loop μ-loop
+loop-holds c = (omega arith, search needs, refl, marks-start _ _ _ (c .header .ensures))
+
+cast-if1 : tie.Need-cast-if1 Inv-loop μ-loop
+cast-if1 c = omega arith
+
+add-if1 : tie.Need-add-if1 Inv-loop μ-loop
+add-if1 c = omega arith
+
+same-length : tie.Need-same-length Inv-loop μ-loop
+same-length c = c .before .before .loop .inv .2
+
+returns : tie.Need-returns Inv-loop μ-loop
+returns c = marks-none _ _ _ _ (rest-out _ _ _ (c .if1 .taken)) ∙ c .before .before .loop .inv .3
+
+free-segment-requires : tie.Need-free-segment-requires Inv-loop μ-loop
+free-segment-requires c κs = search needs
+
+mark-requires : tie.Need-mark-requires Inv-loop μ-loop
+mark-requires c κs = search needs
+
+add-i : tie.Need-add-i Inv-loop μ-loop
+add-i c = omega arith
+
+loop-less : tie.Need-loop-less Inv-loop μ-loop
+loop-less c = omega arith
+
+loop-again : tie.Need-loop-again Inv-loop μ-loop
+loop-again c = (omega arith, omega arith, c .before .before .mark .kept .0 ∙ c .before .before .before .before .before .before .before .loop .inv .2, marks-next _ _ _ _ _ _ (c .before .before .before .before .before .before .loop-test .taken) (c .before .before .before .before .before .if1 .left) (c .before .before .before .free-segment .ensures) (c .before .before .mark .ensures) ∙ c .before .before .before .before .before .before .before .loop .inv .3)
+
+same-length-2 : tie.Need-same-length-2 Inv-loop μ-loop
+same-length-2 c = c .before .loop .inv .2
+
+returns-2 : tie.Need-returns-2 Inv-loop μ-loop
+returns-2 c = marks-none _ _ _ _ (rest-end _ _ _ (c .loop-test .left)) ∙ c .before .loop .inv .3
+
+pub mark-free-spec : {M : Type 1} → statement M
+mark-free-spec =
+    tie.close
+    (tie.spec
+    Inv-loop
+    μ-loop
+    header-requires
+    loop-holds
+    cast-if1
+    add-if1
+    same-length
+    returns
+    free-segment-requires
+    mark-requires
+    add-i
+    loop-less
+    loop-again
+    same-length-2
+    returns-2)
