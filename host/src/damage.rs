@@ -3,6 +3,7 @@
 
 use crate::layout::*;
 use crate::random::Random;
+use crate::sample::any_word;
 
 /// Changes one to four words.
 pub fn damage(r: &mut Random, m: &mut [u32]) {
@@ -74,5 +75,16 @@ fn some_word(r: &mut Random, m: &[u32], address: usize) -> u32 {
         9 => now.wrapping_add(1),
         10 => now.wrapping_sub(1),
         _ => r.word(),
+    }
+}
+
+/// One to four words changed to any words.
+pub fn plain_damage(r: &mut Random, m: &mut [u32]) {
+    for _ in 0..r.within(1, 4) {
+        // The last half are values, of which the rules say nothing.
+        let most = r.pick(&[448, 1_472, 8_192, WORDS as u32]);
+        let address = r.below(most) as usize;
+        let word = any_word(r);
+        put(m, address, word);
     }
 }

@@ -4,6 +4,7 @@
 
 pub mod answer;
 pub mod asm;
+pub mod broken;
 pub mod call;
 pub mod calls;
 pub mod check;
@@ -12,9 +13,11 @@ pub mod damaged_jobs;
 pub mod dis;
 pub mod fast;
 pub mod foreign;
+pub mod hand;
 pub mod job;
 pub mod late;
 pub mod layout;
+pub mod memory;
 pub mod operations;
 pub mod order;
 pub mod plain;
@@ -25,6 +28,7 @@ pub mod random_bodies;
 pub mod random_jobs;
 pub mod refusal;
 pub mod rules;
+pub mod sample;
 pub mod serial;
 pub mod source;
 pub mod tree;

@@ -1,8 +1,7 @@
 //! The starred cases of document 01 that the core alone decides, its three
 //! traps, and its run in full.
 
-mod common;
-use common::*;
+use host::memory::*;
 
 #[test]
 fn one_place_and_four_segments() {

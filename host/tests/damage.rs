@@ -5,52 +5,21 @@ use host::answer::Answer;
 use host::call::Call;
 use host::damage::damage;
 use host::layout::WORDS;
-use host::order::Order;
-use host::play::Player;
 use host::random::Random;
+use host::sample::*;
 use host::{fast, foreign, rules};
 
-/// Memory after some calls of a random program.
-fn reached(r: &mut Random) -> Vec<u32> {
-    let mut m = vec![0; WORDS];
-    let mut order = Order::new();
-    let seed = u64::from(r.word());
-    let mut player = Player::new(Random::new(seed));
-    player.opening().make(&mut m);
-    let calls = r.pick(&[0, 3, 20, 80, 200]);
-    while player.calls < calls && !player.ended() {
-        let call = player.next(&order);
-        if call.make(&mut m).moved() {
-            order.note(call);
-        }
-    }
-    m
-}
-
-fn some_calls(r: &mut Random) -> Vec<Call> {
-    let task = r.pick(&[0, 0, 1, 2, 3, 5, 127, 128]);
-    let queue = r.pick(&[0, 1, 2, 3, 4]);
-    let (rights, value) = (r.pick(&[0, 1, 2, 3, 85, 170, 255, 256]), r.word());
-    let (length, segments) = (r.below(66), r.below(258));
-    vec![
-        Call::Open { length, segments },
-        Call::Spawn { task, rights },
-        Call::Push { task, queue, value },
-        Call::Pop { task, queue },
-        Call::Test { task, queue },
-        Call::Sync { task },
-        Call::Finish { task },
-        Call::Left {
-            queue,
-            index: value & 7,
-        },
-    ]
+/// A call of each kind that may well move, and one with any arguments.
+fn some_calls(r: &mut Random, m: &[u32]) -> Vec<Call> {
+    let mut calls: Vec<Call> = (0..8).map(|kind| likely_call(r, m, kind)).collect();
+    calls.push(hostile_call(r));
+    calls
 }
 
 /// Makes each call on a copy of `m`.
 fn try_calls(r: &mut Random, m: &[u32]) {
     let passes = fast::hold(m);
-    for call in some_calls(r) {
+    for call in some_calls(r, m) {
         let mut copy = m.to_vec();
         let answer = call.make(&mut copy);
         if !answer.moved() {
@@ -109,11 +78,9 @@ fn rules_one_by_one() {
         for _ in 0..3 {
             damage(&mut r, &mut m);
         }
-        let small = r.pick(&[4, 128, 300]);
-        let noise: Vec<u32> = (0..WORDS).map(|_| r.below(small)).collect();
-        for words in [&m, &noise] {
-            let broken = rules::RULES.iter().any(|(_, rule)| !rule(words));
-            assert_eq!(broken, !fast::hold(words));
+        for words in [m, noise(&mut r, WORDS as u32)] {
+            let broken = rules::RULES.iter().any(|(_, rule)| !rule(&words));
+            assert_eq!(broken, !fast::hold(&words));
         }
     }
 }
@@ -123,11 +90,11 @@ fn random_words_of_any_number() {
     let mut r = Random::new(4);
     for _ in 0..300 {
         let number = r.pick(&[0, 1, 4, 64, 500, 8_192, WORDS as u32 - 1, WORDS as u32 + 9]);
-        let m: Vec<u32> = (0..number).map(|_| r.word()).collect();
-        for call in some_calls(&mut r) {
+        let m = noise(&mut r, number);
+        for call in some_calls(&mut r, &m) {
             assert_eq!(call.make(&mut m.clone()), Answer::Refused(1));
         }
-        let whole: Vec<u32> = (0..WORDS).map(|_| r.word()).collect();
+        let whole = noise(&mut r, WORDS as u32);
         try_calls(&mut r, &whole);
     }
 }

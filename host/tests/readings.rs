@@ -1,8 +1,7 @@
 //! Answers on memory of the core's own, one case for each place of document 01
 //! that can be read in two ways.
 
-mod common;
-use common::*;
+use host::memory::*;
 
 /// A child's spot stands before its spawner's, whatever it does later.
 #[test]

@@ -1,10 +1,9 @@
 //! The table of refusals: each number from a sequence of calls, and which one
 //! wins where several apply.
 
-mod common;
-use common::*;
 use host::call::Call;
 use host::layout::WORDS;
+use host::memory::*;
 
 /// One call of each kind.
 fn all_calls() -> [Call; 8] {

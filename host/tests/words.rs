@@ -1,9 +1,8 @@
 //! Which words each call writes: the layout's table of the opened memory, what
 //! taking and freeing leave behind, and the views after each call.
 
-mod common;
-use common::*;
 use host::layout::*;
+use host::memory::*;
 
 /// The words that differ, with their new contents.
 fn changes(before: &Core, after: &Core) -> Vec<(usize, u32)> {

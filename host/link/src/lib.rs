@@ -1,8 +1,6 @@
 //! The proved core as a linked library, and what compares it with the model.
 
 pub mod counts;
-pub mod hand;
 pub mod linked;
 pub mod pair;
 pub mod scenes;
-pub mod some;

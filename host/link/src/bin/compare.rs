@@ -4,15 +4,15 @@
 //! one part again, as the line of a difference names it.
 
 use host::call::Call;
-use host::damage::damage;
-use host::foreign;
+use host::damage::{damage, plain_damage};
 use host::layout::*;
 use host::order::Order;
 use host::play::Player;
 use host::random::Random;
+use host::sample::*;
+use host::{foreign, hand};
 use link::pair::Pair;
-use link::some::*;
-use link::{hand, scenes};
+use link::scenes;
 use std::process::ExitCode;
 
 type Outcome = Result<(), String>;

@@ -1,10 +1,10 @@
 //! Random calls and memories.
 
-use host::call::Call;
-use host::layout::*;
-use host::order::Order;
-use host::play::Player;
-use host::random::Random;
+use crate::call::Call;
+use crate::layout::*;
+use crate::order::Order;
+use crate::play::Player;
+use crate::random::Random;
 
 /// Numbers at which something ends.
 const EDGES: [u32; 26] = [
@@ -36,8 +36,8 @@ const EDGES: [u32; 26] = [
     NONE,
 ];
 
-/// Any argument: an edge, a small number or any word.
-fn argument(r: &mut Random) -> u32 {
+/// Any word, often an edge or a small number.
+pub fn any_word(r: &mut Random) -> u32 {
     match r.below(4) {
         0 => r.pick(&EDGES),
         1 => r.below(5),
@@ -48,7 +48,7 @@ fn argument(r: &mut Random) -> u32 {
 
 /// A call with any arguments.
 pub fn hostile_call(r: &mut Random) -> Call {
-    let (a, b, c) = (argument(r), argument(r), argument(r));
+    let (a, b, c) = (any_word(r), any_word(r), any_word(r));
     call_of(r.below(8), a, b, c)
 }
 
@@ -111,17 +111,6 @@ pub fn reached(r: &mut Random) -> Vec<u32> {
         }
     }
     m
-}
-
-/// One to four words changed to any words.
-pub fn plain_damage(r: &mut Random, m: &mut [u32]) {
-    for _ in 0..r.within(1, 4) {
-        // The last half are values, of which the rules say nothing.
-        let most = r.pick(&[448, 1_472, 8_192, WORDS as u32]);
-        let address = r.below(most) as usize;
-        let word = argument(r);
-        put(m, address, word);
-    }
 }
 
 /// Words without any order; small ones come closer to passing.

@@ -1,13 +1,13 @@
-//! A core with short call names, for tests. Each test file uses a part of it.
-#![allow(dead_code, unused_imports)]
+//! The memory of a core, with short names for the calls and for words that are
+//! set by hand. For tests and for memories made by hand.
 
-use host::answer::Answer;
-use host::call::Call;
-use host::layout::*;
-use host::views::{self, View, EMPTY};
-use host::{fast, rules};
+use crate::answer::Answer;
+use crate::call::Call;
+use crate::layout::*;
+use crate::views::{self, View, EMPTY};
+use crate::{fast, rules};
 
-pub use host::answer::Answer::{Empty, Moved, NotEmpty, Refused, Waits};
+pub use crate::answer::Answer::{Empty, Moved, NotEmpty, Refused, Waits};
 
 /// A core's memory. Every call checks that a call that does not move changes
 /// no word, and that the two forms of the memory rules agree afterwards.
