@@ -14,7 +14,44 @@ pub struct Scene {
 }
 
 pub fn all() -> Vec<Scene> {
-    vec![fresh(), typical(), wide(), deep(), full()]
+    let deep = Scene {
+        name: "deep",
+        ..levels(127)
+    };
+    let full = Scene {
+        name: "full",
+        ..held(256)
+    };
+    vec![fresh(), typical(), wide(), deep, full]
+}
+
+/// Three shapes of growing size.
+pub fn growing() -> Vec<Scene> {
+    let tasks = [1, 16, 32, 64, 127];
+    let wide = tasks.into_iter().map(children);
+    let deep = tasks.into_iter().map(levels);
+    let full = [4, 16, 64, 128, 256].into_iter().map(held);
+    wide.chain(deep).chain(full).collect()
+}
+
+impl Scene {
+    /// Memory after the start, made on the model.
+    pub fn memory(&self) -> Vec<u32> {
+        let mut m = vec![0; WORDS];
+        for call in &self.start {
+            assert!(call.make(&mut m).moved(), "{}: {call}", self.name);
+        }
+        m
+    }
+}
+
+/// How many tasks are unfinished.
+pub fn unfinished_tasks(m: &[u32]) -> u32 {
+    (0..TASKS).filter(|t| status(m, *t) == UNFINISHED).count() as u32
+}
+
+pub fn held_segments(m: &[u32]) -> u32 {
+    segments(m) - get(m, FREE_SEGMENTS)
 }
 
 fn open(length: u32, segments: u32) -> Call {
@@ -53,7 +90,7 @@ fn hold(start: &mut Vec<Call>, pushes: &[Call], due: u32) {
         call.make(&mut m);
     }
     for call in pushes.iter().cycle() {
-        if segments(&m) - get(&m, FREE_SEGMENTS) == due {
+        if held_segments(&m) == due {
             return;
         }
         assert!(matches!(call.make(&mut m), Answer::Moved(_)));
@@ -123,39 +160,60 @@ fn wide() -> Scene {
     }
 }
 
-/// 127 levels below the top, all with all rights.
-fn deep() -> Scene {
+/// So many children that push; the top pops.
+fn children(number: u32) -> Scene {
     let mut start = vec![open(4, 64)];
-    start.extend((0..127).map(|task| spawn(task, ALL_RIGHTS)));
+    start.extend((0..number).map(|_| spawn(0, 1)));
     let again = vec![
-        push(127, 0),
-        test(127, 0),
-        pop(127, 0),
+        push(1, 0),
+        test(0, 0),
         pop(0, 0),
-        sync(127),
-        finish(127),
-        spawn(126, ALL_RIGHTS),
+        pop(0, 0),
+        sync(number),
+        finish(number),
+        spawn(0, 1),
     ];
     Scene {
-        name: "deep",
+        name: "children",
         start,
         again,
     }
 }
 
-/// All 256 segments held. A pop goes before each push, so that a segment is
-/// free when one is needed.
-fn full() -> Scene {
-    let mut start = vec![open(8, 256)];
+/// So many levels below the top, all with all rights.
+fn levels(number: u32) -> Scene {
+    let mut start = vec![open(4, 64)];
+    start.extend((0..number).map(|task| spawn(task, ALL_RIGHTS)));
+    let again = vec![
+        push(number, 0),
+        test(number, 0),
+        pop(number, 0),
+        pop(0, 0),
+        sync(number),
+        finish(number),
+        spawn(number - 1, ALL_RIGHTS),
+    ];
+    Scene {
+        name: "levels",
+        start,
+        again,
+    }
+}
+
+/// So many segments opened, all held. A pop goes before each push, so that a
+/// segment is free when one is needed.
+fn held(number: u32) -> Scene {
     let pushes = [push(0, 0), push(0, 1), push(0, 2), push(0, 3)];
-    hold(&mut start, &pushes, 256);
+    let mut start = vec![open(8, number)];
+    start.extend(pushes);
+    hold(&mut start, &pushes, number);
     let mut again = Vec::new();
     for (call, queue) in pushes.into_iter().zip(0..) {
         again.extend([pop(0, queue), call, test(0, queue)]);
     }
     again.push(sync(0));
     Scene {
-        name: "full",
+        name: "segments",
         start,
         again,
     }
@@ -165,30 +223,21 @@ fn full() -> Scene {
 mod tests {
     use super::*;
 
-    fn after(scene: &Scene) -> Vec<u32> {
-        let mut m = vec![0; WORDS];
-        for call in &scene.start {
-            assert!(call.make(&mut m).moved(), "{}: {call}", scene.name);
-        }
-        m
-    }
-
     #[test]
     fn shapes() {
         let due = [(1, 4), (8, 16), (128, 4), (128, 4), (1, 256)];
         for (scene, (tasks, held)) in all().iter().zip(due) {
-            let m = after(scene);
-            let unfinished = (0..TASKS).filter(|t| status(&m, *t) == UNFINISHED);
-            assert_eq!(unfinished.count(), tasks, "{}", scene.name);
-            assert_eq!(segments(&m) - get(&m, FREE_SEGMENTS), held);
+            let m = scene.memory();
+            assert_eq!(unfinished_tasks(&m), tasks, "{}", scene.name);
+            assert_eq!(held_segments(&m), held, "{}", scene.name);
         }
     }
 
     /// No call of the repeated list is refused, however often it is made.
     #[test]
     fn again_and_again() {
-        for scene in all() {
-            let mut m = after(&scene);
+        for scene in all().into_iter().chain(growing()) {
+            let mut m = scene.memory();
             for _ in 0..200 {
                 for call in &scene.again {
                     let answer = call.make(&mut m);

@@ -1,10 +1,14 @@
-//! The linked core and the model on the same calls in one process, in turn:
-//! nanoseconds a call, best of several rounds.
+//! Nanoseconds a call, best of several rounds.
+//!
+//! `bench` makes the same calls on the linked core and on the model, in turn.
+//! `bench growth` makes calls on the linked core alone, on memories of growing
+//! size.
 
 use host::call::Call;
 use host::layout::WORDS;
 use link::linked;
-use link::scenes::{self, Scene};
+use link::scenes::{self, held_segments, unfinished_tasks, Scene};
+use std::process::ExitCode;
 use std::time::Instant;
 
 const ROUNDS: u32 = 7;
@@ -59,8 +63,8 @@ impl Side {
     }
 }
 
-fn main() {
-    println!("ns a call, best of {ROUNDS} rounds");
+/// The linked core beside the model.
+fn beside_the_model() {
     println!("{:10}{:>10}{:>10}{:>8}", "", "linked", "model", "ratio");
     for scene in scenes::all() {
         let (mut core, mut model) = (Side::new(linked::make), Side::new(model));
@@ -73,4 +77,40 @@ fn main() {
         let (name, core, model) = (scene.name, core.best, model.best);
         println!("{name:10}{core:>10.0}{model:>10.0}{ratio:>8.2}");
     }
+}
+
+/// The linked core's time beside the number of unfinished tasks and of held
+/// segments: where it grows no faster than these, the last column does not rise.
+fn growth() {
+    println!(
+        "{:10}{:>7}{:>10}{:>8}{:>10}",
+        "", "tasks", "segments", "ns", "ns each"
+    );
+    for scene in scenes::growing() {
+        let m = scene.memory();
+        let (tasks, segments) = (unfinished_tasks(&m), held_segments(&m));
+        let mut core = Side::new(linked::make);
+        for _ in 0..ROUNDS {
+            core.round(&scene);
+        }
+        let each = core.best / f64::from(tasks + segments);
+        let (name, best) = (scene.name, core.best);
+        println!("{name:10}{tasks:>7}{segments:>10}{best:>8.0}{each:>10.1}");
+    }
+}
+
+fn main() -> ExitCode {
+    let words: Vec<String> = std::env::args().skip(1).collect();
+    let words: Vec<&str> = words.iter().map(String::as_str).collect();
+    let run = match words[..] {
+        [] => beside_the_model,
+        ["growth"] => growth,
+        _ => {
+            eprintln!("bench [growth]");
+            return ExitCode::FAILURE;
+        }
+    };
+    println!("ns a call, best of {ROUNDS} rounds");
+    run();
+    ExitCode::SUCCESS
 }
