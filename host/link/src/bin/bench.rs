@@ -11,9 +11,10 @@ use link::scenes::{self, held_segments, unfinished_tasks, Scene};
 use std::process::ExitCode;
 use std::time::Instant;
 
-const ROUNDS: u32 = 7;
+/// Many short rounds, so that the best of them had the processor to itself.
+const ROUNDS: u32 = 301;
 /// Calls of one timing, about.
-const CALLS: usize = 2_000;
+const CALLS: usize = 400;
 
 /// How a call is made, with the answer in one number.
 type Make = fn(Call, &mut [u32]) -> u64;
