@@ -1,0 +1,5 @@
+pub mod Fields
+pub mod Operations
+pub mod Test
+pub mod Examples
+pub mod Cases
