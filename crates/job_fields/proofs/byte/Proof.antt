@@ -1,0 +1,22 @@
+use mathlib.Core.Path.{sym}
+use lib.ListN.{List·getD-eq-default}
+use Rattle.words.specs.Words.{load}
+use borrow.Author.Needs.{needs}
+use Rattle.job_fields.proofs.byte.Statement.{statement}
+use Rattle.job_fields.proofs.byte.Tie as tie
+use Rattle.job_fields.proofs.byte.Reads as reads
+use Rattle.job_fields.proofs.byte.Lts as lts
+
+shared-slice-read-result : tie.Need-shared-slice-read-result
+shared-slice-read-result c = search needs
+
+returns : tie.Need-returns
+unfolding load
+returns c = search needs
+
+returns-2 : tie.Need-returns-2
+unfolding load
+returns-2 c = sym (List·getD-eq-default (c .before .args .job .now) 0 (c .if1 .left))
+
+pub byte-spec : {M : Type 1} → statement M
+byte-spec = tie.close (tie.spec shared-slice-read-result returns returns-2)
