@@ -3,3 +3,4 @@ pub mod Operations
 pub mod Test
 pub mod Examples
 pub mod Cases
+pub mod Accepted

@@ -1,6 +1,6 @@
 // Reading the fields of a job. A byte past the end is read as 0, so no function asks anything of the job.
 ghost use mathlib.Core.Path.{_≡_};
-ghost use Prim.Native.Nat.{_+_, _*_, _^_, _<_};
+ghost use Prim.Native.Nat.{_^_, _<_};
 ghost use Rattle.words.specs.Words.{load};
 ghost use Rattle.job.specs.Fields.{bytes2, bytes4, procedures, segmentLength, offset, count, rights, reserved, instructionFrom, instructionAt};
 use job::Instruction;
