@@ -35,7 +35,7 @@ unfolding between
 between-says a x b e = let w = both-true _ _ e in (leb-true a x (w .0), leb-true x b (w .1))
 
 -- an entry's three tests
-entry-says : (j : List ℕ) (p a : ℕ) → entryHolds j p a ≡ true → (offset j p ≡ a) × (1 ≤ count j p) × (count j p ≤ 128)
+pub entry-says : (j : List ℕ) (p a : ℕ) → entryHolds j p a ≡ true → (offset j p ≡ a) × (1 ≤ count j p) × (count j p ≤ 128)
 unfolding entryHolds
 entry-says j p a e =
     let w = both-true _ _ e in

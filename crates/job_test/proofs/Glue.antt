@@ -1,0 +1,57 @@
+-- From the fields that were read to the tests of the definition.
+use mathlib.Core.Path.{_≡_, ap, ap₂, sym, _∙_}
+use mathlib.Core.Bool.{Bool, true, false}
+use mathlib.Core.List.{List}
+use mathlib.Core.Logic.{_⊎_, inl, inr, ⊎-elim}
+use Prim.Native.Nat.{ℕ, _+_, _-_, _*_, _<_, _≤_}
+use native.Mathlib.Omega.{arith}
+use lib.Dec.{eqb}
+use borrow.Author.Tests.{eq-eqb, ne-eqb}
+use Rattle.words.specs.Words.{either, true-left, true-right, pass, both-on, both-off}
+use Rattle.job.specs.declared.Instruction.{Instruction}
+use Rattle.job.specs.Fields.{procedures, offset, count, rights, instructionFrom, instructionAt}
+use Rattle.job.specs.Operations.{rowOf}
+use Rattle.job.specs.Test.{entryHolds, contentsHold, whichHolds, operandHolds, fitting, instructionHolds, lastHolds}
+use Rattle.job.specs.Accepted.{entry-says, contents-say}
+
+-- an entry that holds has at most 128 instructions
+pub few : (j : List ℕ) (p a : ℕ) {m : ℕ} → entryHolds j p a ≡ true → m ≡ count j p → m ≤ 128
+few j p a {m} e q = let w = entry-says j p a e .2 in omega (arith, w)
+
+-- and, where all hold, at least one
+pub some : (j : List ℕ) (p : ℕ) {n : ℕ} → contentsHold j ≡ true → n ≡ procedures j → p < n → 0 < count j p
+some j p {n} e q h = let w = contents-say j e p (rw q at h) .some in omega (arith, w)
+
+-- the two fields of an instruction s that was read
+module _ (j : List ℕ) (r n : ℕ) {s t : Instruction} {b : Bool} (e : s ≡ t) (w : b ≡ whichHolds j r (rowOf (s .operation)) (s .which)) where
+  pub which-fails : b ≡ false → false ≡ fitting j r n t
+  unfolding fitting
+  which-fails f = sym (ap (fitting j r n) (sym e) ∙ both-off _ (sym w ∙ f))
+
+  pub operand-says : {a : Bool} → b ≡ true → a ≡ operandHolds n (rowOf (s .operation)) (s .operand) → a ≡ fitting j r n t
+  unfolding fitting
+  operand-says f q = q ∙ sym (both-on (sym w ∙ f)) ∙ ap (fitting j r n) e
+
+-- instruction i of procedure p, by what was read of the entry
+pub instruction-says : (j : List ℕ) (p i : ℕ) {o n r : ℕ} {b : Bool} → o ≡ offset j p → n ≡ count j p → r ≡ rights j p
+    → b ≡ fitting j r n (instructionFrom j (o + i * 6)) → instructionHolds j p i ≡ b
+unfolding instructionHolds instructionAt
+instruction-says j p i {o} {n} {r} eo en er e =
+    sym (e ∙ ap₂ (λ (x y : ℕ). fitting j x y (instructionFrom j (o + i * 6))) er en
+    ∙ ap (λ (x : ℕ). fitting j (rights j p) (count j p) (instructionFrom j (x + i * 6))) eo)
+
+-- the last instruction
+module _ (j : List ℕ) (p : ℕ) {n : ℕ} {s : Instruction} (en : n ≡ count j p) (es : s ≡ instructionAt j p (n - 1)) where
+  read : instructionAt j p (count j p - 1) .operation ≡ s .operation
+  read = ap (λ (m : ℕ). instructionAt j p (m - 1) .operation) (sym en) ∙ ap (λ (t : Instruction). t .operation) (sym es)
+
+  last-is : lastHolds j p ≡ either (eqb (s .operation) 0) (eqb (s .operation) 5)
+  unfolding lastHolds
+  last-is = ap (λ (k : ℕ). either (eqb k 0) (eqb k 5)) read
+
+  pub last-yes : (s .operation ≡ 0) ⊎ (s .operation ≡ 5) → true ≡ lastHolds j p
+  last-yes w = sym (last-is ∙ ⊎-elim (λ q. true-left _ (eq-eqb _ _ q)) (λ q. true-right _ (eq-eqb _ _ q)) w)
+
+  pub last-no : ((s .operation ≡ 0) ⊎ (s .operation ≡ 5) → ⊥) → false ≡ lastHolds j p
+  unfolding either
+  last-no f = sym (last-is ∙ pass _ (ne-eqb _ _ (λ q. f (inl q))) (ne-eqb _ _ (λ q. f (inr q))))

@@ -1,0 +1,36 @@
+use Rattle.job.specs.Test.{entriesHold, contentsHold}
+use Rattle.job.specs.Fields.{entryAt}
+use Rattle.words.specs.Words.{both-on, both-off}
+use borrow.Author.Tests.{eq-eqb, ne-eqb}
+use Prim.Native.Nat.{ℕ}
+use mathlib.Core.Path.{ap, sym, _∙_}
+use borrow.Author.Needs.{needs}
+use Rattle.job_test.proofs.contents_hold.Statement.{statement}
+use Rattle.job_test.proofs.contents_hold.Tie as tie
+use Rattle.job_test.proofs.contents_hold.Reads as reads
+use Rattle.job_test.proofs.contents_hold.Lts as lts
+use Rattle.job_fields.proofs.procedures.Reads as procedures-reads
+use Rattle.job_fields.proofs.rights.Reads as rights-reads
+use Rattle.job_test.proofs.entries_hold.Reads as entries-hold-reads
+
+rights-requires : tie.Need-rights-requires
+rights-requires c κs = search needs
+
+returns : tie.Need-returns
+unfolding contentsHold
+returns c = sym (both-off _ (ne-eqb _ _ (λ e. c .if1 .taken (c .before .rights .ensures ∙ e))))
+
+procedures-requires : tie.Need-procedures-requires
+procedures-requires c κs = search needs
+
+entries-hold-requires : tie.Need-entries-hold-requires
+entries-hold-requires c κs = search needs
+
+returns-2 : tie.Need-returns-2
+unfolding contentsHold
+returns-2 c = c .entries-hold .ensures ∙ ap (λ (k : ℕ). entriesHold (c .before .before .before .before .before .args .job .now) k 0 (entryAt k)) (c .before .procedures .ensures) ∙ sym (both-on (eq-eqb _ _ (sym (c .before .before .before .rights .ensures) ∙ c .before .before .if1 .left)))
+
+pub contents-hold-spec : {M : Type 1} → statement M
+contents-hold-spec =
+    tie.close
+    (tie.spec rights-requires returns procedures-requires entries-hold-requires returns-2)

@@ -1,0 +1,82 @@
+use mathlib.Core.Path.{_≡_, ap, sym, _∙_}
+use Prim.Native.Nat.{ℕ, _≤_, _+_, _*_, _-_}
+use native.Mathlib.Omega.{arith}
+use borrow.Author.Tests.{not-true, not-false}
+use borrow.Author.Needs.{needs}
+use Rattle.words.specs.Words.{size}
+use Rattle.job.specs.Fields.{entryAt}
+use Rattle.job.specs.Test.{entriesHold}
+use Rattle.job_test.proofs.Glue.{few}
+use Rattle.job_test.proofs.Loops.{entries-start, entries-next, entries-stop, entries-end}
+use Rattle.job_test.proofs.entries_hold.Statement.{statement}
+use Rattle.job_test.proofs.entries_hold.Tie as tie
+use Rattle.job_test.proofs.entries_hold.Reads as reads
+use Rattle.job_test.proofs.entries_hold.Lts as lts
+use Rattle.job_fields.proofs.count.Reads as count-reads
+use Rattle.job_test.proofs.entry_holds.Reads as entry-holds-reads
+
+abbrev Inv-loop : tie.InvT-loop
+Inv-loop job n a₀ p₀ a p = (p ≤ n) × (a ≤ 4 + n * 6 + p * 768) × (entriesHold job (n - p) p a ≡ entriesHold job n 0 (entryAt n))
+
+abbrev μ-loop : tie.MeasureT-loop
+μ-loop job n a₀ p₀ a p = n - p
+
+mul-a : tie.Need-mul-a Inv-loop μ-loop
+mul-a c = search needs
+
+add-a : tie.Need-add-a Inv-loop μ-loop
+add-a c = search needs
+
+loop-holds : tie.Need-loop-holds Inv-loop μ-loop
+loop-holds c = (omega arith, omega arith, entries-start _ _ _)
+
+entry-holds-requires : tie.Need-entry-holds-requires Inv-loop μ-loop
+entry-holds-requires c κs = search needs
+
+returns : tie.Need-returns Inv-loop μ-loop
+returns c = entries-stop _ _ _ _ (c .before .before .loop-test .taken) (sym (c .before .entry-holds .ensures) ∙ not-true _ (c .if1 .taken)) ∙ c .before .before .before .loop .inv .2
+
+count-requires : tie.Need-count-requires Inv-loop μ-loop
+count-requires c κs = search needs
+
+cast-a : tie.Need-cast-a Inv-loop μ-loop
+cast-a c = search needs
+
+mul-a-2 : tie.Need-mul-a-2 Inv-loop μ-loop
+mul-a-2 c = omega arith
+
+add-a-2 : tie.Need-add-a-2 Inv-loop μ-loop
+add-a-2 c = omega arith
+
+add-p : tie.Need-add-p Inv-loop μ-loop
+add-p c = omega arith
+
+loop-less : tie.Need-loop-less Inv-loop μ-loop
+loop-less c = omega arith
+
+loop-again : tie.Need-loop-again Inv-loop μ-loop
+loop-again c = (omega arith, omega (arith, few _ _ _ (sym (c .before .before .entry-holds .ensures) ∙ not-false _ (c .before .if1 .left)) (c .count .ensures)), ap (λ (k : ℕ). entriesHold (c .before .before .before .before .before .before .args .job .now) (c .before .before .before .before .before .before .args .n - (c .before .before .before .before .loop .p + 1)) (c .before .before .before .before .loop .p + 1) (c .before .before .before .before .loop .a + k * 6)) (c .count .ensures) ∙ entries-next _ _ _ _ (c .before .before .before .loop-test .taken) (sym (c .before .before .entry-holds .ensures) ∙ not-false _ (c .before .if1 .left)) ∙ c .before .before .before .before .loop .inv .2)
+
+returns-2 : tie.Need-returns-2 Inv-loop μ-loop
+unfolding size
+returns-2 c = entries-end _ _ _ _ (c .loop-test .left) ∙ c .before .loop .inv .2
+
+pub entries-hold-spec : {M : Type 1} → statement M
+entries-hold-spec =
+    tie.close
+    (tie.spec
+    Inv-loop
+    μ-loop
+    mul-a
+    add-a
+    loop-holds
+    entry-holds-requires
+    returns
+    count-requires
+    cast-a
+    mul-a-2
+    add-a-2
+    add-p
+    loop-less
+    loop-again
+    returns-2)

@@ -1,0 +1,55 @@
+use Rattle.job.specs.Test.{between, entryHolds}
+use Rattle.words.specs.Words.{both-on, both-off}
+use borrow.Author.Tests.{eq-eqb, ne-eqb, not-true, not-false}
+use lib.Dec.{eqb}
+use Prim.Native.Nat.{ℕ}
+use mathlib.Core.Path.{ap, sym, _∙_}
+use borrow.Author.Needs.{needs}
+use Rattle.job_test.proofs.entry_holds.Statement.{statement}
+use Rattle.job_test.proofs.entry_holds.Tie as tie
+use Rattle.job_test.proofs.entry_holds.Reads as reads
+use Rattle.job_test.proofs.entry_holds.Lts as lts
+use Rattle.job_fields.proofs.count.Reads as count-reads
+use Rattle.job_fields.proofs.offset.Reads as offset-reads
+use Rattle.job_fields.proofs.reserved.Reads as reserved-reads
+use Rattle.job_test.proofs.between.Reads as between-reads
+
+offset-requires : tie.Need-offset-requires
+offset-requires c κs = search needs
+
+cast-o : tie.Need-cast-o
+cast-o c = search needs
+
+count-requires : tie.Need-count-requires
+count-requires c κs = search needs
+
+returns : tie.Need-returns
+unfolding entryHolds
+returns c = sym (both-off _ (ne-eqb _ _ (λ e. c .if1 .taken (c .before .before .offset .ensures ∙ e))))
+
+between-requires : tie.Need-between-requires
+between-requires c κs = search needs
+
+returns-2 : tie.Need-returns-2
+unfolding entryHolds
+returns-2 c = sym (both-on (eq-eqb _ _ (sym (c .before .before .before .before .offset .ensures) ∙ c .before .before .if1 .left)) ∙ both-off _ (ap (λ (k : ℕ). between 1 k 128) (sym (c .before .before .before .count .ensures)) ∙ sym (c .before .between .ensures) ∙ not-true _ (c .if2 .taken)))
+
+reserved-requires : tie.Need-reserved-requires
+reserved-requires c κs = search needs
+
+returns-3 : tie.Need-returns-3
+unfolding entryHolds
+returns-3 c = ap (λ (k : ℕ). eqb k 0) (c .reserved .ensures) ∙ sym (both-on (eq-eqb _ _ (sym (c .before .before .before .before .before .offset .ensures) ∙ c .before .before .before .if1 .left)) ∙ both-on (ap (λ (k : ℕ). between 1 k 128) (sym (c .before .before .before .before .count .ensures)) ∙ sym (c .before .before .between .ensures) ∙ not-false _ (c .before .if2 .left)))
+
+pub entry-holds-spec : {M : Type 1} → statement M
+entry-holds-spec =
+    tie.close
+    (tie.spec
+    offset-requires
+    cast-o
+    count-requires
+    returns
+    between-requires
+    returns-2
+    reserved-requires
+    returns-3)

@@ -1,0 +1,68 @@
+use Rattle.job.specs.Test.{between, headHolds}
+use Rattle.job.specs.Fields.{entryAt}
+use Rattle.words.specs.Words.{size, both-on, both-off}
+use borrow.Author.Tests.{le-leb, lt-leb, not-true, not-false}
+use lib.Dec.{leb}
+use Prim.Native.Nat.{ℕ}
+use mathlib.Core.Path.{ap, sym, _∙_}
+use borrow.Author.Needs.{needs}
+use Rattle.job_test.proofs.head_holds.Statement.{statement}
+use Rattle.job_test.proofs.head_holds.Tie as tie
+use Rattle.job_test.proofs.head_holds.Reads as reads
+use Rattle.job_test.proofs.head_holds.Lts as lts
+use Rattle.job_fields.proofs.procedures.Reads as procedures-reads
+use Rattle.job_fields.proofs.segment_length.Reads as segment-length-reads
+use Rattle.job_test.proofs.between.Reads as between-reads
+
+procedures-requires : tie.Need-procedures-requires
+procedures-requires c κs = search needs
+
+segment-length-requires : tie.Need-segment-length-requires
+segment-length-requires c κs = search needs
+
+returns : tie.Need-returns
+unfolding headHolds size
+returns c = sym (both-off _ (lt-leb _ _ (c .if1 .taken)))
+
+between-requires : tie.Need-between-requires
+between-requires c κs = search needs
+
+returns-2 : tie.Need-returns-2
+unfolding headHolds size
+returns-2 c = sym (both-on (le-leb _ _ (c .before .before .if1 .left)) ∙ both-off _ (ap (λ (k : ℕ). between 1 k 64) (sym (c .before .before .before .before .procedures .ensures)) ∙ sym (c .before .between .ensures) ∙ not-true _ (c .if2 .taken)))
+
+between-requires-2 : tie.Need-between-requires-2
+between-requires-2 c κs = search needs
+
+returns-3 : tie.Need-returns-3
+unfolding headHolds size
+returns-3 c = sym (both-on (le-leb _ _ (c .before .before .before .before .if1 .left)) ∙ both-on (ap (λ (k : ℕ). between 1 k 64) (sym (c .before .before .before .before .before .before .procedures .ensures)) ∙ sym (c .before .before .before .between .ensures) ∙ not-false _ (c .before .before .if2 .left)) ∙ both-off _ (ap (λ (k : ℕ). between 1 k 64) (sym (c .before .before .before .before .before .segment-length .ensures)) ∙ sym (c .before .between2 .ensures) ∙ not-true _ (c .if3 .taken)))
+
+cast-result : tie.Need-cast-result
+cast-result c = search needs
+
+mul-result : tie.Need-mul-result
+mul-result c = search needs
+
+add-result : tie.Need-add-result
+add-result c = search needs
+
+returns-4 : tie.Need-returns-4
+unfolding headHolds size
+returns-4 c = sym (both-on (le-leb _ _ (c .before .before .before .before .if1 .left)) ∙ both-on (ap (λ (k : ℕ). between 1 k 64) (sym (c .before .before .before .before .before .before .procedures .ensures)) ∙ sym (c .before .before .before .between .ensures) ∙ not-false _ (c .before .before .if2 .left)) ∙ both-on (ap (λ (k : ℕ). between 1 k 64) (sym (c .before .before .before .before .before .segment-length .ensures)) ∙ sym (c .before .between2 .ensures) ∙ not-false _ (c .if3 .left)) ∙ ap (λ (k : ℕ). leb (entryAt k) (size (c .before .before .before .before .before .before .before .before .args .job .now))) (sym (c .before .before .before .before .before .before .procedures .ensures)))
+
+pub head-holds-spec : {M : Type 1} → statement M
+head-holds-spec =
+    tie.close
+    (tie.spec
+    procedures-requires
+    segment-length-requires
+    returns
+    between-requires
+    returns-2
+    between-requires-2
+    returns-3
+    cast-result
+    mul-result
+    add-result
+    returns-4)

@@ -1,0 +1,21 @@
+use Rattle.words.specs.Words.{both-on, both-off}
+use borrow.Author.Tests.{lt-ltb, le-ltb}
+use mathlib.Core.Path.{sym, _∙_}
+use borrow.Author.Needs.{needs}
+use Rattle.job_test.proofs.popped_queue.Statement.{statement}
+use Rattle.job_test.proofs.popped_queue.Tie as tie
+use Rattle.job_test.proofs.popped_queue.Reads as reads
+use Rattle.job_test.proofs.popped_queue.Lts as lts
+use Rattle.rights.proofs.pops.Reads as pops-reads
+
+returns : tie.Need-returns
+returns c = sym (both-off _ (le-ltb _ _ (c .if1 .taken)))
+
+pops-requires : tie.Need-pops-requires
+pops-requires c κs = search needs
+
+returns-2 : tie.Need-returns-2
+returns-2 c = c .pops .ensures ∙ sym (both-on (lt-ltb _ _ (c .before .if1 .left)))
+
+pub popped-queue-spec : {M : Type 1} → statement M
+popped-queue-spec = tie.close (tie.spec returns pops-requires returns-2)

@@ -1,0 +1,21 @@
+use Rattle.words.specs.Words.{both-on, both-off}
+use borrow.Author.Tests.{lt-ltb, le-ltb}
+use mathlib.Core.Path.{sym, _∙_}
+use borrow.Author.Needs.{needs}
+use Rattle.job_test.proofs.pushed_queue.Statement.{statement}
+use Rattle.job_test.proofs.pushed_queue.Tie as tie
+use Rattle.job_test.proofs.pushed_queue.Reads as reads
+use Rattle.job_test.proofs.pushed_queue.Lts as lts
+use Rattle.rights.proofs.pushes.Reads as pushes-reads
+
+returns : tie.Need-returns
+returns c = sym (both-off _ (le-ltb _ _ (c .if1 .taken)))
+
+pushes-requires : tie.Need-pushes-requires
+pushes-requires c κs = search needs
+
+returns-2 : tie.Need-returns-2
+returns-2 c = c .pushes .ensures ∙ sym (both-on (lt-ltb _ _ (c .before .if1 .left)))
+
+pub pushed-queue-spec : {M : Type 1} → statement M
+pushed-queue-spec = tie.close (tie.spec returns pushes-requires returns-2)

@@ -1,0 +1,33 @@
+use Rattle.words.specs.Words.{both-on, both-off}
+use Rattle.tree.specs.Rights.{subset}
+use borrow.Author.Tests.{lt-ltb, le-ltb}
+use lib.Dec.{ltb}
+use Prim.Native.Nat.{ℕ}
+use mathlib.Core.Path.{ap, sym, _∙_}
+use borrow.Author.Needs.{needs}
+use Rattle.job_test.proofs.spawned.Statement.{statement}
+use Rattle.job_test.proofs.spawned.Tie as tie
+use Rattle.job_test.proofs.spawned.Reads as reads
+use Rattle.job_test.proofs.spawned.Lts as lts
+use Rattle.job_fields.proofs.procedures.Reads as procedures-reads
+use Rattle.job_fields.proofs.rights.Reads as rights-reads
+use Rattle.rights.proofs.subset.Reads as subset-reads
+
+procedures-requires : tie.Need-procedures-requires
+procedures-requires c κs = search needs
+
+returns : tie.Need-returns
+returns c = sym (both-off _ (ap (ltb (c .before .before .before .args .w)) (sym (c .before .procedures .ensures)) ∙ le-ltb _ _ (c .if1 .taken)))
+
+rights-requires : tie.Need-rights-requires
+rights-requires c κs = search needs
+
+subset-requires : tie.Need-subset-requires
+subset-requires c κs = search needs
+
+returns-2 : tie.Need-returns-2
+returns-2 c = c .subset .ensures ∙ ap (λ (s : ℕ). subset s (c .before .before .before .before .before .args .r)) (c .before .rights .ensures) ∙ sym (both-on (ap (ltb (c .before .before .before .before .before .args .w)) (sym (c .before .before .before .procedures .ensures)) ∙ lt-ltb _ _ (c .before .before .if1 .left)))
+
+pub spawned-spec : {M : Type 1} → statement M
+spawned-spec =
+    tie.close (tie.spec procedures-requires returns rights-requires subset-requires returns-2)

@@ -1,0 +1,49 @@
+use Rattle.job_test.proofs.Rows.{above, which-pushed, which-popped, which-procedure, which-zero, which-goes, which-past}
+use Prim.Native.Nat.{zero-le}
+use mathlib.Core.Logic.{inl, inr, ⊎-elim}
+use mathlib.Core.Path.{_∙_}
+use borrow.Author.Needs.{needs}
+use Rattle.job_test.proofs.which_holds.Statement.{statement}
+use Rattle.job_test.proofs.which_holds.Tie as tie
+use Rattle.job_test.proofs.which_holds.Reads as reads
+use Rattle.job_test.proofs.which_holds.Lts as lts
+use Rattle.job_test.proofs.popped_queue.Reads as popped-queue-reads
+use Rattle.job_test.proofs.pushed_queue.Reads as pushed-queue-reads
+use Rattle.job_test.proofs.spawned.Reads as spawned-reads
+
+spawned-requires : tie.Need-spawned-requires
+spawned-requires c κs = search needs
+
+pushed-queue-requires : tie.Need-pushed-queue-requires
+pushed-queue-requires c κs = search needs
+
+popped-queue-requires : tie.Need-popped-queue-requires
+popped-queue-requires c κs = search needs
+
+returns : tie.Need-returns
+returns c = c .spawned .ensures ∙ which-procedure _ _ _ (c .before .match .keys1)
+
+returns-2 : tie.Need-returns-2
+returns-2 c = c .pushed-queue .ensures ∙ which-pushed _ _ _ _ (above 0 _ zero-le (λ e. c .before .before .match .rest .1 (inl e))) (c .before .if1 .taken)
+
+returns-3 : tie.Need-returns-3
+returns-3 c = c .popped-queue .ensures ∙ which-popped _ _ _ _ (c .before .before .if1 .left) (c .before .if2 .taken)
+
+returns-4 : tie.Need-returns-4
+returns-4 c = which-past _ _ _ _ (above 9 _ (above 8 _ (c .if3 .left) (c .before .before .before .match .rest .0 .1)) (λ e. c .before .before .before .match .rest .1 (inr e)))
+
+returns-5 : tie.Need-returns-5
+returns-5 c = ⊎-elim (λ s. which-zero _ _ _ (s .keys2)) (λ s. which-goes _ _ _ _ (s .2 .left) (s .3 .taken)) (c .match .came)
+
+pub which-holds-spec : {M : Type 1} → statement M
+which-holds-spec =
+    tie.close
+    (tie.spec
+    spawned-requires
+    pushed-queue-requires
+    popped-queue-requires
+    returns
+    returns-2
+    returns-3
+    returns-4
+    returns-5)

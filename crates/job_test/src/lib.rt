@@ -1,0 +1,215 @@
+// The job test. Every byte is read a bounded number of times, so its time is linear in the bytes.
+ghost use mathlib.Core.Path.{_≡_};
+ghost use mathlib.Core.Bool.{true};
+ghost use Prim.Native.Nat.{_<_, _^_};
+ghost use lib.Dec.{ltb};
+ghost use Rattle.words.specs.Words.{both};
+ghost use Rattle.lists.specs.Tests.{upto};
+ghost use Rattle.tree.specs.Rights.{pushes, pops, subset};
+ghost use Rattle.job.specs.Fields.{procedures, entryAt, count, rights, instructionFrom};
+ghost use Rattle.job.specs.Operations.{rowOf};
+ghost use Rattle.job.specs.Test.{between, headHolds, entryHolds, entriesHold, contentsHold, whichHolds, operandHolds, fitting, lastHolds, bodyHolds, jobAnswer};
+use answers::Answer;
+
+fn between(a: u32, x: u32, b: u32) -> bool
+    ensures { λ r. ⌜ r ≡ between a x b ⌝ }
+{
+    if x < a { false } else { x <= b }
+}
+
+// Head and contents are there, n and L are in range.
+fn head_holds(job: &[u8]) -> bool
+    ensures { λ b. ⌜ b ≡ headHolds (now (job .entry)) ⌝ }
+{
+    let n = job_fields::procedures(job);
+    let l = job_fields::segment_length(job);
+    if job.len() < 4 {
+        return false;
+    }
+    if !between(1, n, 64) {
+        return false;
+    }
+    if !between(1, l, 64) {
+        return false;
+    }
+    4 + n as usize * 6 <= job.len()
+}
+
+// The entry of procedure p, whose body has to begin at address a.
+fn entry_holds(job: &[u8], p: u32, a: usize) -> bool
+    ensures { λ b. ⌜ b ≡ entryHolds (now (job .entry)) p a ⌝ }
+{
+    let o = job_fields::offset(job, p) as usize;
+    let n = job_fields::count(job, p);
+    if o != a {
+        return false;
+    }
+    if !between(1, n, 128) {
+        return false;
+    }
+    job_fields::reserved(job, p) == 0
+}
+
+// n entries, with a the address at which the next body has to begin.
+fn entries_hold(job: &[u8], n: u32) -> bool
+    ensures { λ b. ⌜ b ≡ entriesHold (now (job .entry)) n 0 (entryAt n) ⌝ }
+{
+    let mut a = 4 + n as usize * 6;
+    let mut p: u32 = 0;
+    while p < n {
+        if !entry_holds(job, p, a) {
+            return false;
+        }
+        a = a + job_fields::count(job, p) as usize * 6;
+        p += 1;
+    }
+    a == job.len()
+}
+
+fn contents_hold(job: &[u8]) -> bool
+    ensures { λ b. ⌜ b ≡ contentsHold (now (job .entry)) ⌝ }
+{
+    if job_fields::rights(job, 0) != 255 {
+        return false;
+    }
+    let n = job_fields::procedures(job);
+    entries_hold(job, n)
+}
+
+// Queue w of an operation that pushes, in a procedure with rights r.
+fn pushed_queue(r: u32, w: u32) -> bool
+    ensures { λ b. ⌜ b ≡ both (ltb w 4) (pushes r w) ⌝ }
+{
+    if 4 <= w {
+        return false;
+    }
+    rights::pushes(r, w)
+}
+
+// Queue w of an operation that pops.
+fn popped_queue(r: u32, w: u32) -> bool
+    ensures { λ b. ⌜ b ≡ both (ltb w 4) (pops r w) ⌝ }
+{
+    if 4 <= w {
+        return false;
+    }
+    rights::pops(r, w)
+}
+
+// Procedure w of a spawn, by a procedure with rights r.
+fn spawned(job: &[u8], r: u32, w: u32) -> bool
+    ensures { λ b. ⌜ b ≡ both (ltb w (procedures (now (job .entry)))) (subset (rights (now (job .entry)) w) r) ⌝ }
+{
+    let n = job_fields::procedures(job);
+    if n <= w {
+        return false;
+    }
+    let s = job_fields::rights(job, w);
+    rights::subset(s, r)
+}
+
+// The byte "which" of operation k, in a procedure with rights r.
+fn which_holds(job: &[u8], r: u32, k: u32, w: u32) -> bool
+    ensures { λ b. ⌜ b ≡ whichHolds (now (job .entry)) r (rowOf k) w ⌝ }
+{
+    match k {
+        1..=2 => pushed_queue(r, w),
+        3..=4 => popped_queue(r, w),
+        8 => spawned(job, r, w),
+        0 | 5..=7 | 9 => w == 0,
+        _ => false,
+    }
+}
+
+// The operand of operation k, in a body of n instructions.
+fn operand_holds(n: u32, k: u32, v: u32) -> bool
+    ensures { λ b. ⌜ b ≡ operandHolds n (rowOf k) v ⌝ }
+{
+    match k {
+        4..=6 => v < n,
+        1..=2 | 7..=8 => true,
+        0 | 3 | 9 => v == 0,
+        _ => false,
+    }
+}
+
+// The instruction at address a, in a body of n instructions and a procedure with rights r.
+fn instruction_holds(job: &[u8], r: u32, n: u32, a: usize) -> bool
+    requires { ⌜ a < 2 ^ 36 ⌝ }
+    ensures { λ b. ⌜ b ≡ fitting (now (job .entry)) r n (instructionFrom (now (job .entry)) a) ⌝ }
+{
+    let s = job_fields::instruction_from(job, a);
+    let k = s.operation;
+    let w = s.which;
+    let v = s.operand;
+    if !which_holds(job, r, k, w) {
+        return false;
+    }
+    operand_holds(n, k, v)
+}
+
+// "The last instruction of a body is 0 or 5."
+fn last_holds(job: &[u8], p: u32) -> bool
+    requires { ⌜ 0 < count (now job) p ⌝ }
+    ensures { λ b. ⌜ b ≡ lastHolds (now (job .entry)) p ⌝ }
+{
+    let n = job_fields::count(job, p);
+    let s = job_fields::instruction_at(job, p, n - 1);
+    let k = s.operation;
+    match k {
+        0 | 5 => true,
+        _ => false,
+    }
+}
+
+// The body of procedure p.
+fn body_holds(job: &[u8], p: u32) -> bool
+    requires { ⌜ 0 < count (now job) p ⌝ }
+    ensures { λ b. ⌜ b ≡ bodyHolds (now (job .entry)) p ⌝ }
+{
+    if !last_holds(job, p) {
+        return false;
+    }
+    let o = job_fields::offset(job, p) as usize;
+    let n = job_fields::count(job, p);
+    let r = job_fields::rights(job, p);
+    let mut i: u32 = 0;
+    while i < n {
+        if !instruction_holds(job, r, n, o + i as usize * 6) {
+            return false;
+        }
+        i += 1;
+    }
+    true
+}
+
+fn bodies_hold(job: &[u8]) -> bool
+    requires { ⌜ contentsHold (now job) ≡ true ⌝ }
+    ensures { λ b. ⌜ b ≡ upto (bodyHolds (now (job .entry))) (procedures (now (job .entry))) 0 ⌝ }
+{
+    let n = job_fields::procedures(job);
+    let mut p: u32 = 0;
+    while p < n {
+        if !body_holds(job, p) {
+            return false;
+        }
+        p += 1;
+    }
+    true
+}
+
+// Moved where the bytes are a job, refused with 10, 11 or 12 where not.
+pub fn job_test(job: &[u8]) -> Answer
+    ensures { λ r. ⌜ r ≡ jobAnswer (now (job .entry)) ⌝ }
+{
+    if !head_holds(job) {
+        return Answer::Refused(10);
+    }
+    if !contents_hold(job) {
+        return Answer::Refused(11);
+    }
+    if !bodies_hold(job) {
+        return Answer::Refused(12);
+    }
+    Answer::Moved(0)
+}
