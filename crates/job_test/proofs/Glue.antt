@@ -8,11 +8,16 @@ use native.Mathlib.Omega.{arith}
 use lib.Dec.{eqb}
 use borrow.Author.Tests.{eq-eqb, ne-eqb}
 use Rattle.words.specs.Words.{either, true-left, true-right, pass, both-on, both-off}
+use Rattle.lists.specs.Tests.{upto}
 use Rattle.job.specs.declared.Instruction.{Instruction}
 use Rattle.job.specs.Fields.{procedures, offset, count, rights, instructionFrom, instructionAt}
 use Rattle.job.specs.Operations.{rowOf}
-use Rattle.job.specs.Test.{entryHolds, contentsHold, whichHolds, operandHolds, fitting, instructionHolds, lastHolds}
+use Rattle.job.specs.Test.{between, entryHolds, contentsHold, whichHolds, operandHolds, fitting, instructionHolds, lastHolds, bodyHolds}
 use Rattle.job.specs.Accepted.{entry-says, contents-say}
+
+-- a range test of a field that was read
+pub in-range : (a z : ℕ) {n x : ℕ} {b : Bool} → n ≡ x → b ≡ between a n z → between a x z ≡ b
+in-range a z e q = ap (λ (k : ℕ). between a k z) (sym e) ∙ sym q
 
 -- an entry that holds has at most 128 instructions
 pub few : (j : List ℕ) (p a : ℕ) {m : ℕ} → entryHolds j p a ≡ true → m ≡ count j p → m ≤ 128
@@ -39,6 +44,12 @@ unfolding instructionHolds instructionAt
 instruction-says j p i {o} {n} {r} eo en er e =
     sym (e ∙ ap₂ (λ (x y : ℕ). fitting j x y (instructionFrom j (o + i * 6))) er en
     ∙ ap (λ (x : ℕ). fitting j (rights j p) (count j p) (instructionFrom j (x + i * 6))) eo)
+
+-- the body of procedure p, once its last instruction is tested
+pub body-says : (j : List ℕ) (p : ℕ) {n : ℕ} {b x : Bool} → b ≡ lastHolds j p → b ≡ true → n ≡ count j p
+    → x ≡ upto (instructionHolds j p) n 0 → x ≡ bodyHolds j p
+unfolding bodyHolds
+body-says j p e t en q = q ∙ ap (λ (k : ℕ). upto (instructionHolds j p) k 0) en ∙ sym (both-on (sym e ∙ t))
 
 -- the last instruction
 module _ (j : List ℕ) (p : ℕ) {n : ℕ} {s : Instruction} (en : n ≡ count j p) (es : s ≡ instructionAt j p (n - 1)) where

@@ -1,12 +1,12 @@
-use mathlib.Core.Path.{_≡_, ap, sym, _∙_}
-use Prim.Native.Nat.{ℕ, _≤_, _-_}
+use mathlib.Core.Path.{_≡_, sym, _∙_}
+use Prim.Native.Nat.{_≤_, _-_}
 use native.Mathlib.Omega.{arith}
 use borrow.Author.Tests.{not-true, not-false}
 use borrow.Author.Needs.{needs}
-use Rattle.words.specs.Words.{both-on, both-off}
+use Rattle.words.specs.Words.{both-off}
 use Rattle.lists.specs.Tests.{upto}
 use Rattle.job.specs.Test.{instructionHolds, bodyHolds}
-use Rattle.job_test.proofs.Glue.{instruction-says}
+use Rattle.job_test.proofs.Glue.{instruction-says, body-says}
 use Rattle.job_test.proofs.Loops.{upto-start, upto-next, upto-stop, upto-end}
 use Rattle.job_test.proofs.body_holds.Statement.{statement}
 use Rattle.job_test.proofs.body_holds.Tie as tie
@@ -59,8 +59,10 @@ instruction-holds-requires : tie.Need-instruction-holds-requires Inv-loop μ-loo
 instruction-holds-requires c κs = omega arith
 
 returns-2 : tie.Need-returns-2 Inv-loop μ-loop
-unfolding bodyHolds
-returns-2 c = upto-stop _ _ _ (c .before .before .loop-test .taken) (instruction-says _ _ _ (c .before .before .before .before .before .before .offset .ensures) (c .before .before .before .before .before .count .ensures) (c .before .before .before .before .rights .ensures) (c .before .instruction-holds .ensures) ∙ not-true _ (c .if2 .taken)) ∙ c .before .before .before .loop .inv .1 ∙ ap (λ (k : ℕ). upto (instructionHolds (c .before .before .before .before .before .before .before .before .before .before .args .job .now) (c .before .before .before .before .before .before .before .before .before .before .args .p)) k 0) (c .before .before .before .before .before .count .ensures) ∙ sym (both-on (sym (c .before .before .before .before .before .before .before .before .last-holds .ensures) ∙ not-false _ (c .before .before .before .before .before .before .before .if1 .left)))
+returns-2 c =
+    body-says _ _ (c .before .before .before .before .before .before .before .before .last-holds .ensures) (not-false _ (c .before .before .before .before .before .before .before .if1 .left)) (c .before .before .before .before .before .count .ensures)
+    (upto-stop _ _ _ (c .before .before .loop-test .taken) (instruction-says _ _ _ (c .before .before .before .before .before .before .offset .ensures) (c .before .before .before .before .before .count .ensures) (c .before .before .before .before .rights .ensures) (c .before .instruction-holds .ensures) ∙ not-true _ (c .if2 .taken))
+    ∙ c .before .before .before .loop .inv .1)
 
 add-i : tie.Need-add-i Inv-loop μ-loop
 add-i c = omega arith
@@ -72,8 +74,9 @@ loop-again : tie.Need-loop-again Inv-loop μ-loop
 loop-again c = (omega arith, upto-next _ _ _ (c .before .before .loop-test .taken) (instruction-says _ _ _ (c .before .before .before .before .before .before .offset .ensures) (c .before .before .before .before .before .count .ensures) (c .before .before .before .before .rights .ensures) (c .before .instruction-holds .ensures) ∙ not-false _ (c .if2 .left)) ∙ c .before .before .before .loop .inv .1)
 
 returns-3 : tie.Need-returns-3 Inv-loop μ-loop
-unfolding bodyHolds
-returns-3 c = upto-end _ _ _ (c .loop-test .left) ∙ c .before .loop .inv .1 ∙ ap (λ (k : ℕ). upto (instructionHolds (c .before .before .before .before .before .before .before .before .args .job .now) (c .before .before .before .before .before .before .before .before .args .p)) k 0) (c .before .before .before .count .ensures) ∙ sym (both-on (sym (c .before .before .before .before .before .before .last-holds .ensures) ∙ not-false _ (c .before .before .before .before .before .if1 .left)))
+returns-3 c =
+    body-says _ _ (c .before .before .before .before .before .before .last-holds .ensures) (not-false _ (c .before .before .before .before .before .if1 .left)) (c .before .before .before .count .ensures)
+    (upto-end _ _ _ (c .loop-test .left) ∙ c .before .loop .inv .1)
 
 pub body-holds-spec : {M : Type 1} → statement M
 body-holds-spec =

@@ -4,6 +4,7 @@ use borrow.Author.Tests.{eq-eqb, ne-eqb, not-true, not-false}
 use lib.Dec.{eqb}
 use Prim.Native.Nat.{ℕ}
 use mathlib.Core.Path.{ap, sym, _∙_}
+use Rattle.job_test.proofs.Glue.{in-range}
 use borrow.Author.Needs.{needs}
 use Rattle.job_test.proofs.entry_holds.Statement.{statement}
 use Rattle.job_test.proofs.entry_holds.Tie as tie
@@ -32,14 +33,16 @@ between-requires c κs = search needs
 
 returns-2 : tie.Need-returns-2
 unfolding entryHolds
-returns-2 c = sym (both-on (eq-eqb _ _ (sym (c .before .before .before .before .offset .ensures) ∙ c .before .before .if1 .left)) ∙ both-off _ (ap (λ (k : ℕ). between 1 k 128) (sym (c .before .before .before .count .ensures)) ∙ sym (c .before .between .ensures) ∙ not-true _ (c .if2 .taken)))
+returns-2 c =
+    sym (both-on (eq-eqb _ _ (sym (c .before .before .before .before .offset .ensures) ∙ c .before .before .if1 .left))
+    ∙ both-off _ (in-range 1 128 (c .before .before .before .count .ensures) (c .before .between .ensures) ∙ not-true _ (c .if2 .taken)))
 
 reserved-requires : tie.Need-reserved-requires
 reserved-requires c κs = search needs
 
 returns-3 : tie.Need-returns-3
 unfolding entryHolds
-returns-3 c = ap (λ (k : ℕ). eqb k 0) (c .reserved .ensures) ∙ sym (both-on (eq-eqb _ _ (sym (c .before .before .before .before .before .offset .ensures) ∙ c .before .before .before .if1 .left)) ∙ both-on (ap (λ (k : ℕ). between 1 k 128) (sym (c .before .before .before .before .count .ensures)) ∙ sym (c .before .before .between .ensures) ∙ not-false _ (c .before .if2 .left)))
+returns-3 c = ap (λ (k : ℕ). eqb k 0) (c .reserved .ensures) ∙ sym (both-on (eq-eqb _ _ (sym (c .before .before .before .before .before .offset .ensures) ∙ c .before .before .before .if1 .left)) ∙ both-on (in-range 1 128 (c .before .before .before .before .count .ensures) (c .before .before .between .ensures) ∙ not-false _ (c .before .if2 .left)))
 
 pub entry-holds-spec : {M : Type 1} → statement M
 entry-holds-spec =

@@ -5,6 +5,7 @@ use borrow.Author.Tests.{le-leb, lt-leb, not-true, not-false}
 use lib.Dec.{leb}
 use Prim.Native.Nat.{ℕ}
 use mathlib.Core.Path.{ap, sym, _∙_}
+use Rattle.job_test.proofs.Glue.{in-range}
 use borrow.Author.Needs.{needs}
 use Rattle.job_test.proofs.head_holds.Statement.{statement}
 use Rattle.job_test.proofs.head_holds.Tie as tie
@@ -29,14 +30,19 @@ between-requires c κs = search needs
 
 returns-2 : tie.Need-returns-2
 unfolding headHolds size
-returns-2 c = sym (both-on (le-leb _ _ (c .before .before .if1 .left)) ∙ both-off _ (ap (λ (k : ℕ). between 1 k 64) (sym (c .before .before .before .before .procedures .ensures)) ∙ sym (c .before .between .ensures) ∙ not-true _ (c .if2 .taken)))
+returns-2 c =
+    sym (both-on (le-leb _ _ (c .before .before .if1 .left))
+    ∙ both-off _ (in-range 1 64 (c .before .before .before .before .procedures .ensures) (c .before .between .ensures) ∙ not-true _ (c .if2 .taken)))
 
 between-requires-2 : tie.Need-between-requires-2
 between-requires-2 c κs = search needs
 
 returns-3 : tie.Need-returns-3
 unfolding headHolds size
-returns-3 c = sym (both-on (le-leb _ _ (c .before .before .before .before .if1 .left)) ∙ both-on (ap (λ (k : ℕ). between 1 k 64) (sym (c .before .before .before .before .before .before .procedures .ensures)) ∙ sym (c .before .before .before .between .ensures) ∙ not-false _ (c .before .before .if2 .left)) ∙ both-off _ (ap (λ (k : ℕ). between 1 k 64) (sym (c .before .before .before .before .before .segment-length .ensures)) ∙ sym (c .before .between2 .ensures) ∙ not-true _ (c .if3 .taken)))
+returns-3 c =
+    sym (both-on (le-leb _ _ (c .before .before .before .before .if1 .left))
+    ∙ both-on (in-range 1 64 (c .before .before .before .before .before .before .procedures .ensures) (c .before .before .before .between .ensures) ∙ not-false _ (c .before .before .if2 .left))
+    ∙ both-off _ (in-range 1 64 (c .before .before .before .before .before .segment-length .ensures) (c .before .between2 .ensures) ∙ not-true _ (c .if3 .taken)))
 
 cast-result : tie.Need-cast-result
 cast-result c = search needs
@@ -49,7 +55,11 @@ add-result c = search needs
 
 returns-4 : tie.Need-returns-4
 unfolding headHolds size
-returns-4 c = sym (both-on (le-leb _ _ (c .before .before .before .before .if1 .left)) ∙ both-on (ap (λ (k : ℕ). between 1 k 64) (sym (c .before .before .before .before .before .before .procedures .ensures)) ∙ sym (c .before .before .before .between .ensures) ∙ not-false _ (c .before .before .if2 .left)) ∙ both-on (ap (λ (k : ℕ). between 1 k 64) (sym (c .before .before .before .before .before .segment-length .ensures)) ∙ sym (c .before .between2 .ensures) ∙ not-false _ (c .if3 .left)) ∙ ap (λ (k : ℕ). leb (entryAt k) (size (c .before .before .before .before .before .before .before .before .args .job .now))) (sym (c .before .before .before .before .before .before .procedures .ensures)))
+returns-4 c =
+    sym (both-on (le-leb _ _ (c .before .before .before .before .if1 .left))
+    ∙ both-on (in-range 1 64 (c .before .before .before .before .before .before .procedures .ensures) (c .before .before .before .between .ensures) ∙ not-false _ (c .before .before .if2 .left))
+    ∙ both-on (in-range 1 64 (c .before .before .before .before .before .segment-length .ensures) (c .before .between2 .ensures) ∙ not-false _ (c .if3 .left))
+    ∙ ap (λ (k : ℕ). leb (entryAt k) (size (c .before .before .before .before .before .before .before .before .args .job .now))) (sym (c .before .before .before .before .before .before .procedures .ensures)))
 
 pub head-holds-spec : {M : Type 1} → statement M
 head-holds-spec =
