@@ -2,7 +2,8 @@
 use mathlib.Core.Path.{_≡_, refl}
 use mathlib.Core.Bool.{Bool, true}
 use mathlib.Core.List.{List, [], _∷_, _++_}
-use Prim.Native.Nat.{ℕ}
+use mathlib.Core.Option.{none}
+use Prim.Native.Nat.{ℕ, _+_}
 use lib.ListN.{length, take}
 use Rattle.words.specs.Words.{load, size, pick, both, either}
 use Rattle.lists.specs.Tests.{upto}
@@ -11,9 +12,10 @@ use Rattle.answers.specs.declared.Answer.the-variants.{Moved, Refused}
 use Rattle.answers.specs.Answers.{statusOf, valueOf, sameAnswer}
 use Rattle.tree.specs.Rights.{bits, pushes, pops, eachQueue, subset}
 use Rattle.job.specs.Fields.{bytes2, bytes4, procedures, segmentLength, offset, count, rights, reserved, instructionFrom, instructionAt}
-use Rattle.job.specs.Operations.{rowOf}
+use Rattle.job.specs.Operations.{pop, rowOf}
+use Rattle.job.specs.Effects.{empty, sum, effect}
 use Rattle.job.specs.Test.{between, headHolds, refusal10, entryHolds, entriesHold, contentsHold, refusal11, whichHolds, operandHolds, fitting, instructionHolds, lastHolds, bodyHolds, refusal12, jobAnswer}
-use Rattle.job.specs.Examples.{head, entry, ins, fullRun, alone, withChild}
+use Rattle.job.specs.Examples.{head, entry, ins, fullRun, alone, withChild, wrapping, wrappedSpawn, emptyPop, tested, counted}
 
 -- a list of bytes with the answer that it must get
 pub data Case : Type 0 where
@@ -32,6 +34,8 @@ accepted =
     ∷ gives (alone 2 (ins 8 0 4294967295 (ins 0 0 0 []))) (Moved 0)
     ∷ gives (alone 9 (ins 1 0 1 (ins 2 3 2 (ins 3 1 0 (ins 4 2 8 (ins 6 0 0 (ins 7 0 9 (ins 8 0 3 (ins 9 0 0 (ins 5 0 8 [])))))))))) (Moved 0)
     ∷ gives (withChild 1 2 (ins 1 0 7 (ins 0 0 0 []))) (Moved 0)
+    -- the jobs of the plain machine's cases
+    ∷ gives wrapping (Moved 0) ∷ gives wrappedSpawn (Moved 0) ∷ gives emptyPop (Moved 0) ∷ gives tested (Moved 0) ∷ gives counted (Moved 0)
     ∷ []
 
 -- 10: 3 bytes; no byte; no procedure; 65 procedures; L = 0; L = 65; an entry cut short
@@ -92,3 +96,13 @@ full-run-bytes = refl
 pub table-right : right (accepted ++ tens ++ elevens ++ twelves ++ orders) ≡ true
 unfolding load size pick both either upto statusOf valueOf sameAnswer bits pushes pops eachQueue subset bytes2 bytes4 procedures segmentLength offset count rights reserved instructionFrom instructionAt rowOf between headHolds refusal10 entryHolds entriesHold contentsHold refusal11 whichHolds operandHolds fitting instructionHolds lastHolds bodyHolds refusal12 jobAnswer right
 table-right = refl
+
+-- "Register 4,294,967,295 plus 1 is 0."
+pub register-wraps : sum 4294967295 1 ≡ 0
+unfolding sum
+register-wraps = refl
+
+-- "A pop on an empty queue leaves the register and moves on, answered "empty"."
+pub empty-pop : (i r : ℕ) → effect pop i r 0 none ≡ record { word = empty; value = 0; register = r; next = i + 1 }
+unfolding effect
+empty-pop i r = refl

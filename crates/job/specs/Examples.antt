@@ -39,3 +39,24 @@ alone n body = head 1 1 (entry 10 n 255 body)
 -- a top that spawns procedure 1 and returns, and procedure 1 with rights r and n instructions
 abbrev pub withChild : ℕ → ℕ → List ℕ → List ℕ
 withChild r n body = head 2 1 (entry 16 2 255 (entry 28 n r (ins 8 1 0 (ins 0 0 0 body))))
+
+-- JOBS WHOSE RUNS ARE CASES of the plain machine
+-- the largest register plus 1, by operations 7 and 2
+abbrev pub wrapping : List ℕ
+wrapping = alone 4 (ins 7 0 4294967295 (ins 2 0 1 (ins 7 0 1 (ins 0 0 0 []))))
+
+-- the same by operation 8: the child pushes its register, then the spawner its own
+abbrev pub wrappedSpawn : List ℕ
+wrappedSpawn = head 2 1 (entry 16 4 255 (entry 40 2 1 (ins 7 0 4294967295 (ins 8 1 1 (ins 2 0 0 (ins 0 0 0 (ins 2 0 0 (ins 0 0 0 []))))))))
+
+-- 5 in the register, a pop on an empty queue, the register pushed
+abbrev pub emptyPop : List ℕ
+emptyPop = alone 4 (ins 7 0 5 (ins 3 0 0 (ins 2 0 0 (ins 0 0 0 []))))
+
+-- goes to instruction 2 on an empty queue, pushes 7, and goes on to the end where it is not empty
+abbrev pub tested : List ℕ
+tested = alone 5 (ins 4 0 2 (ins 0 0 0 (ins 1 0 7 (ins 4 0 1 (ins 0 0 0 [])))))
+
+-- counts 2 down to 0 by adding the largest number, and leaves the loop at zero
+abbrev pub counted : List ℕ
+counted = alone 5 (ins 7 0 2 (ins 7 0 4294967295 (ins 6 0 4 (ins 5 0 1 (ins 0 0 0 [])))))

@@ -39,3 +39,11 @@ table =
 -- the row of operation number k
 unfoldable pub rowOf : ℕ → Row
 rowOf k = getD table k undefined
+
+-- Operation number k. A number that is none, which no accepted job has, is taken for a return.
+unfoldable pub operationOf : Row → Operation
+operationOf (row o w x) = o
+operationOf undefined = return
+
+unfoldable pub operationAt : ℕ → Operation
+operationAt k = operationOf (rowOf k)
