@@ -1,5 +1,6 @@
 pub mod Fields
 pub mod Operations
+pub mod Rows
 pub mod Effects
 pub mod Test
 pub mod Examples

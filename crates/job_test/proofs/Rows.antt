@@ -1,42 +1,31 @@
 -- What the table of operations asks of the two fields, by ranges of operation numbers.
-use mathlib.Core.Path.{_≡_, refl, subst}
+use mathlib.Core.Path.{_≡_, refl}
 use mathlib.Core.Bool.{true, false}
 use mathlib.Core.List.{List}
 use mathlib.Core.Logic.{_⊎_, ⊎-elim}
 use Prim.Native.Nat.{ℕ, _+_, _<_, _≤_}
 use native.Mathlib.Omega.{arith}
 use lib.Dec.{ltb, eqb}
-use lib.ListN.{List·getD-eq-default}
 use Rattle.words.specs.Words.{both}
-use Rattle.lists.specs.Counting.{equal?}
 use Rattle.tree.specs.Rights.{pushes, pops, subset}
 use Rattle.job.specs.Fields.{procedures, rights}
-use Rattle.job.specs.Operations.{undefined, table, rowOf}
+use Rattle.job.specs.Operations.{rowOf}
+use Rattle.job.specs.Rows.{from, row-past}
 use Rattle.job.specs.Test.{whichHolds, operandHolds}
 
--- a fact of the numbers from a up to b, not b itself: the first of them, and the others
-first : (P : ℕ → Type 0) (a b : ℕ) → P a → ((k : ℕ) → a + 1 ≤ k → k < b → P k) → (k : ℕ) → a ≤ k → k < b → P k
-first P a b here more k h l = ⊎-elim (λ e. subst P e here) (λ n. more k (omega (arith, n)) l) (equal? a k)
-
-none : (P : ℕ → Type 0) (b k : ℕ) → b ≤ k → k < b → P k
-none P b k h l = let z : ⊥ = omega arith in absurd z
-
--- of two and of three numbers
+-- a fact of two numbers from a on, and of three
 two : (P : ℕ → Type 0) (a : ℕ) → P a → P (a + 1) → (k : ℕ) → a ≤ k → k < a + 2 → P k
-two P a x y = first P a (a + 2) x (λ k h l. first P (a + 1) (a + 2) y (λ m u v. none P (a + 2) m (omega arith) v) k h l)
+two P a x y =
+    from (λ k. k < a + 2 → P k) a (λ l. x)
+    (from (λ k. k < a + 2 → P k) (a + 1) (λ l. y) (λ k h l. let z : ⊥ = omega arith in absurd z))
 
 three : (P : ℕ → Type 0) (a : ℕ) → P a → P (a + 1) → P (a + 2) → (k : ℕ) → a ≤ k → k < a + 3 → P k
 three P a x y z =
-    first P a (a + 3) x (λ k h l. first P (a + 1) (a + 3) y (λ m u v. first P (a + 2) (a + 3) z (λ i s t. none P (a + 3) i (omega arith) t) m (omega arith) v) k h l)
-
--- a number that is not the least of those from a on
-pub above : (a k : ℕ) → a ≤ k → (k ≡ a → ⊥) → a + 1 ≤ k
-above a k h n = omega (arith, n)
-
--- no operation has a number from 10 on
-past : (k : ℕ) → 10 ≤ k → rowOf k ≡ undefined
-unfolding rowOf
-past k h = List·getD-eq-default table undefined h
+    from (λ k. k < a + 3 → P k) a (λ l. x)
+    (λ k h l. two P (a + 1) y (rw sum z) k h (omega arith))
+  where
+    sum : a + 1 + 1 ≡ a + 2
+    sum = omega arith
 
 module _ (j : List ℕ) (r w : ℕ) where
   pub which-pushed : (k : ℕ) → 1 ≤ k → k < 3 → both (ltb w 4) (pushes r w) ≡ whichHolds j r (rowOf k) w
@@ -61,7 +50,7 @@ module _ (j : List ℕ) (r w : ℕ) where
 
   pub which-past : (k : ℕ) → 10 ≤ k → false ≡ whichHolds j r (rowOf k) w
   unfolding whichHolds
-  which-past k h = rw (past k h) refl
+  which-past k h = rw (row-past k h) refl
 
 module _ (n v : ℕ) where
   pub operand-zero : {k : ℕ} → (k ≡ 0) ⊎ ((k ≡ 3) ⊎ (k ≡ 9)) → eqb v 0 ≡ operandHolds n (rowOf k) v
@@ -82,4 +71,4 @@ module _ (n v : ℕ) where
 
   pub operand-past : (k : ℕ) → 10 ≤ k → false ≡ operandHolds n (rowOf k) v
   unfolding operandHolds
-  operand-past k h = rw (past k h) refl
+  operand-past k h = rw (row-past k h) refl

@@ -1,4 +1,5 @@
-use Rattle.job_test.proofs.Rows.{above, operand-zero, operand-target, operand-pushed, operand-number, operand-past}
+use Rattle.job.specs.Rows.{above}
+use Rattle.job_test.proofs.Rows.{operand-zero, operand-target, operand-pushed, operand-number, operand-past}
 use Prim.Native.Nat.{zero-le}
 use mathlib.Core.Logic.{inl, inr}
 use Rattle.job_test.proofs.operand_holds.Statement.{statement}
