@@ -1,3 +1,6 @@
 pub mod Machine
 pub mod Run
 pub mod Cases
+pub mod Laws
+pub mod Stack
+pub mod Kept
