@@ -118,7 +118,7 @@ module _ (j : List ℕ) (acc : Accepted j) (t : Task) (ts : List Task) (h : Stac
       kept (s .operation) zero-le (s .which) (s .operand) (front (queue qs (s .which))) (w .0) (w .1) ends
 
 module _ (j : List ℕ) (acc : Accepted j) where
-  next-kept : (s : State) → Stack j (stackOf s) → Stack j (stackOf (next j s))
+  pub next-kept : (s : State) → Stack j (stackOf s) → Stack j (stackOf (next j s))
   unfolding stackOf next after step
   next-kept (state qs [] n) h = tt
   next-kept (state qs (t ∷ ts) n) h = step-kept j acc t ts h qs n
@@ -128,16 +128,17 @@ module _ (j : List ℕ) (acc : Accepted j) where
   run-kept zero s h = h
   run-kept (suc n) s h = run-kept n (next j s) (next-kept s h)
 
+  pub begin-stands : Stack j (stackOf begin)
+  unfolding stackOf begin
+  begin-stands =
+      let n = acc .some in
+      let i = acc .entries 0 (omega (arith, n)) .some in
+      (record { procedure = omega (arith, n); position = omega (arith, i) }, refl, refl)
+
   -- THE STACK LAW: after any number of steps every task on the stack is at an instruction that exists.
   pub run-stands : (n : ℕ) → Stack j (stackOf (run n j))
   unfolding run
-  run-stands n = run-kept n begin start
-    where
-      start : Stack j (stackOf begin)
-      start = unfold stackOf begin in
-          let n = acc .some in
-          let i = acc .entries 0 (omega (arith, n)) .some in
-          (record { procedure = omega (arith, n); position = omega (arith, i) }, refl, refl)
+  run-stands n = run-kept n begin begin-stands
 
 -- EVERY STEP on an accepted job does an instruction that exists, lies within the bytes, and passes the job test: it has
 -- its right.

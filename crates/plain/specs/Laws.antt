@@ -2,15 +2,17 @@
 use mathlib.Core.Path.{_≡_, refl, ap, sym, _∙_}
 use mathlib.Core.Bool.{Bool, true, false}
 use mathlib.Core.List.{List, [], _∷_, _++_, append-assoc}
-use Prim.Native.Nat.{ℕ, zero, suc, _+_}
-use native.Mathlib.Nat.{add-zero}
+use mathlib.Core.Logic.{_⊎_, inl, inr, ⊎-elim}
+use Prim.Native.Nat.{ℕ, zero, suc, _+_, _<_}
+use native.Mathlib.Nat.{add-zero, le-of-suc-le-suc}
 use native.Mathlib.Omega.{arith}
-use lib.ListN.{length, length-append}
+use lib.ListN.{length, getD, length-append}
 use Rattle.words.specs.Words.{pick}
 use Rattle.order.specs.Steps.{Name}
 use Rattle.order.specs.Waits.{sameName}
+use Rattle.order_laws.specs.Names.{same-true}
 use Rattle.plain.specs.Machine.{State, state, Event, begin, does, step}
-use Rattle.plain.specs.Run.{stepsOf, after, eventIn, next, runFrom, eventsFrom, run, events, answersOf}
+use Rattle.plain.specs.Run.{stackOf, stepsOf, after, eventIn, next, runFrom, eventsFrom, run, events, answersOf}
 
 -- ENDED: once the stack is empty no step changes anything, and none is made.
 module _ (j : List ℕ) (qs : List (List ℕ)) (k : ℕ) where
@@ -75,3 +77,33 @@ answers-join p (x ∷ xs) ys = go (sameName (x .name) p) (answers-join p xs ys)
 pub answers-more : (p : Name) (m n : ℕ) (j : List ℕ) → answersOf p (events (m + n) j) ≡ answersOf p (events m j) ++ answersOf p (eventsFrom n j (run m j))
 unfolding run events
 answers-more p m n j = ap (answersOf p) (events-more m n j begin) ∙ answers-join p (eventsFrom m j begin) (eventsFrom n j (runFrom m j begin))
+
+-- the answers of p are made by the task named p
+pub answers-named : (p : Name) (es : List Event) (i : ℕ) (d : Event) → i < length (answersOf p es) → getD (answersOf p es) i d .name ≡ p
+unfolding answersOf pick
+answers-named p [] i d h = let z : ⊥ = omega arith in absurd z
+answers-named p (e ∷ es) i d h = go (sameName (e .name) p) refl i (answers-named p es) h
+  where
+    go : (b : Bool) → sameName (e .name) p ≡ b → (k : ℕ) → ((m : ℕ) (d : Event) → m < length (answersOf p es) → getD (answersOf p es) m d .name ≡ p)
+        → k < length (pick b (e ∷ answersOf p es) (answersOf p es)) → getD (pick b (e ∷ answersOf p es) (answersOf p es)) k d .name ≡ p
+    go true q zero more l = same-true (e .name) p q
+    go true q (suc k) more l = more k d (le-of-suc-le-suc l)
+    go false q k more l = more k d l
+
+-- n steps are made, or the run has ended before
+made-from : (n : ℕ) (j : List ℕ) (s : State) → (stackOf (runFrom n j s) ≡ []) ⊎ (stepsOf (runFrom n j s) ≡ stepsOf s + n)
+unfolding runFrom
+made-from zero j s = inr (sym (add-zero (stepsOf s)))
+made-from (suc n) j (state qs [] k) = inl (unfold stackOf next after step in ap stackOf (ended-stays j qs k n))
+made-from (suc n) j (state qs (t ∷ ts) k) =
+    ⊎-elim inl (λ e. inr (let b = one in omega (arith, e, b))) (made-from n j (next j (state qs (t ∷ ts) k)))
+  where
+    one : stepsOf (next j (state qs (t ∷ ts) k)) ≡ stepsOf (state qs (t ∷ ts) k) + 1
+    one = unfold stepsOf next after step does in refl
+
+pub steps-made : (n : ℕ) (j : List ℕ) → (stackOf (run n j) ≡ []) ⊎ (stepsOf (run n j) ≡ n)
+unfolding run
+steps-made n j = ⊎-elim inl (λ e. inr (omega (arith, e, none))) (made-from n j begin)
+  where
+    none : stepsOf begin ≡ 0
+    none = unfold stepsOf begin in refl

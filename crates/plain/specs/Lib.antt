@@ -4,3 +4,4 @@ pub mod Cases
 pub mod Laws
 pub mod Stack
 pub mod Kept
+pub mod Names
