@@ -41,9 +41,9 @@ abbrev pub withChild : ℕ → ℕ → List ℕ → List ℕ
 withChild r n body = head 2 1 (entry 16 2 255 (entry 28 n r (ins 8 1 0 (ins 0 0 0 body))))
 
 -- JOBS WHOSE RUNS ARE CASES of the plain machine
--- the largest register plus 1, by operations 7 and 2
+-- the largest register plus 1, by operation 2, then by operation 7; at last the register plus 7 is pushed
 abbrev pub wrapping : List ℕ
-wrapping = alone 4 (ins 7 0 4294967295 (ins 2 0 1 (ins 7 0 1 (ins 0 0 0 []))))
+wrapping = alone 5 (ins 7 0 4294967295 (ins 2 0 1 (ins 7 0 1 (ins 2 0 7 (ins 0 0 0 [])))))
 
 -- the same by operation 8: the child pushes its register, then the spawner its own
 abbrev pub wrappedSpawn : List ℕ

@@ -31,7 +31,7 @@ pub record Cases : Type 0 where
   pub fullRunOver : run 12 fullRun ≡ leaves (20 ∷ []) 11
   pub fullRunPopper : answersOf (1 ∷ []) (events 11 fullRun) ≡ did (1 ∷ []) pop 0 took 10 ∷ did (1 ∷ []) return 0 finished 0 ∷ []
   -- "Register 4,294,967,295 plus 1 is 0."
-  pub wrapped : run 4 wrapping ≡ leaves (0 ∷ []) 4
+  pub wrapped : run 5 wrapping ≡ leaves (0 ∷ 7 ∷ []) 5
   pub spawnWrapped : run 6 wrappedSpawn ≡ leaves (0 ∷ 4294967295 ∷ []) 6
   -- "A pop on an empty queue leaves the register and moves on, answered "empty"."
   pub emptyPopEvents : events 4 emptyPop ≡

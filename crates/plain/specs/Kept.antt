@@ -50,10 +50,12 @@ module _ (j : List ℕ) (acc : Accepted j) (t : Task) (ts : List Task) (h : Stac
   here : Stands j t
   here = first-stands j t ts h
 
+  -- the first task goes on to an instruction of its body
   goes : (e : Effect) → e .next < count j (t .procedure) → Stack j (advanced t e ∷ ts)
   unfolding advanced
   goes e l = again j (advanced t e) t ts refl refl (record { procedure = here .procedure; position = l }) h
 
+  -- it has made a child, which begins at instruction 0
   spawns : (e : Effect) (w x : ℕ) → e .next < count j (t .procedure) → w < procedures j → subset (rights j w) (rightsOf j t) ≡ true
       → Stack j (child t w x ∷ parent (advanced t e) ∷ ts)
   unfolding advanced parent child rightsOf
@@ -75,6 +77,7 @@ module _ (j : List ℕ) (acc : Accepted j) (t : Task) (ts : List Task) (h : Stac
       → t .position + 1 < count j (t .procedure)
   onwards k a b l = onward (t .position) (count j (t .procedure)) k (here .position) a b l
 
+  -- by the number of the operation: only 0 and 5 may stand last in a body
   kept : (k : ℕ) → 0 ≤ k → Kept k
   unfolding whichHolds operandHolds rowOf operationOf operationAt stackAfter effect
   kept =

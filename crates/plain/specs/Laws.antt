@@ -3,6 +3,7 @@ use mathlib.Core.Path.{_≡_, refl, ap, sym, _∙_}
 use mathlib.Core.Bool.{Bool, true, false}
 use mathlib.Core.List.{List, [], _∷_, _++_, append-assoc}
 use mathlib.Core.Logic.{_⊎_, inl, inr, ⊎-elim}
+use mathlib.Core.Option.{Option, none, some}
 use Prim.Native.Nat.{ℕ, zero, suc, _+_, _<_}
 use native.Mathlib.Nat.{add-zero, le-of-suc-le-suc}
 use native.Mathlib.Omega.{arith}
@@ -11,6 +12,8 @@ use Rattle.words.specs.Words.{pick}
 use Rattle.order.specs.Steps.{Name}
 use Rattle.order.specs.Waits.{sameName}
 use Rattle.order_laws.specs.Names.{same-true}
+use Rattle.job.specs.Operations.{Operation, return, push, pushSum, pop, goIfEmpty, go, goIfZero, add, spawn, sync}
+use Rattle.job.specs.Effects.{Word, spawned, pushed, took, moved, finished, empty, notEmpty, waits, refused, effect}
 use Rattle.plain.specs.Machine.{State, state, Event, begin, does, step}
 use Rattle.plain.specs.Run.{stackOf, stepsOf, after, eventIn, next, runFrom, eventsFrom, run, events, answersOf}
 
@@ -107,3 +110,30 @@ steps-made n j = ⊎-elim inl (λ e. inr (omega (arith, e, none))) (made-from n 
   where
     none : stepsOf begin ≡ 0
     none = unfold stepsOf begin in refl
+
+-- The machine "never waits or refuses": a step is answered by one of the other words.
+unfoldable pub moves : Word → Bool
+moves spawned = true
+moves pushed = true
+moves took = true
+moves moved = true
+moves finished = true
+moves empty = true
+moves notEmpty = true
+moves waits = false
+moves refused = false
+
+pub always-moves : (o : Operation) (i r x : ℕ) (f : Option ℕ) → moves (effect o i r x f .word) ≡ true
+unfolding moves effect
+always-moves return i r x f = refl
+always-moves push i r x f = refl
+always-moves pushSum i r x f = refl
+always-moves pop i r x none = refl
+always-moves pop i r x (some v) = refl
+always-moves goIfEmpty i r x none = refl
+always-moves goIfEmpty i r x (some v) = refl
+always-moves go i r x f = refl
+always-moves goIfZero i r x f = refl
+always-moves add i r x f = refl
+always-moves spawn i r x f = refl
+always-moves sync i r x f = refl
