@@ -1,3 +1,4 @@
 pub mod Maps
 pub mod Line
 pub mod Store
+pub mod Lines
