@@ -2,3 +2,4 @@ pub mod Maps
 pub mod Line
 pub mod Store
 pub mod Lines
+pub mod Frames
