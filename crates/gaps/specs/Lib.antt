@@ -3,3 +3,4 @@ pub mod Line
 pub mod Store
 pub mod Lines
 pub mod Frames
+pub mod Moves
