@@ -4,3 +4,4 @@ pub mod Store
 pub mod Lines
 pub mod Frames
 pub mod Moves
+pub mod Places
