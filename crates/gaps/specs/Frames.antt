@@ -1,9 +1,9 @@
 -- Views along a line: what lies left and right of a stretch of the line is carried where the maps agree.
-use mathlib.Core.Path.{_≡_, refl, ap, sym, _∙_}
+use mathlib.Core.Path.{_≡_, refl, ap, _∙_}
 use mathlib.Core.List.{List, [], _∷_, _++_}
 use Prim.Native.Nat.{ℕ}
 use native.Mathlib.Omega.{arith}
-use Rattle.gaps.specs.Maps.{All, put, Off, off, Agree, agree-put}
+use Rattle.gaps.specs.Maps.{put, off, Agree, agree-put}
 use Rattle.gaps.specs.Line.{Extent, vacant, extent, End, Mark, base, left, met, pass, Line, lefts, mets, Mode, Views, queue, leaving, meeting, passing}
 use Rattle.gaps.specs.Lines.{New, NoBase}
 

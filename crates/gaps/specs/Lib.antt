@@ -5,3 +5,4 @@ pub mod Lines
 pub mod Frames
 pub mod Moves
 pub mod Places
+pub mod Search

@@ -1,11 +1,11 @@
 -- Laws of a line as a list of marks: what its parts have, and that no task stands in it twice.
 use mathlib.Core.Path.{_≡_, refl, ap, sym, _∙_}
 use mathlib.Core.List.{List, [], _∷_, _++_, append-assoc}
-use Prim.Native.Nat.{ℕ, _+_, _≤_}
+use Prim.Native.Nat.{ℕ, _+_}
 use native.Mathlib.Omega.{arith}
-use Rattle.lists.specs.Counting.{one, one-yes, occurrences, occurs-append}
+use Rattle.lists.specs.Counting.{one-yes, occurrences, occurs-append}
 use Rattle.gaps.specs.Maps.{Off, off}
-use Rattle.gaps.specs.Line.{Mark, base, left, met, pass, Line, marks, lefts, mets, segments, firstChain}
+use Rattle.gaps.specs.Line.{base, left, met, pass, Line, marks, lefts, mets, segments, firstChain}
 use Rattle.gaps.specs.Store.{Once}
 
 pub marks-append : (a b : Line) → marks (a ++ b) ≡ marks a ++ marks b

@@ -1,6 +1,5 @@
 -- WHAT EACH CALL DOES TO THE MEMORY OF ONE QUEUE: its views, its segments, its queue heads. The holder is the task that has
 -- the queue view.
-use mathlib.Core.Path.{_≡_}
 use mathlib.Core.Option.{Option, none, some}
 use mathlib.Core.List.{List, [], _∷_, _++_}
 use Prim.Native.Nat.{ℕ}

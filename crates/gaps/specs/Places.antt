@@ -1,11 +1,11 @@
 -- WHERE A VIEW GOES: the walks back along the line that a push and a finish make, and the chain of the gap they end in.
-use mathlib.Core.Path.{_≡_, refl, ap, sym, _∙_}
+use mathlib.Core.Path.{_≡_, refl, ap}
 use mathlib.Core.List.{List, [], _∷_, _++_}
-use Prim.Native.Nat.{ℕ, _+_, _≤_}
+use Prim.Native.Nat.{ℕ, _≤_}
 use native.Mathlib.Omega.{arith}
-use Rattle.lists.specs.Counting.{one, one-yes, occurrences}
-use Rattle.gaps.specs.Maps.{Off, off, Agree, agree-refl, agree-put}
-use Rattle.gaps.specs.Line.{End, nonlocal, local, Extent, vacant, extent, Mark, base, left, met, pass, Line, marks, lefts, mets}
+use Rattle.lists.specs.Counting.{one-yes, occurrences}
+use Rattle.gaps.specs.Maps.{off, Agree, agree-refl, agree-put}
+use Rattle.gaps.specs.Line.{End, nonlocal, local, Extent, vacant, extent, base, left, met, pass, Line, lefts, mets}
 use Rattle.gaps.specs.Store.{Once}
 use Rattle.gaps.specs.Lines.{count-lefts, count-mets}
 use Rattle.gaps.specs.Moves.{Place, childrenOf, rightOf, childrenWith, rightsWith}
