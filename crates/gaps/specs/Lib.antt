@@ -6,3 +6,4 @@ pub mod Frames
 pub mod Moves
 pub mod Places
 pub mod Search
+pub mod Reductions
