@@ -3,7 +3,7 @@ use mathlib.Core.Path.{_≡_, refl, ap, _∙_}
 use mathlib.Core.List.{List, [], _∷_, _++_}
 use Prim.Native.Nat.{ℕ}
 use native.Mathlib.Omega.{arith}
-use Rattle.gaps.specs.Maps.{put, off, Agree, agree-put}
+use Rattle.gaps.specs.Maps.{put, off, Agree, agree-refl, agree-put}
 use Rattle.gaps.specs.Line.{Extent, vacant, extent, End, Mark, base, left, met, pass, Line, lefts, mets, Mode, Views, queue, leaving, meeting, passing}
 use Rattle.gaps.specs.Lines.{New, NoBase}
 
@@ -27,7 +27,8 @@ module _ {children user right : ℕ → Extent} where
   bottomed (passing {x = x} r) = let h = bottomed r in (pass x ∷ h .0, h .1, h .2, ap (λ (l : Line). pass x ∷ l) (h .3))
 
   -- the earlier part of a line, and that no queue view stands in the later part
-  pub split : (b : Line) (x : Mark) (l : Line) {n : Mode} → Views children user right (b ++ (x ∷ l)) n → (m : Mode) × Views children user right (x ∷ l) m
+  pub split : (b : Line) (x : Mark) (l : Line) {n : Mode} → Views children user right (b ++ (x ∷ l)) n
+      → (m : Mode) × Views children user right (x ∷ l) m
   split [] x l {n} r = (n, r)
   split (base c ∷ b) x l r = absurd (no-nil b x l (bottom r))
   split (left t ∷ b) x l (leaving v e i r) = split b x l r
@@ -61,6 +62,13 @@ module _ {children user right children′ user′ right′ : ℕ → Extent} whe
   replace (met t c ∷ b) x l k p q s f (meeting v w e i g y r) =
       meeting v w (q .0 ∙ e) i (s .0 ∙ g) y (replace b x l k p (q .1) (s .1) f r)
   replace (pass y ∷ b) x l k p q s f (passing r) = passing (replace b x l k p q s f r)
+
+-- the same where no view is written
+pub replace-only : {children user right : ℕ → Extent} (b : Line) (x : Mark) (l k : Line) {n : Mode}
+    → ((m : Mode) → Views children user right (x ∷ l) m → Views children user right k m)
+    → Views children user right (b ++ (x ∷ l)) n → Views children user right (b ++ k) n
+replace-only {children} {user} {right} b x l k f r =
+    replace b x l k (agree-refl children (lefts b)) (agree-refl user (mets b)) (agree-refl right (mets b)) f r
 
 -- The views of a task that has no mark in the line are nobody's.
 pub forget : (children user right : ℕ → Extent) (t : ℕ) (x y z : Extent) (l : Line) {n : Mode} → New t l

@@ -7,3 +7,4 @@ pub mod Moves
 pub mod Places
 pub mod Search
 pub mod Reductions
+pub mod ViewRows

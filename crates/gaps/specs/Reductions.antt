@@ -2,8 +2,8 @@
 use mathlib.Core.Path.{_≡_, refl, ap, sym, _∙_}
 use mathlib.Core.List.{List, [], _∷_, _++_}
 use Prim.Native.Nat.{ℕ}
-use Rattle.gaps.specs.Maps.{put, put-same, put-other, Off, Agree, agree-refl, agree-put, lastOf, last-append}
-use Rattle.gaps.specs.Line.{End, nonlocal, local, Extent, vacant, extent, base, left, met, pass, Line, lefts, mets, Mode, settled, awaiting, Inside, rest, mid, close, Begins, bare, whole, begun, Views, queue, leaving, meeting, passing}
+use Rattle.gaps.specs.Maps.{put, put-same, put-other, Off, agree-refl, agree-put, lastOf, last-append}
+use Rattle.gaps.specs.Line.{End, nonlocal, local, Extent, vacant, extent, left, Line, lefts, mets, Mode, settled, awaiting, Inside, rest, mid, close, Begins, bare, whole, begun, Views, queue, leaving, meeting, passing}
 use Rattle.gaps.specs.Store.{Once}
 use Rattle.gaps.specs.Lines.{once-behind, left-off, met-off}
 use Rattle.gaps.specs.Frames.{clash, keep}
@@ -28,7 +28,8 @@ pub reach : {s : ℕ} {c : List ℕ} {x : End} {n : Mode} → Begins (s ∷ c) (
 reach (whole y) = rw y close
 reach (begun y) = rw y mid
 
-onto : {s z : ℕ} {c : List ℕ} {x : End} {n : Mode} → lastOf s c ≡ z → Inside (awaiting z) (extent nonlocal x) n → Begins (s ∷ c) (extent (local s) x) n
+onto : {s z : ℕ} {c : List ℕ} {x : End} {n : Mode} → lastOf s c ≡ z → Inside (awaiting z) (extent nonlocal x) n
+    → Begins (s ∷ c) (extent (local s) x) n
 onto y mid = begun y
 onto y close = whole y
 
@@ -66,7 +67,8 @@ module _ (children user right : ℕ → Extent) (s : ℕ) (c : List ℕ) (q : �
   Done l k n = Views (childrenWith (extent (local s) x) k children) user (rightsWith (extent (local s) x) k right) (grow l (s ∷ c) (q ∷ d)) n
 
   -- behind a children view with a tail
-  behind : {l : Line} {m n : Mode} (t : ℕ) (v : Extent) → Once (left t ∷ l) → Begins (s ∷ c) (extent (local s) x) n → children t ≡ v → Inside m v settled
+  behind : {l : Line} {m n : Mode} (t : ℕ) (v : Extent) → Once (left t ∷ l) → Begins (s ∷ c) (extent (local s) x) n → children t ≡ v
+      → Inside m v settled
       → (v ≡ vacant → ⊥) → Views children user right l m → Done (left t ∷ l) (childrenOf t) n
   behind t v once b f rest some r = absurd (some refl)
   behind {l} t v once b f close some r =
@@ -89,7 +91,8 @@ module _ (children user right : ℕ → Extent) (s : ℕ) (c : List ℕ) (q : �
   deposit k once b (Target.over o) (passing r) = passing (deposit k once b o r)
 
 -- A VIEW WITH A NON-LOCAL HEAD is put into the view just before.
-pub settle : {children user right : ℕ → Extent} {l : Line} {z : ℕ} {x : End} {n : Mode} (k : Place) → Once l → Inside (awaiting z) (extent nonlocal x) n
+pub settle : {children user right : ℕ → Extent} {l : Line} {z : ℕ} {x : End} {n : Mode} (k : Place) → Once l
+    → Inside (awaiting z) (extent nonlocal x) n
     → Latest l k → Views children user right l (awaiting z)
     → Views (childrenWith (extent nonlocal x) k children) user (rightsWith (extent nonlocal x) k right) l n
 settle {children} {user} {right} {x = x} (childrenOf t) once j (Latest.at-left {l = l}) (leaving v f rest r) =
