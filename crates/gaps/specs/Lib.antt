@@ -8,3 +8,4 @@ pub mod Places
 pub mod Search
 pub mod Reductions
 pub mod ViewRows
+pub mod FinishViews
