@@ -9,3 +9,4 @@ pub mod Search
 pub mod Reductions
 pub mod ViewRows
 pub mod FinishViews
+pub mod Chains
