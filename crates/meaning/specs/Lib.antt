@@ -1,0 +1,4 @@
+pub mod Meaning
+pub mod Update
+pub mod Reads
+pub mod Kept
