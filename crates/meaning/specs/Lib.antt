@@ -2,3 +2,4 @@ pub mod Meaning
 pub mod Update
 pub mod Reads
 pub mod Kept
+pub mod Views
