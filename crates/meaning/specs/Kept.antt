@@ -99,6 +99,26 @@ pub value-only : (m : List ℕ) (i v : ℕ) → SegmentsOnly m (write m (value i
 unfolding address
 value-only m i v = record { words = size-write m (value i) v; same = λ f h. read-away m (value i) f v (λ e. let a = beside-segments f h .3 in omega (arith, a, e)) }
 
+pub segments-sized : {m n : List ℕ} → SegmentsOnly m n → Sized m → read n freeSegments ≤ read m numberWord
+    → ((s : ℕ) → s < read m numberWord → read n (first s) < read m lengthWord) → ((s : ℕ) → s < read m numberWord → read n (count s) ≤ read m lengthWord)
+    → Sized n
+segments-sized {m} {n} o z a b c =
+    record {
+      words = o .words ∙ z .words;
+      length-range = (rw length (z .length-range .0), rw length (z .length-range .1));
+      number-range = (rw number (z .number-range .0), rw number (z .number-range .1));
+      product-range = rw (length, number) (z .product-range);
+      free-height = rw number a;
+      firsts = λ s l. rw length (b s (rw number at l));
+      counts = λ s l. rw length (c s (rw number at l));
+    }
+  where
+    length : read n lengthWord ≡ read m lengthWord
+    length = o .same lengthWord (omega arith, λ q. omega (arith, q))
+
+    number : read n numberWord ≡ read m numberWord
+    number = o .same numberWord (omega arith, λ q. omega (arith, q))
+
 -- so the task tree, heads and views are kept, and what is left to show is what becomes of the segments
 pub segments-become : {m n : List ℕ} {M : Meaning} → SegmentsOnly m n → Sized n → nextIn n ≡ M .next → contentsIn n ≡ M .contents → freeIn n ≡ M .free
     → headsIn m ≡ M .heads → viewIn m ≡ M .views → Becomes m n M

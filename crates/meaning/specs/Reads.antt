@@ -64,6 +64,11 @@ pub view-at : (m : List ℕ) (q k t : ℕ) → q < 4 → k < 3 → t < 128 → v
 unfolding viewIn
 view-at m q k t hq hk ht = halt _ _ (true-both (lt-ltb _ _ hq) (true-both (lt-ltb _ _ hk) (lt-ltb _ _ ht)))
 
+-- a value by its word
+pub value-word : (m : List ℕ) (s k l f : ℕ) → read m lengthWord ≡ l → read m (first s) ≡ f → valueAt m s k ≡ read m (value (s * l + place l f k))
+unfolding valueAt
+value-word m s k l f el ef = ap₂ (λ (x y : ℕ). read m (value (s * x + place x y k))) el ef
+
 -- THE PARTS of two memories with equal words
 module _ (m n : List ℕ) where
   pub next-same-at : (s : ℕ) → (s < 256 → read n (next s) ≡ read m (next s)) → nextIn n s ≡ nextIn m s
@@ -74,23 +79,23 @@ module _ (m n : List ℕ) where
   next-same h = fun-ext λ s. next-same-at s (h s)
 
   pub value-same : (s k : ℕ) → read n lengthWord ≡ read m lengthWord → read n (first s) ≡ read m (first s)
-      → ((i : ℕ) → read n (value (s * read m lengthWord + i)) ≡ read m (value (s * read m lengthWord + i))) → valueAt n s k ≡ valueAt m s k
-  unfolding valueAt
-  value-same s k el ef h =
-      ap₂ (λ (l f : ℕ). read n (value (s * l + place l f k))) el ef ∙ h (place (read m lengthWord) (read m (first s)) k)
+      → (let i = s * read m lengthWord + place (read m lengthWord) (read m (first s)) k in read n (value i) ≡ read m (value i)) → valueAt n s k ≡ valueAt m s k
+  value-same s k el ef h = value-word n s k _ _ el ef ∙ h ∙ sym (value-word m s k _ _ refl refl)
 
   pub contents-same-at : (s : ℕ) → read n lengthWord ≡ read m lengthWord
       → (s < 256 → (read n (first s) ≡ read m (first s)) × (read n (count s) ≡ read m (count s)))
-      → ((i : ℕ) → read n (value (s * read m lengthWord + i)) ≡ read m (value (s * read m lengthWord + i))) → contentsIn n s ≡ contentsIn m s
+      → ((k : ℕ) → let i = s * read m lengthWord + place (read m lengthWord) (read m (first s)) k in read n (value i) ≡ read m (value i))
+      → contentsIn n s ≡ contentsIn m s
   unfolding contentsIn
   contents-same-at s el hs hv =
-      pick-path (ltb s 256) _ _ [] (λ b. let h = hs (ltb-true _ _ b) in
-      ap (listed (valueAt n s)) (h .1) ∙ listed-path (valueAt m s) (valueAt n s) (read m (count s)) (λ k l. value-same s k el (h .0) hv))
+      pick-path (ltb s 256) _ _ [] (λ b.
+      let h = hs (ltb-true _ _ b) in
+      ap (listed (valueAt n s)) (h .1) ∙ listed-path (valueAt m s) (valueAt n s) (read m (count s)) (λ k l. value-same s k el (h .0) (hv k)))
 
   pub contents-same : read n lengthWord ≡ read m lengthWord
       → ((s : ℕ) → s < 256 → (read n (first s) ≡ read m (first s)) × (read n (count s) ≡ read m (count s)))
       → ((i : ℕ) → read n (value i) ≡ read m (value i)) → contentsIn n ≡ contentsIn m
-  contents-same el hs hv = fun-ext λ s. contents-same-at s el (hs s) (λ i. hv (s * read m lengthWord + i))
+  contents-same el hs hv = fun-ext λ s. contents-same-at s el (hs s) (λ k. hv _)
 
   pub free-same : read n freeSegments ≡ read m freeSegments → ((i : ℕ) → i < read m freeSegments → read n (freeSegment i) ≡ read m (freeSegment i))
       → freeIn n ≡ freeIn m
