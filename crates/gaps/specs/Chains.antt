@@ -13,7 +13,7 @@ use Rattle.gaps.specs.Places.{grow}
 
 -- WHAT IS NOT WRITTEN IS CARRIED
 
-linked-keep : (next next′ : ℕ → Option ℕ) (s : ℕ) (c : List ℕ) → Agree next next′ (s ∷ c) → LinkedFrom next s c → LinkedFrom next′ s c
+pub linked-keep : (next next′ : ℕ → Option ℕ) (s : ℕ) (c : List ℕ) → Agree next next′ (s ∷ c) → LinkedFrom next s c → LinkedFrom next′ s c
 linked-keep next next′ s [] e h = e .0 ∙ h
 linked-keep next next′ s (t ∷ c) e h = (e .0 ∙ h .0, linked-keep next next′ t c (e .1) (h .1))
 

@@ -10,3 +10,4 @@ pub mod Reductions
 pub mod ViewRows
 pub mod FinishViews
 pub mod Chains
+pub mod Joins
