@@ -11,3 +11,4 @@ pub mod ViewRows
 pub mod FinishViews
 pub mod Chains
 pub mod Joins
+pub mod SegmentRows
