@@ -12,3 +12,5 @@ pub mod FinishViews
 pub mod Chains
 pub mod Joins
 pub mod SegmentRows
+pub mod Timelines
+pub mod Find
