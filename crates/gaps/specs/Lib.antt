@@ -14,3 +14,5 @@ pub mod Joins
 pub mod SegmentRows
 pub mod Timelines
 pub mod Find
+pub mod Heads
+pub mod Stores
