@@ -16,3 +16,4 @@ pub mod Timelines
 pub mod Find
 pub mod Heads
 pub mod Stores
+pub mod After
