@@ -17,3 +17,5 @@ pub mod Find
 pub mod Heads
 pub mod Stores
 pub mod After
+pub mod TaskRows
+pub mod HolderRows
