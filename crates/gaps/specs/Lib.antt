@@ -19,3 +19,4 @@ pub mod Stores
 pub mod After
 pub mod TaskRows
 pub mod HolderRows
+pub mod PushRows
