@@ -20,3 +20,4 @@ pub mod After
 pub mod TaskRows
 pub mod HolderRows
 pub mod PushRows
+pub mod PopRow
