@@ -21,3 +21,4 @@ pub mod TaskRows
 pub mod HolderRows
 pub mod PushRows
 pub mod PopRow
+pub mod SyncRow
