@@ -22,3 +22,4 @@ pub mod HolderRows
 pub mod PushRows
 pub mod PopRow
 pub mod SyncRow
+pub mod FinishRow
