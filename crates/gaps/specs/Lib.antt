@@ -23,3 +23,4 @@ pub mod PushRows
 pub mod PopRow
 pub mod SyncRow
 pub mod FinishRow
+pub mod Names
