@@ -111,8 +111,8 @@ module _ {own : ℕ → ℕ} {st : Store} {m : Memory} {holder : ℕ} {l : Line}
   after-fits uses h = same-fits (r .line) l (r .outlined) uses h
 
   -- one change, and then another with the same marks
-  pub then : {m′ : Memory} {holder′ : ℕ} {ps′ : List Point} → After own (m .store) m′ holder′ (r .line) ps′ → After own st m′ holder′ l ps′
-  then s = record {
+  pub after-then : {m′ : Memory} {holder′ : ℕ} {ps′ : List Point} → After own (m .store) m′ holder′ (r .line) ps′ → After own st m′ holder′ l ps′
+  after-then s = record {
     line = s .line;
     laid = s .laid;
     outlined = s .outlined ∙ r .outlined;

@@ -24,3 +24,4 @@ pub mod PopRow
 pub mod SyncRow
 pub mod FinishRow
 pub mod Names
+pub mod Pool
