@@ -25,3 +25,5 @@ pub mod SyncRow
 pub mod FinishRow
 pub mod Names
 pub mod Pool
+pub mod Absent
+pub mod Splits
