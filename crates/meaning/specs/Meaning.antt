@@ -2,10 +2,9 @@
 -- Past the limits (256 segments, 128 tasks, 4 queues, 3 kinds of views) there is nothing, so that what an operation on
 -- words does can be said by equations between functions.
 use mathlib.Core.Path.{_≡_}
-use mathlib.Core.Bool.{Bool, true, false}
 use mathlib.Core.Option.{Option, none, some}
 use mathlib.Core.List.{List, [], _∷_}
-use Prim.Native.Nat.{ℕ, zero, suc, _+_, _*_, _<_, _≤_}
+use Prim.Native.Nat.{ℕ, zero, suc, _*_, _<_, _≤_}
 use lib.Dec.{ltb, eqb}
 use Rattle.words.specs.Words.{size, pick, both}
 use Rattle.layout.specs.Layout.{WORDS, NONE, NL, CHILDREN, USER, RIGHT, lengthWord, numberWord, freeSegments, freeSegment, first, count, next, queueHead, read}

@@ -2,27 +2,19 @@
 -- segment, one task or the top of the stack has changed.
 use mathlib.Core.Path.{_≡_, refl, ap, ap₂, sym, _∙_, fun-ext}
 use mathlib.Core.Bool.{Bool, true, false}
-use mathlib.Core.Logic.{⊎-elim}
-use mathlib.Core.Option.{Option, none, some}
+use mathlib.Core.Option.{none}
 use mathlib.Core.List.{List, [], _∷_, _++_}
 use Prim.Native.Nat.{ℕ, zero, suc, _+_, _*_, _<_, _≤_}
 use native.Mathlib.Omega.{arith}
-use lib.Dec.{ltb, eqb}
-use borrow.Author.Tests.{lt-ltb, le-ltb, ltb-true}
-use Rattle.words.specs.Words.{pick, both, both-true, true-both, pass, halt}
-use Rattle.lists.specs.Counting.{equal?}
+use lib.Dec.{ltb}
+use borrow.Author.Tests.{lt-ltb, ltb-true}
+use Rattle.words.specs.Words.{pick, both, both-true, true-both, halt}
 use Rattle.layout.specs.Layout.{lengthWord, freeSegments, freeSegment, value, first, count, next, head, tail, queueHead, task, read}
-use Rattle.rules.specs.Views.{View, view}
+use Rattle.rules.specs.Views.{view}
 use Rattle.calls.specs.Segments.{place, valueAt}
 use Rattle.calls.specs.Views.{viewOf}
-use Rattle.gaps.specs.Maps.{put, put-same, put-other}
-use Rattle.gaps.specs.Line.{Extent, vacant}
+use Rattle.gaps.specs.Line.{vacant}
 use Rattle.meaning.specs.Meaning.{optional, extentOf, listed, stack, nextIn, contentsIn, freeIn, headsIn, viewIn}
-
--- a map that differs at one place only
-pub put-path : {A : Type 0} (f g : ℕ → A) (k : ℕ) (x : A) → g k ≡ x → ((j : ℕ) → (j ≡ k → ⊥) → g j ≡ f j) → g ≡ put f k x
-put-path f g k x e h =
-    fun-ext λ j. ⊎-elim (λ q. ap g q ∙ e ∙ sym (put-same f k x) ∙ ap (put f k x) (sym q)) (λ n. h j n ∙ sym (put-other f k x j n)) (equal? j k)
 
 -- what is chosen by a test, where the test holds
 pub pick-path : {A : Type 0} (b : Bool) (x y z : A) → (b ≡ true → x ≡ y) → pick b x z ≡ pick b y z

@@ -1,9 +1,9 @@
 -- The ring of values of a segment: its places, the words of two segments, and the values of all segments where those of
 -- one have changed.
-use mathlib.Core.Path.{_≡_, refl, ap, ap₂, sym, _∙_}
+use mathlib.Core.Path.{_≡_, refl, ap, sym, _∙_}
 use mathlib.Core.Bool.{Bool, true, false}
 use mathlib.Core.Logic.{_⊎_, inl, inr, ⊎-elim}
-use mathlib.Core.List.{List, [], _∷_}
+use mathlib.Core.List.{List}
 use Prim.Native.Nat.{ℕ, zero, suc, _+_, _-_, _*_, _<_, _≤_}
 use native.Mathlib.Omega.{arith}
 use native.Mathlib.Nat.{mul-le-mul-right}
@@ -15,7 +15,8 @@ use Rattle.layout.specs.Layout.{lengthWord, value, first, count, address, read,
 use Rattle.calls.specs.Segments.{place, valueAt}
 use Rattle.gaps.specs.Maps.{put}
 use Rattle.meaning.specs.Meaning.{listed, contentsIn}
-use Rattle.meaning.specs.Reads.{put-path, contents-at, contents-same-at}
+use Rattle.meaning.specs.Maps.{put-path}
+use Rattle.meaning.specs.Reads.{contents-at, contents-same-at}
 use Rattle.meaning.specs.Kept.{read-away}
 
 pub below? : (x n : ℕ) → (x < n) ⊎ (n ≤ x)
@@ -26,7 +27,7 @@ below? x n = go (ltb x n) refl
     go false e = inr (ltb-false x n e)
 
 -- PLACES, from the first place f on
-place-low : (l f k : ℕ) → f + k < l → place l f k ≡ f + k
+pub place-low : (l f k : ℕ) → f + k < l → place l f k ≡ f + k
 unfolding place
 place-low l f k h = halt _ _ (lt-ltb _ _ h)
 

@@ -1,5 +1,5 @@
 -- Operations on one segment: they change words of its record and of its values, and no others.
-use mathlib.Core.Path.{_≡_, refl, ap, sym, _∙_}
+use mathlib.Core.Path.{_≡_, refl, ap, _∙_}
 use mathlib.Core.Option.{Option}
 use mathlib.Core.Logic.{⊎-elim}
 use mathlib.Core.List.{List}
@@ -12,8 +12,10 @@ use Rattle.layout.specs.Frame.{read-same}
 use Rattle.gaps.specs.Maps.{put}
 use Rattle.meaning.specs.Meaning.{optional, nextIn, contentsIn, freeIn, meaningOf, Sized}
 use Rattle.meaning.specs.Update.{withNext}
-use Rattle.meaning.specs.Reads.{put-path, next-at, next-same-at, contents-same, free-same}
-use Rattle.meaning.specs.Kept.{Becomes, SegmentsOnly, segments-then, segment-only, value-only, segments-sized, segments-become, read-away}
+use Rattle.meaning.specs.Maps.{put-path}
+use Rattle.meaning.specs.Reads.{next-at, next-same-at, contents-same, free-same}
+use Rattle.meaning.specs.Kept.{Becomes, read-away}
+use Rattle.meaning.specs.SegmentsOnly.{SegmentsOnly, segments-then, segment-only, value-only, segments-sized, segments-become}
 use Rattle.meaning.specs.Ring.{contents-changed, value-elsewhere}
 
 -- n is m but for words of segment s, of its record and its values

@@ -1,18 +1,18 @@
 -- One value more at the end of a segment, and the first value gone.
 use mathlib.Core.Path.{_≡_, refl, ap, ap₂, sym, _∙_}
-use mathlib.Core.Logic.{⊎-elim}
-use mathlib.Core.List.{List, [], _∷_, _++_}
+use mathlib.Core.List.{List, [], _∷_, _++_, head-eq-of-cons-eq, tail-eq-of-cons-eq}
 use Prim.Native.Nat.{ℕ, zero, suc, _+_, _-_, _*_, _<_, _≤_}
 use native.Mathlib.Omega.{arith}
 use native.Mathlib.Numerals.{add-one}
 use lib.ListN.{length}
-use Rattle.layout.specs.Layout.{lengthWord, numberWord, segment, value, first, count, next, address, read, write}
+use Rattle.layout.specs.Layout.{lengthWord, numberWord, segment, value, first, count, address, read, write}
 use Rattle.layout.specs.Frame.{read-same, size-write}
 use Rattle.calls.specs.Segments.{place, valueAt, stored, dropped}
 use Rattle.meaning.specs.Meaning.{listed, contentsIn, meaningOf, Sized}
 use Rattle.meaning.specs.Update.{withContents}
 use Rattle.meaning.specs.Reads.{listed-path, listed-last, contents-at, value-word, value-same, next-same}
-use Rattle.meaning.specs.Kept.{Becomes, segments-become, read-away}
+use Rattle.meaning.specs.Kept.{Becomes, read-away}
+use Rattle.meaning.specs.SegmentsOnly.{segments-become}
 use Rattle.meaning.specs.Ring.{place-below, place-apart, place-next, count-length}
 use Rattle.meaning.specs.Segment.{OnlySegment, segment-then, segment-other, record-written, value-written, same-length, value-inside, number-below, segment-sized, values-changed, free-kept}
 
@@ -51,15 +51,7 @@ value-stored m s v z hs hc =
 listed-first : (f : ℕ → ℕ) (n w : ℕ) (r : List ℕ) → listed f n ≡ w ∷ r → (j : ℕ) × (n ≡ suc j) × (f 0 ≡ w) × (listed (λ k. f (suc k)) j ≡ r)
 unfolding listed
 listed-first f zero w r e = let z : 0 ≡ suc (length r) = ap length e in let y : ⊥ = omega (arith, z) in absurd y
-listed-first f (suc n) w r e = (n, refl, ap front e, ap behind e)
-  where
-    front : List ℕ → ℕ
-    front [] = 0
-    front (x ∷ xs) = x
-
-    behind : List ℕ → List ℕ
-    behind [] = []
-    behind (x ∷ xs) = xs
+listed-first f (suc n) w r e = (n, refl, head-eq-of-cons-eq e, tail-eq-of-cons-eq e)
 
 pub first-value : (m : List ℕ) (s w : ℕ) (r : List ℕ) → s < 256 → contentsIn m s ≡ w ∷ r → (valueAt m s 0 ≡ w) × (read m (count s) ≡ suc (length r))
 first-value m s w r hs e =

@@ -1,8 +1,8 @@
 -- Queue heads and views: what a write of one of them does.
-use mathlib.Core.Path.{_≡_, refl, ap, ap₂, sym, _∙_, fun-ext}
+use mathlib.Core.Path.{_≡_, refl, ap, ap₂, _∙_, fun-ext}
 use mathlib.Core.Option.{Option}
 use mathlib.Core.List.{List}
-use Prim.Native.Nat.{ℕ, _+_, _*_, _<_, _≤_}
+use Prim.Native.Nat.{ℕ, _+_, _*_, _<_}
 use native.Mathlib.Omega.{arith}
 use Rattle.layout.specs.Layout.{task, head, tail, queueHead, address, read, write}
 use Rattle.layout.specs.Frame.{read-same, size-write}
@@ -12,8 +12,10 @@ use Rattle.gaps.specs.Maps.{put}
 use Rattle.gaps.specs.Line.{Extent}
 use Rattle.meaning.specs.Meaning.{optional, extentOf, headsIn, viewIn, meaningOf, Sized}
 use Rattle.meaning.specs.Update.{withHead, withView}
-use Rattle.meaning.specs.Reads.{put-path, head-at, view-at, head-same-at, view-same-at}
-use Rattle.meaning.specs.Kept.{Becomes, ViewsOnly, views-then, view-only, views-become, read-away}
+use Rattle.meaning.specs.Maps.{put-path}
+use Rattle.meaning.specs.Reads.{head-at, view-at, head-same-at, view-same-at}
+use Rattle.meaning.specs.Kept.{Becomes, read-away}
+use Rattle.meaning.specs.TasksOnly.{ViewsOnly, views-then, view-only, views-become}
 
 -- two words of task records that are not the same
 pub task-other : (m : List ℕ) (t k u j v : ℕ) → k < 48 → j < 48 → (u ≡ t → j ≡ k → ⊥) → read (write m (task t k) v) (task u j) ≡ read m (task u j)
