@@ -46,7 +46,7 @@ queueMemory m q = ofTasks (alive m) (memoryIn m q)
 
 -- task t has a right to queue q
 unfoldable pub usesIn : List ℕ → ℕ → ℕ → Bool
-usesIn m q t = uses (rightsIn m t) q
+usesIn m q t = both (ltb t 128) (uses (rightsIn m t) q)
 
 -- ONE QUEUE: its memory lies along a line with the marks of the tour, and the line's timeline is that of program order.
 pub record Queue (m : List ℕ) (tour : List ℕ) (xs : List Item) (q : ℕ) (l : Line) : Type 0 where
