@@ -10,14 +10,15 @@ use Rattle.order_queue.specs.Points.{Point}
 use Rattle.gaps.specs.Line.{End, nonlocal, local, Extent, vacant, extent, Mark, base, left, met, pass, Line, lefts, mets, Mode, settled, awaiting, Inside, rest, close, Begins, bare, whole, begun, Views, leaving, meeting}
 use Rattle.gaps.specs.Store.{Store, Held, Closed, Memory, Laid, valuesIn, timeline}
 use Rattle.gaps.specs.Lines.{count-lefts, count-mets, NoBase}
+use Rattle.gaps.specs.Outline.{outline, outline-behind, same-lefts, same-mets}
 use Rattle.gaps.specs.Frames.{split, no-base, forget}
 use Rattle.gaps.specs.Moves.{Place, viewAt, reduced, childrenWith, rightsWith, linked, joined, returned, finishedWith, finished}
-use Rattle.gaps.specs.Places.{Latest, Target, Returns, grow}
+use Rattle.gaps.specs.Places.{Latest, Target, Returns, grow, outline-grow}
 use Rattle.gaps.specs.Reductions.{fuse}
 use Rattle.gaps.specs.FinishViews.{finish-none, finish-nonlocal, finish-local, finish-both}
 use Rattle.gaps.specs.Timelines.{timeline-append}
 use Rattle.gaps.specs.Stores.{Kept, Joined, joined-at, joined-awaiting, held-rearranged}
-use Rattle.gaps.specs.After.{outline, outline-grow, outline-behind, same-lefts, same-mets, After}
+use Rattle.gaps.specs.After.{After}
 use Rattle.gaps.specs.SyncRow.{sync-store}
 
 -- nothing is linked to a view that is vacant or has a non-local head

@@ -1,4 +1,4 @@
--- Views along a line: what lies left and right of a stretch of the line is carried where the maps agree.
+-- FRAMES: what is later and what is earlier than a stretch of the line is carried where the maps agree.
 use mathlib.Core.Path.{_≡_, refl, ap, _∙_}
 use mathlib.Core.List.{List, [], _∷_, _++_}
 use Prim.Native.Nat.{ℕ}

@@ -2,6 +2,7 @@ pub mod Maps
 pub mod Line
 pub mod Store
 pub mod Lines
+pub mod Outline
 pub mod Frames
 pub mod Moves
 pub mod Places

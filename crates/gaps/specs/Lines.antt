@@ -1,4 +1,5 @@
--- Laws of a line as a list of marks: what its parts have, and that no task stands in it twice.
+-- Laws of a line as a list of marks: what its parts have, and that no task stands in it twice. A line goes from the last
+-- mark to the first: in b ++ (z ∷ a) the marks of b are later than z, and those of a are earlier.
 use mathlib.Core.Path.{_≡_, refl, ap, sym, _∙_}
 use mathlib.Core.List.{List, [], _∷_, _++_, append-assoc}
 use Prim.Native.Nat.{ℕ, _+_}
@@ -69,7 +70,7 @@ met-off t c b a d =
     let s = one-yes t t refl in
     (off t (mets b) (omega (arith, p, h, s)), off t (mets a) (omega (arith, p, h, s)))
 
--- task x has no views in a line
+-- task x has no mark of its own in a line, so no views
 abbrev pub New : ℕ → Line → Type 0
 New x l = (occurrences x (lefts l) ≡ 0) × (occurrences x (mets l) ≡ 0)
 

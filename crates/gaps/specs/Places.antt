@@ -8,6 +8,7 @@ use Rattle.gaps.specs.Maps.{off, Agree, agree-refl, agree-put}
 use Rattle.gaps.specs.Line.{End, nonlocal, local, Extent, vacant, extent, base, left, met, pass, Line, lefts, mets}
 use Rattle.gaps.specs.Store.{Once}
 use Rattle.gaps.specs.Lines.{count-lefts, count-mets}
+use Rattle.gaps.specs.Outline.{outline, same-once}
 use Rattle.gaps.specs.Moves.{Place, childrenOf, rightOf, childrenWith, rightsWith}
 
 -- The view just before, for a view with a non-local head: the right view of the task met, or the children view of the task
@@ -39,22 +40,15 @@ grow (left t ∷ l) c d = left t ∷ grow l c d
 grow (met t b ∷ l) c d = met t (b ++ c) ∷ l
 grow (pass x ∷ l) c d = pass x ∷ grow l c d
 
-pub lefts-grow : (l : Line) (c d : List ℕ) → lefts (grow l c d) ≡ lefts l
-lefts-grow [] c d = refl
-lefts-grow (base b ∷ l) c d = refl
-lefts-grow (left t ∷ l) c d = ap (λ (l : List ℕ). t ∷ l) (lefts-grow l c d)
-lefts-grow (met t b ∷ l) c d = refl
-lefts-grow (pass x ∷ l) c d = lefts-grow l c d
-
-pub mets-grow : (l : Line) (c d : List ℕ) → mets (grow l c d) ≡ mets l
-mets-grow [] c d = refl
-mets-grow (base b ∷ l) c d = refl
-mets-grow (left t ∷ l) c d = mets-grow l c d
-mets-grow (met t b ∷ l) c d = refl
-mets-grow (pass x ∷ l) c d = mets-grow l c d
+pub outline-grow : (l : Line) (c d : List ℕ) → outline (grow l c d) ≡ outline l
+outline-grow [] c d = refl
+outline-grow (base b ∷ l) c d = refl
+outline-grow (left t ∷ l) c d = ap (λ (k : Line). left t ∷ k) (outline-grow l c d)
+outline-grow (met t b ∷ l) c d = refl
+outline-grow (pass x ∷ l) c d = ap (λ (k : Line). pass x ∷ k) (outline-grow l c d)
 
 pub once-grow : (l : Line) (c d : List ℕ) → Once l → Once (grow l c d)
-once-grow l c d h x = rw (lefts-grow l c d, mets-grow l c d) (h x)
+once-grow l c d h = same-once (grow l c d) l (outline-grow l c d) h
 
 pub latest-grow : {l : Line} {k : Place} (c d : List ℕ) → Latest l k → Latest (grow l c d) k
 latest-grow c d at-met = at-met

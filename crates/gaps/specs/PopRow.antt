@@ -8,8 +8,9 @@ use Rattle.lists.specs.Counting.{one-yes, occurrences, occurs-append}
 use Rattle.order_queue.specs.Points.{Point, value, values}
 use Rattle.gaps.specs.Maps.{All, put, put-same, put-other, agree-put, all-behind}
 use Rattle.gaps.specs.Line.{base, Line, segments}
-use Rattle.gaps.specs.Store.{Linked, Chain, Segments, Memory, Laid, valuesIn, timeline}
+use Rattle.gaps.specs.Store.{Store, Linked, Chain, Segments, Memory, Laid, valuesIn, timeline}
 use Rattle.gaps.specs.Lines.{count-segments, first-behind}
+use Rattle.gaps.specs.Outline.{outline, outline-behind, same-once}
 use Rattle.gaps.specs.Frames.{no-base}
 use Rattle.gaps.specs.Moves.{holding, poppedTo, popped}
 use Rattle.gaps.specs.ViewRows.{pop-views}
@@ -17,7 +18,7 @@ use Rattle.gaps.specs.SegmentRows.{pop-off-later, pop-off-chain, pop-las
 use Rattle.gaps.specs.Timelines.{in-keep, timeline-append, timeline-keep}
 use Rattle.gaps.specs.Heads.{only-set}
 use Rattle.gaps.specs.Stores.{own-apart}
-use Rattle.gaps.specs.After.{outline, outline-behind, same-once, closed-behind, After}
+use Rattle.gaps.specs.After.{closed-behind, After}
 
 module _ (own : ℕ → ℕ) (single : (x : ℕ) → own x ≤ 1) (m : Memory) (holder : ℕ) (b : Line) (s : ℕ) where
   abbrev contents₀ : ℕ → List ℕ
@@ -32,7 +33,9 @@ module _ (own : ℕ → ℕ) (single : (x : ℕ) → own x ≤ 1) (m : Memory) (
   Rest vs c = values vs ++ (valuesIn contents₀ c ++ timeline contents₀ b)
 
   was : (c vs : List ℕ) (v : ℕ) → contents₀ s ≡ v ∷ vs → timeline contents₀ (First (s ∷ c)) ≡ value v ∷ Rest vs c
-  was c vs v e = timeline-append contents₀ b (base (s ∷ c) ∷ []) ∙ rw e (ap (λ (l : List Point). value v ∷ l) (append-assoc (values vs) (valuesIn contents₀ c) (timeline contents₀ b)))
+  was c vs v e =
+      timeline-append contents₀ b (base (s ∷ c) ∷ [])
+      ∙ rw e (ap (λ (l : List Point). value v ∷ l) (append-assoc (values vs) (valuesIn contents₀ c) (timeline contents₀ b)))
 
   is : (c vs : List ℕ) → Laid own m holder (First (s ∷ c)) → timeline (put contents₀ s vs) (First (s ∷ c)) ≡ Rest vs c
   is c vs r =
@@ -57,12 +60,16 @@ module _ (own : ℕ → ℕ) (single : (x : ℕ) → own x ≤ 1) (m : Memory) (
   chained : (c : List ℕ) → Laid own m holder (First (s ∷ c)) → Linked (m .store .next) (s ∷ c)
   chained c r = all-behind (Chain (m .store .next) contents₀) b (base (s ∷ c) ∷ []) (r .held .chains .good) .0 .0
 
+  -- the memory with another store; what a pop leaves where the next of s is n
+  abbrev With : Store → Memory
+  With st = record { children = m .children; user = m .user; right = m .right; store = st }
+
   abbrev Popped : List ℕ → Option ℕ → Memory
-  Popped vs n = record { children = m .children; user = m .user; right = m .right; store = poppedTo vs n holder s (m .store) }
+  Popped vs n = With (poppedTo vs n holder s (m .store))
 
   -- the segment stays in the chain
   stays : (c vs : List ℕ) → Laid own m holder (First (s ∷ c)) → Segments own (m .store .next) (put contents₀ s vs) (m .store .free) (First (s ∷ c))
-      → After own (m .store) (record { children = m .children; user = m .user; right = m .right; store = holding s vs (m .store) }) holder (First (s ∷ c)) (Rest vs c)
+      → After own (m .store) (With (holding s vs (m .store))) holder (First (s ∷ c)) (Rest vs c)
   stays c vs r chains = record {
     line = First (s ∷ c);
     laid = record { views = r .views; dist = r .dist; held = record { chains = chains; head = r .held .head }; closed = r .closed };

@@ -10,16 +10,17 @@ use Rattle.gaps.specs.Maps.{put, put-same, put-other, off, agree-put, la
 use Rattle.gaps.specs.Line.{End, nonlocal, local, vacant, extent, met, Line, segments, Mode, settled, Views}
 use Rattle.gaps.specs.Store.{Store, Segments, Held, Memory, Laid, valuesIn, timeline}
 use Rattle.gaps.specs.Lines.{count-segments, NoBase, no-base-append}
+use Rattle.gaps.specs.Outline.{outline, outline-behind, same-once}
 use Rattle.gaps.specs.Frames.{split, no-base}
 use Rattle.gaps.specs.Moves.{Place, stored, taken, pushedInto, pushedBehind, pushedApart}
-use Rattle.gaps.specs.Places.{Target, grow}
+use Rattle.gaps.specs.Places.{Target, grow, outline-grow}
 use Rattle.gaps.specs.ViewRows.{push-views, place-views}
 use Rattle.gaps.specs.Chains.{Gap, count-gap}
 use Rattle.gaps.specs.SegmentRows.{store-segments}
 use Rattle.gaps.specs.Timelines.{timeline-keep, timeline-around, timeline-stored}
 use Rattle.gaps.specs.Find.{awaited, user-awaits, user-settled}
 use Rattle.gaps.specs.Stores.{own-apart, Joined, joined-at, joined-awaiting, held-taken}
-use Rattle.gaps.specs.After.{outline, outline-grow, outline-behind, same-once, closed-behind, After}
+use Rattle.gaps.specs.After.{closed-behind, After}
 
 module _ (own : ℕ → ℕ) (single : (x : ℕ) → own x ≤ 1) (m : Memory) (holder : ℕ) (b : Line) (t : ℕ) (c : List ℕ) (a : Line) (v : ℕ)
     (r : Laid own m holder (b ++ (met t c ∷ a))) where
@@ -46,7 +47,8 @@ module _ (own : ℕ → ℕ) (single : (x : ℕ) → own x ≤ 1) (m : Memory) (
     outlined = refl;
     points = timeline-around contents₀ (stored z v contents₀) b t c a a (value v ∷ [])
         (timeline-stored contents₀ v g (λ x. omega (arith, single x, sum x)))
-        (agree-put contents₀ z _ c (off z c (omega (arith, i, j, k, l)))) (agree-put contents₀ z _ (segments b) (off z (segments b) (omega (arith, i, j, k, l))));
+        (agree-put contents₀ z _ c (off z c (omega (arith, i, j, k, l))))
+        (agree-put contents₀ z _ (segments b) (off z (segments b) (omega (arith, i, j, k, l))));
     kept = λ x q. (refl, put-other contents₀ z (contents₀ z ++ (v ∷ [])) x (own-apart own x z q (omega (arith, i, j, k))));
   }
     where

@@ -68,8 +68,7 @@ module _ (children user right : ℕ → Extent) (s : ℕ) (c : List ℕ) (q : �
 
   -- behind a children view with a tail
   behind : {l : Line} {m n : Mode} (t : ℕ) (v : Extent) → Once (left t ∷ l) → Begins (s ∷ c) (extent (local s) x) n → children t ≡ v
-      → Inside m v settled
-      → (v ≡ vacant → ⊥) → Views children user right l m → Done (left t ∷ l) (childrenOf t) n
+      → Inside m v settled → (v ≡ vacant → ⊥) → Views children user right l m → Done (left t ∷ l) (childrenOf t) n
   behind t v once b f rest some r = absurd (some refl)
   behind {l} t v once b f close some r =
       leaving (extent nonlocal x) (put-same children t _ ∙ ap (λ (z : Extent). reduced z (extent (local s) x)) f) (reach b)
@@ -92,8 +91,7 @@ module _ (children user right : ℕ → Extent) (s : ℕ) (c : List ℕ) (q : �
 
 -- A VIEW WITH A NON-LOCAL HEAD is put into the view just before.
 pub settle : {children user right : ℕ → Extent} {l : Line} {z : ℕ} {x : End} {n : Mode} (k : Place) → Once l
-    → Inside (awaiting z) (extent nonlocal x) n
-    → Latest l k → Views children user right l (awaiting z)
+    → Inside (awaiting z) (extent nonlocal x) n → Latest l k → Views children user right l (awaiting z)
     → Views (childrenWith (extent nonlocal x) k children) user (rightsWith (extent nonlocal x) k right) l n
 settle {children} {user} {right} {x = x} (childrenOf t) once j (Latest.at-left {l = l}) (leaving v f rest r) =
     leaving (extent nonlocal x) (put-same children t _ ∙ ap (λ (z : Extent). reduced z (extent nonlocal x)) f) j

@@ -82,6 +82,14 @@ module _ (uses : ℕ → Bool) where
   all-proper (met t c ∷ l) h s = ((h .0, (s .0, tt)), all-proper l (h .1) (s .1))
   all-proper (pass x ∷ l) h s = ((h .0, tt), all-proper l (h .1) s)
 
+  -- the tasks of a line are below 128 where no other number has a right
+  pub small-mets : (l : Line) → ((t : ℕ) → uses t ≡ true → t < 128) → All (Fits uses) l → All (λ x. x < 128) (mets l)
+  small-mets [] s h = tt
+  small-mets (base c ∷ l) s h = small-mets l s (h .1)
+  small-mets (left t ∷ l) s h = small-mets l s (h .1)
+  small-mets (met t c ∷ l) s h = (s t (h .0), small-mets l s (h .1))
+  small-mets (pass x ∷ l) s h = small-mets l s (h .1)
+
   is-met : (t : ℕ) → t < 128 → uses t ≡ true → (z : Mark) → Proper z → marks (z ∷ []) ≡ t ∷ [] → (c : List ℕ) × (z ≡ met t c)
   unfolding taskAt
   is-met t s u (base c) h e = let z : _≡_ {A = ℕ} 0 1 = cc in absurd (omega (arith, z))

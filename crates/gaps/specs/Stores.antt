@@ -80,7 +80,8 @@ module _ (own : ℕ → ℕ) (single : (x : ℕ) → own x ≤ 1) (st : Store) (
               chains = free-next own single (st .next) (st .contents) (st .free) (lastOf p r) (some 0) (b ++ grow a (s ∷ c) (s ∷ c))
                   (subst (λ z. Segments own (st .next) (st .contents) (z ∷ st .free) (b ++ grow a (s ∷ c) (s ∷ c))) (sym first)
                   (join-free own single (st .next) (st .contents) (st .free) b t s c a (h .chains) (only .0)));
-              head = rw (first-behind b (grow a (s ∷ c) (s ∷ c)) nb) (rw (first-sole (s ∷ c) (only .0)) (only-set (st .heads) holder (headOf (firstChain a)) (some s) was));
+              head = rw (first-behind b (grow a (s ∷ c) (s ∷ c)) nb)
+                  (rw (first-sole (s ∷ c) (only .0)) (only-set (st .heads) holder (headOf (firstChain a)) (some s) was));
             };
             same = refl;
             points = timeline-sole (st .contents) (s ∷ c) (only .0) (ap (st .contents) (sym first) ∙ e);
@@ -131,8 +132,7 @@ module _ (own : ℕ → ℕ) (single : (x : ℕ) → own x ≤ 1) (st : Store) (
 
 -- a free segment g is taken, as the chain of a gap of its own
 pub held-taken : (own : ℕ → ℕ) (single : (x : ℕ) → own x ≤ 1) (st : Store) (holder : ℕ) (b : Line) (t g : ℕ) (rest : List ℕ) (v : ℕ) (a : Line)
-    → NoBase b
-    → st .free ≡ g ∷ rest → Held own st holder (b ++ a) → Held own (taken g rest v st) holder (b ++ (met t (g ∷ []) ∷ a))
+    → NoBase b → st .free ≡ g ∷ rest → Held own st holder (b ++ a) → Held own (taken g rest v st) holder (b ++ (met t (g ∷ []) ∷ a))
 held-taken own single st holder b t g rest v a nb e h = record {
   chains = fresh own single (st .next) (st .contents) rest b t g v a (subst (λ z. Segments own (st .next) (st .contents) z (b ++ a)) e (h .chains));
   head = rw (first-behind b (met t (g ∷ []) ∷ a) nb) (subst (λ z. Only (st .heads) holder (headOf z)) (first-behind b a nb) (h .head));

@@ -24,7 +24,7 @@ module _ (children user right : ℕ → Extent) (b : Line) (t : ℕ) (d : List �
   unfolding occurrences
   spawn-views c once new r =
       replace b (met t d) a (met t d ∷ (met c [] ∷ (left c ∷ a)))
-      (agree-put children c vacant (lefts b) cb) (users (mets b) xb (tt′ .0)) (agree-put right c vacant (mets b) xb) go r
+      (agree-put children c vacant (lefts b) later-left) (users (mets b) later-met (spawner .0)) (agree-put right c vacant (mets b) later-met) go r
     where
       p : occurrences c (lefts Around) ≡ occurrences c (lefts b) + occurrences c (lefts a)
       p = count-lefts c b (met t d ∷ a)
@@ -32,23 +32,23 @@ module _ (children user right : ℕ → Extent) (b : Line) (t : ℕ) (d : List �
       q : occurrences c (mets Around) ≡ occurrences c (mets b) + (one (eqb t c) + occurrences c (mets a))
       q = count-mets c b (met t d ∷ a)
 
-      cb : Off c (lefts b)
-      cb = off c (lefts b) (omega (arith, new .0, p))
+      later-left : Off c (lefts b)
+      later-left = off c (lefts b) (omega (arith, new .0, p))
 
-      ca : Off c (lefts a)
-      ca = off c (lefts a) (omega (arith, new .0, p))
+      earlier-left : Off c (lefts a)
+      earlier-left = off c (lefts a) (omega (arith, new .0, p))
 
-      xb : Off c (mets b)
-      xb = off c (mets b) (omega (arith, new .1, q))
+      later-met : Off c (mets b)
+      later-met = off c (mets b) (omega (arith, new .1, q))
 
-      xa : Off c (mets a)
-      xa = off c (mets a) (omega (arith, new .1, q))
+      earlier-met : Off c (mets a)
+      earlier-met = off c (mets a) (omega (arith, new .1, q))
 
       ne : t ≡ c → ⊥
       ne e = omega (arith, new .1, q, one-yes t c e)
 
-      tt′ : Off t (mets b) × Off t (mets a)
-      tt′ = met-off t d b a once
+      spawner : Off t (mets b) × Off t (mets a)
+      spawner = met-off t d b a once
 
       users : (l : List ℕ) → Off c l → Off t l → Agree user (put (put user c (user t)) t vacant) l
       users l o n = agree-trans user (put user c (user t)) _ l (agree-put user c _ l o) (agree-put _ t vacant l n)
@@ -59,7 +59,8 @@ module _ (children user right : ℕ → Extent) (b : Line) (t : ℕ) (d : List �
           meeting vacant w (put-same _ t vacant) rest (put-other right c vacant t ne ∙ f) g
           (meeting v vacant (put-other _ t vacant c (λ z. ne (sym z)) ∙ (put-same user c _ ∙ e)) i (put-same right c vacant) bare
           (leaving vacant (put-same children c vacant) rest
-          (keep (agree-put children c vacant (lefts a) ca) (users (mets a) xa (tt′ .1)) (agree-put right c vacant (mets a) xa) r)))
+          (keep (agree-put children c vacant (lefts a) earlier-left) (users (mets a) earlier-met (spawner .1))
+          (agree-put right c vacant (mets a) earlier-met) r)))
 
   -- SPAWN of c by t, where c has no right
   pub spawn-past-views : (x y : ℕ) {n : Mode} → Views children user right Around n
@@ -120,7 +121,8 @@ module _ (children user right : ℕ → Extent) (b : Line) (t : ℕ) (d : List �
       go m (meeting v w f close p y r) = clash (user t) u f
       go m (meeting v w f rest p y r) =
           meeting (extent nonlocal (local g)) w (put-same user t _) close (all-behind _ (mets b) (t ∷ []) outside′ .0 ∙ p) y
-          (deposit children (put user t (extent nonlocal (local g))) right g [] q e z nonlocal k (once-behind (b ++ (met t d ∷ [])) a once′) (begun refl) target
+          (deposit children (put user t (extent nonlocal (local g))) right g [] q e z nonlocal k
+          (once-behind (b ++ (met t d ∷ [])) a once′) (begun refl) target
           (keep (agree-refl children (lefts a)) (agree-put user t _ (mets a) (o .1)) (agree-refl right (mets a)) r))
 
 module _ (children user right : ℕ → Extent) (b : Line) where
