@@ -5,7 +5,7 @@ use Prim.Native.Nat.{ℕ}
 use native.Mathlib.Omega.{arith}
 use lib.Dec.{eqb}
 use borrow.Author.Tests.{eq-eqb, ne-eqb}
-use Rattle.words.specs.Words.{pick, both, either, both-right-off, pass, halt}
+use Rattle.words.specs.Words.{pick, both, either, both-right-off, true-both, pass, halt}
 use Rattle.layout.specs.Layout.{NONE, NL}
 use Rattle.rules.specs.Views.{View, view}
 use Rattle.calls.specs.Views.{isEmpty, headOf, tailOf, reducible}
@@ -46,6 +46,11 @@ module _ (h e : ℕ) where
       go : (b : Bool) → pick b vacant (extent (endOf h) (endOf e)) ≡ extent x y → (endOf h ≡ x) × (endOf e ≡ y)
       go true p = unfold pick in let z : _≡_ {A = ℕ} 0 1 = cc in absurd (omega (arith, z))
       go false p = unfold pick in (cc, cc)
+
+-- the two marks for none
+pub no-view : extentOf (view NONE NONE) ≡ vacant
+unfolding isEmpty
+no-view = empty-vacant NONE NONE (true-both (eq-eqb NONE NONE refl) (eq-eqb NONE NONE refl))
 
 pub vacant-empty : (v : View) → extentOf v ≡ vacant → isEmpty v ≡ true
 unfolding extentOf

@@ -18,3 +18,11 @@ pub mod Return
 pub mod Merges
 pub mod Finish
 pub mod FinishMemory
+pub mod Records
+pub mod SpawnWords
+pub mod Spawn
+pub mod SpawnMemory
+pub mod Freed
+pub mod OpenWords
+pub mod Open
+pub mod Tree

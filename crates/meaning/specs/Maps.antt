@@ -26,3 +26,15 @@ put-swap f k j x y n =
     (λ e. ap (put (put f k x) j y) e ∙ put-same (put f k x) j y ∙ sym (put-same f j y) ∙ ap (put f j y) (sym e))
     (λ c. put-other (put f k x) j y i c ∙ put-other f k x i d ∙ sym (put-other f j y i c))
     (equal? i j))
+
+-- three places written
+pub three-path : {A : Type 0} (f g : ℕ → A) (i j k : ℕ) (x y w : A) → (j ≡ i → ⊥) → (k ≡ i → ⊥) → (k ≡ j → ⊥) → g i ≡ x → g j ≡ y → g k ≡ w
+    → ((n : ℕ) → (n ≡ i → ⊥) → (n ≡ j → ⊥) → (n ≡ k → ⊥) → g n ≡ f n) → g ≡ put (put (put f i x) j y) k w
+three-path f g i j k x y w ji ki kj ex ey ew h =
+    put-path (put (put f i x) j y) g k w ew (λ n dk. ⊎-elim
+    (λ e. ap g e ∙ ey ∙ sym (put-same (put f i x) j y) ∙ ap (put (put f i x) j y) (sym e))
+    (λ dj. ⊎-elim
+    (λ e. ap g e ∙ ex ∙ sym (put-same f i x) ∙ ap (put f i x) (sym e))
+    (λ di. h n di dj dk ∙ sym (put-other f i x n di))
+    (equal? n i) ∙ sym (put-other (put f i x) j y n dj))
+    (equal? n j))

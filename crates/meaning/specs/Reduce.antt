@@ -6,7 +6,7 @@ use mathlib.Core.List.{List}
 use Prim.Native.Nat.{ℕ, _<_}
 use native.Mathlib.Omega.{arith}
 use lib.Dec.{ltb}
-use borrow.Author.Tests.{eq-eqb, lt-ltb, le-ltb}
+use borrow.Author.Tests.{lt-ltb, le-ltb}
 use Rattle.words.specs.Words.{pick, both, both-off, both-right-off, true-both, pass, halt}
 use Rattle.lists.specs.Counting.{equal?}
 use Rattle.layout.specs.Layout.{NONE, NL, head, tail, read, write}
@@ -23,7 +23,7 @@ use Rattle.meaning.specs.Kept.{Becomes, stays, becomes-then, becomes-as,
 use Rattle.meaning.specs.Views.{tail-written, view-set}
 use Rattle.meaning.specs.Segment.{number-below}
 use Rattle.meaning.specs.Links.{Linkable, link-made}
-use Rattle.meaning.specs.Extents.{end-nonlocal, end-local, empty-vacant, filled-extent, tailed-extent, extent-ends}
+use Rattle.meaning.specs.Extents.{end-nonlocal, end-local, empty-vacant, filled-extent, tailed-extent, extent-ends, no-view}
 
 -- what the link between two views of queue q needs
 abbrev pub Links : List ℕ → ℕ → ℕ → Extent → Extent → Type 0
@@ -62,10 +62,7 @@ tailed-word e h n q = subst (λ (y : End). Tailed (extent h y)) (end-local e (λ
 -- a view becomes empty
 pub view-emptied : (m : List ℕ) (q k t : ℕ) → Sized m → q < 4 → k < 3 → t < 128
     → Becomes m (setView m q t k (view NONE NONE)) (withView (meaningOf m) q k t vacant)
-unfolding isEmpty
-view-emptied m q k t z hq hk ht =
-    becomes-as (ap (withView (meaningOf m) q k t) (empty-vacant NONE NONE (true-both (eq-eqb NONE NONE refl) (eq-eqb NONE NONE refl))))
-    (view-set m q k t z hq hk ht (view NONE NONE))
+view-emptied m q k t z hq hk ht = becomes-as (ap (withView (meaningOf m) q k t) no-view) (view-set m q k t z hq hk ht (view NONE NONE))
 
 module _ (m : List ℕ) (q t k holder : ℕ) (z : Sized m) (hq : q < 4) (hk : k < 3) (ht : t < 128) where
   abbrev M : Meaning
