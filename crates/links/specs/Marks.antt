@@ -13,7 +13,7 @@ use Rattle.rules.specs.Contents.{Contents, decode, word}
 use Rattle.rules.specs.Rules.{Unfinished}
 use Rattle.rules_tasks.specs.Tested.{idle-says}
 use Rattle.rules_tasks.specs.Visits.{marks-once}
-use Rattle.rules_tasks.specs.Tasks.{tour-whole, marks-held}
+use Rattle.rules_tasks.specs.Tasks.{tour-whole, marks-held, holders-left}
 use Rattle.order.specs.Steps.{Item}
 use Rattle.links.specs.Linked.{Linked, tree, tour-is, holder-unfinished}
 
@@ -47,3 +47,7 @@ module _ (m : List ℕ) (T : List ℕ) (xs : List Item) (h : Linked m T xs) wher
     where
       busy : Unfinished c t → ⊥
       busy u = let f = u .1 in omega (arith, e, f)
+
+  -- an unfinished task is left too
+  pub mark-left : (t : ℕ) → Unfinished c t → 0 < occurrences (128 + t) T
+  mark-left t u = subst (λ (l : List ℕ). 0 < occurrences (128 + t) l) (sym whole) (holders-left c (h .top) (h .idle) (tree m T xs h) t (inr u))

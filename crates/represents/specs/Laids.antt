@@ -49,15 +49,14 @@ module _ (own : ℕ → ℕ) (single : (x : ℕ) → own x ≤ 1) (st : Store) (
   abbrev held : ℕ → ℕ → ℕ
   held x q = occurrences x (segments (line q))
 
-  total : (x : ℕ) → held x 0 + held x 1 + held x 2 + held x 3 + occurrences x (st .free) ≤ 1
+  total : (x : ℕ) → held x 0 + held x 1 + held x 2 + held x 3 + occurrences x (st .free) ≤ own x
   total x =
       let a = pool .total x in
       let b = occurs-append x (segments (line 0)) (segments (line 1) ++ (segments (line 2) ++ (segments (line 3) ++ []))) in
       let c = occurs-append x (segments (line 1)) (segments (line 2) ++ (segments (line 3) ++ [])) in
       let d = occurs-append x (segments (line 2)) (segments (line 3) ++ []) in
       let e = occurs-append x (segments (line 3)) [] in
-      let f = single x in
-      omega (arith, a, b, c, d, e, f)
+      omega (arith, a, b, c, d, e)
 
   -- a segment of one queue is neither another's nor free
   pub apart : (p q : ℕ) → p < 4 → q < 4 → (p ≡ q → ⊥) → (x : ℕ) → held x p + (held x q + occurrences x (st .free)) ≤ 1
@@ -70,7 +69,18 @@ module _ (own : ℕ → ℕ) (single : (x : ℕ) → own x ≤ 1) (st : Store) (
       p i n
     where
       sum : held x 0 + held x 1 + held x 2 + held x 3 + occurrences x (st .free) ≤ 1
+      sum = let a = total x in let b = single x in omega (arith, a, b)
+
+  -- a segment that a queue has, or that is free, is one of those opened, and stands there once
+  pub held-opened : (q : ℕ) → q < 4 → (x : ℕ) → held x q + occurrences x (st .free) ≤ own x
+  held-opened q i x =
+      by-queue (λ q. held x q + occurrences x (st .free) ≤ own x) (omega (arith, sum)) (omega (arith, sum)) (omega (arith, sum)) (omega (arith, sum)) q i
+    where
+      sum : held x 0 + held x 1 + held x 2 + held x 3 + occurrences x (st .free) ≤ own x
       sum = total x
+
+  pub mine-one : (q : ℕ) → q < 4 → (x : ℕ) → held x q + occurrences x (st .free) ≤ 1
+  mine-one q i x = let a = held-opened q i x in let b = single x in omega (arith, a, b)
 
   pub others-apart : (p q : ℕ) → p < 4 → q < 4 → (p ≡ q → ⊥) → All (λ x. held x q + occurrences x (st .free) ≡ 0) (segments (line p))
   others-apart p q i j n = all-in _ (segments (line p)) (λ x l. let a = apart p q i j n x in omega (arith, a, l))
