@@ -88,7 +88,7 @@ module _ (m : List ℕ) (xs : List Item) (r : Represents m xs) where
   pub here : (x : ℕ) → x < 128 → 0 < occurrences x (r .tour) → alive m x ≡ true
   here x l p = unfinished-alive m x (task-there x l p)
 
-  one-mine : (q : ℕ) → q < 4 → (x : ℕ) → mine (queueMemory m q .store) (r .line q) x ≤ 1
+  pub one-mine : (q : ℕ) → q < 4 → (x : ℕ) → mine (queueMemory m q .store) (r .line q) x ≤ 1
   unfolding queueMemory ofTasks
   one-mine q i = mine-one (opened m) (opened-single m) (storeIn m 0) (r .line) (old .laids .pool) q i
 

@@ -6,3 +6,5 @@ pub mod Plain
 pub mod Views
 pub mod Named
 pub mod FirstNamed
+pub mod At
+pub mod Push
