@@ -32,7 +32,7 @@ pub record Reduces (m : List ℕ) (t q holder : ℕ) : Type 0 where
   pub right-tailed : Tailed (viewIn m q RIGHT t)
   pub right-links : Links (words1 m t q) q holder (inner (meaningOf m) q holder t) (viewIn m q RIGHT t)
 
-kind-below : (x : ℕ) → kindAt x < 3
+pub kind-below : (x : ℕ) → kindAt x < 3
 unfolding kindAt
 kind-below x = go (ltb x 128)
   where

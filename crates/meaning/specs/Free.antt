@@ -1,7 +1,7 @@
 -- The stack of free segments: a free segment is taken, a segment is given back.
 use mathlib.Core.Path.{_≡_, refl, ap, ap₂, sym, subst, _∙_}
 use mathlib.Core.Bool.{Bool, true, false}
-use mathlib.Core.Option.{none, some, Option·none-ne-some}
+use mathlib.Core.Option.{none, some, Option·none-ne-some, Option·some-injective}
 use mathlib.Core.List.{List, [], _∷_, head-eq-of-cons-eq, tail-eq-of-cons-eq}
 use Prim.Native.Nat.{ℕ, zero, suc, _+_, _-_, _*_, _<_, _≤_}
 use native.Mathlib.Omega.{arith}
@@ -38,6 +38,14 @@ none-word w e = go (eqb w NONE) refl
     go : (b : Bool) → eqb w NONE ≡ b → w ≡ NONE
     go true q = eqb-true w NONE q
     go false q = absurd (Option·none-ne-some _ (sym e ∙ pass _ q refl))
+
+pub link-word : (w s : ℕ) → optional w ≡ some s → w ≡ s
+unfolding optional
+link-word w s e = go (eqb w NONE) refl
+  where
+    go : (b : Bool) → eqb w NONE ≡ b → w ≡ s
+    go true q = absurd (Option·none-ne-some _ (sym (halt _ _ q) ∙ e))
+    go false q = Option·some-injective w s (sym (pass _ q refl) ∙ e)
 
 pub some-word : (w s : ℕ) → optional w ≡ some s → w ≡ NONE → ⊥
 some-word w s e q = Option·none-ne-some _ (sym optional-none ∙ ap optional (sym q) ∙ e)

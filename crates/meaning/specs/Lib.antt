@@ -26,3 +26,9 @@ pub mod Freed
 pub mod OpenWords
 pub mod Open
 pub mod Tree
+pub mod Pop
+pub mod Push
+pub mod PushMemory
+pub mod Named
+pub mod Find
+pub mod FinishTest

@@ -56,7 +56,7 @@ joined-vacant M q holder vacant = refl
 joined-vacant M q holder (extent h nonlocal) = refl
 joined-vacant M q holder (extent h (local s)) = refl
 
-tailed-word : (e : ℕ) (h : End) → Tailed (extent h (endOf e)) → e ≡ NONE → ⊥
+pub tailed-word : (e : ℕ) (h : End) → Tailed (extent h (endOf e)) → e ≡ NONE → ⊥
 tailed-word e h n q = subst (λ (y : End). Tailed (extent h y)) (end-local e (λ p. omega (arith, p, q))) n q
 
 -- a view becomes empty

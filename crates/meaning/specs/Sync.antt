@@ -1,11 +1,11 @@
 -- sync: the children view is reduced with the user view, and the result is the user view, for each queue.
-use mathlib.Core.Path.{_≡_, ap, sym, _∙_}
+use mathlib.Core.Path.{_≡_, ap, ap₂, sym, _∙_}
 use mathlib.Core.List.{List}
 use Prim.Native.Nat.{ℕ, _<_}
 use native.Mathlib.Omega.{arith}
 use Rattle.layout.specs.Layout.{CHILDREN, USER, RIGHT}
 use Rattle.calls.specs.Views.{viewOf, setView, merged}
-use Rattle.calls.specs.Sync.{syncedQueue, synced}
+use Rattle.calls.specs.Sync.{syncs, syncedQueue, synced}
 use Rattle.gaps.specs.Maps.{put, put-same}
 use Rattle.gaps.specs.Line.{Extent, vacant}
 use Rattle.gaps.specs.Store.{Store}
@@ -15,6 +15,7 @@ use Rattle.meaning.specs.Update.{withStore, withView, view-here, view-ki
 use Rattle.meaning.specs.Reads.{view-at}
 use Rattle.meaning.specs.Kept.{Becomes, becomes-then, becomes-as}
 use Rattle.meaning.specs.Views.{view-set}
+use Rattle.meaning.specs.Extents.{reduces, reducible-extents}
 use Rattle.meaning.specs.Reduce.{Links, Tailed, view-merged, view-emptied}
 
 -- the segments of queue q after it
@@ -30,6 +31,13 @@ syncedIn M q holder t =
 pub record Syncs (m : List ℕ) (t q holder : ℕ) : Type 0 where
   pub tailed : Tailed (viewIn m q USER t)
   pub links : Links m q holder (viewIn m q CHILDREN t) (viewIn m q USER t)
+
+-- the test that the paper has the reduction, by extents
+pub sync-test : (m : List ℕ) (t q : ℕ) → t < 128 → q < 4 → syncs m t q ≡ reduces (viewIn m q CHILDREN t) (viewIn m q USER t)
+unfolding syncs
+sync-test m t q ht hq =
+    reducible-extents (viewOf m q t CHILDREN) (viewOf m q t USER)
+    ∙ sym (ap₂ reduces (view-at m q CHILDREN t hq (omega arith) ht) (view-at m q USER t hq (omega arith) ht))
 
 user-apart : USER ≡ CHILDREN → ⊥
 user-apart e = omega (arith, e)
