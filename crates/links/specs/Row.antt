@@ -38,6 +38,13 @@ module _ (c : Contents) where
   leads-below (oldest z l e m f) = omega (arith, l)
   leads-below (older z l e m f k) = omega (arith, l)
 
+  -- the top is left last
+  pub leads-on : {x y : ℕ} → Leads x y → x ≡ 128 → ⊥
+  leads-on (childless l e) q = omega (arith, l, q)
+  leads-on (child l e k) q = omega (arith, l, q)
+  leads-on (oldest z l e m f) q = omega (arith, z, q)
+  leads-on (older z l e m f k) q = omega (arith, z, q)
+
   tree-before : (k : ℕ) {x y : ℕ} → Leads x y → treeTest c k y ≡ true → treeTest c (suc k) x ≡ true
   tree-before k (childless {t} l e) h = met-none c k t l e h
   tree-before k (child {t} {y} l e i) h = met-child c k t l (subst (λ (u : ℕ). Kin c u t NONE) (sym e) i) (ap (treeTest c k) e ∙ h)

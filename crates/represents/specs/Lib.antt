@@ -6,5 +6,7 @@ pub mod Plain
 pub mod Views
 pub mod Named
 pub mod FirstNamed
+pub mod Room
 pub mod At
 pub mod Push
+pub mod Walks

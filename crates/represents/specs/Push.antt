@@ -1,13 +1,12 @@
 -- A PUSH keeps the invariant: into the tail segment, or into a new segment.
 use mathlib.Core.Path.{_≡_, refl, ap, sym, _∙_, subst}
-use mathlib.Core.Bool.{Bool, true, false}
 use mathlib.Core.Option.{Option, none, some}
 use mathlib.Core.List.{List, [], _∷_, _++_}
 use Prim.Native.Nat.{ℕ, _+_, _<_, _≤_}
 use native.Mathlib.Omega.{arith}
 use lib.Dec.{eqb}
 use borrow.Author.Tests.{ne-eqb}
-use Rattle.words.specs.Words.{pick, pass as skip}
+use Rattle.words.specs.Words.{pick, halt, pass as skip}
 use Rattle.layout.specs.Layout.{NL, USER, lengthWord, numberWord, count, next, tail, read, write}
 use Rattle.tree.specs.Rights.{uses, pushes as mayPush}
 use Rattle.calls.specs.Segments.{stored, taken}
@@ -35,12 +34,31 @@ use Rattle.represents.specs.Live.{live-into}
 use Rattle.represents.specs.Plain.{queue-represents}
 use Rattle.represents.specs.FirstNamed.{one-mine}
 use Rattle.represents.specs.At.{At, at, Behind, laid-at, time-at, single-spot}
+use mathlib.Core.Bool.{Bool, true, false, false≢true}
+use Rattle.lists.specs.Counting.{occurrences, occurs-here}
+use Rattle.calls.specs.Segments.{nextFree}
+use Rattle.gaps.specs.Maps.{put-other}
+use Rattle.gaps.specs.PushRows.{behind-row}
+use Rattle.gaps.specs.Moves.{pushedBehind}
+use Rattle.meaning.specs.Meaning.{freeIn, viewIn}
+use Rattle.meaning.specs.Update.{shared}
+use Rattle.meaning.specs.Push.{behindIn, pushed-behind}
+use Rattle.meaning.specs.PushMemory.{memory-behind, behind-elsewhere}
+use Rattle.represents.specs.Live.{live-behind}
+use Rattle.represents.specs.Room.{free-below}
+use Rattle.represents.specs.FirstNamed.{here, holder-unfinished}
+use Rattle.represents.specs.At.{uses-here, task-alive, task-unfinished}
 
 -- the memory of a queue by what the words have come to mean
 pub queue-memory : {m n : List ℕ} {M : Meaning} (q : ℕ) → Becomes m n M → queueMemory n q ≡ ofTasks (alive m) (memoryOf M q)
 unfolding queueMemory
 queue-memory {m} {n} {M} q b =
     ap (λ (a : ℕ → Bool). ofTasks a (memoryIn n q)) (same-alive m n (b .kept)) ∙ ap (λ (w : Meaning). ofTasks (alive m) (memoryOf w q)) (b .means)
+
+-- what others share is the same of all records and of those in use
+pub masked-share : (a : ℕ → Bool) (w : Memory) (v : Memory) → ofTasks a (shared (w .store) v) ≡ sharing (ofTasks a w .store) (ofTasks a v)
+unfolding ofTasks sharing
+masked-share a w v = refl
 
 made-push : (s : Task) (q v : ℕ) → made s (pushes q v) ≡ step (nameOf s) (pushes q v) ∷ spot s ∷ []
 unfolding made nameOf
@@ -103,3 +121,51 @@ module _ (m : List ℕ) (ys zs : List Item) (s : Task) (r : Represents m (ys ++ 
       (λ p i k. refl) (λ x e. parts-of m Old r .bare q small x e)
       (into-row (mine (queueMemory m q .store) (r .line q)) (one-mine m Old r q small) (queueMemory m q) (holders m Old r q) (stands .later) t (stands .chain) (stands .earlier) v
       (laid-at m ys zs s r q small stands) h z u)
+
+  -- only the task's own user view, and a place before it, are written
+  other-user : (x : ℕ) (v : Extent) → usesIn m q x ≡ false → put (queueMemory m q .user) t v x ≡ queueMemory m q .user x
+  other-user x v e = put-other (queueMemory m q .user) t v x (λ f. false≢true (sym e ∙ ap (usesIn m q) f ∙ uses-here m ys zs s r q has-right))
+
+  abbrev holder : ℕ
+  holder = holders m Old r q
+
+  holder-alive : alive m holder ≡ true
+  holder-alive = let w = holder-unfinished m Old r q small in here m Old r holder (w .0 .0) (w .1)
+
+  -- the user view by the words
+  user-word : {v : Extent} → queueMemory m q .user t ≡ v → viewIn m q USER t ≡ v
+  unfolding queueMemory ofTasks
+  user-word u = sym (halt _ _ (task-alive m ys zs s r)) ∙ u
+
+  -- A NEW SEGMENT BEHIND THE TAIL SEGMENT, which is full.
+  pub push-behind : (h : End) (z g : ℕ) (rest : List ℕ) (w : ℕ) (ws : List ℕ) → queueMemory m q .user t ≡ extent h (local z) → z < read m numberWord
+      → freeIn m ≡ g ∷ rest → contentsIn m z ≡ w ∷ ws → (z ≡ g → ⊥) → Played New
+      → Represents (write (write (taken m v) (next z) (nextFree m)) (tail USER t q) (nextFree m)) New
+  unfolding queueMemory ofTasks sharing
+  push-behind h z g rest w ws u low ef filled ne play =
+      pushed _ (behindIn (meaningOf m) q t h z g rest v) (pushedBehind holder t h z g rest v (queueMemory m q))
+      (pushed-behind m t q v g rest (r .sized) (task-unfinished m ys zs s r .0) small ef g-below z h (local z) low (user-word u)) play
+      same others bare
+      (behind-row (mine (queueMemory m q .store) (r .line q)) (one-mine m Old r q small) (queueMemory m q) holder (stands .later) t (stands .chain) (stands .earlier) v
+      (laid-at m ys zs s r q small stands) g rest free-is h z u)
+    where
+      g-below : g < read m numberWord
+      g-below = free-below m Old r g (let e = ap (occurrences g) ef in let f = occurs-here g g rest refl in omega (arith, e, f))
+
+      free-is : queueMemory m q .store .free ≡ g ∷ rest
+      free-is = unfold queueMemory ofTasks in ef
+
+      live : ofTasks (alive m) (pushedBehind holder t h z g rest v (memoryIn m q)) ≡ pushedBehind holder t h z g rest v (queueMemory m q)
+      live = unfold queueMemory in live-behind (alive m) holder t h z g rest v (memoryIn m q) holder-alive (task-alive m ys zs s r)
+
+      same : ofTasks (alive m) (memoryOf (behindIn (meaningOf m) q t h z g rest v) q) ≡ pushedBehind holder t h z g rest v (queueMemory m q)
+      same = ap (ofTasks (alive m)) (memory-behind (meaningOf m) q holder t h z g rest v w ws ne filled) ∙ live
+
+      others : (p : ℕ) → p < 4 → (p ≡ q → ⊥) → ofTasks (alive m) (memoryOf (behindIn (meaningOf m) q t h z g rest v) p) ≡ sharing (pushedBehind holder t h z g rest v (queueMemory m q) .store) (queueMemory m p)
+      others p i k =
+          ap (ofTasks (alive m)) (behind-elsewhere (meaningOf m) q holder t h z g rest v w ws ne filled p k)
+          ∙ masked-share (alive m) (pushedBehind holder t h z g rest v (memoryIn m q)) (memoryIn m p)
+          ∙ ap (λ (x : Memory). sharing (x .store) (queueMemory m p)) live
+
+      bare : (x : ℕ) → usesIn m q x ≡ false → (pushedBehind holder t h z g rest v (queueMemory m q) .children x ≡ vacant) × (pushedBehind holder t h z g rest v (queueMemory m q) .user x ≡ vacant) × (pushedBehind holder t h z g rest v (queueMemory m q) .right x ≡ vacant)
+      bare x e = let b = parts-of m Old r .bare q small x e in unfold pushedBehind in (b .0, other-user x (extent h (local g)) e ∙ b .1, b .2)
