@@ -43,7 +43,8 @@ module _ (m : List ℕ) (t q : ℕ) (ht : t < 128) (hq : q < 4) where
         let l : s < 256 = number-below z hs in
         let v = first-value m s w r l f in
         let c : read m (count (read m (queueHead t q))) ≡ suc (length r) = ap (λ (x : ℕ). read m (count x)) h ∙ v .1 in (
-          true-both (lt-ltb (read m (queueHead t q)) NL (omega (arith, h, l))) (ap not (ne-eqb (read m (count (read m (queueHead t q)))) 0 (λ d. omega (arith, c, d)))),
+          true-both (lt-ltb (read m (queueHead t q)) NL (omega (arith, h, l)))
+              (ap not (ne-eqb (read m (count (read m (queueHead t q)))) 0 (λ d. omega (arith, c, d)))),
           ap (λ (x : ℕ). valueAt m x 0) h ∙ v .0,
         )
 

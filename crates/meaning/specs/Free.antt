@@ -70,7 +70,8 @@ module _ (m : List ℕ) (s a b c : ℕ) where
   module _ (z : size m ≡ WORDS) (hs : s < 256) where
     pub set-only : OnlySegment m recordSet s
     set-only =
-        segment-then (segment-then (record-written m s 0 a hs (omega arith)) (record-written _ s 1 b hs (omega arith))) (record-written _ s 2 c hs (omega arith))
+        segment-then (segment-then (record-written m s 0 a hs (omega arith)) (record-written _ s 1 b hs (omega arith)))
+        (record-written _ s 2 c hs (omega arith))
 
     pub set-first : read recordSet (first s) ≡ a
     set-first =
@@ -136,7 +137,8 @@ stack-lowered m g r z e =
     (λ i. read-away m freeSegments (value i) (h - 1) (λ q. omega (arith, q)))
     r
     (ap (stack (λ i. read n (freeSegment i))) (lower ∙ (let a = j .1 in let w : h - 1 ≡ j .0 = omega (arith, a) in w))
-    ∙ stack-path (λ i. read m (freeSegment i)) (λ i. read n (freeSegment i)) (j .0) (λ i l. read-away m freeSegments (freeSegment i) (h - 1) (λ q. omega (arith, q)))
+    ∙ stack-path (λ i. read m (freeSegment i)) (λ i. read n (freeSegment i)) (j .0) (λ i l.
+    read-away m freeSegments (freeSegment i) (h - 1) (λ q. omega (arith, q)))
     ∙ j .3)
 
 -- A SEGMENT PUT ON TOP
@@ -153,7 +155,8 @@ stack-raised m s z hh =
     let above : (i : ℕ) → read n (freeSegment i) ≡ read m1 (freeSegment i) = λ i. read-away m1 freeSegments (freeSegment i) (h + 1) (λ q. omega (arith, q)) in
     stack-become m n z (segments-then (place-only m h s room) (height-only m1 (h + 1)))
     (omega (arith, raised, hh))
-    (λ t k a b. read-away m1 freeSegments (segment t k) (h + 1) (λ q. omega (arith, q)) ∙ read-away m (freeSegment h) (segment t k) s (λ q. omega (arith, q, room)))
+    (λ t k a b.
+    read-away m1 freeSegments (segment t k) (h + 1) (λ q. omega (arith, q)) ∙ read-away m (freeSegment h) (segment t k) s (λ q. omega (arith, q, room)))
     (λ i. read-away m1 freeSegments (value i) (h + 1) (λ q. omega (arith, q)) ∙ read-away m (freeSegment h) (value i) s (λ q. omega (arith, q, room)))
     (s ∷ freeIn m)
     (ap (stack (λ i. read n (freeSegment i))) (raised ∙ add-one h)
@@ -175,7 +178,8 @@ segment-made m s l v z hs el =
     let start : s * read m1 lengthWord + 0 ≡ s * l = ap (λ (x : ℕ). s * x + 0) el1 ∙ (let w : s * l + 0 ≡ s * l = omega arith in w) in
     let long : 1 ≤ l = rw (← el) (z .length-range .0) in
     let o : OnlySegment m n s = segment-then o1 (subst (λ i. OnlySegment m1 (write m1 (value i) v) s) start (value-written m1 s 0 v (rw el1 long))) in
-    let words : (k : ℕ) → k < 4 → read n (segment s k) ≡ read m1 (segment s k) = λ k g. read-away m1 (value (s * l)) (segment s k) v (λ w. omega (arith, w, hs', g)) in
+    let words : (k : ℕ) → k < 4 → read n (segment s k) ≡ read m1 (segment s k) = λ k g.
+    read-away m1 (value (s * l)) (segment s k) v (λ w. omega (arith, w, hs', g)) in
     let first0 : read n (first s) ≡ 0 = words 0 (omega arith) ∙ set-first m s 0 1 NONE (z .words) hs' in
     let count1 : read n (count s) ≡ 1 = words 1 (omega arith) ∙ set-count m s 0 1 NONE (z .words) hs' in
     segments-become (o .only)
@@ -186,7 +190,8 @@ segment-made m s l v z hs el =
     ∙ ap (λ (x : ℕ). x ∷ [])
     (value-word n s 0 l 0 (same-length (o .only) ∙ el) first0
     ∙ ap (λ (i : ℕ). read n (value i)) (ap (λ (i : ℕ). s * l + i) (place-low l 0 0 long) ∙ (let w : s * l + (0 + 0) ≡ s * l = omega arith in w))
-    ∙ read-same m1 (value (s * l)) v (o1 .only .words ∙ z .words) (let w = value-inside m s 0 z hs (rw el long) in let u = ap (λ (x : ℕ). s * x) el in omega (arith, w, u)))))
+    ∙ read-same m1 (value (s * l)) v (o1 .only .words ∙ z .words)
+    (let w = value-inside m s 0 z hs (rw el long) in let u = ap (λ (x : ℕ). s * x) el in omega (arith, w, u)))))
     (free-kept m n s z hs' o) refl refl
 
 segment-emptied : (m : List ℕ) (s : ℕ) → Sized m → s < read m numberWord

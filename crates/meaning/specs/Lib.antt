@@ -29,6 +29,5 @@ pub mod Tree
 pub mod Pop
 pub mod Push
 pub mod PushMemory
-pub mod Named
 pub mod Find
 pub mod FinishTest

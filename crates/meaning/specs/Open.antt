@@ -172,7 +172,11 @@ module _ (l n : ℕ) (hl : 1 ≤ l) (hl' : l ≤ 64) (hn : 4 ≤ n) (hn' : n ≤
     number-range = (rw (core-number l n hn hn') hn, rw (core-number l n hn hn') hn');
     product-range = rw (core-length l n hn hn', core-number l n hn hn') hp;
     free-height = let a = core-height l n hn hn' in let b = core-number l n hn hn' in omega (arith, a, b);
-    firsts = λ s h. let a = core-number l n hn hn' in let b = core-length l n hn hn' in let c = empty s (omega (arith, a, h, hn')) .0 in omega (arith, b, c, hl);
+    firsts = λ s h.
+        let a = core-number l n hn hn' in
+        let b = core-length l n hn hn' in
+        let c = empty s (omega (arith, a, h, hn')) .0 in
+        omega (arith, b, c, hl);
     counts = λ s h. let a = core-number l n hn hn' in let c = empty s (omega (arith, a, h, hn')) .1 in omega (arith, c);
   }
 

@@ -111,4 +111,6 @@ module _ (m : List ℕ) (t q s w : ℕ) (r : List ℕ) (z : Sized m) (ht : t < 1
       go [] er (some h) en = is-freed h er en (room er h en)
       go (v ∷ vs) er o en =
           becomes-as (ap with-values er)
-          (stays-held (true-right _ (ap not (ne-eqb (read m1 (count s)) 0 (λ d. let a : 0 ≡ suc (length vs) = sym d ∙ left ∙ ap length er in omega (arith, a))))))
+          (stays-held (true-right _ (ap not (ne-eqb (read m1 (count s)) 0 (λ d.
+          let a : 0 ≡ suc (length vs) = sym d ∙ left ∙ ap length er in
+          omega (arith, a))))))

@@ -26,7 +26,8 @@ pick-path false x y z h = refl
 pub listed-path : (f g : ℕ → ℕ) (n : ℕ) → ((k : ℕ) → k < n → g k ≡ f k) → listed g n ≡ listed f n
 unfolding listed
 listed-path f g zero h = refl
-listed-path f g (suc n) h = ap₂ (λ (x : ℕ) (l : List ℕ). x ∷ l) (h 0 (omega arith)) (listed-path (λ k. f (suc k)) (λ k. g (suc k)) n (λ k l. h (suc k) (omega arith)))
+listed-path f g (suc n) h =
+    ap₂ (λ (x : ℕ) (l : List ℕ). x ∷ l) (h 0 (omega arith)) (listed-path (λ k. f (suc k)) (λ k. g (suc k)) n (λ k l. h (suc k) (omega arith)))
 
 -- one more at the end
 pub listed-last : (f : ℕ → ℕ) (n : ℕ) → listed f (suc n) ≡ listed f n ++ f n ∷ []

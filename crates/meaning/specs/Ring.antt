@@ -105,7 +105,8 @@ contents-changed m n s xs hl el e hs hv =
     contents-same-at m n t el (λ l. hs t l d) (λ k. hv t _ d (place-below (read m lengthWord) (read m (first t)) k hl)))
 
 -- a value stored in segment s is in no other
-pub value-elsewhere : (m : List ℕ) (l s t i j v : ℕ) → (t ≡ s → ⊥) → i < l → j < l → read (write m (value (s * l + i)) v) (value (t * l + j)) ≡ read m (value (t * l + j))
+pub value-elsewhere : (m : List ℕ) (l s t i j v : ℕ) → (t ≡ s → ⊥) → i < l → j < l
+    → read (write m (value (s * l + i)) v) (value (t * l + j)) ≡ read m (value (t * l + j))
 unfolding address
 value-elsewhere m l s t i j v d hi hj =
     read-away m (value (s * l + i)) (value (t * l + j)) v (λ e. d (parts-apart l t s j i hj hi (omega (arith, e))))

@@ -44,16 +44,26 @@ height-only m v = record { words = size-write m freeSegments v; same = λ f h. r
 pub place-only : (m : List ℕ) (i v : ℕ) → i < 256 → SegmentsOnly m (write m (freeSegment i) v)
 unfolding address
 place-only m i v l =
-    record { words = size-write m (freeSegment i) v; same = λ f h. read-away m (freeSegment i) f v (λ e. beside-segments f h .1 (omega (arith, e)) (omega (arith, e, l))) }
+    record {
+      words = size-write m (freeSegment i) v;
+      same = λ f h. read-away m (freeSegment i) f v (λ e. beside-segments f h .1 (omega (arith, e)) (omega (arith, e, l)));
+    }
 
 pub segment-only : (m : List ℕ) (s k v : ℕ) → s < 256 → k < 4 → SegmentsOnly m (write m (segment s k) v)
 unfolding address
 segment-only m s k v l g =
-    record { words = size-write m (segment s k) v; same = λ f h. read-away m (segment s k) f v (λ e. beside-segments f h .2 (omega (arith, e)) (omega (arith, e, l, g))) }
+    record {
+      words = size-write m (segment s k) v;
+      same = λ f h. read-away m (segment s k) f v (λ e. beside-segments f h .2 (omega (arith, e)) (omega (arith, e, l, g)));
+    }
 
 pub value-only : (m : List ℕ) (i v : ℕ) → SegmentsOnly m (write m (value i) v)
 unfolding address
-value-only m i v = record { words = size-write m (value i) v; same = λ f h. read-away m (value i) f v (λ e. let a = beside-segments f h .3 in omega (arith, a, e)) }
+value-only m i v =
+    record {
+      words = size-write m (value i) v;
+      same = λ f h. read-away m (value i) f v (λ e. let a = beside-segments f h .3 in omega (arith, a, e));
+    }
 
 pub segments-sized : {m n : List ℕ} → SegmentsOnly m n → Sized m → read n freeSegments ≤ read m numberWord
     → ((s : ℕ) → s < read m numberWord → read n (first s) < read m lengthWord) → ((s : ℕ) → s < read m numberWord → read n (count s) ≤ read m lengthWord)

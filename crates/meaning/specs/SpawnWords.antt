@@ -175,7 +175,8 @@ module _ (m : List ℕ) (t r c : ℕ) (z : size m ≡ WORDS) (ht : t < 128) (hc 
     where
       three : TasksOnly m kept3
       three =
-          tasks-then (tasks-then (tasks-then (block-only m c 0 _ hc (omega arith)) (block-only linked1 c 16 _ hc views-fit)) (passed-only viewed t r size-viewed ht))
+          tasks-then (tasks-then (tasks-then (block-only m c 0 _ hc (omega arith)) (block-only linked1 c 16 _ hc views-fit))
+          (passed-only viewed t r size-viewed ht))
           (word-only (passedOn viewed t r) t YOUNGEST c ht (omega arith))
 
       go : (s : Bool) → eqb (read m (task t YOUNGEST)) NONE ≡ s → TasksOnly m (pick s kept3 (write kept3 (task (read m (task t YOUNGEST)) YOUNGER) c))
@@ -233,7 +234,8 @@ module _ (m : List ℕ) (t r c : ℕ) (z : size m ≡ WORDS) (ht : t < 128) (hc 
       three : read kept3 (task u j) ≡ read m (task u j)
       three =
           task-other (passedOn viewed t r) t YOUNGEST u j c (omega arith) (omega (arith, h)) a
-          ∙ passed-other viewed t r size-viewed ht u j (omega (arith, h)) (λ e f g. omega (arith, f, h)) (λ e f g. omega (arith, f, h)) (λ e f g. omega (arith, f, h))
+          ∙ passed-other viewed t r size-viewed ht u j (omega (arith, h))
+          (λ e f g. omega (arith, f, h)) (λ e f g. omega (arith, f, h)) (λ e f g. omega (arith, f, h))
           ∙ viewed-other u j n (omega (arith, h))
 
       go : (s : Bool) → read (pick s kept3 (write kept3 (task (read m (task t YOUNGEST)) YOUNGER) c)) (task u j) ≡ read m (task u j)

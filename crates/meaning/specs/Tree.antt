@@ -30,7 +30,10 @@ links-mean {m} {n} z o = tasks-mean (o .only) z refl refl refl (heads-same m n (
 -- A LINK WRITTEN
 pub link-written : (m : List ℕ) (t k v : ℕ) → t < 128 → k < 16 → LinksOnly m (write m (task t k) v)
 link-written m t k v ht hk =
-    record { only = word-only m t k v ht (omega (arith, hk)); views = λ u j a b l. task-other m t k u j v (omega (arith, hk)) l (λ e f. omega (arith, f, b, hk)) }
+    record {
+      only = word-only m t k v ht (omega (arith, hk));
+      views = λ u j a b l. task-other m t k u j v (omega (arith, hk)) l (λ e f. omega (arith, f, b, hk));
+    }
 
 -- the height of the stack of free records written
 pub idle-height-written : (m : List ℕ) (v : ℕ) → LinksOnly m (write m freeTasks v)

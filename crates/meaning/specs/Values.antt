@@ -72,7 +72,8 @@ value-dropped m s w r z hs e =
     let o : OnlySegment m n s = segment-then (record-written m s 0 (place l f 1) hs' (omega arith)) (record-written m1 s 1 (c - 1) hs' (omega arith)) in
     let number : read n (count s) ≡ c - 1 = read-same m1 (count s) (c - 1) (size-write m (first s) (place l f 1) ∙ z .words) (hs', omega arith) in
     let start : read n (first s) ≡ place l f 1 =
-    segment-other m1 s 1 s 0 (c - 1) (omega arith) (omega arith) (λ p q. omega (arith, q)) ∙ read-same m (first s) (place l f 1) (z .words) (hs', omega arith) in
+    segment-other m1 s 1 s 0 (c - 1) (omega arith) (omega arith) (λ p q. omega (arith, q))
+    ∙ read-same m (first s) (place l f 1) (z .words) (hs', omega arith) in
     let vals : (i : ℕ) → read n (value i) ≡ read m (value i) = λ i.
     read-away m1 (count s) (value i) (c - 1) (λ q. omega (arith, q, hs')) ∙ read-away m (first s) (value i) (place l f 1) (λ q. omega (arith, q, hs')) in
     let j = listed-first (valueAt m s) c w r (sym (contents-at m s hs') ∙ e) in
