@@ -10,3 +10,5 @@ pub mod Room
 pub mod At
 pub mod Push
 pub mod Walks
+pub mod Found
+pub mod PushApart

@@ -83,10 +83,10 @@ module _ (m : List ℕ) (ys zs : List Item) (s : Task) (r : Represents m (ys ++ 
   abbrev New : List Item
   New = advance t (pushes q v) Old
 
-  has-right : uses (rightsOf s) q ≡ true
+  pub has-right : uses (rightsOf s) q ≡ true
   has-right = pushes-uses (rightsOf s) q may
 
-  stands : At m ys zs s r q
+  pub stands : At m ys zs s r q
   stands = at m ys zs s r q small has-right
 
   abbrev Pushed : List Point
@@ -96,7 +96,7 @@ module _ (m : List ℕ) (ys zs : List Item) (s : Task) (r : Represents m (ys ++ 
   new-time = push-line q ys zs s (single-spot m ys zs s r) (timeline (contentsIn m) (stands .earlier)) (Behind m ys zs s r q small stands) v has-right (time-at m ys zs s r q small stands)
 
   -- from a row of the queue's line, and what the words have come to mean
-  pushed : (n : List ℕ) (M : Meaning) (W : Memory) → Becomes m n M → Played New → ofTasks (alive m) (memoryOf M q) ≡ W
+  pub pushed : (n : List ℕ) (M : Meaning) (W : Memory) → Becomes m n M → Played New → ofTasks (alive m) (memoryOf M q) ≡ W
       → ((p : ℕ) → p < 4 → (p ≡ q → ⊥) → ofTasks (alive m) (memoryOf M p) ≡ sharing (W .store) (queueMemory m p))
       → ((x : ℕ) → usesIn m q x ≡ false → (W .children x ≡ vacant) × (W .user x ≡ vacant) × (W .right x ≡ vacant))
       → After (mine (queueMemory m q .store) (r .line q)) (queueMemory m q .store) W (holders m Old r q) (stands .later ++ (met t (stands .chain) ∷ stands .earlier)) Pushed
@@ -123,13 +123,13 @@ module _ (m : List ℕ) (ys zs : List Item) (s : Task) (r : Represents m (ys ++ 
       (laid-at m ys zs s r q small stands) h z u)
 
   -- only the task's own user view, and a place before it, are written
-  other-user : (x : ℕ) (v : Extent) → usesIn m q x ≡ false → put (queueMemory m q .user) t v x ≡ queueMemory m q .user x
+  pub other-user : (x : ℕ) (v : Extent) → usesIn m q x ≡ false → put (queueMemory m q .user) t v x ≡ queueMemory m q .user x
   other-user x v e = put-other (queueMemory m q .user) t v x (λ f. false≢true (sym e ∙ ap (usesIn m q) f ∙ uses-here m ys zs s r q has-right))
 
   abbrev holder : ℕ
   holder = holders m Old r q
 
-  holder-alive : alive m holder ≡ true
+  pub holder-alive : alive m holder ≡ true
   holder-alive = let w = holder-unfinished m Old r q small in here m Old r holder (w .0 .0) (w .1)
 
   -- the user view by the words
