@@ -12,3 +12,4 @@ pub mod Push
 pub mod Walks
 pub mod Found
 pub mod PushApart
+pub mod Pop
