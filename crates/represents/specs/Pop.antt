@@ -48,6 +48,7 @@ use Rattle.meaning.specs.Kept.{Becomes}
 use Rattle.meaning.specs.Pop.{poppedIn, memory-popped, value-popped}
 use Rattle.meaning.specs.Find.{value-there, no-value}
 use Rattle.represents.specs.Represents.{alive, ofTasks, queueMemory, usesIn, Represents}
+use Rattle.represents.specs.Nexts.{Nexts, nexts-popped, words-nexts}
 use Rattle.represents.specs.Laids.{sharing}
 use Rattle.represents.specs.Parts.{holders, parts-of}
 use Rattle.represents.specs.Live.{live-popping}
@@ -209,11 +210,17 @@ module _ (m : List ℕ) (ys zs : List Item) (s : Task) (r : Represents m (ys ++ 
     pub pop-represents : Played New → Represents (popped m t q) New
     unfolding queueMemory ofTasks sharing
     pop-represents play =
-        queue-represents m ys zs s r (pops q) (plain-pop q) (made-pop s q) (popped m t q) (becomes .kept) (becomes .sized) play q small Rest
+        queue-represents m ys zs s r (pops q) (plain-pop q) (made-pop s q) (popped m t q) (becomes .kept) (becomes .sized) play q small Rest nexts
         (subst (λ (x : Memory). After (mine (queueMemory m q .store) (r .line q)) (queueMemory m q .store) x (holders m Old r q) (r .line q) Rest) (sym same)
         (subst (λ (l : Line). After (mine (queueMemory m q .store) (r .line q)) (queueMemory m q .store) after (holders m Old r q) l Rest) (sym (bottom .3)) (row .1)))
         others bare new-time (λ p i k. quiet q p k)
       where
+        nexts : Nexts (read m numberWord) (nextIn (popped m t q))
+        nexts =
+            subst (λ (x : Memory). Nexts (read m numberWord) (x .store .next)) (sym same)
+            (unfold memoryPopped in
+            nexts-popped (read m numberWord) (let l = r .sized .number-range .0 in omega (arith, l)) ws (nextIn m g) (holders m Old r q) g (queueMemory m q .store) (words-nexts m (r .sized) (r .nexts)))
+
         others : (p : ℕ) → p < 4 → (p ≡ q → ⊥) → queueMemory (popped m t q) p ≡ sharing (queueMemory (popped m t q) q .store) (queueMemory m p)
         others p i k =
             queue-memory p becomes

@@ -26,7 +26,7 @@ use Rattle.gaps.specs.Store.{Memory, Chain, Laid}
 use Rattle.gaps.specs.Chains.{Gap, Sole, count-gap}
 use Rattle.gaps.specs.Joins.{is-sole}
 use Rattle.gaps.specs.Lines.{count-segments, first-behind}
-use Rattle.gaps.specs.Moves.{Place, viewAt, childrenWith, rightsWith, pushedApart}
+use Rattle.gaps.specs.Moves.{Place, viewAt, taken as taken-store, pushedApart}
 use Rattle.gaps.specs.Places.{Target, target-in}
 use Rattle.gaps.specs.Search.{firstOf, placeAt, standsAt as viewStands, Ends, ends-behind, target-found}
 use Rattle.gaps.specs.Find.{Found, nothing, find, user-settled}
@@ -48,6 +48,7 @@ use Rattle.meaning.specs.Push.{takenIn, apartIn, pushed-apart}
 use Rattle.meaning.specs.PushMemory.{memory-apart, apart-elsewhere}
 use Rattle.meaning.specs.Finish.{kind-below}
 use Rattle.represents.specs.Represents.{alive, ofTasks, queueMemory, usesIn, Represents}
+use Rattle.represents.specs.Nexts.{nexts-taken, nexts-joined}
 use Rattle.represents.specs.Laids.{sharing}
 use Rattle.represents.specs.Parts.{holders, parts-of}
 use Rattle.represents.specs.Plain.{same-links}
@@ -56,7 +57,7 @@ use Rattle.represents.specs.Named.{OnlyNamed, named-by}
 use Rattle.represents.specs.FirstNamed.{first-named, one-mine, segment-below}
 use Rattle.represents.specs.Room.{free-below, held-free}
 use Rattle.represents.specs.At.{At, where-it-stands, laid-at, task-unfinished, task-alive, uses-here}
-use Rattle.represents.specs.Push.{stands, has-right, holder-alive, other-user, pushed, masked-share}
+use Rattle.represents.specs.Push.{stands, has-right, holder-alive, other-user, pushed, masked-share, some-opened, old-nexts}
 use Rattle.represents.specs.Walks.{first-path, tour-ends, same-stand, top-uses}
 use Rattle.represents.specs.Found.{Placed, found-placed, children-elsewhere, rights-elsewhere}
 use Rattle.represents.specs.Views.{uses-small}
@@ -267,11 +268,14 @@ module _ (m : List ℕ) (ys zs : List Item) (s : Task) (r : Represents m (ys ++ 
   live = live-apart (alive m) (holders m Old r q) t (placeAt y) g rest v (memoryIn m q) (holder-alive m ys zs s r q v small may) (task-alive m ys zs s r) (placed .holds)
 
   pub push-apart : Played New → Represents (setView (joined (taken m v) q (taskAt x) (kindAt x) (view (nextFree m) NL)) q t USER (view NL (nextFree m))) New
-  unfolding queueMemory ofTasks sharing
+  unfolding queueMemory ofTasks sharing pushedApart
   push-apart play =
       subst (λ (z : ℕ). Represents (setView (joined (taken m v) q (taskAt z) (kindAt z) (view (nextFree m) NL)) q t USER (view NL (nextFree m))) New) (sym search-is)
       (pushed m ys zs s r q v small may _ (apartIn (meaningOf m) q (holders m Old r q) t (kindAt y) (taskAt y) g rest v) after
       (pushed-apart m t q v g rest (r .sized) (task-unfinished m ys zs s r .0) small ef g-below (taskAt y) (kindAt y) (holders m Old r q) (placed .range) (kind-below y) links) play
+      (nexts-joined (read m numberWord) (some-opened m ys zs s r q v small may) (holders m Old r q) (viewAt (queueMemory m q .children) (queueMemory m q .right) (placeAt y)) (extent (local g) nonlocal)
+      (taken-store g rest v (queueMemory m q .store)) g-below
+      (nexts-taken (read m numberWord) (some-opened m ys zs s r q v small may) g rest v (queueMemory m q .store) (old-nexts m ys zs s r q v small may)))
       same others bare
       (apart-row (mine (queueMemory m q .store) (r .line q)) (one-mine m Old r q small) (queueMemory m q) (holders m Old r q) (here .later) t (here .chain) a v laid g rest ef (placeAt y) empty target))
     where
