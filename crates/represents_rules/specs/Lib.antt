@@ -1,0 +1,5 @@
+pub mod Words
+pub mod Tasks
+pub mod Segments
+pub mod Heads
+pub mod Views
