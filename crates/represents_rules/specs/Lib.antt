@@ -5,3 +5,6 @@ pub mod Heads
 pub mod Views
 pub mod Modes
 pub mod Order
+pub mod Ends
+pub mod MarkSums
+pub mod Named

@@ -33,17 +33,17 @@ module _ (m : List ℕ) (xs : List Item) (r : Represents m xs) where
   module _ (t : ℕ) (u : Unfinished c t) where
     -- without a right its views are vacant
     module _ (q : ℕ) (small : q < 4) (n : uses (word c t RIGHTS) q ≡ false) where
-      children-none : (word c t (20 + q) ≡ NONE) × (word c t (32 + q) ≡ NONE)
+      pub children-none : (word c t (20 + q) ≡ NONE) × (word c t (32 + q) ≡ NONE)
       children-none =
           subst (λ (v : Extent). ViewWords v (word c t (20 + q)) (word c t (32 + q)))
           (r .queue q small .bare t (uses-word m xs r q small t u ∙ n) .0) (children-words m xs r q small t u)
 
-      user-none : (word c t (24 + q) ≡ NONE) × (word c t (36 + q) ≡ NONE)
+      pub user-none : (word c t (24 + q) ≡ NONE) × (word c t (36 + q) ≡ NONE)
       user-none =
           subst (λ (v : Extent). ViewWords v (word c t (24 + q)) (word c t (36 + q)))
           (r .queue q small .bare t (uses-word m xs r q small t u ∙ n) .1) (user-words m xs r q small t u)
 
-      right-none : (word c t (28 + q) ≡ NONE) × (word c t (40 + q) ≡ NONE)
+      pub right-none : (word c t (28 + q) ≡ NONE) × (word c t (40 + q) ≡ NONE)
       right-none =
           subst (λ (v : Extent). ViewWords v (word c t (28 + q)) (word c t (40 + q)))
           (r .queue q small .bare t (uses-word m xs r q small t u ∙ n) .2) (right-words m xs r q small t u)
