@@ -97,7 +97,8 @@ module _ (m : List ℕ) (xs : List Item) (r : Represents m xs) where
     one-owner : length (owners c q (met (r .tour))) ≡ 1
     one-owner =
         over-owners c q (met (r .tour))
-        ∙ over-at (met (r .tour)) (λ t. pick (eqb (word c t (16 + q)) NONE) 0 1) holder (λ t p n. halt _ _ (eq-eqb _ _ (other-head t (met-busy m xs r t p) n)))
+        ∙ over-at (met (r .tour)) (λ t. pick (eqb (word c t (16 + q)) NONE) 0 1) holder
+        (λ t p n. halt _ _ (eq-eqb _ _ (other-head t (met-busy m xs r t p) n)))
         ∙ ap (λ (k : ℕ). k * pick (eqb (word c holder (16 + q)) NONE) 0 1) holder-once
         ∙ ap (λ (k : ℕ). 1 * k) (pass 0 (ne-eqb _ _ some) refl)
       where

@@ -8,3 +8,8 @@ pub mod Order
 pub mod Ends
 pub mod MarkSums
 pub mod Named
+pub mod Chains
+pub mod Free
+pub mod Lists
+pub mod Held
+pub mod RulesHold

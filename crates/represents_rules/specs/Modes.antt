@@ -43,7 +43,8 @@ views-plain (leaving v e i r) h = inside-plain i (views-plain r h)
 views-plain (meeting {c = d} {l = l} v w e i f b r) h = begins-plain b (all-front Plain d (segments l) h)
 views-plain (passing r) h = views-plain r h
 
--- THE STATE of the test of order in front of which a mode stands: 1 where the view behind begins with a non-local head
+-- The state of the test of order at a place of the line: 1 where the view behind begins with a non-local head, since the
+-- chain's tail is still to come; 0 where not.
 abbrev pub stateOf : Mode → ℕ
 stateOf settled = 0
 stateOf (awaiting z) = 1
@@ -68,7 +69,8 @@ begins-passed h e (whole {s = s} {z = z} {c = d} f) w p =
     let y = w .1 in
     let a = p .0 in
     let b = last-plain s z d f p in
-    passed-fit h e 0 (λ z. omega (arith, x, z, a)) (λ z. omega (arith, y, z, b)) (marked-no e (λ z. omega (arith, y, z, b))) ∙ marked-no h (λ z. omega (arith, x, z, a))
+    passed-fit h e 0 (λ z. omega (arith, x, z, a)) (λ z. omega (arith, y, z, b)) (marked-no e (λ z. omega (arith, y, z, b)))
+    ∙ marked-no h (λ z. omega (arith, x, z, a))
 begins-passed h e (begun f) w p =
     let x = w .0 in
     let y = w .1 in

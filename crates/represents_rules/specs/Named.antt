@@ -1,6 +1,6 @@
 -- Of memory that represents program order: a segment is a head of the tasks' views as often as it is the first of a chain
 -- of the four lines, and a tail as often as it is the last of one.
-use mathlib.Core.Path.{_≡_, refl, ap, _∙_, subst}
+use mathlib.Core.Path.{_≡_, refl, ap, _∙_}
 use mathlib.Core.Bool.{false}
 use mathlib.Core.Logic.{inl, inr}
 use mathlib.Core.List.{List, []}
@@ -8,7 +8,6 @@ use Prim.Native.Nat.{ℕ, _+_, _-_, _*_, _<_}
 use native.Mathlib.Omega.{arith}
 use lib.Dec.{eqb}
 use lib.ListN.{drop}
-use Rattle.words.specs.Words.{pass}
 use Rattle.lists.specs.Counting.{one, occurrences, over, total, occurs-cons, occurs-nil, total-ext}
 use Rattle.lists.specs.Sums.{over-plus, over-ext, over-at, over-total}
 use Rattle.layout.specs.Layout.{RIGHTS}
@@ -20,10 +19,9 @@ use Rattle.rules_views.specs.Toured.{over-heads, over-tails}
 use Rattle.view_laws.specs.Counts.{names, namesAt, heads-count, tails-count}
 use Rattle.order.specs.Steps.{Item}
 use Rattle.gaps.specs.Maps.{All, lastOf, all-front, all-behind}
-use Rattle.gaps.specs.Line.{Extent, Mark, Line, marks, segments, firstChain, Mode, Views, queue, leaving, meeting, passing}
+use Rattle.gaps.specs.Line.{Mark, Line, marks, segments, firstChain, Mode, Views, queue, leaving, meeting, passing}
 use Rattle.gaps.specs.Store.{Memory}
 use Rattle.represents.specs.Represents.{Represents, queueMemory}
-use Rattle.represents_rules.specs.Words.{ViewWords}
 use Rattle.represents_rules.specs.Tasks.{met-busy, Marked, marked, children-words, user-words, right-words}
 use Rattle.represents_rules.specs.MarkSums.{atMark, met-term, left-term, tour-sum}
 use Rattle.represents_rules.specs.Heads.{holder, firstSegment, first-is, first-opened, holder-head, other-head, holder-once}
@@ -83,14 +81,14 @@ module _ (m : List ℕ) (xs : List Item) (r : Represents m xs) (s : ℕ) where
         let u = h .0 .0 in
         let a = line-heads o (h .1) p in
         let b = left-term (metHeads q) (leftHead q) (128 + t) t refl in
-        let d = inside-head s _ _ i (subst (λ (w : Extent). ViewWords w (word c t (20 + q)) (word c t (32 + q))) e (children-words m xs r q small t u)) in
+        let d = inside-head s _ _ i (children-words m xs r q small t u v e) in
         omega (arith, a, b, d)
     line-heads (meeting {t = t} {c = d} {l = l} v w e i f g o) h p =
         let u = h .0 .0 in
         let a = line-heads o (h .1) (all-behind Plain d (segments l) p) in
         let b = met-term (metHeads q) (leftHead q) t (u .0) in
-        let j = inside-head s _ _ i (subst (λ (k : Extent). ViewWords k (word c t (24 + q)) (word c t (36 + q))) e (user-words m xs r q small t u)) in
-        let k = begins-head s _ _ (firsts l) g (subst (λ (k : Extent). ViewWords k (word c t (28 + q)) (word c t (40 + q))) f (right-words m xs r q small t u)) (all-front Plain d (segments l) p) in
+        let j = inside-head s _ _ i (user-words m xs r q small t u v e) in
+        let k = begins-head s _ _ (firsts l) g (right-words m xs r q small t u w f) (all-front Plain d (segments l) p) in
         omega (arith, a, b, j, k)
     line-heads (passing {x = x} o) h p = let a = line-heads o (h .1) p in let b = past-term (metHeads q) (leftHead q) x (h .0) no-heads in omega (arith, a, b)
 
@@ -106,35 +104,33 @@ module _ (m : List ℕ) (xs : List Item) (r : Represents m xs) (s : ℕ) where
         let u = h .0 .0 in
         let a = line-tails o (h .1) p in
         let b = left-term (metTails q) (leftTail q) (128 + t) t refl in
-        let d = inside-tail s _ _ i (subst (λ (w : Extent). ViewWords w (word c t (20 + q)) (word c t (32 + q))) e (children-words m xs r q small t u)) (views-plain o p) in
+        let d = inside-tail s _ _ i (children-words m xs r q small t u v e) (views-plain o p) in
         omega (arith, a, b, d)
     line-tails (meeting {t = t} {c = d} {l = l} v w e i f g o) h p =
         let u = h .0 .0 in
         let y = all-behind Plain d (segments l) p in
         let a = line-tails o (h .1) y in
         let b = met-term (metTails q) (leftTail q) t (u .0) in
-        let j = inside-tail s _ _ i (subst (λ (k : Extent). ViewWords k (word c t (24 + q)) (word c t (36 + q))) e (user-words m xs r q small t u)) (views-plain o y) in
-        let k = begins-tail s _ _ (lasts l) g (subst (λ (k : Extent). ViewWords k (word c t (28 + q)) (word c t (40 + q))) f (right-words m xs r q small t u)) (all-front Plain d (segments l) p) in
+        let j = inside-tail s _ _ i (user-words m xs r q small t u v e) (views-plain o y) in
+        let k = begins-tail s _ _ (lasts l) g (right-words m xs r q small t u w f) (all-front Plain d (segments l) p) in
         omega (arith, a, b, j, k)
     line-tails (passing {x = x} o) h p = let a = line-tails o (h .1) p in let b = past-term (metTails q) (leftTail q) x (h .0) no-tails in omega (arith, a, b)
 
     -- ONE QUEUE: the holder's queue head is the first segment of the first chain
     held-head : over (met (r .tour)) (queueHead q) ≡ occurrences s (withFirst (firstChain (r .line q)) [])
     held-head =
+        let h = holder m xs r q small in
+        let f = firstSegment m xs r q small in
+        let low = first-opened m xs r q small in
+        let few = r .sized .number-range .1 in
+        let a =
         over-at (met (r .tour)) (queueHead q) h (λ t p n. none-names s _ (other-head m xs r q small t (met-busy m xs r t p) n))
-        ∙ ap (λ (k : ℕ). k * queueHead q h) (holder-once m xs r q small)
-        ∙ (let a = plain-names s (word c h (16 + q)) first (holder-head m xs r q small) (let b = first-opened m xs r q small in let d = r .sized .number-range .1 in omega (arith, b, d)) in
-        let b = ap (λ (k : List ℕ). occurrences s (withFirst k [])) (first-is m xs r q small .1) in
-        let d = occurs-cons first s [] in
-        let e = occurs-nil s in
-        let z : 1 * queueHead q h ≡ occurrences s (withFirst (firstChain (r .line q)) []) = omega (arith, a, b, d, e) in
-        z)
-      where
-        h : ℕ
-        h = holder m xs r q small
-
-        first : ℕ
-        first = firstSegment m xs r q small
+        ∙ ap (λ (k : ℕ). k * queueHead q h) (holder-once m xs r q small) in
+        let b = plain-names s (word c h (16 + q)) f (holder-head m xs r q small) (omega (arith, low, few)) in
+        let d = ap (λ (k : List ℕ). occurrences s (withFirst k [])) (first-is m xs r q small .1) in
+        let e = occurs-cons f s [] in
+        let g = occurs-nil s in
+        omega (arith, a, b, d, e, g)
 
     queue-heads : over (met (r .tour)) (λ t. queueHead q t + (metHeads q t + leftHead q t)) ≡ occurrences s (firsts (r .line q))
     queue-heads =

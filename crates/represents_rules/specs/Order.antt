@@ -1,6 +1,6 @@
 -- Of memory that represents program order: the test of order goes through each queue's line and ends with a non-local
 -- tail awaited, that of the queue view.
-use mathlib.Core.Path.{_≡_, refl, ap, sym, _∙_, subst}
+use mathlib.Core.Path.{_≡_, refl, ap, sym, _∙_}
 use mathlib.Core.Bool.{true}
 use mathlib.Core.Logic.{inl, inr}
 use mathlib.Core.List.{List}
@@ -20,7 +20,6 @@ use Rattle.gaps.specs.Maps.{All, all-map, all-front, all-behind}
 use Rattle.gaps.specs.Line.{Extent, Line, marks, segments, Mark, Mode, settled, Inside, Begins, Views, queue, leaving, meeting, passing}
 use Rattle.gaps.specs.Store.{Memory}
 use Rattle.represents.specs.Represents.{Represents, queueMemory}
-use Rattle.represents_rules.specs.Words.{ViewWords}
 use Rattle.represents_rules.specs.Tasks.{Marked, marked, children-words, user-words, right-words}
 use Rattle.represents_rules.specs.Segments.{line-opened}
 use Rattle.represents_rules.specs.Modes.{Plain, PlainMode, views-plain, stateOf, inside-passed, begins-passed}
@@ -46,19 +45,19 @@ module _ (m : List ℕ) (xs : List Item) (r : Represents m xs) where
       left-passed {b = b} v e i p =
           at-left c q (128 + t) (stateOf b) (le-ltb (128 + t) 128 (omega arith)) (ap (λ (k : ℕ). uses (word c k RIGHTS) q) back ∙ yes)
           ∙ ap (λ (k : ℕ). passedAt c q k CHILDREN (stateOf b)) back
-          ∙ inside-passed _ _ i (subst (λ (w : Extent). ViewWords w (word c t (20 + q)) (word c t (32 + q))) e (children-words m xs r q small t u)) p
+          ∙ inside-passed _ _ i (children-words m xs r q small t u v e) p
         where
           back : 128 + t - 128 ≡ t
           back = omega arith
 
       -- where it is met
-      met-passed : {a b : Mode} {d : List ℕ} (v w : Extent) → M .user t ≡ v → Inside a v settled → M .right t ≡ w → Begins d w b → PlainMode a → All Plain d
-          → orderAt c q t (stateOf b) ≡ stateOf a
+      met-passed : {a b : Mode} {d : List ℕ} (v w : Extent) → M .user t ≡ v → Inside a v settled → M .right t ≡ w → Begins d w b
+          → PlainMode a → All Plain d → orderAt c q t (stateOf b) ≡ stateOf a
       unfolding passedAt
       met-passed {b = b} v w e i f g p s =
           at-met c q t (stateOf b) (lt-ltb t 128 (u .0)) yes
-          ∙ ap (passedAt c q t USER) (begins-passed _ _ g (subst (λ (k : Extent). ViewWords k (word c t (28 + q)) (word c t (40 + q))) f (right-words m xs r q small t u)) s)
-          ∙ inside-passed _ _ i (subst (λ (k : Extent). ViewWords k (word c t (24 + q)) (word c t (36 + q))) e (user-words m xs r q small t u)) p
+          ∙ ap (passedAt c q t USER) (begins-passed _ _ g (right-words m xs r q small t u w f) s)
+          ∙ inside-passed _ _ i (user-words m xs r q small t u v e) p
 
     -- ALONG THE LINE the state is that of the mode
     order-line : {l : Line} {n : Mode} → Views (M .children) (M .user) (M .right) l n → All (Marked m xs r q small) l → All Plain (segments l)

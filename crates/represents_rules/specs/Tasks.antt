@@ -21,7 +21,7 @@ use Rattle.rules_same.specs.Same.{whole-tour}
 use Rattle.calls.specs.Waits.{rightsOf}
 use Rattle.order.specs.Steps.{Item}
 use Rattle.gaps.specs.Maps.{All}
-use Rattle.gaps.specs.Line.{Mark, base, left, pass as past, Line, marks, Fits}
+use Rattle.gaps.specs.Line.{Extent, Mark, base, left, pass as past, Line, marks, Fits}
 use Rattle.gaps.specs.Line.Mark.{met as meeting}
 use Rattle.links.specs.Linked.{tree, tour-is, word-is, holder-unfinished}
 use Rattle.links.specs.Marks.{mark-held}
@@ -67,17 +67,17 @@ module _ (m : List ℕ) (xs : List Item) (r : Represents m xs) where
   -- ONE QUEUE: the words of its views
   module _ (q : ℕ) (small : q < 4) where
     module _ (t : ℕ) (u : Unfinished c t) where
-      pub children-words : ViewWords (queueMemory m q .children t) (word c t (20 + q)) (word c t (32 + q))
+      pub children-words : (v : Extent) → queueMemory m q .children t ≡ v → ViewWords v (word c t (20 + q)) (word c t (32 + q))
       unfolding queueMemory ofTasks
-      children-words = subst (λ v. ViewWords v (word c t (20 + q)) (word c t (32 + q))) (sym (halt _ _ (alive-yes m t u))) (kind-words m q CHILDREN t small (omega arith) (u .0))
+      children-words v e = kind-words m q CHILDREN t v small (omega arith) (u .0) (sym (halt _ _ (alive-yes m t u)) ∙ e)
 
-      pub user-words : ViewWords (queueMemory m q .user t) (word c t (24 + q)) (word c t (36 + q))
+      pub user-words : (v : Extent) → queueMemory m q .user t ≡ v → ViewWords v (word c t (24 + q)) (word c t (36 + q))
       unfolding queueMemory ofTasks
-      user-words = subst (λ v. ViewWords v (word c t (24 + q)) (word c t (36 + q))) (sym (halt _ _ (alive-yes m t u))) (kind-words m q USER t small (omega arith) (u .0))
+      user-words v e = kind-words m q USER t v small (omega arith) (u .0) (sym (halt _ _ (alive-yes m t u)) ∙ e)
 
-      pub right-words : ViewWords (queueMemory m q .right t) (word c t (28 + q)) (word c t (40 + q))
+      pub right-words : (v : Extent) → queueMemory m q .right t ≡ v → ViewWords v (word c t (28 + q)) (word c t (40 + q))
       unfolding queueMemory ofTasks
-      right-words = subst (λ v. ViewWords v (word c t (28 + q)) (word c t (40 + q))) (sym (halt _ _ (alive-yes m t u))) (kind-words m q RIGHT t small (omega arith) (u .0))
+      right-words v e = kind-words m q RIGHT t v small (omega arith) (u .0) (sym (halt _ _ (alive-yes m t u)) ∙ e)
 
       pub head-word : queueMemory m q .store .heads t ≡ optional (word c t (16 + q))
       unfolding queueMemory ofTasks

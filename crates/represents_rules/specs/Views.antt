@@ -1,6 +1,6 @@
 -- Of memory that represents program order: a task has no view of a queue to which it has no right, and no queue head is
 -- non-local.
-use mathlib.Core.Path.{_≡_, ap, sym, _∙_, subst}
+use mathlib.Core.Path.{_≡_, ap, sym, _∙_}
 use mathlib.Core.Bool.{true, false, false≢true}
 use mathlib.Core.Logic.{⊎-elim}
 use mathlib.Core.List.{List}
@@ -19,9 +19,8 @@ use Rattle.view_laws.specs.Tasks.{MayKind, MayQueues}
 use Rattle.view_laws.specs.Toured.{kinds-words}
 use Rattle.order.specs.Steps.{Item}
 use Rattle.links.specs.Marks.{mark-once}
-use Rattle.gaps.specs.Line.{Extent}
+use Rattle.gaps.specs.Line.{vacant}
 use Rattle.represents.specs.Represents.{Represents}
-use Rattle.represents_rules.specs.Words.{ViewWords}
 use Rattle.represents_rules.specs.Tasks.{whole, holder-busy, children-words, user-words, right-words, uses-word}
 use Rattle.represents_rules.specs.Heads.{holder, holder-uses, holder-head, other-head, first-opened}
 
@@ -34,19 +33,13 @@ module _ (m : List ℕ) (xs : List Item) (r : Represents m xs) where
     -- without a right its views are vacant
     module _ (q : ℕ) (small : q < 4) (n : uses (word c t RIGHTS) q ≡ false) where
       pub children-none : (word c t (20 + q) ≡ NONE) × (word c t (32 + q) ≡ NONE)
-      children-none =
-          subst (λ (v : Extent). ViewWords v (word c t (20 + q)) (word c t (32 + q)))
-          (r .queue q small .bare t (uses-word m xs r q small t u ∙ n) .0) (children-words m xs r q small t u)
+      children-none = children-words m xs r q small t u vacant (r .queue q small .bare t (uses-word m xs r q small t u ∙ n) .0)
 
       pub user-none : (word c t (24 + q) ≡ NONE) × (word c t (36 + q) ≡ NONE)
-      user-none =
-          subst (λ (v : Extent). ViewWords v (word c t (24 + q)) (word c t (36 + q)))
-          (r .queue q small .bare t (uses-word m xs r q small t u ∙ n) .1) (user-words m xs r q small t u)
+      user-none = user-words m xs r q small t u vacant (r .queue q small .bare t (uses-word m xs r q small t u ∙ n) .1)
 
       pub right-none : (word c t (28 + q) ≡ NONE) × (word c t (40 + q) ≡ NONE)
-      right-none =
-          subst (λ (v : Extent). ViewWords v (word c t (28 + q)) (word c t (40 + q)))
-          (r .queue q small .bare t (uses-word m xs r q small t u ∙ n) .2) (right-words m xs r q small t u)
+      right-none = right-words m xs r q small t u vacant (r .queue q small .bare t (uses-word m xs r q small t u ∙ n) .2)
 
       head-none : word c t (16 + q) ≡ NONE
       head-none =

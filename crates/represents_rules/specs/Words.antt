@@ -1,5 +1,5 @@
 -- The words of a view, and of a queue head, by what they mean.
-use mathlib.Core.Path.{_≡_, refl, sym, subst}
+use mathlib.Core.Path.{_≡_, refl, sym, _∙_, subst}
 use mathlib.Core.Bool.{true}
 use mathlib.Core.Logic.{⊎-elim}
 use mathlib.Core.List.{List}
@@ -46,11 +46,11 @@ view-words h e =
     none b = unfold isEmpty in (let w = both-true _ _ b in (eqb-true _ _ (w .0), eqb-true _ _ (w .1)))
 
 -- view k of task t in memory
-pub kind-words : (m : List ℕ) (q k t : ℕ) → q < 4 → k < 3 → t < 128
-    → ViewWords (viewIn m q k t) (word (decode m) t (20 + k * 4 + q)) (word (decode m) t (32 + k * 4 + q))
+pub kind-words : (m : List ℕ) (q k t : ℕ) (v : Extent) → q < 4 → k < 3 → t < 128 → viewIn m q k t ≡ v
+    → ViewWords v (word (decode m) t (20 + k * 4 + q)) (word (decode m) t (32 + k * 4 + q))
 unfolding viewOf
-kind-words m q k t hq hk ht =
-    subst (λ (h : ℕ). ViewWords (viewIn m q k t) h (word (decode m) t (32 + k * 4 + q))) (sym (word-is m t (20 + k * 4 + q)))
-    (subst (λ (e : ℕ). ViewWords (viewIn m q k t) (read m (head k t q)) e) (sym (word-is m t (32 + k * 4 + q)))
-    (subst (λ (v : Extent). ViewWords v (read m (head k t q)) (read m (tail k t q))) (sym (view-at m q k t hq hk ht))
+kind-words m q k t v hq hk ht i =
+    subst (λ (h : ℕ). ViewWords v h (word (decode m) t (32 + k * 4 + q))) (sym (word-is m t (20 + k * 4 + q)))
+    (subst (λ (e : ℕ). ViewWords v (read m (head k t q)) e) (sym (word-is m t (32 + k * 4 + q)))
+    (subst (λ (w : Extent). ViewWords w (read m (head k t q)) (read m (tail k t q))) (sym (view-at m q k t hq hk ht) ∙ i)
     (view-words (read m (head k t q)) (read m (tail k t q)))))
