@@ -65,7 +65,7 @@ module _ {children user right : ℕ → Extent} where
       (λ h x g. let i : extent nonlocal (local z) ≡ extent h x = sym e ∙ g in (z, cc), user-local r)
   user-local (passing r) = user-local r
 
-  count-parts : {l : Line} {m : Mode} (x : ℕ) → Views children user right l m
+  pub count-parts : {l : Line} {m : Mode} (x : ℕ) → Views children user right l m
       → occurrences x (segments l) ≡ occurrences x (firstChain l) + occurrences x (laterSegments l)
   unfolding occurrences
   count-parts x (queue {s = s} {c = c} e) = omega (arith, occurs-append x c [])
@@ -154,7 +154,7 @@ other-head heads holder g c x o h e = ⊎-elim held others (equal? x holder)
     others n = named [] tt (sym (put-other (λ y. none) holder (headOf c) x n) ∙ (sym h ∙ e))
 
 -- a first chain that is not empty, as every line has
-first-chain : {children user right : ℕ → Extent} {m : Mode} {l : Line} → Views children user right l m
+pub first-chain : {children user right : ℕ → Extent} {m : Mode} {l : Line} → Views children user right l m
     → (s : ℕ) × (c : List ℕ) × (firstChain l ≡ s ∷ c)
 first-chain (queue {s = s} {c = c} e) = (s, c, refl)
 first-chain (leaving v e i r) = first-chain r
