@@ -1,0 +1,5 @@
+pub mod Onward
+pub mod Turns
+pub mod Parts
+pub mod Child
+pub mod Body

@@ -1,0 +1,121 @@
+// The serial runner. Two parts call each other, the one that runs a body and the one that runs a child; the steps that
+// remain fall from one body to the next.
+ghost use mathlib.Core.Path.{_≡_};
+ghost use Prim.Native.Nat.{_+_, _^_, _<_, _≤_};
+ghost use Rattle.words.specs.Words.{size};
+ghost use Rattle.serial.specs.Serial.{STEPS, DEPTH};
+ghost use Rattle.serial.specs.Working.{WORKING, lists};
+ghost use Rattle.serial_runner.specs.Parts.{BodyRuns, ChildRuns};
+use serial::End;
+
+const SPAWNED: u32 = 0;
+
+const FINISHED: u32 = 4;
+
+// How a part has come to an end, the steps that then remain, and the tasks made, the top included.
+pub struct Ran {
+    pub end: End,
+    pub left: u32,
+    pub made: u32,
+}
+
+// Runs the body of a procedure as task `number`, the last of `depth` tasks.
+fn run_body(
+    job: &[u8],
+    w: &mut [u32],
+    a: &mut [u32],
+    number: u32,
+    procedure: u32,
+    register: u32,
+    depth: u32,
+    left: u32,
+    made: u32,
+) -> Ran
+    requires { ⌜ (size (now w) ≡ WORKING) × (size (now job) < 2 ^ 31) × (depth ≤ DEPTH) × (left ≤ STEPS) × (made + left ≤ 65536) ⌝ }
+    ensures { λ e. ⌜ BodyRuns (now (job .entry)) number procedure register depth left made (lists (now (w .entry))) (now (a .entry)) e (lists (now (w .exit))) (now (a .exit)) ⌝ }
+{
+    let mut i: u32 = 0;
+    let mut r = register;
+    let mut n = left;
+    let mut c = made;
+    while 0 < n {
+        let s = job_fields::instruction_at(job, procedure, i);
+        let k = s.operation;
+        match k {
+            8 => {
+                let x = std::num::wrapping_add_u32(r, s.operand);
+                let child = run_child(job, w, a, number, s.which, x, depth, n, c);
+                let e = child.end;
+                let End::Ended = e else {
+                    return child;
+                };
+                i += 1;
+                n = child.left;
+                c = child.made;
+            }
+            1..=7 | 9 => {
+                if serial_steps::is_full(w, s) {
+                    return Ran {
+                        end: End::Refused(9),
+                        left: n,
+                        made: c,
+                    };
+                }
+                let m = serial_steps::step(w, s, i, r);
+                serial_steps::write_answer(a, 65535 - n, number, m.answer, m.value);
+                i = m.next;
+                r = m.register;
+                n -= 1;
+            }
+            _ => {
+                serial_steps::write_answer(a, 65535 - n, number, FINISHED, 0);
+                return Ran {
+                    end: End::Ended,
+                    left: n - 1,
+                    made: c,
+                };
+            }
+        }
+    }
+    Ran {
+        end: End::Spent,
+        left: 0,
+        made: c,
+    }
+}
+
+// Runs a child of task `number`, the last of `depth` tasks, wholly: its spawn and its body.
+fn run_child(
+    job: &[u8],
+    w: &mut [u32],
+    a: &mut [u32],
+    number: u32,
+    procedure: u32,
+    register: u32,
+    depth: u32,
+    left: u32,
+    made: u32,
+) -> Ran
+    requires { ⌜ (size (now w) ≡ WORKING) × (size (now job) < 2 ^ 31) × (depth ≤ DEPTH) × (0 < left) × (left ≤ STEPS) × (made + left ≤ 65536) ⌝ }
+    ensures { λ e. ⌜ ChildRuns (now (job .entry)) number procedure register depth left made (lists (now (w .entry))) (now (a .entry)) e (lists (now (w .exit))) (now (a .exit)) ⌝ }
+{
+    if 128 <= depth {
+        return Ran {
+            end: End::Refused(8),
+            left: left,
+            made: made,
+        };
+    }
+    serial_steps::write_answer(a, 65535 - left, number, SPAWNED, made);
+    run_body(
+        job,
+        w,
+        a,
+        made,
+        procedure,
+        register,
+        depth + 1,
+        left - 1,
+        made + 1,
+    )
+}
