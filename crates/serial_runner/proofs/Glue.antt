@@ -4,7 +4,7 @@ use mathlib.Core.List.{List}
 use mathlib.Core.Logic.{_⊎_, inl, inr}
 use Prim.Native.Nat.{ℕ, _+_, _-_, _<_, _≤_}
 use native.Mathlib.Omega.{arith}
-use lib.ListN.{length}
+use lib.ListN.{length, replicate, length-replicate}
 use Rattle.words.specs.Words.{size}
 use Rattle.serial_steps.specs.Steps.{Inner}
 
@@ -38,3 +38,7 @@ child-falls left t e h = omega (arith, e, h)
 pub size-kept : (w u : List ℕ) (n : ℕ) → length u ≡ length w → size w ≡ n → size u ≡ n
 unfolding size
 size-kept w u n e h = e ∙ h
+
+pub size-cleared : (w u : List ℕ) (n : ℕ) → u ≡ replicate (length w) 0 → length w ≡ n → size u ≡ n
+unfolding size
+size-cleared w u n e h = ap length e ∙ length-replicate (length w) 0 ∙ h

@@ -3,3 +3,4 @@ pub mod Turns
 pub mod Parts
 pub mod Child
 pub mod Body
+pub mod Whole

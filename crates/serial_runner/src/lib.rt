@@ -5,7 +5,9 @@ ghost use Prim.Native.Nat.{_+_, _^_, _<_, _≤_};
 ghost use Rattle.words.specs.Words.{size};
 ghost use Rattle.serial.specs.Serial.{STEPS, DEPTH};
 ghost use Rattle.serial.specs.Working.{WORKING, lists};
+ghost use Rattle.serial.specs.Outcome.{outcome, serialOutcome};
 ghost use Rattle.serial_runner.specs.Parts.{BodyRuns, ChildRuns};
+use answers::Answer;
 use serial::End;
 
 const SPAWNED: u32 = 0;
@@ -118,4 +120,42 @@ fn run_child(
         left - 1,
         made + 1,
     )
+}
+
+// A run that has stopped: why, and the steps made.
+pub struct Stopped {
+    pub end: End,
+    pub steps: u32,
+}
+
+// Runs a job serially. The lists are then in the working words w, the answers in the words a (docs/LAYOUT.md).
+pub fn run_serially(job: &[u8], w: &mut [u32], a: &mut [u32]) -> Stopped
+    ensures { λ r. ⌜ outcome (r .end) (r .steps) (lists (now (w .exit))) (now (a .exit)) ≡ serialOutcome (now (job .entry)) (now (w .entry)) (now (a .entry)) ⌝ }
+{
+    if w.len() != 16392 {
+        return Stopped {
+            end: End::Refused(1),
+            steps: 0,
+        };
+    }
+    if a.len() != 196605 {
+        return Stopped {
+            end: End::Refused(1),
+            steps: 0,
+        };
+    }
+    let t = job_test::job_test(job);
+    if let Answer::Refused(k) = t {
+        return Stopped {
+            end: End::Refused(k),
+            steps: 0,
+        };
+    }
+    memory::clear(w);
+    let ran = run_body(job, w, a, 0, 0, 0, 1, 65535, 1);
+    let end = ran.end;
+    Stopped {
+        end: end,
+        steps: 65535 - ran.left,
+    }
 }
