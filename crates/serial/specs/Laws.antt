@@ -1,13 +1,12 @@
 -- THE SERIAL RUN IS THE PLAIN MACHINE'S up to the first reason to stop, and there is always one.
 use mathlib.Core.Path.{_≡_, refl, ap, sym, _∙_}
-use mathlib.Core.Bool.{Bool, true, false}
-use mathlib.Core.List.{List, [], _∷_, _++_}
+use mathlib.Core.List.{List, [], _∷_}
 use mathlib.Core.Option.{Option, none, some}
 use Prim.Native.Nat.{ℕ, zero, suc, _+_, _-_, _<_, _≤_, zero-le, suc-le-suc}
 use native.Mathlib.Nat.{le-of-suc-le-suc, add-zero, zero-add, sub-zero, suc-sub-suc}
 use native.Mathlib.Omega.{arith}
 use Rattle.words.specs.Words.{pick}
-use Rattle.plain.specs.Machine.{Task, State, state, Event, begin, does, step}
+use Rattle.plain.specs.Machine.{State, state, begin, does, step}
 use Rattle.plain.specs.Run.{queuesOf, stackOf, stepsOf, after, eventIn, next, runFrom, eventsFrom, run, events}
 use Rattle.serial.specs.Serial.{STEPS, boundOn, stopOf, Run, stopped, goesOn, serialFrom, serial}
 use Rattle.serial.specs.declared.End.{End}

@@ -10,7 +10,7 @@ use Rattle.words.specs.Words.{pick, both}
 use Rattle.job.specs.declared.Instruction.{Instruction}
 use Rattle.job.specs.Fields.{instructionAt}
 use Rattle.job.specs.Test.{between}
-use Rattle.plain.specs.Machine.{Task, State, state, Event, begin, queue, step}
+use Rattle.plain.specs.Machine.{State, state, Event, begin, queue, step}
 use Rattle.plain.specs.Run.{eventIn, next}
 use Rattle.serial.specs.declared.End.{End}
 use Rattle.serial.specs.declared.End.the-variants.{Ended, Spent, Refused}

@@ -15,10 +15,10 @@ use Rattle.order.specs.Steps.{Name}
 use Rattle.job.specs.declared.Instruction.{Instruction}
 use Rattle.job.specs.Fields.{offset, instructionFrom, instructionAt}
 use Rattle.job.specs.Effects.{sum}
-use Rattle.plain.specs.Machine.{Task, State, state, queue}
+use Rattle.plain.specs.Machine.{Task, state, queue}
 use Rattle.serial.specs.Serial.{STEPS, full}
 use Rattle.serial.specs.Answers.{FINISHED}
-use Rattle.serial.specs.Outcome.{Outcome, outcome}
+use Rattle.serial.specs.Outcome.{Outcome}
 use Rattle.serial.specs.declared.End.{End}
 use Rattle.serial.specs.declared.End.the-variants.{Ended, Spent, Refused}
 use Rattle.serial.proofs.End.{the-type}

@@ -1,5 +1,5 @@
 -- The part that runs a child keeps its promise: it is stopped by the depth, or the spawn is made and the body runs.
-use mathlib.Core.Path.{_≡_, refl, ap, ap₂, sym, _∙_}
+use mathlib.Core.Path.{_≡_, ap, ap₂, sym, _∙_}
 use mathlib.Core.List.{List, [], _∷_}
 use Prim.Native.Nat.{ℕ, suc, _+_, _-_, _*_, _<_, _≤_}
 use native.Mathlib.Omega.{arith}
@@ -12,7 +12,6 @@ use Rattle.job.specs.Effects.{sum}
 use Rattle.plain.specs.Machine.{Task, State, state}
 use Rattle.serial.specs.Serial.{STEPS}
 use Rattle.serial.specs.Answers.{SPAWNED}
-use Rattle.serial.specs.declared.End.{End}
 use Rattle.serial.specs.declared.End.the-variants.{Ended, Refused}
 use Rattle.serial_runner.specs.declared.Ran.{Ran}
 use Rattle.serial_runner.specs.Onward.{onward}

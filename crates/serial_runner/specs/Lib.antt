@@ -4,3 +4,4 @@ pub mod Parts
 pub mod Child
 pub mod Body
 pub mod Whole
+pub mod Handed

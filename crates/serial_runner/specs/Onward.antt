@@ -1,13 +1,12 @@
 -- THE RUN FROM A STATE ON, as the lent words show it: it stops, or it makes one step and goes on.
 use mathlib.Core.Path.{_≡_, refl, ap, sym, _∙_}
-use mathlib.Core.List.{List, [], _∷_, _++_}
+use mathlib.Core.List.{List, [], _∷_}
 use mathlib.Core.Option.{Option, none, some}
 use Prim.Native.Nat.{ℕ, zero, suc, _+_, _*_}
 use native.Mathlib.Omega.{arith}
 use lib.ListN.{length}
 use Rattle.words.specs.Blocks.{storeAll, store-none, store-append}
-use Rattle.job.specs.Effects.{Word}
-use Rattle.plain.specs.Machine.{Task, State, state, Event, Step, made, step}
+use Rattle.plain.specs.Machine.{State, state, Event, Step, made, step}
 use Rattle.plain.specs.Run.{queuesOf, stepsOf, after, eventIn, next}
 use Rattle.serial.specs.Serial.{stopOf, Run, stopped, goesOn, serialFrom}
 use Rattle.serial.specs.Answers.{numbersAfter, madeAfter, row, written}

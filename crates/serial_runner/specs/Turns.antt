@@ -2,9 +2,9 @@
 use mathlib.Core.Path.{_≡_, refl, ap, ap₂, sym, _∙_}
 use mathlib.Core.Bool.{Bool, true, false}
 use mathlib.Core.List.{List, [], _∷_}
-use mathlib.Core.Logic.{_⊎_, inl, inr, ⊎-elim}
+use mathlib.Core.Logic.{_⊎_, ⊎-elim}
 use mathlib.Core.Option.{Option, none, some}
-use Prim.Native.Nat.{ℕ, zero, suc, _+_, _*_, _<_, _≤_, zero-le}
+use Prim.Native.Nat.{ℕ, suc, _+_, _*_, _<_, _≤_, zero-le}
 use native.Mathlib.Numerals.{add-one}
 use native.Mathlib.Omega.{arith}
 use lib.Dec.{leb, eqb}
@@ -19,9 +19,9 @@ use Rattle.job.specs.Operations.{Operation, return, push, pushSum, pop, goIfEmp
 use Rattle.job.specs.Rows.{from, row-past}
 use Rattle.job.specs.Effects.{Effect, sum, effect}
 use Rattle.job.specs.Test.{between}
-use Rattle.plain.specs.Machine.{Task, State, state, Event, made, queue, front, queuesAfter, advanced, parent, child, stackAfter, effectOn, eventOf, does, step}
+use Rattle.plain.specs.Machine.{Task, State, state, made, queue, front, queuesAfter, advanced, parent, child, stackAfter, effectOn, eventOf, does, step}
 use Rattle.plain.specs.Run.{queuesOf, stepsOf}
-use Rattle.serial.specs.Serial.{DEPTH, tooDeep, full, boundOn, stopOf}
+use Rattle.serial.specs.Serial.{tooDeep, full, boundOn, stopOf}
 use Rattle.serial.specs.Answers.{SPAWNED, FINISHED, numberOf, numbersAfter, madeAfter, row}
 use Rattle.serial.specs.Outcome.{Outcome, outcome}
 use Rattle.serial.specs.declared.End.{End}

@@ -5,8 +5,7 @@ use mathlib.Core.List.{List, [], _∷_}
 use mathlib.Core.Logic.{⊎-elim}
 use Prim.Native.Nat.{ℕ, zero, suc, _+_, _-_, _*_, _<_, _≤_}
 use native.Mathlib.Omega.{arith}
-use lib.Dec.{eqb}
-use lib.ListN.{length, replicate, length-replicate}
+use lib.ListN.{length, replicate}
 use types.Run.{OneOf}
 use denote.Enum.Declared.{tagOf}
 use borrow.Author.Tests.{eqb-true, not-false, eq-eqb, ne-eqb}
@@ -18,9 +17,9 @@ use Rattle.answers.proofs.Answer.{the-type}
 use Rattle.job.specs.Fields.{procedures, entryAt, count}
 use Rattle.job.specs.Test.{refusal10, refusal11, refusal12, entriesHold, contentsHold, jobAnswer}
 use Rattle.job.specs.Accepted.{entry-says, accepted}
-use Rattle.plain.specs.Machine.{Task, State, state, begin}
+use Rattle.plain.specs.Machine.{state, begin}
 use Rattle.plain.specs.Run.{queuesOf, stepsOf}
-use Rattle.serial.specs.Serial.{STEPS, stopOf, serialFrom, serial}
+use Rattle.serial.specs.Serial.{STEPS, stopOf, serial}
 use Rattle.serial.specs.Working.{WORKING, firstAt, countAt, ringFrom, ring, lists}
 use Rattle.serial.specs.Outcome.{ANSWERS, Outcome, outcome, shown, turnedDown, serialOutcome}
 use Rattle.serial.specs.declared.End.{End}

@@ -5,8 +5,10 @@ ghost use Prim.Native.Nat.{_+_, _^_, _<_, _≤_};
 ghost use Rattle.words.specs.Words.{size};
 ghost use Rattle.serial.specs.Serial.{STEPS, DEPTH};
 ghost use Rattle.serial.specs.Working.{WORKING, lists};
+ghost use Rattle.serial.specs.Answers.{statusOf};
 ghost use Rattle.serial.specs.Outcome.{outcome, serialOutcome};
 ghost use Rattle.serial_runner.specs.Parts.{BodyRuns, ChildRuns};
+ghost use Rattle.serial_runner.specs.Handed.{Handed};
 use answers::Answer;
 use serial::End;
 
@@ -158,4 +160,35 @@ pub fn run_serially(job: &[u8], w: &mut [u32], a: &mut [u32]) -> Stopped
         end: end,
         steps: 65535 - ran.left,
     }
+}
+
+// FOR HOSTS IN OTHER LANGUAGES: a slice is a pointer and a length, the end and the steps are one number.
+
+// Document 01's number of a refusal; 0 ended, 35 spent.
+fn status(e: End) -> u32
+    ensures { λ r. ⌜ r ≡ statusOf e ⌝ }
+{
+    match e {
+        End::Ended => 0,
+        End::Spent => 35,
+        End::Refused(k) => k,
+    }
+}
+
+fn wide(x: u32) -> u64
+    ensures { λ r. ⌜ r ≡ x ⌝ }
+{
+    x as u64
+}
+
+// The status in the high half, the steps in the low half.
+#[no_mangle]
+pub extern "C" fn hq_run_serially(job: &[u8], w: &mut [u32], a: &mut [u32]) -> u64
+    ensures { λ r. ⌜ Handed r (lists (now (w .exit))) (now (a .exit)) (serialOutcome (now (job .entry)) (now (w .entry)) (now (a .entry))) ⌝ }
+{
+    let r = run_serially(job, w, a);
+    let e = r.end;
+    let n = r.steps;
+    let s = status(e);
+    wide(s) * 4294967296 + wide(n)
 }

@@ -1,16 +1,16 @@
 -- Each operation by its number: what the code gives is its effect, and the lists are those after it.
 use mathlib.Core.Path.{_≡_, refl, ap, sym, _∙_, subst}
-use mathlib.Core.Bool.{Bool, true, false}
+use mathlib.Core.Bool.{false}
 use mathlib.Core.List.{List, [], _∷_, _++_}
 use mathlib.Core.Option.{Option, none, some}
-use Prim.Native.Nat.{ℕ, zero, suc, _+_, _%_, _<_, _≤_}
+use Prim.Native.Nat.{ℕ, suc, _+_, _%_, _<_, _≤_}
 use native.Mathlib.Omega.{arith}
 use lib.Dec.{leb, eqb}
 use lib.ListN.{length, set, drop}
 use types.Run.{OneOf}
 use denote.Enum.Declared.{tagOf}
 use borrow.Author.Tests.{eq-eqb, ne-eqb, le-leb, lt-leb, leb-false}
-use Rattle.words.specs.Words.{store, pick, both, both-on, both-off, both-true, halt, pass}
+use Rattle.words.specs.Words.{store, pick, both-on, both-off, halt, pass}
 use Rattle.words.specs.Blocks.{storeAll, store-none, store-more}
 use Rattle.job.specs.declared.Instruction.{Instruction}
 use Rattle.job.specs.Operations.{rowOf, operationOf, operationAt}

@@ -1,7 +1,6 @@
 use Rattle.serial_queues.specs.Rings.{front-none}
 use Rattle.serial_queues.proofs.Glue.{front-value}
 use Rattle.serial_queues.specs.Front.{frontOf}
-use mathlib.Core.Path.{ap, sym, _∙_}
 use borrow.Author.Needs.{needs}
 use Rattle.serial_queues.proofs.first.Statement.{statement}
 use Rattle.serial_queues.proofs.first.Tie as tie

@@ -1,7 +1,6 @@
 use Rattle.serial_queues.specs.Pushed.{pushed}
 use Rattle.serial_queues.proofs.Glue.{no-queue, fewer}
 use native.Mathlib.Omega.{arith}
-use mathlib.Core.Path.{sym, _∙_}
 use borrow.Author.Needs.{needs}
 use Rattle.serial_queues.proofs.push.Statement.{statement}
 use Rattle.serial_queues.proofs.push.Tie as tie

@@ -2,7 +2,7 @@ use Rattle.serial_runner.proofs.Glue.{size-cleared}
 use Rattle.serial_runner.specs.Whole.{wrong-working, wrong-answers, job-refused, job-accepted, job-short, cleared, top-runs}
 use Rattle.serial.specs.Outcome.{turnedDown}
 use native.Mathlib.Omega.{arith}
-use mathlib.Core.Path.{ap, _∙_}
+use mathlib.Core.Path.{_∙_}
 use borrow.Author.Needs.{needs}
 use Rattle.serial_runner.proofs.run_serially.Statement.{statement}
 use Rattle.serial_runner.proofs.run_serially.Tie as tie
