@@ -72,12 +72,12 @@ module _ (j : List ℕ) (m p d r n c : ℕ) (qs : List (List ℕ)) (a : List ℕ
     n-few = let z = g .fewer in omega (arith, z, few)
 
     -- no step is left
-    pub body-spent : n' ≤ 0 → BodyRuns j m p r d n c qs a (record { end = Spent; left = 0; made = c' }) us b
+    pub body-spent : n' ≤ 0 → BodyRuns j m p r d n c qs a (record { end = Spent; left = n'; made = c' }) us b
     unfolding resumed
     body-spent h =
-        ends _ us b (omega (arith, h)) (omega (arith, h)) (λ name ch ts ms l.
-        ap (λ (y : ℕ). onward j y c' (m ∷ ms) (state us (task name p i r' ch ∷ ts) (STEPS - y)) b) (let z : n' ≡ 0 = omega (arith, h) in z)
-        ∙ spent j name p i r' ch ts (STEPS - 0) c' m ms us b (instructionAt j p i) refl)
+        ends _ us b (omega arith) (omega arith) (λ name ch ts ms l.
+        ap (λ (y : ℕ). onward j y c' (m ∷ ms) (state us (task name p i r' ch ∷ ts) (STEPS - n')) b) (let z : n' ≡ 0 = omega (arith, h) in z)
+        ∙ spent j name p i r' ch ts (STEPS - n') c' m ms us b (instructionAt j p i) refl)
 
     module _ (s : Instruction) (es : s ≡ instructionAt j p i) (some : 0 < n') where
       pub body-full : (s .operation ≡ 8 → ⊥) → full s (length (queue us (s .which))) ≡ true → BodyRuns j m p r d n c qs a (record { end = Refused 9; left = n'; made = c' }) us b

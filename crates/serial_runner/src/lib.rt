@@ -1,5 +1,6 @@
-// The serial runner. Two parts call each other, the one that runs a body and the one that runs a child; the steps that
-// remain fall from one body to the next.
+// The serial runner: the job run without overlap, within bounds. Two parts call each other, the one that runs a body and the
+// one that runs a child, and the steps that remain fall from one body to the next. Both are lent the working words w, which
+// hold the four lists, and the words a for the answers.
 ghost use mathlib.Core.Path.{_≡_};
 ghost use Prim.Native.Nat.{_+_, _^_, _<_, _≤_};
 ghost use Rattle.words.specs.Words.{size};
@@ -23,7 +24,8 @@ pub struct Ran {
     pub made: u32,
 }
 
-// Runs the body of a procedure as task `number`, the last of `depth` tasks.
+// Runs the body of a procedure as task `number`, the last of `depth` tasks, where `left` steps remain and `made` tasks have
+// been made.
 fn run_body(
     job: &[u8],
     w: &mut [u32],
@@ -40,55 +42,47 @@ fn run_body(
 {
     let mut i: u32 = 0;
     let mut r = register;
-    let mut n = left;
-    let mut c = made;
-    while 0 < n {
+    let mut left = left;
+    let mut made = made;
+    while 0 < left {
         let s = job_fields::instruction_at(job, procedure, i);
         let k = s.operation;
         match k {
             8 => {
                 let x = std::num::wrapping_add_u32(r, s.operand);
-                let child = run_child(job, w, a, number, s.which, x, depth, n, c);
-                let e = child.end;
-                let End::Ended = e else {
+                let child = run_child(job, w, a, number, s.which, x, depth, left, made);
+                let end = child.end;
+                let End::Ended = end else {
                     return child;
                 };
                 i += 1;
-                n = child.left;
-                c = child.made;
+                left = child.left;
+                made = child.made;
             }
             1..=7 | 9 => {
                 if serial_steps::is_full(w, s) {
-                    return Ran {
-                        end: End::Refused(9),
-                        left: n,
-                        made: c,
-                    };
+                    let end = End::Refused(9);
+                    return Ran { end, left, made };
                 }
                 let m = serial_steps::step(w, s, i, r);
-                serial_steps::write_answer(a, 65535 - n, number, m.answer, m.value);
+                serial_steps::write_answer(a, 65535 - left, number, m.answer, m.value);
                 i = m.next;
                 r = m.register;
-                n -= 1;
+                left -= 1;
             }
             _ => {
-                serial_steps::write_answer(a, 65535 - n, number, FINISHED, 0);
-                return Ran {
-                    end: End::Ended,
-                    left: n - 1,
-                    made: c,
-                };
+                serial_steps::write_answer(a, 65535 - left, number, FINISHED, 0);
+                let end = End::Ended;
+                left -= 1;
+                return Ran { end, left, made };
             }
         }
     }
-    Ran {
-        end: End::Spent,
-        left: 0,
-        made: c,
-    }
+    let end = End::Spent;
+    Ran { end, left, made }
 }
 
-// Runs a child of task `number`, the last of `depth` tasks, wholly: its spawn and its body.
+// Runs a child of task `number`, which is the last of `depth` tasks, wholly: its spawn and its body.
 fn run_child(
     job: &[u8],
     w: &mut [u32],
@@ -104,11 +98,8 @@ fn run_child(
     ensures { λ e. ⌜ ChildRuns (now (job .entry)) number procedure register depth left made (lists (now (w .entry))) (now (a .entry)) e (lists (now (w .exit))) (now (a .exit)) ⌝ }
 {
     if 128 <= depth {
-        return Ran {
-            end: End::Refused(8),
-            left: left,
-            made: made,
-        };
+        let end = End::Refused(8);
+        return Ran { end, left, made };
     }
     serial_steps::write_answer(a, 65535 - left, number, SPAWNED, made);
     run_body(
@@ -156,10 +147,8 @@ pub fn run_serially(job: &[u8], w: &mut [u32], a: &mut [u32]) -> Stopped
     memory::clear(w);
     let ran = run_body(job, w, a, 0, 0, 0, 1, 65535, 1);
     let end = ran.end;
-    Stopped {
-        end: end,
-        steps: 65535 - ran.left,
-    }
+    let steps = 65535 - ran.left;
+    Stopped { end, steps }
 }
 
 // FOR HOSTS IN OTHER LANGUAGES: a slice is a pointer and a length, the end and the steps are one number.

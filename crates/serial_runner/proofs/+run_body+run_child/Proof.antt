@@ -4,10 +4,11 @@ use Rattle.serial_runner.specs.Body.{position-small, Goes, goes-start, b
 use Rattle.serial.specs.Working.{lists}
 use mathlib.Core.Path.{_≡_, refl, sym, _∙_}
 use mathlib.Core.Logic.{⊎-elim}
+use mathlib.Core.List.{List}
 use lib.ListN.{length}
 use native.Mathlib.Omega.{arith}
 use borrow.Author.Needs.{needs}
-use Prim.Native.Nat.{ℕ, _+_, _-_, _^_, _<_}
+use Prim.Native.Nat.{ℕ, _+_, _-_, _^_, _<_, _≤_}
 use borrow.Fn.Kinds.{In}
 use borrow.Fn.PlainCycle.{Measures, is, falls, and}
 use Rattle.serial_runner.proofs.run_body.Reads as run-body
@@ -24,6 +25,7 @@ use Rattle.std.proofs.num.wrapping_add_u32.Reads as wrapping-add-u32-reads
 use Rattle.serial_runner.proofs.+run_body+run_child.{statement}
 use Rattle.serial_runner.proofs.+run_body+run_child.Tie.{close}
 
+-- THE MEASURES: twice the steps that remain, and one more for a body, since a body calls a child before the spawn is charged
 abbrev μ-run-body : Measures 3 run-body-kinds.ps ℕ
 μ-run-body κs a = a .1 .1 .1 .1 .1 .1 .1 .0 + a .1 .1 .1 .1 .1 .1 .1 .0 + 1
 
@@ -70,10 +72,10 @@ child-claims t = (
 )
 
 abbrev run-body-Inv-loop : run-body-lts.InvT-loop
-run-body-Inv-loop job w₀ a₀ number procedure register depth left made i₀ r₀ n₀ c₀ w a i r n c = (length w ≡ length w₀) × (length a ≡ length a₀) × (i < 2 ^ 32) × (r < 2 ^ 32) × Goes job number procedure depth register left made (lists w₀) a₀ n c i r (lists w) a
+run-body-Inv-loop job w₀ a₀ number procedure register depth left made i₀ r₀ left₀ made₀ w a i r left' made' = (length w ≡ length w₀) × (length a ≡ length a₀) × (i < 2 ^ 32) × (r < 2 ^ 32) × Goes job number procedure depth register left made (lists w₀) a₀ left' made' i r (lists w) a
 
 abbrev run-body-μ-loop : run-body-lts.MeasureT-loop
-run-body-μ-loop job w₀ a₀ number procedure register depth left made i₀ r₀ n₀ c₀ w a i r n c = n
+run-body-μ-loop job w₀ a₀ number procedure register depth left made i₀ r₀ left₀ made₀ w a i r left' made' = left'
 
 run-body-loop-holds : (t : ℕ) → run-body-lts.Need-loop-holds (body-claims t) (run-body-at t) run-body.Post run-body-Inv-loop run-body-μ-loop
 run-body-loop-holds t c = (refl, refl, omega arith, search needs, goes-start _ _ _ _ _ _ _ _ _)
@@ -114,8 +116,8 @@ run-body-sub-write-answer t c = let f = c .before .before .before .before .befor
 run-body-write-answer-requires : (t : ℕ) → run-body-lts.Need-write-answer-requires (body-claims t) (run-body-at t) run-body.Post run-body-Inv-loop run-body-μ-loop
 run-body-write-answer-requires t c κs = search needs
 
-run-body-sub-t29 : (t : ℕ) → run-body-lts.Need-sub-t29 (body-claims t) (run-body-at t) run-body.Post run-body-Inv-loop run-body-μ-loop
-run-body-sub-t29 t c = c .before .before .before .before .before .before .before .loop-test .taken
+run-body-sub-left : (t : ℕ) → run-body-lts.Need-sub-left (body-claims t) (run-body-at t) run-body.Post run-body-Inv-loop run-body-μ-loop
+run-body-sub-left t c = c .before .before .before .before .before .before .before .loop-test .taken
 
 run-body-same-length-3 : (t : ℕ) → run-body-lts.Need-same-length-3 (body-claims t) (run-body-at t) run-body.Post run-body-Inv-loop run-body-μ-loop
 run-body-same-length-3 t c = c .before .before .before .before .before .before .before .before .loop .inv .0
@@ -147,8 +149,8 @@ run-body-sub-write-answer-2 t c = let f = c .before .before .before .before .bef
 run-body-write-answer-requires-2 : (t : ℕ) → run-body-lts.Need-write-answer-requires-2 (body-claims t) (run-body-at t) run-body.Post run-body-Inv-loop run-body-μ-loop
 run-body-write-answer-requires-2 t c κs = search needs
 
-run-body-sub-n : (t : ℕ) → run-body-lts.Need-sub-n (body-claims t) (run-body-at t) run-body.Post run-body-Inv-loop run-body-μ-loop
-run-body-sub-n t c = c .before .before .before .before .before .before .before .before .before .before .before .before .before .loop-test .taken
+run-body-sub-left-2 : (t : ℕ) → run-body-lts.Need-sub-left-2 (body-claims t) (run-body-at t) run-body.Post run-body-Inv-loop run-body-μ-loop
+run-body-sub-left-2 t c = c .before .before .before .before .before .before .before .before .before .before .before .before .before .loop-test .taken
 
 run-body-loop-less-2 : (t : ℕ) → run-body-lts.Need-loop-less-2 (body-claims t) (run-body-at t) run-body.Post run-body-Inv-loop run-body-μ-loop
 run-body-loop-less-2 t c = omega (arith, c .before .before .before .before .before .before .before .before .before .before .before .before .before .loop-test .taken)
@@ -214,7 +216,7 @@ pub +run-body+run-child-spec : {M : Type 1} → statement M
     (run-body-loop-again t)
     (run-body-sub-write-answer t)
     (run-body-write-answer-requires t)
-    (run-body-sub-t29 t)
+    (run-body-sub-left t)
     (run-body-same-length-3 t)
     (run-body-same-length-4 t)
     (run-body-returns-2 t)
@@ -225,7 +227,7 @@ pub +run-body+run-child-spec : {M : Type 1} → statement M
     (run-body-step-requires t)
     (run-body-sub-write-answer-2 t)
     (run-body-write-answer-requires-2 t)
-    (run-body-sub-n t)
+    (run-body-sub-left-2 t)
     (run-body-loop-less-2 t)
     (run-body-loop-again-2 t)
     (run-body-same-length-7 t)

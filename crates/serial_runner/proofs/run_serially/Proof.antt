@@ -36,8 +36,8 @@ clear-requires c κs = search needs
 run-body-requires : tie.Need-run-body-requires
 run-body-requires c κs = (size-cleared (c .before .before .before .before .before .before .before .before .before .before .before .before .before .args .w .now) _ _ (c .before .before .before .before .clear .ensures) (c .before .before .before .before .before .before .before .before .before .if1 .left), job-short _ (c .before .before .before .before .before .before .before .job-test .ensures) (c .before .before .before .before .before .before .match .keys2), omega arith, omega arith, omega arith)
 
-sub-t20 : tie.Need-sub-t20
-sub-t20 c = search needs
+sub-steps : tie.Need-sub-steps
+sub-steps c = search needs
 
 same-length : tie.Need-same-length
 same-length c = search needs
@@ -59,7 +59,7 @@ run-serially-spec =
     returns-3
     clear-requires
     run-body-requires
-    sub-t20
+    sub-steps
     same-length
     same-length-2
     returns-4)
