@@ -9,7 +9,7 @@ use Rattle.plain.specs.Machine.{Event}
 use Rattle.serial.specs.declared.End.{End}
 use Rattle.serial.specs.declared.End.the-variants.{Ended, Spent, Refused}
 
--- the number that stands for an answer
+-- The number that stands for an answer. A run without overlap is never answered "waits" or "refused".
 abbrev pub SPAWNED : ℕ
 SPAWNED = 0
 
@@ -39,7 +39,8 @@ madeAfter w c = pick (eqb (numberOf w) SPAWNED) (c + 1) c
 unfoldable pub row : ℕ → ℕ → Word → ℕ → List ℕ
 row c m w v = m ∷ numberOf w ∷ pick (eqb (numberOf w) SPAWNED) c v ∷ []
 
--- the words of events, where ms are the numbers on the stack and c tasks have been made
+-- The words of events, where ms are the numbers on the stack and c tasks have been made. With no task on the stack there is
+-- no event.
 unfoldable pub written : ℕ → List ℕ → List Event → List ℕ
 written c ms [] = []
 written c [] (e ∷ es) = []

@@ -20,11 +20,11 @@ ANSWERS = 196605
 pub data Outcome : Type 0 where
   outcome : End → ℕ → List (List ℕ) → List ℕ → Outcome
 
--- a run of which k steps were made before: its answers go behind theirs
+-- A run of which k steps were made before, with c tasks made and ms the numbers on the stack: its answers go behind theirs.
 unfoldable pub shown : ℕ → ℕ → List ℕ → List ℕ → Run → Outcome
 shown k c ms a r = outcome (r .end) (r .steps) (r .queues) (storeAll a (k * 3) (written c ms (r .events)))
 
--- turned down with number k: no step is made, and no word is written
+-- turned down with number k: no step is made, the lists and the words for answers are as they were
 unfoldable pub turnedDown : ℕ → List ℕ → List ℕ → Outcome
 turnedDown k w a = outcome (Refused k) 0 (lists w) a
 

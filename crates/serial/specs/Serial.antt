@@ -29,7 +29,7 @@ VALUES = 4096
 unfoldable pub tooDeep : Instruction → ℕ → Bool
 tooDeep s d = both (eqb (s .operation) 8) (leb DEPTH d)
 
--- a push, operation 1 or 2, to a list that holds v values and no more
+-- a push, operation 1 or 2, to a list of v values that would then hold one too many
 unfoldable pub full : Instruction → ℕ → Bool
 full s v = both (between 1 (s .operation) 2) (leb VALUES v)
 
