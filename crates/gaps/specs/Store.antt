@@ -4,9 +4,9 @@ use mathlib.Core.Option.{Option, none, some}
 use mathlib.Core.List.{List, [], _∷_, _++_}
 use Prim.Native.Nat.{ℕ, _+_, _≤_}
 use Rattle.lists.specs.Counting.{occurrences}
-use Rattle.order_queue.specs.Points.{Point, value, user, values}
+use Rattle.order_queue.specs.Points.{Point, user, values}
 use Rattle.gaps.specs.Maps.{All, put}
-use Rattle.gaps.specs.Line.{End, nonlocal, local, Extent, vacant, extent, Mark, base, left, met, pass, Line, lefts, mets, segments, firstChain, Mode, settled, Views}
+use Rattle.gaps.specs.Line.{Extent, Mark, base, left, met, pass, Line, lefts, mets, segments, firstChain, settled, Views}
 
 pub record Store : Type 0 where
   -- the next of a segment, and its values, first in first

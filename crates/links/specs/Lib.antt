@@ -1,0 +1,17 @@
+pub mod Row
+pub mod Siblings
+pub mod Linked
+pub mod Family
+pub mod Waits
+pub mod Places
+pub mod Searches
+pub mod Idle
+pub mod Frame
+pub mod Marks
+pub mod Spawn
+pub mod Spawning
+pub mod Blocks
+pub mod SpawnWords
+pub mod Finish
+pub mod Finishing
+pub mod FinishWords

@@ -1,0 +1,53 @@
+-- The marks of the tour: each stands in it once, and they are where unfinished tasks are met and left.
+use mathlib.Core.Path.{_≡_, sym, _∙_, subst}
+use mathlib.Core.List.{List}
+use mathlib.Core.Logic.{_⊎_, inl, inr, ⊎-elim}
+use Prim.Native.Nat.{ℕ, _+_, _-_, _*_, _<_, _≤_}
+use native.Mathlib.Nat.{eq-zero-or-pos}
+use native.Mathlib.Omega.{arith}
+use lib.ListN.{length}
+use Rattle.lists.specs.Counting.{occurrences}
+use Rattle.layout.specs.Layout.{FREE, STATUS, recordOf}
+use Rattle.tree.specs.Tour.{tour}
+use Rattle.rules.specs.Contents.{Contents, decode, word}
+use Rattle.rules.specs.Rules.{Unfinished}
+use Rattle.rules_tasks.specs.Tested.{idle-says}
+use Rattle.rules_tasks.specs.Visits.{marks-once}
+use Rattle.rules_tasks.specs.Tasks.{tour-whole, marks-held, holders-left}
+use Rattle.order.specs.Steps.{Item}
+use Rattle.links.specs.Linked.{Linked, tree, tour-is, holder-unfinished}
+
+module _ (m : List ℕ) (T : List ℕ) (xs : List Item) (h : Linked m T xs) where
+  abbrev c : Contents
+  c = decode m
+
+  whole : T ≡ tour (2 * (128 - length (c .idle))) (recordOf m) 0
+  whole = sym (tour-is m T xs h) ∙ tour-whole c (h .top) (h .idle) (tree m T xs h)
+
+  pub mark-once : (x : ℕ) → occurrences x T ≤ 1
+  mark-once x = subst (λ (l : List ℕ). occurrences x l ≤ 1) (sym whole) (marks-once c (idle-says c (h .idle)) (tree m T xs h) x)
+
+  pub mark-held : (x : ℕ) → 0 < occurrences x T → ((x < 128) × Unfinished c x) ⊎ ((128 ≤ x) × (x < 256) × Unfinished c (x - 128))
+  mark-held x p =
+      ⊎-elim
+      (λ w. inl (w .0, holder-unfinished m T xs h x (w .1)))
+      (λ w. inr (w .0, w .1, holder-unfinished m T xs h (x - 128) (w .2)))
+      (marks-held c (h .top) (h .idle) (tree m T xs h) x (subst (λ (l : List ℕ). 0 < occurrences x l) whole p))
+
+  -- a free record has no mark
+  pub free-unmarked : (t : ℕ) → t < 128 → word c t STATUS ≡ FREE → (occurrences t T ≡ 0) × (occurrences (128 + t) T ≡ 0)
+  free-unmarked t small e = (
+    ⊎-elim (λ z. z) (λ p. absurd (⊎-elim (λ w. busy (w .1)) (λ w. let l = w .0 in omega (arith, l, small)) (mark-held t p))) (eq-zero-or-pos (occurrences t T)),
+    ⊎-elim (λ z. z)
+        (λ p.
+        absurd (⊎-elim (λ w. let l = w .0 in omega (arith, l))
+        (λ w. busy (subst (Unfinished c) (let z : 128 + t - 128 ≡ t = omega arith in z) (w .2))) (mark-held (128 + t) p)))
+        (eq-zero-or-pos (occurrences (128 + t) T)),
+  )
+    where
+      busy : Unfinished c t → ⊥
+      busy u = let f = u .1 in omega (arith, e, f)
+
+  -- an unfinished task is left too
+  pub mark-left : (t : ℕ) → Unfinished c t → 0 < occurrences (128 + t) T
+  mark-left t u = subst (λ (l : List ℕ). 0 < occurrences (128 + t) l) (sym whole) (holders-left c (h .top) (h .idle) (tree m T xs h) t (inr u))

@@ -1,0 +1,15 @@
+pub mod Represents
+pub mod Laids
+pub mod Parts
+pub mod Live
+pub mod Plain
+pub mod Views
+pub mod Named
+pub mod FirstNamed
+pub mod Room
+pub mod At
+pub mod Push
+pub mod Walks
+pub mod Found
+pub mod PushApart
+pub mod Pop

@@ -1,0 +1,72 @@
+-- Where a queue has a segment, not all segments are free; and the free ones are among those opened.
+use mathlib.Core.Path.{_≡_, refl, ap, sym, _∙_, subst}
+use mathlib.Core.List.{List, [], _∷_}
+use mathlib.Core.Logic.{inl, inr, ⊎-elim}
+use Prim.Native.Nat.{ℕ, suc, _+_, _<_, _≤_}
+use native.Mathlib.Omega.{arith}
+use lib.Dec.{ltb}
+use lib.ListN.{length}
+use borrow.Author.Tests.{le-ltb}
+use Rattle.words.specs.Words.{pass}
+use Rattle.lists.specs.Counting.{one, occurrences, occurs-here, occurs-past, equal?, length-total, total-ones}
+use Rattle.lists.specs.Sums.{total-le}
+use Rattle.layout.specs.Layout.{numberWord, read}
+use Rattle.rules_tasks.specs.Holders.{below?}
+use Rattle.order.specs.Steps.{Item}
+use Rattle.gaps.specs.Line.{segments}
+use Rattle.meaning.specs.Meaning.{freeIn, storeIn}
+use Rattle.represents.specs.Represents.{opened, Represents}
+use Rattle.represents.specs.Laids.{held-opened}
+use Rattle.represents.specs.Parts.{parts-of, opened-single}
+
+module _ (m : List ℕ) (xs : List Item) (r : Represents m xs) where
+  pub opened-below : (s : ℕ) → 0 < opened m s → s < read m numberWord
+  unfolding opened one
+  opened-below s p =
+      ⊎-elim
+      (λ l. l)
+      (λ l. let f : opened m s ≡ 0 = pass 1 (le-ltb s (read m numberWord) l) refl in let z : ⊥ = omega (arith, f, p) in absurd z)
+      (below? s (read m numberWord))
+
+  held : (q : ℕ) → q < 4 → (x : ℕ) → occurrences x (segments (r .line q)) + occurrences x (freeIn m) ≤ opened m x
+  held = held-opened (opened m) (opened-single m) (storeIn m 0) (r .line) (parts-of m xs r .laids .pool)
+
+  pub free-below : (s : ℕ) → 0 < occurrences s (freeIn m) → s < read m numberWord
+  free-below s p = let a = held 0 (omega arith) s in opened-below s (omega (arith, a, p))
+
+  -- a segment of a queue is not free
+  pub held-free : (q : ℕ) → q < 4 → (s : ℕ) → 0 < occurrences s (segments (r .line q)) → occurrences s (freeIn m) ≡ 0
+  held-free q i s p = let a = held q i s in let b = opened-single m s in omega (arith, a, b, p)
+
+  pub room : (q : ℕ) → q < 4 → (s : ℕ) → 0 < occurrences s (segments (r .line q)) → length (freeIn m) < read m numberWord
+  room q i s p =
+      let n = read m numberWord in
+      let a = length-total n (s ∷ freeIn m) below in
+      let b = total-le n (λ y. occurrences y (s ∷ freeIn m)) (λ y. 1) (λ y l. once y) in
+      let d = total-ones n (λ y. 1) (λ y l. refl) in
+      omega (arith, a, b, d)
+    where
+      mine-opened : 0 < opened m s
+      mine-opened = let a = held q i s in omega (arith, a, p)
+
+      below : (x : ℕ) → 0 < occurrences x (s ∷ freeIn m) → x < read m numberWord
+      below x k =
+          ⊎-elim
+          (λ e. subst (λ (y : ℕ). y < read m numberWord) e (opened-below s mine-opened))
+          (λ e. let f = occurs-past s x (freeIn m) e in free-below x (omega (arith, f, k)))
+          (equal? s x)
+
+      once : (x : ℕ) → occurrences x (s ∷ freeIn m) ≤ 1
+      once x =
+          ⊎-elim
+          (λ e.
+          let f = occurs-here s x (freeIn m) e in
+          let g = held-free q i s p in
+          let h = ap (λ (y : ℕ). occurrences y (freeIn m)) e in
+          omega (arith, f, g, h))
+          (λ e.
+          let f = occurs-past s x (freeIn m) e in
+          let a = held 0 (omega arith) x in
+          let b = opened-single m x in
+          omega (arith, f, a, b))
+          (equal? s x)

@@ -1,0 +1,84 @@
+-- THE WALKS BACK over the tour, by the words and along the line of a queue.
+use mathlib.Core.Path.{_≡_, refl, ap, ap₂, sym, _∙_, subst}
+use mathlib.Core.Bool.{Bool, true, false, not}
+use mathlib.Core.List.{List, [], _∷_, _++_}
+use mathlib.Core.Logic.{_⊎_, inl, inr, ⊎-elim}
+use Prim.Native.Nat.{ℕ, zero, suc, _+_, _-_, _<_, _≤_}
+use native.Mathlib.Omega.{arith}
+use lib.Dec.{ltb, eqb}
+use borrow.Author.Tests.{lt-ltb, le-ltb}
+use Rattle.words.specs.Words.{pick, halt, pass as skip, both, either, both-on}
+use Rattle.lists.specs.Counting.{occurrences, occurs-nil, occurs-here, occurs-past, equal?}
+use Rattle.layout.specs.Layout.{CHILDREN, RIGHTS, task, read}
+use Rattle.tree.specs.Rights.{uses, bits}
+use Rattle.rules.specs.Contents.{Contents, decode}
+use Rattle.rules.specs.Rules.{Unfinished}
+use Rattle.rules_tasks.specs.Tested.{top-says}
+use Rattle.calls.specs.Waits.{rightsOf as rightsIn}
+use Rattle.calls.specs.Views.{takesPart, standsAt}
+use Rattle.order.specs.Steps.{Item}
+use Rattle.gaps.specs.Line.{Extent, vacant}
+use Rattle.gaps.specs.Search.{firstOf, taskAt, occupied, takesPart as partTaken, standsAt as viewStands, Ends}
+use Rattle.links.specs.Row.{Row, leads-on}
+use Rattle.links.specs.Linked.{Linked, word-is}
+use Rattle.links.specs.Marks.{mark-held}
+use Rattle.meaning.specs.Meaning.{viewIn}
+use Rattle.meaning.specs.Find.{part-taken, view-stands}
+use Rattle.represents.specs.Represents.{alive, ofTasks, queueMemory, usesIn, Represents}
+use Rattle.represents.specs.Laids.{by-queue}
+use Rattle.represents.specs.Views.{unfinished-alive}
+
+-- two searches with tests that agree on the list
+pub first-path : (f g : ℕ → Bool) (l : List ℕ) → ((x : ℕ) → 0 < occurrences x l → f x ≡ g x) → firstOf f l ≡ firstOf g l
+unfolding firstOf
+first-path f g [] h = refl
+first-path f g (y ∷ l) h =
+    ap₂ (λ (b : Bool) (k : ℕ). pick b y k) (h y (let e = occurs-here y y l refl in omega (arith, e)))
+    (first-path f g l (λ x p. h x (⊎-elim (λ e. let k = occurs-here y x l e in omega (arith, k)) (λ e. let k = occurs-past y x l e in omega (arith, k, p)) (equal? y x))))
+
+-- a row of the tour ends where the top is left
+pub row-ends : (c : Contents) (l : List ℕ) → Row c l → Ends l
+row-ends c [] h = h
+row-ends c (x ∷ []) h = h
+row-ends c (x ∷ (y ∷ l)) h = (leads-on c (h .0), row-ends c (y ∷ l) (h .1))
+
+module _ (m : List ℕ) (xs : List Item) (r : Represents m xs) where
+  pub tour-ends : Ends (r .tour)
+  tour-ends = row-ends (decode m) (r .tour) (r .linked .row)
+
+  -- the task of a mark of the tour
+  marked : (x : ℕ) → 0 < occurrences x (r .tour) → (x < 256) × Unfinished (decode m) (taskAt x)
+  unfolding taskAt
+  marked x p =
+      ⊎-elim
+      (λ v. let l = v .0 in (omega (arith, l), subst (Unfinished (decode m)) (sym (halt x (x - 128) (lt-ltb x 128 l))) (v .1)))
+      (λ v. (v .1, subst (Unfinished (decode m)) (sym (skip x (le-ltb x 128 (v .0)) refl)) (v .2)))
+      (mark-held m (r .tour) xs (r .linked) x p)
+
+  pub same-part : (q x : ℕ) → 0 < occurrences x (r .tour) → takesPart m q x ≡ partTaken (usesIn m q) x
+  unfolding partTaken usesIn rightsIn
+  same-part q x p = part-taken m q x ∙ sym (both-on (lt-ltb (taskAt x) 128 (marked x p .1 .0)))
+
+  pub same-stand : (q x : ℕ) → q < 4 → 0 < occurrences x (r .tour) → standsAt m q x ≡ viewStands (usesIn m q) (queueMemory m q .children) x
+  unfolding viewStands queueMemory ofTasks taskAt
+  same-stand q x i p =
+      view-stands m q x i (marked x p .0)
+      ∙ ap₂ (λ (a b : Bool). both a b) (sym (part-taken m q x) ∙ same-part q x p) (go (ltb x 128) refl)
+    where
+      is-left : ltb x 128 ≡ false → taskAt x ≡ x - 128
+      is-left e = skip x e refl
+
+      go : (b : Bool) → ltb x 128 ≡ b
+          → either (ltb x 128) (either (eqb (x - 128) 0) (occupied (viewIn m q CHILDREN (x - 128)))) ≡ either (ltb x 128) (either (eqb (x - 128) 0) (occupied (queueMemory m q .children (x - 128))))
+      go true e = unfold either in halt _ _ e ∙ sym (halt _ _ e)
+      go false e =
+          ap (λ (v : Extent). either (ltb x 128) (either (eqb (x - 128) 0) (occupied v)))
+          (sym (halt (viewIn m q CHILDREN (x - 128)) vacant (unfinished-alive m (x - 128) (subst (Unfinished (decode m)) (is-left e) (marked x p .1)))))
+
+  -- the top has every right
+  pub top-uses : (q : ℕ) → q < 4 → usesIn m q 0 ≡ true
+  unfolding usesIn rightsIn uses bits
+  top-uses q i =
+      both-on (lt-ltb 0 128 (omega arith))
+      ∙ ap (λ (x : ℕ). uses x q) (sym (word-is m 0 RIGHTS) ∙ top-says (decode m) (r .linked .top) .rights)
+      ∙ by-queue (λ q. uses 255 q ≡ true) refl refl refl refl q i
