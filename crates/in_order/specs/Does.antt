@@ -1,5 +1,5 @@
 -- What an outcome does: it has this answer, and leaves words of which P holds with the steps so far.
-use mathlib.Core.Path.{_≡_, refl, ap, sym, _∙_, subst}
+use mathlib.Core.Path.{_≡_, refl, ap, sym, _∙_, subst, subst₂}
 use mathlib.Core.Bool.{Bool, true, false, not}
 use mathlib.Core.List.{List, [], _∷_}
 use Prim.Native.Nat.{ℕ}
@@ -44,3 +44,7 @@ module _ (P : List ℕ → List Item → Type 0) where
   pub never : {xs : List Item} {c : Call} (o : Outcome) {p : Outcome} {a : Answer} (x : Bool) → x ≡ false → Does xs c p a → Does xs c (pick x o p) a
   unfolding pick
   never {xs} {c} o {p} {a} x e d = subst (λ (z : Bool). Does xs c (pick z o p) a) (sym e) d
+
+  -- the same outcome and the same answer in other words
+  pub does-as : {xs : List Item} {c : Call} (o p : Outcome) (a b : Answer) → o ≡ p → a ≡ b → Does xs c p b → Does xs c o a
+  does-as {xs} {c} o p a b e f d = subst₂ (λ (x : Outcome) (y : Answer). Does xs c x y) (sym e) (sym f) d

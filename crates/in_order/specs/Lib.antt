@@ -1,2 +1,4 @@
 pub mod Answered
 pub mod Does
+pub mod Ladder
+pub mod Push

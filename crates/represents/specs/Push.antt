@@ -142,7 +142,7 @@ module _ (m : List ℕ) (ys zs : List Item) (s : Task) (r : Represents m (ys ++ 
   holder-alive = let w = holder-unfinished m Old r q small in here m Old r holder (w .0 .0) (w .1)
 
   -- the user view by the words
-  user-word : {v : Extent} → queueMemory m q .user t ≡ v → viewIn m q USER t ≡ v
+  pub user-word : {v : Extent} → queueMemory m q .user t ≡ v → viewIn m q USER t ≡ v
   unfolding queueMemory ofTasks
   user-word u = sym (halt _ _ (task-alive m ys zs s r)) ∙ u
 
