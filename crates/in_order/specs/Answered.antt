@@ -1,7 +1,7 @@
 -- The answer that a call gets by the steps made before it, with what program order leaves open decided: a push needs a
 -- segment and none is free.
-use mathlib.Core.Bool.{Bool, true, false, not}
-use mathlib.Core.List.{List, [], _∷_}
+use mathlib.Core.Bool.{Bool, not}
+use mathlib.Core.List.{List}
 use Prim.Native.Nat.{ℕ}
 use lib.Dec.{ltb}
 use Rattle.words.specs.Words.{pick, both, either}

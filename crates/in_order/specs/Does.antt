@@ -1,11 +1,11 @@
 -- What an outcome does: it has this answer, and leaves words of which P holds with the steps so far.
-use mathlib.Core.Path.{_≡_, refl, ap, sym, _∙_, subst, subst₂}
+use mathlib.Core.Path.{_≡_, refl, sym, subst, subst₂}
 use mathlib.Core.Bool.{Bool, true, false, not}
-use mathlib.Core.List.{List, [], _∷_}
+use mathlib.Core.List.{List}
 use Prim.Native.Nat.{ℕ}
-use Rattle.words.specs.Words.{pick, pass, halt}
+use Rattle.words.specs.Words.{pick}
 use Rattle.answers.specs.declared.Answer.{Answer}
-use Rattle.answers.specs.declared.Answer.the-variants.{Moved, Empty, NotEmpty, Waits, Refused}
+use Rattle.answers.specs.declared.Answer.the-variants.{Waits, Refused}
 use Rattle.answers.specs.Answers.{Outcome, outcome, answerOf, wordsOf}
 use Rattle.answers.specs.Calls.{Call}
 use Rattle.order.specs.Steps.{Item, noted}

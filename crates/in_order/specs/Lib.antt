@@ -2,3 +2,5 @@ pub mod Answered
 pub mod Does
 pub mod Ladder
 pub mod Push
+pub mod Finding
+pub mod Pop

@@ -1,48 +1,43 @@
 -- push: the answer is that of program order, 9 exactly where a segment is needed and none is free.
-use mathlib.Core.Path.{_≡_, refl, ap, ap₂, sym, _∙_, subst}
-use mathlib.Core.Bool.{Bool, true, false, not, false≢true}
+use mathlib.Core.Path.{_≡_, refl, ap, sym, _∙_, subst}
+use mathlib.Core.Bool.{Bool, true, false, not}
 use mathlib.Core.List.{List, [], _∷_, _++_}
-use mathlib.Core.Logic.{_⊎_, inl, inr, ⊎-elim}
-use Prim.Native.Nat.{ℕ, zero, suc, _+_, _-_, _<_, _≤_}
+use Prim.Native.Nat.{ℕ, zero, suc, _+_, _-_, _<_}
 use native.Mathlib.Omega.{arith}
 use lib.Dec.{leb, ltb, eqb}
 use lib.ListN.{length}
-use borrow.Author.Tests.{eqb-true, eqb-false, eq-eqb, ne-eqb, lt-leb, le-leb, leb-false, ltb-true, ltb-false}
-use Rattle.words.specs.Words.{pick, pass as skip, halt, both, either, both-on, both-off, true-left}
+use borrow.Author.Tests.{eqb-false, lt-leb, ltb-true, ltb-false}
+use Rattle.words.specs.Words.{pick, pass as skip, halt, both, either, both-on, true-left}
 use Rattle.lists.specs.Counting.{occurrences, occurs-append, occurs-here}
 use Rattle.layout.specs.Layout.{NL, USER, lengthWord, numberWord, freeSegments, freeSegment, count, next, head, tail, read, write}
-use Rattle.tree.specs.Rights.{uses, pushes as mayPush}
+use Rattle.tree.specs.Rights.{pushes as mayPush}
 use Rattle.answers.specs.declared.Answer.{Answer}
 use Rattle.answers.specs.declared.Answer.the-variants.{Moved, Waits, Refused}
-use Rattle.answers.specs.Answers.{Outcome, outcome, answerOf, wordsOf}
+use Rattle.answers.specs.Answers.{outcome, answerOf, wordsOf}
 use Rattle.answers.specs.Calls.{Call, push-call}
 use Rattle.rules.specs.Views.{View, view}
-use Rattle.calls.specs.Waits.{rightsOf as rightsIn, unfinished as unfinishedIn, blocked as blockedIn}
+use Rattle.calls.specs.Waits.{rightsOf as rightsIn, blocked as blockedIn}
 use Rattle.calls.specs.Segments.{noneFree, nextFree, stored, taken}
-use Rattle.calls.specs.Views.{viewOf, isEmpty, tailOf, headOf, reducible, justBefore, taskAt, kindAt}
+use Rattle.calls.specs.Views.{viewOf, isEmpty, tailOf, reducible, justBefore, taskAt, kindAt}
 use Rattle.calls.specs.Push.{pushedApart, pushedBehind, pushed, pushTested}
 use Rattle.order.specs.Steps.{Task, Item, spot, pushes, numberOf, rightsOf, advance, counted, noted}
-use Rattle.order.specs.Waits.{unfinished, blocked}
-use Rattle.order.specs.Ordered.{rightsAt, forTask, forQueue}
-use Rattle.order_laws.specs.Items.{In, in-split}
+use Rattle.order.specs.Waits.{blocked}
+use Rattle.order.specs.Ordered.{rightsAt, forQueue}
 use Rattle.order_laws.specs.Reached.{Fresh}
-use Rattle.order_waits.specs.Spots.{unfinished-says, says-unfinished, rights-at}
-use Rattle.order_waits.specs.Played.{Asked, Played, plays, played-reached}
-use Rattle.order_queue.specs.Users.{pushes-uses}
+use Rattle.order_waits.specs.Spots.{says-unfinished}
+use Rattle.order_waits.specs.Played.{Asked, Played, plays}
 use Rattle.gaps.specs.Maps.{lastOf, last-in}
-use Rattle.gaps.specs.Line.{End, nonlocal, local, Extent, vacant, extent, Line, met, mets, segments, Mode, Views}
+use Rattle.gaps.specs.Line.{End, nonlocal, local, Extent, vacant, extent, Line, met, segments, Mode, Views}
 use Rattle.gaps.specs.Chains.{count-gap}
 use Rattle.gaps.specs.Find.{awaited, user-awaits}
 use Rattle.gaps.specs.Frames.{split}
 use Rattle.gaps.specs.Lines.{count-segments}
 use Rattle.gaps.specs.Names.{user-local}
-use Rattle.links.specs.Waits.{same-unfinished, same-rights, same-blocked}
-use Rattle.meaning.specs.Meaning.{endOf, extentOf, stack, freeIn, contentsIn, viewIn}
+use Rattle.meaning.specs.Meaning.{endOf, extentOf, stack, freeIn, contentsIn}
 use Rattle.meaning.specs.Reads.{view-at}
 use Rattle.meaning.specs.Ring.{count-length}
-use Rattle.meaning.specs.Extents.{vacant-empty, extent-filled, extent-ends, end-nonlocal, end-local}
+use Rattle.meaning.specs.Extents.{vacant-empty, extent-filled, extent-ends}
 use Rattle.represents.specs.Represents.{queueMemory, Represents}
-use Rattle.represents.specs.Parts.{parts-of}
 use Rattle.represents.specs.At.{At, laid-at, mine-spot, task-unfinished}
 use Rattle.represents.specs.FirstNamed.{segment-below}
 use Rattle.represents.specs.Room.{held-free}

@@ -14,3 +14,4 @@ pub mod Walks
 pub mod Found
 pub mod PushApart
 pub mod Pop
+pub mod Test

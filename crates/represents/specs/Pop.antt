@@ -173,6 +173,14 @@ module _ (m : List ℕ) (ys zs : List Item) (s : Task) (r : Represents m (ys ++ 
           ∙ ap (λ (x : Bool). pick x Later Nothing) (sym (same-pusher m (r .tour) ys zs s (r .linked) (where-it-stands m ys zs s r) q))
           ∙ sym (skip _ (no-value m t q (task-unfinished m ys zs s r .0) small g (r .sized) g-below head-is e) refl)
 
+  -- where the words have a value, the first segment has one
+  pub held-value : hasValue m t q ≡ true → (w : ℕ) × (ws : List ℕ) × (contentsIn m g ≡ w ∷ ws)
+  held-value h = go (contentsIn m g) refl
+    where
+      go : (vs : List ℕ) → contentsIn m g ≡ vs → (w : ℕ) × (ws : List ℕ) × (contentsIn m g ≡ w ∷ ws)
+      go [] e = absurd (false≢true (sym (no-value m t q (task-unfinished m ys zs s r .0) small g (r .sized) g-below head-is e) ∙ h))
+      go (w ∷ ws) e = (w, ws, e)
+
   -- A POP keeps the invariant.
   module _ (w : ℕ) (ws : List ℕ) (filled : contentsIn m g ≡ w ∷ ws) where
     abbrev New : List Item
