@@ -13,3 +13,5 @@ pub mod Free
 pub mod Lists
 pub mod Held
 pub mod RulesHold
+pub mod TopStatus
+pub mod Finished
