@@ -1,2 +1,4 @@
 pub mod Leaf
 pub mod Way
+pub mod Meets
+pub mod Reductions
