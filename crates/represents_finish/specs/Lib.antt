@@ -2,3 +2,4 @@ pub mod Leaf
 pub mod Way
 pub mod Meets
 pub mod Reductions
+pub mod Turn

@@ -133,3 +133,10 @@ module _ (m n : List ℕ) (holder : ℕ → ℕ) (line : ℕ → Line) (way : Wa
         first = f;
         time = subst (Timeline q xs) (sym (ap (λ (w : Memory). timeline (w .store .contents) l) is-here ∙ g)) s;
       }
+
+-- All four queues stand, along some lines.
+pub record AllStand (m n : List ℕ) (xs : List Item) (T : List ℕ) : Type 0 where
+  pub holder : ℕ → ℕ
+  pub line : ℕ → Line
+  pub way : Way m n holder line
+  pub stands : (q : ℕ) → q < 4 → Standing n xs T q (holder q) (line q)
