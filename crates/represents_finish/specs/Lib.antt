@@ -3,3 +3,5 @@ pub mod Way
 pub mod Meets
 pub mod Reductions
 pub mod Turn
+pub mod SyncTurn
+pub mod Sync

@@ -41,15 +41,24 @@ pub record Standing (n : List ℕ) (xs : List Item) (T : List ℕ) (q h : ℕ) (
   pub first : firstPopper q xs ≡ some h
   pub time : Timeline q xs (timeline (contentsIn n) l)
 
+-- All four queues are laid out along some lines, and S holds of each.
+pub record AllStand (m n : List ℕ) (S : ℕ → ℕ → Line → Type 0) : Type 0 where
+  pub holder : ℕ → ℕ
+  pub line : ℕ → Line
+  pub way : Way m n holder line
+  pub stands : (q : ℕ) → q < 4 → S q (holder q) (line q)
+
 -- at the start
 module _ (m : List ℕ) (xs : List Item) (r : Represents m xs) where
-  pub way-begins : Way m m (holders m xs r) (r .line)
-  way-begins =
+  pub all-begin : AllStand m m (Standing m xs (r .tour))
+  all-begin =
       let p = parts-of m xs r in
-      record { kept = kept-all m; sized = r .sized; laids = p .laids; fits = p .fits; bare = p .bare }
-
-  pub stands-first : (q : ℕ) → q < 4 → Standing m xs (r .tour) q (holders m xs r q) (r .line q)
-  stands-first q i = let p = parts-of m xs r in record { marked = p .marked q i; first = p .first q i; time = p .time q i }
+      record {
+        holder = holders m xs r;
+        line = r .line;
+        way = record { kept = kept-all m; sized = r .sized; laids = p .laids; fits = p .fits; bare = p .bare };
+        stands = λ q i. record { marked = p .marked q i; first = p .first q i; time = p .time q i };
+      }
 
 -- a fact of one queue, and of the others, where two maps are written there
 pub at-queue : (P : (p h : ℕ) → Line → Type 0) (holder : ℕ → ℕ) (line : ℕ → Line) (q h : ℕ) (l : Line) → P q h l
@@ -134,9 +143,17 @@ module _ (m n : List ℕ) (holder : ℕ → ℕ) (line : ℕ → Line) (way : Wa
         time = subst (Timeline q xs) (sym (ap (λ (w : Memory). timeline (w .store .contents) l) is-here ∙ g)) s;
       }
 
--- All four queues stand, along some lines.
-pub record AllStand (m n : List ℕ) (xs : List Item) (T : List ℕ) : Type 0 where
-  pub holder : ℕ → ℕ
-  pub line : ℕ → Line
-  pub way : Way m n holder line
-  pub stands : (q : ℕ) → q < 4 → Standing n xs T q (holder q) (line q)
+  -- A TURN IN WHICH NO MARK CHANGES: all stand as before.
+  pub turn-same : (xs : List Item) (T : List ℕ) → ((p : ℕ) → p < 4 → Standing n xs T p (holder p) (line p)) → All (Fits (usesIn m q)) l
+      → ((x : ℕ) → usesIn m q x ≡ false → Vacant W x) → marks l ≡ marks (line q) → h ≡ holder q → timeline (W .store .contents) l ≡ timeline (contentsIn n) (line q)
+      → AllStand m n′ (Standing n′ xs T)
+  turn-same xs T stands fits bare e f g =
+      let st = stands q small in
+      record {
+        holder = put holder q h;
+        line = put line q l;
+        way = turn fits bare;
+        stands = at-queue (Standing n′ xs T) holder line q h l
+            (turn-here xs T (timeline (contentsIn n) (line q)) (e ∙ st .marked) (st .first ∙ ap some (sym f)) g (st .time))
+            (λ p i k. turn-other xs T p i k (stands p i));
+      }
