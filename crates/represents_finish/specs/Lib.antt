@@ -5,3 +5,5 @@ pub mod Reductions
 pub mod Turn
 pub mod SyncTurn
 pub mod Sync
+pub mod Naming
+pub mod FirstNames
