@@ -7,3 +7,6 @@ pub mod SyncTurn
 pub mod Sync
 pub mod Naming
 pub mod FirstNames
+pub mod LiveFinish
+pub mod Back
+pub mod Target
