@@ -10,3 +10,4 @@ pub mod FirstNames
 pub mod LiveFinish
 pub mod Back
 pub mod Target
+pub mod Reduced
