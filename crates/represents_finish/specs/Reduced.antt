@@ -32,18 +32,11 @@ use Rattle.represents.specs.Plain.{same-links}
 use Rattle.represents.specs.FirstNamed.{holder-unfinished}
 use Rattle.represents.specs.At.{mine-spot, task-unfinished}
 use Rattle.represents_finish.specs.Way.{Way}
-use Rattle.represents_finish.specs.Meets.{Meets, Apart, Tails, Headless, meets-links, apart-joined, tails-tailed}
+use Rattle.represents_finish.specs.Meets.{Meets, Apart, Tails, Headless, meets-links, apart-joined, tails-tailed, headless-not, vacant-not}
 use Rattle.represents_finish.specs.Reductions.{Link, Leaving, leaving-views}
 use Rattle.represents_finish.specs.Turn.{way-linked, spot-alive, single, held-below, held-local, room, children-word, user-word, right-word, holder-alive}
 use Rattle.represents_finish.specs.Naming.{Names, names-view, names-by}
 use Rattle.represents_finish.specs.FirstNames.{Covered, first-names}
-
--- a view whose head is not local does not begin with g
-headless-not : (v : Extent) → Headless v → (g : ℕ) (y : End) → v ≡ extent (local g) y → ⊥
-headless-not v h g y e = subst Headless e h
-
-vacant-not : (g : ℕ) (y : End) → vacant ≡ extent (local g) y → ⊥
-vacant-not g y e = let z : _≡_ {A = ℕ} 0 1 = cc in omega (arith, z)
 
 module _ (m : List ℕ) (ys zs : List Item) (s : Task) (r : Represents m (ys ++ spot s ∷ zs))
     (n : List ℕ) (holder : ℕ → ℕ) (line : ℕ → Line) (way : Way m n holder line) (covered : (p : ℕ) → p < 4 → Covered (queueMemory n p) (r .tour) (line p))
