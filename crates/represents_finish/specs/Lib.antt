@@ -12,3 +12,4 @@ pub mod Back
 pub mod Target
 pub mod Reduced
 pub mod Returned
+pub mod Heir
