@@ -14,7 +14,7 @@ use Rattle.order.specs.Steps.{Task, Item, spot, numberOf}
 use Rattle.order_waits.specs.Popper.{firstPopper}
 use Rattle.gaps.specs.Line.{End, nonlocal, local, Extent, vacant, extent, left, met, Line, marks, segments}
 use Rattle.gaps.specs.Store.{Store, Memory}
-use Rattle.gaps.specs.Moves.{Place, childrenOf, viewAt, reduced, joined, returned, finished}
+use Rattle.gaps.specs.Moves.{Place, childrenOf, viewAt, reduced, childrenWith, rightsWith, joined, returned, finished}
 use Rattle.gaps.specs.Places.{Returns}
 use Rattle.gaps.specs.Search.{placeAt}
 use Rattle.meaning.specs.Meaning.{Meaning, meaningOf, storeOf, memoryOf, contentsIn, freeIn, viewIn}
@@ -77,6 +77,9 @@ module _ (m : List ℕ) (ys zs : List Item) (s : Task) (r : Represents m (ys ++ 
     pub others : (p : ℕ) → (p ≡ q → ⊥) → memoryOf meaning p ≡ shared (finished h t place (memoryOf M q) .store) (memoryOf M p)
     pub holds : holdsAt (alive n) place
     pub to : Returns (Q .children) a (returned t Q) place
+    -- the tasks without a right have what they had
+    pub rest : (x : ℕ) → usesIn m q x ≡ false
+        → (childrenWith (returned t Q) place (Q .children) x ≡ Q .children x) × (rightsWith (returned t Q) place (Q .right) x ≡ Q .right x)
 
   redu : Reduces n t q h
   redu = reduces m ys zs s r n holder line way covered q small first b c a parts
@@ -98,6 +101,9 @@ module _ (m : List ℕ) (ys zs : List Item) (s : Task) (r : Represents m (ys ++ 
             ∙ ap (λ (w : Memory). shared (w .store) (memoryOf M p)) (memory-none-returned M q h t (childrenOf t) (W ∙ e));
         holds = alive-t m ys zs s r n holder line way covered q small first b c a parts;
         to = subst (λ (v : Extent). Returns (Q .children) a v (childrenOf t)) (sym e) tt;
+        rest = λ x u.
+            subst (λ (v : Extent). (childrenWith v (childrenOf t) (Q .children) x ≡ Q .children x) × (rightsWith v (childrenOf t) (Q .right) x ≡ Q .right x)) (sym e)
+            (refl, refl);
       }
 
   -- THE WORDS after two reductions
@@ -163,6 +169,7 @@ module _ (m : List ℕ) (ys zs : List Item) (s : Task) (r : Represents m (ys ++ 
             ∙ ap (λ (w : Memory). shared (w .store) (memoryOf M p)) (memory-returned M q h t x g y (W ∙ e));
         holds = o .holds;
         to = to;
+        rest = λ u k. o .rest v u k;
       }
 
   pub views-back : Back

@@ -1,6 +1,6 @@
 -- WHERE A FINISH RETURNS A VIEW: the place along the line, and the task and the view that stand there in the words.
 use mathlib.Core.Path.{_≡_, refl, ap, sym, _∙_, subst}
-use mathlib.Core.Bool.{Bool, true, false}
+use mathlib.Core.Bool.{Bool, true, false, false≢true}
 use mathlib.Core.List.{List, [], _∷_, _++_}
 use Prim.Native.Nat.{ℕ, _+_, _-_, _<_, _≤_}
 use native.Mathlib.Omega.{arith}
@@ -17,12 +17,12 @@ use Rattle.rules_tasks.specs.Holders.{met-count}
 use Rattle.calls.specs.Waits.{hasChild}
 use Rattle.calls.specs.Views.{taskAt, kindAt, returnedTo}
 use Rattle.order.specs.Steps.{Task, Item, spot, numberOf}
-use Rattle.gaps.specs.Maps.{All, all-behind}
+use Rattle.gaps.specs.Maps.{All, put-other, all-behind}
 use Rattle.gaps.specs.Line.{End, nonlocal, local, Extent, vacant, extent, base, left, met, pass, Line, marks, lefts, mets, Fits, Mode, Views, leaving, meeting}
 use Rattle.gaps.specs.Store.{Memory, Laid}
 use Rattle.gaps.specs.Lines.{count-lefts, count-mets}
 use Rattle.gaps.specs.Frames.{split}
-use Rattle.gaps.specs.Moves.{Place, childrenOf, rightOf, viewAt}
+use Rattle.gaps.specs.Moves.{Place, childrenOf, rightOf, viewAt, childrenWith, rightsWith}
 use Rattle.gaps.specs.Places.{Returns, In, latest-in, target-in}
 use Rattle.gaps.specs.Search.{firstOf, task-met, task-left, placeAt, takesPart as partTaken, standsAt as viewStands, Ends, latest-found, target-found}
 use Rattle.gaps.specs.Absent.{met-marks, left-marks}
@@ -150,23 +150,42 @@ module _ (m : List ℕ) (ys zs : List Item) (s : Task) (r : Represents m (ys ++ 
             (subst (Unfinished (decode m)) (task-left u) (marked m Old r (128 + u) (in-earlier (128 + u) (let k = left-marks u a in omega (arith, k, p))) .1));
       }
 
+  abbrev Rest : Place → Type 0
+  Rest p = (v : Extent) (x : ℕ) → usesIn m q x ≡ false → (childrenWith v p (Q .children) x ≡ Q .children x) × (rightsWith v p (Q .right) x ≡ Q .right x)
+
   -- WHAT STANDS AT PLACE p: view k of task u
   pub record At (u k : ℕ) (p : Place) : Type 0 where
     pub task : Other u
     pub holds : holdsAt (alive n) p
     pub view : viewAt (Q .children) (Q .right) p ≡ viewIn n q k u
+    -- what is reduced into it leaves the tasks without a right alone
+    pub rest : Rest p
 
   at-right : (u : ℕ) → 0 < occurrences u (mets a) → At u RIGHT (rightOf u)
   unfolding holdsAt
   at-right u p =
       let o = met-other u p in
-      record { task = o; holds = o .live; view = sym (right-word m Old r n holder line way q u (o .live)) }
+      record { task = o; holds = o .live; view = sym (right-word m Old r n holder line way q u (o .live)); rest = rest }
+    where
+      rest : Rest (rightOf u)
+      rest vacant x e = (refl, refl)
+      rest (extent g y) x e = (
+        refl,
+        put-other (Q .right) u _ x (λ d. false≢true (sym e ∙ ap (usesIn m q) d ∙ all-at (λ x. usesIn m q x ≡ true) (mets a) u (mets-use (usesIn m q) a fits) p)),
+      )
 
   at-children : (u : ℕ) → 0 < occurrences u (lefts a) → At u CHILDREN (childrenOf u)
   unfolding holdsAt
   at-children u p =
       let o = left-other u p in
-      record { task = o; holds = o .live; view = sym (children-word m Old r n holder line way q u (o .live)) }
+      record { task = o; holds = o .live; view = sym (children-word m Old r n holder line way q u (o .live)); rest = rest }
+    where
+      rest : Rest (childrenOf u)
+      rest vacant x e = (refl, refl)
+      rest (extent g y) x e = (
+        put-other (Q .children) u _ x (λ d. false≢true (sym e ∙ ap (usesIn m q) d ∙ all-at (λ x. usesIn m q x ≡ true) (lefts a) u (lefts-use (usesIn m q) a fits) p)),
+        refl,
+      )
 
   at-place : (x : ℕ) → In (placeAt x) a → At (taskAt x) (kindAt x) (placeAt x)
   unfolding taskAt kindAt placeAt pick
