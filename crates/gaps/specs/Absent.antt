@@ -11,7 +11,7 @@ use Rattle.gaps.specs.Maps.{All}
 use Rattle.gaps.specs.Line.{base, left, met, pass, Line, marks, lefts, mets, Fits}
 use Rattle.gaps.specs.Lines.{New}
 
-met-marks : (x : ℕ) (l : Line) → occurrences x (mets l) ≤ occurrences x (marks l)
+pub met-marks : (x : ℕ) (l : Line) → occurrences x (mets l) ≤ occurrences x (marks l)
 unfolding occurrences
 met-marks x [] = omega arith
 met-marks x (base c ∷ l) = met-marks x l
@@ -19,7 +19,7 @@ met-marks x (left t ∷ l) = omega (arith, met-marks x l)
 met-marks x (met t c ∷ l) = omega (arith, met-marks x l)
 met-marks x (pass y ∷ l) = omega (arith, met-marks x l)
 
-left-marks : (x : ℕ) (l : Line) → occurrences x (lefts l) ≤ occurrences (128 + x) (marks l)
+pub left-marks : (x : ℕ) (l : Line) → occurrences x (lefts l) ≤ occurrences (128 + x) (marks l)
 unfolding occurrences
 left-marks x [] = omega arith
 left-marks x (base c ∷ l) = left-marks x l

@@ -45,7 +45,7 @@ module _ (m : List ℕ) (t q holder : ℕ) (z : Sized m) (ht : t < 128) (hq : q 
   M = meaningOf m
 
   -- the first two reductions
-  views-reduced : Becomes m (words2 m t q) (threeIn M q holder t (store2 M q holder t) (whole M q holder t))
+  pub views-reduced : Becomes m (words2 m t q) (threeIn M q holder t (store2 M q holder t) (whole M q holder t))
   views-reduced =
       let m1 = words1 m t q in
       let a = view-merged m q t CHILDREN holder z hq (omega arith) ht USER t (omega arith) ht (d .user-tailed) (d .user-links) in
@@ -59,7 +59,7 @@ module _ (m : List ℕ) (t q holder : ℕ) (z : Sized m) (ht : t < 128) (hq : q 
   children-whole : viewIn (words2 m t q) q CHILDREN t ≡ whole M q holder t
   children-whole = ap (λ (N : Meaning). N .views q CHILDREN t) (views-reduced .means) ∙ whole-view M q holder t (store2 M q holder t)
 
-  returned-extent : extentOf (viewOf (words2 m t q) q t CHILDREN) ≡ whole M q holder t
+  pub returned-extent : extentOf (viewOf (words2 m t q) q t CHILDREN) ≡ whole M q holder t
   returned-extent = sym (view-at (words2 m t q) q CHILDREN t hq (omega arith) ht) ∙ children-whole
 
   -- NOTHING IS RETURNED

@@ -103,7 +103,7 @@ module _ (a : ℕ → Bool) where
   holdsAt (childrenOf t) = a t ≡ true
   holdsAt (rightOf t) = a t ≡ true
 
-  live-children : (x : Extent) (k : Place) (f : ℕ → Extent) → holdsAt k → (λ t. pick (a t) (childrenWith x k f t) vacant) ≡ childrenWith x k (λ t. pick (a t) (f t) vacant)
+  pub live-children : (x : Extent) (k : Place) (f : ℕ → Extent) → holdsAt k → (λ t. pick (a t) (childrenWith x k f t) vacant) ≡ childrenWith x k (λ t. pick (a t) (f t) vacant)
   unfolding holdsAt
   live-children vacant k f h = refl
   live-children (extent b y) (childrenOf t) f h =
@@ -111,7 +111,7 @@ module _ (a : ℕ → Bool) where
       ∙ ap (λ (v : Extent). put (λ x. pick (a x) (f x) vacant) t (reduced v (extent b y))) (sym (seen f vacant t h))
   live-children (extent b y) (rightOf t) f h = refl
 
-  live-rights : (x : Extent) (k : Place) (f : ℕ → Extent) → holdsAt k → (λ t. pick (a t) (rightsWith x k f t) vacant) ≡ rightsWith x k (λ t. pick (a t) (f t) vacant)
+  pub live-rights : (x : Extent) (k : Place) (f : ℕ → Extent) → holdsAt k → (λ t. pick (a t) (rightsWith x k f t) vacant) ≡ rightsWith x k (λ t. pick (a t) (f t) vacant)
   unfolding holdsAt
   live-rights vacant k f h = refl
   live-rights (extent b y) (rightOf t) f h =
@@ -119,7 +119,7 @@ module _ (a : ℕ → Bool) where
       ∙ ap (λ (v : Extent). put (λ x. pick (a x) (f x) vacant) t (reduced v (extent b y))) (sym (seen f vacant t h))
   live-rights (extent b y) (childrenOf t) f h = refl
 
-  live-view : (k : Place) (c r : ℕ → Extent) → holdsAt k → viewAt (λ t. pick (a t) (c t) vacant) (λ t. pick (a t) (r t) vacant) k ≡ viewAt c r k
+  pub live-view : (k : Place) (c r : ℕ → Extent) → holdsAt k → viewAt (λ t. pick (a t) (c t) vacant) (λ t. pick (a t) (r t) vacant) k ≡ viewAt c r k
   unfolding holdsAt
   live-view (childrenOf t) c r h = seen c vacant t h
   live-view (rightOf t) c r h = seen r vacant t h

@@ -47,7 +47,7 @@ module _ (m : List ℕ) (xs : List Item) (r : Represents m xs) where
   tour-ends = row-ends (decode m) (r .tour) (r .linked .row)
 
   -- the task of a mark of the tour
-  marked : (x : ℕ) → 0 < occurrences x (r .tour) → (x < 256) × Unfinished (decode m) (taskAt x)
+  pub marked : (x : ℕ) → 0 < occurrences x (r .tour) → (x < 256) × Unfinished (decode m) (taskAt x)
   unfolding taskAt
   marked x p =
       ⊎-elim

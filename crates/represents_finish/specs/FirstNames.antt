@@ -1,0 +1,127 @@
+-- BETWEEN TWO TURNS the first segment of a queue is named by its queue view's head only.
+use mathlib.Core.Path.{_≡_, refl, ap, sym, _∙_, subst}
+use mathlib.Core.Bool.{Bool, true, false}
+use mathlib.Core.Option.{Option, none, some}
+use mathlib.Core.List.{List, [], _∷_}
+use mathlib.Core.Logic.{_⊎_, inl, inr, ⊎-elim}
+use Prim.Native.Nat.{ℕ, zero, suc, _+_, _<_, _≤_}
+use native.Mathlib.Omega.{arith}
+use Rattle.words.specs.Words.{halt}
+use Rattle.lists.specs.Counting.{occurrences, occurs-here, occurs-append, equal?}
+use Rattle.layout.specs.Layout.{CHILDREN, USER, RIGHT}
+use Rattle.order.specs.Steps.{Item}
+use Rattle.gaps.specs.Maps.{All, put, put-other}
+use Rattle.gaps.specs.Line.{End, nonlocal, local, Extent, vacant, extent, base, left, met, pass, Line, lefts, mets, segments, firstChain}
+use Rattle.gaps.specs.Store.{Memory, headOf}
+use Rattle.gaps.specs.Names.{OnlyHead, only-head, Unnamed, unnamed}
+use Rattle.gaps.specs.Pool.{mine}
+use Rattle.meaning.specs.Meaning.{meaningOf, headsIn, viewIn, storeIn}
+use Rattle.represents.specs.Represents.{alive, queueMemory, opened, Represents}
+use Rattle.represents.specs.Laids.{apart}
+use Rattle.represents.specs.Parts.{opened-single, same-alive}
+use Rattle.represents.specs.Views.{all-at}
+use Rattle.represents.specs.FirstNamed.{here}
+use Rattle.represents_finish.specs.Way.{Vacant, Way}
+use Rattle.represents_finish.specs.Turn.{single, children-word, user-word, right-word, head-word}
+use Rattle.represents_finish.specs.Naming.{Names}
+
+-- the first segment of a line stands among its segments
+pub first-held : (l : Line) (g : ℕ) (c : List ℕ) → firstChain l ≡ g ∷ c → 0 < occurrences g (segments l)
+first-held l g c e = let a = go l in let b = ap (occurrences g) e in let d = occurs-here g g c refl in omega (arith, a, b, d)
+  where
+    go : (l : Line) → occurrences g (firstChain l) ≤ occurrences g (segments l)
+    go [] = omega arith
+    go (base d ∷ l) = let f = occurs-append g d (segments l) in omega (arith, f)
+    go (left t ∷ l) = go l
+    go (met t d ∷ l) = let f = occurs-append g d (segments l) in let k = go l in omega (arith, f, k)
+    go (pass x ∷ l) = go l
+
+not-nonlocal : {g : ℕ} → local g ≡ nonlocal → ⊥
+not-nonlocal e = let z : _≡_ {A = ℕ} 0 1 = cc in omega (arith, z)
+
+not-vacant : {b y : End} (v : Extent) → v ≡ extent b y → v ≡ vacant → ⊥
+not-vacant v e f = let z : _≡_ {A = ℕ} 0 1 = cc in omega (arith, z)
+
+-- each task of the tour T has all its views in the line l, or has none
+abbrev pub Covered : Memory → List ℕ → Line → Type 0
+Covered w T l = (x : ℕ) → x < 128 → 0 < occurrences x T → ((0 < occurrences x (mets l)) × (0 < occurrences x (lefts l))) ⊎ Vacant w x
+
+module _ (m : List ℕ) (xs : List Item) (r : Represents m xs) (n : List ℕ) (holder : ℕ → ℕ) (line : ℕ → Line) (way : Way m n holder line)
+    (covered : (p : ℕ) → p < 4 → Covered (queueMemory n p) (r .tour) (line p)) (q : ℕ) (small : q < 4) (live : alive n (holder q) ≡ true)
+    (g : ℕ) (c : List ℕ) (first : firstChain (line q) ≡ g ∷ c) where
+  abbrev h : ℕ
+  h = holder q
+
+  in-use : (x : ℕ) → x < 128 → 0 < occurrences x (r .tour) → alive n x ≡ true
+  in-use x l p = ap (λ (f : ℕ → Bool). f x) (same-alive m n (way .kept)) ∙ here m xs r x l p
+
+  only-q : OnlyHead (queueMemory n q) h (line q) g
+  only-q =
+      only-head (mine (queueMemory n q .store) (line q)) (single m xs r n holder line way q small) (queueMemory n q) h (line q) g c (way .laids .laid q small) first
+
+  none-p : (p : ℕ) → p < 4 → (p ≡ q → ⊥) → Unnamed (queueMemory n p) (line p) g
+  none-p p i k =
+      unnamed (mine (queueMemory n p .store) (line p)) (queueMemory n p) (holder p) (line p) g (way .laids .laid p i)
+      (let a = apart (opened m) (opened-single m) (storeIn n 0) line (way .laids .pool) p q i small k g in
+      let b = first-held (line q) g c first in
+      omega (arith, a, b))
+
+  -- a queue head
+  by-head : (x p : ℕ) → x < 128 → 0 < occurrences x (r .tour) → p < 4 → headsIn n p x ≡ some g → (x ≡ h) × (p ≡ q)
+  by-head x p l t i e =
+      let seen = sym (head-word m xs r n holder line way p x (in-use x l t)) ∙ e in
+      ⊎-elim
+      (λ d. (⊎-elim (λ z. z) (λ z. absurd (not-held d seen z)) (equal? x h), d))
+      (λ d. absurd (none-p p i d .no-head x seen))
+      (equal? p q)
+    where
+      not-held : p ≡ q → queueMemory n p .store .heads x ≡ some g → (x ≡ h → ⊥) → ⊥
+      not-held d seen z =
+          let s = subst (λ (y : ℕ). queueMemory n y .store .heads x ≡ some g) d seen in
+          let k = way .laids .laid q small .held .head x ∙ put-other (λ y. none) h (headOf (firstChain (line q))) x z in
+          let w : none ≡ some g = sym k ∙ s in
+          let v : _≡_ {A = ℕ} 0 1 = cc in
+          omega (arith, v)
+
+  -- a view's head
+  abbrev Views : ℕ → Type 0
+  Views p =
+      All (λ t. (b y : End) → queueMemory n p .children t ≡ extent b y → b ≡ nonlocal) (lefts (line p))
+      × All (λ t. (b y : End) → queueMemory n p .user t ≡ extent b y → b ≡ nonlocal) (mets (line p))
+      × All (λ t. (y : End) → queueMemory n p .right t ≡ extent (local g) y → ⊥) (mets (line p))
+
+  no-views : (p : ℕ) → p < 4 → Views p
+  no-views p i =
+      ⊎-elim
+      (λ e. subst Views (sym e) (only-q .no-children, only-q .no-user, only-q .no-right))
+      (λ k. let u = none-p p i k in (u .no-children, u .no-user, u .no-right))
+      (equal? p q)
+
+  by-view : (x p k : ℕ) → x < 128 → 0 < occurrences x (r .tour) → p < 4 → k < 3 → (y : End) → viewIn n p k x ≡ extent (local g) y → ⊥
+  by-view x p k l t i j y e = go k j e (covered p i x l t)
+    where
+      C : viewIn n p CHILDREN x ≡ queueMemory n p .children x
+      C = children-word m xs r n holder line way p x (in-use x l t)
+
+      U : viewIn n p USER x ≡ queueMemory n p .user x
+      U = user-word m xs r n holder line way p x (in-use x l t)
+
+      R : viewIn n p RIGHT x ≡ queueMemory n p .right x
+      R = right-word m xs r n holder line way p x (in-use x l t)
+
+      go : (k : ℕ) → k < 3 → viewIn n p k x ≡ extent (local g) y → ((0 < occurrences x (mets (line p))) × (0 < occurrences x (lefts (line p)))) ⊎ Vacant (queueMemory n p) x → ⊥
+      go zero j e (inl w) = not-nonlocal (all-at _ (lefts (line p)) x (no-views p i .0) (w .1) _ y (sym C ∙ e))
+      go (suc zero) j e (inl w) = not-nonlocal (all-at _ (mets (line p)) x (no-views p i .1) (w .0) _ y (sym U ∙ e))
+      go (suc (suc zero)) j e (inl w) = all-at _ (mets (line p)) x (no-views p i .2) (w .0) y (sym R ∙ e)
+      go zero j e (inr w) = not-vacant _ (sym C ∙ e) (w .0)
+      go (suc zero) j e (inr w) = not-vacant _ (sym U ∙ e) (w .1)
+      go (suc (suc zero)) j e (inr w) = not-vacant _ (sym R ∙ e) (w .2)
+      go (suc (suc (suc k))) j e w = omega (arith, j)
+
+  pub first-names : Names (meaningOf n) (r .tour) g h q
+  first-names =
+      record {
+        head = head-word m xs r n holder line way q h live ∙ only-q .head-names;
+        heads = λ x p l t i e. by-head x p l t i e;
+        views = λ x p k l t i j y e. by-view x p k l t i j y e;
+      }

@@ -1,0 +1,15 @@
+pub mod Leaf
+pub mod Way
+pub mod Meets
+pub mod Reductions
+pub mod Turn
+pub mod SyncTurn
+pub mod Sync
+pub mod Naming
+pub mod FirstNames
+pub mod LiveFinish
+pub mod Back
+pub mod Target
+pub mod Reduced
+pub mod Returned
+pub mod Heir

@@ -1,0 +1,123 @@
+-- A QUEUE WHOSE TURN IT IS: its segments, its views and its queue heads, by the words n.
+use mathlib.Core.Path.{_≡_, refl, ap, sym, _∙_, subst}
+use mathlib.Core.Bool.{Bool, true, false, false≢true}
+use mathlib.Core.Option.{Option, none, some}
+use mathlib.Core.List.{List, [], _∷_, _++_}
+use mathlib.Core.Logic.{⊎-elim}
+use Prim.Native.Nat.{ℕ, zero, suc, _+_, _<_, _≤_}
+use native.Mathlib.Omega.{arith}
+use lib.ListN.{length}
+use Rattle.words.specs.Words.{pick, halt}
+use Rattle.lists.specs.Counting.{occurrences, occurs-here, occurs-past, equal?, length-total, total-ones}
+use Rattle.lists.specs.Sums.{total-le}
+use Rattle.layout.specs.Layout.{NONE, NL, CHILDREN, USER, RIGHT, numberWord, read}
+use Rattle.tree.specs.Rights.{uses, pops as mayPop}
+use Rattle.order.specs.Steps.{Task, Item, spot, numberOf, rightsOf}
+use Rattle.order_laws.specs.Items.{In}
+use Rattle.order_waits.specs.Played.{played-reached}
+use Rattle.order_waits.specs.Spots.{same-number}
+use Rattle.order_waits.specs.Popper.{firstPopper}
+use Rattle.order_waits.specs.Poppers.{popper-says}
+use Rattle.order_queue.specs.Users.{pops-uses}
+use Rattle.gaps.specs.Maps.{put, put-same, put-other}
+use Rattle.gaps.specs.Line.{Extent, vacant, Line, segments, firstChain}
+use Rattle.gaps.specs.Store.{Store, Memory, Laid, headOf}
+use Rattle.gaps.specs.Pool.{mine}
+use Rattle.links.specs.Linked.{Linked, spot-unfinished}
+use Rattle.links.specs.Frame.{keeps-linked}
+use Rattle.meaning.specs.Meaning.{freeIn, contentsIn, headsIn, viewIn, storeIn}
+use Rattle.represents.specs.Represents.{alive, ofTasks, queueMemory, usesIn, opened, Represents}
+use Rattle.represents.specs.Laids.{Laids, held-opened, mine-one}
+use Rattle.represents.specs.Parts.{opened-single, same-alive}
+use Rattle.represents.specs.Plain.{same-links}
+use Rattle.represents.specs.Room.{opened-below}
+use Rattle.represents.specs.Views.{unfinished-alive}
+use Rattle.represents_finish.specs.Way.{Way, Standing}
+
+module _ (m : List ℕ) (xs : List Item) (r : Represents m xs) (n : List ℕ) (holder : ℕ → ℕ) (line : ℕ → Line) (way : Way m n holder line) where
+  -- THE TREE is that of m
+  pub way-linked : Linked n (r .tour) xs
+  way-linked = keeps-linked m n (same-links m n (r .sized) (way .kept)) (r .tour) xs xs (r .linked) refl (λ s i. i)
+
+  -- an unfinished task is in use
+  pub spot-alive : (o : Task) → In (spot o) xs → alive n (numberOf o) ≡ true
+  spot-alive o i =
+      ap (λ (f : ℕ → Bool). f (numberOf o)) (same-alive m n (way .kept)) ∙ unfinished-alive m (numberOf o) (spot-unfinished m (r .tour) xs (r .linked) o i)
+
+  -- SEGMENTS
+  held : (q : ℕ) → q < 4 → (x : ℕ) → occurrences x (segments (line q)) + occurrences x (freeIn n) ≤ opened m x
+  held = held-opened (opened m) (opened-single m) (storeIn n 0) line (way .laids .pool)
+
+  pub single : (q : ℕ) → q < 4 → (x : ℕ) → mine (queueMemory n q .store) (line q) x ≤ 1
+  unfolding queueMemory ofTasks
+  single = mine-one (opened m) (opened-single m) (storeIn n 0) line (way .laids .pool)
+
+  below : (s : ℕ) → 0 < opened m s → s < read n numberWord
+  below s p = let a = opened-below m xs r s p in let e = way .kept .number in omega (arith, a, e)
+
+  pub held-below : (q : ℕ) → q < 4 → (s : ℕ) → 0 < occurrences s (segments (line q)) → s < read n numberWord
+  held-below q i s p = let a = held q i s in below s (omega (arith, a, p))
+
+  pub held-local : (q : ℕ) → q < 4 → (s : ℕ) → 0 < occurrences s (segments (line q)) → s < NL
+  held-local q i s p = let l = held-below q i s p in let k = way .sized .number-range .1 in omega (arith, l, k)
+
+  -- where a queue has a segment, not all are free
+  pub room : (q : ℕ) → q < 4 → (s : ℕ) → 0 < occurrences s (segments (line q)) → length (freeIn n) < read n numberWord
+  room q i s p =
+      let k = read n numberWord in
+      let a = length-total k (s ∷ freeIn n) inside in
+      let b = total-le k (λ y. occurrences y (s ∷ freeIn n)) (λ y. 1) (λ y l. once y) in
+      let d = total-ones k (λ y. 1) (λ y l. refl) in
+      omega (arith, a, b, d)
+    where
+      inside : (x : ℕ) → 0 < occurrences x (s ∷ freeIn n) → x < read n numberWord
+      inside x k =
+          ⊎-elim
+          (λ e. subst (λ (y : ℕ). y < read n numberWord) e (held-below q i s p))
+          (λ e. let f = occurs-past s x (freeIn n) e in let a = held q i x in below x (omega (arith, f, k, a)))
+          (equal? s x)
+
+      once : (x : ℕ) → occurrences x (s ∷ freeIn n) ≤ 1
+      once x =
+          let a = held q i x in
+          let b = opened-single m x in
+          ⊎-elim
+          (λ e.
+          let f = occurs-here s x (freeIn n) e in
+          let h = ap (λ (y : ℕ). occurrences y (segments (line q))) e in
+          omega (arith, f, h, a, b, p))
+          (λ e. let f = occurs-past s x (freeIn n) e in omega (arith, f, a, b))
+          (equal? s x)
+
+  -- VIEWS of a task in use
+  module _ (q : ℕ) (x : ℕ) (live : alive n x ≡ true) where
+    pub children-word : viewIn n q CHILDREN x ≡ queueMemory n q .children x
+    unfolding queueMemory ofTasks
+    children-word = sym (halt _ _ live)
+
+    pub user-word : viewIn n q USER x ≡ queueMemory n q .user x
+    unfolding queueMemory ofTasks
+    user-word = sym (halt _ _ live)
+
+    pub right-word : viewIn n q RIGHT x ≡ queueMemory n q .right x
+    unfolding queueMemory ofTasks
+    right-word = sym (halt _ _ live)
+
+    pub head-word : headsIn n q x ≡ queueMemory n q .store .heads x
+    unfolding queueMemory ofTasks
+    head-word = sym (halt _ _ live)
+
+  -- THE HOLDER of the queue view is an unfinished task with a right
+  module _ (q h : ℕ) (first : firstPopper q xs ≡ some h) where
+    pub holder-task : (o : Task) × In (spot o) xs × (numberOf o ≡ h) × (mayPop (rightsOf o) q ≡ true)
+    holder-task = popper-says q xs h first
+
+    pub holder-alive : alive n h ≡ true
+    holder-alive = let w = holder-task in subst (λ (x : ℕ). alive n x ≡ true) (w .2) (spot-alive (w .0) (w .1))
+
+    -- so a task without a right is not the holder
+    pub not-holder : (s : Task) → In (spot s) xs → uses (rightsOf s) q ≡ false → numberOf s ≡ h → ⊥
+    not-holder s i u e =
+        let w = holder-task in
+        let same = same-number xs (played-reached (r .played)) (w .0) s (w .1) i (w .2 ∙ sym e) in
+        false≢true (sym u ∙ ap (λ (o : Task). uses (rightsOf o) q) (sym same) ∙ pops-uses (rightsOf (w .0)) q (w .3))

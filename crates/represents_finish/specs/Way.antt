@@ -1,0 +1,159 @@
+-- FROM QUEUE TO QUEUE: a sync or a finish goes through the four queues in turn. What holds of the words n between two turns,
+-- and what the turn of one queue leaves of it.
+use mathlib.Core.Path.{_≡_, refl, ap, sym, _∙_, subst, subst₂}
+use mathlib.Core.Bool.{Bool, true, false}
+use mathlib.Core.Option.{Option, some}
+use mathlib.Core.List.{List, [], _∷_}
+use mathlib.Core.Logic.{⊎-elim}
+use Prim.Native.Nat.{ℕ, _<_}
+use Rattle.lists.specs.Counting.{equal?}
+use Rattle.order.specs.Steps.{Item}
+use Rattle.order_waits.specs.Popper.{firstPopper}
+use Rattle.order_queue.specs.Points.{Point, Timeline}
+use Rattle.gaps.specs.Maps.{All, put, put-same, put-other}
+use Rattle.gaps.specs.Line.{vacant, Line, marks, Fits}
+use Rattle.gaps.specs.Store.{Store, Memory, Laid, timeline}
+use Rattle.gaps.specs.Stores.{Kept as StoreKept}
+use Rattle.gaps.specs.Pool.{mine}
+use Rattle.meaning.specs.Meaning.{Meaning, contentsIn, storeIn, memoryOf, Sized}
+use Rattle.meaning.specs.Kept.{Kept, kept-all, kept-then, Becomes}
+use Rattle.represents.specs.Represents.{alive, ofTasks, queueMemory, usesIn, opened, Represents}
+use Rattle.represents.specs.Laids.{sharing, Laids, laids-row, other-timeline}
+use Rattle.represents.specs.Parts.{Parts, holders, parts-of, opened-single}
+use Rattle.represents.specs.Plain.{laids-as}
+use Rattle.represents.specs.Push.{queue-memory}
+
+-- task x has no view in the memory w
+abbrev pub Vacant : Memory → ℕ → Type 0
+Vacant w x = (w .children x ≡ vacant) × (w .user x ≡ vacant) × (w .right x ≡ vacant)
+
+-- THE WORDS n, on the way from m: the tree is that of m, and the four queues are laid out.
+pub record Way (m n : List ℕ) (holder : ℕ → ℕ) (line : ℕ → Line) : Type 0 where
+  pub kept : Kept m n
+  pub sized : Sized n
+  pub laids : Laids (opened m) (storeIn n 0) (queueMemory n) holder line
+  pub fits : (q : ℕ) → q < 4 → All (Fits (usesIn m q)) (line q)
+  pub bare : (q : ℕ) → q < 4 → (x : ℕ) → usesIn m q x ≡ false → Vacant (queueMemory n q) x
+
+-- ONE QUEUE stands as the list xs of program order and the tour T say.
+pub record Standing (n : List ℕ) (xs : List Item) (T : List ℕ) (q h : ℕ) (l : Line) : Type 0 where
+  pub marked : marks l ≡ T
+  pub first : firstPopper q xs ≡ some h
+  pub time : Timeline q xs (timeline (contentsIn n) l)
+
+-- All four queues are laid out along some lines, and S holds of each.
+pub record AllStand (m n : List ℕ) (S : ℕ → ℕ → Line → Type 0) : Type 0 where
+  pub holder : ℕ → ℕ
+  pub line : ℕ → Line
+  pub way : Way m n holder line
+  pub stands : (q : ℕ) → q < 4 → S q (holder q) (line q)
+
+-- at the start
+module _ (m : List ℕ) (xs : List Item) (r : Represents m xs) where
+  pub all-begin : AllStand m m (Standing m xs (r .tour))
+  all-begin =
+      let p = parts-of m xs r in
+      record {
+        holder = holders m xs r;
+        line = r .line;
+        way = record { kept = kept-all m; sized = r .sized; laids = p .laids; fits = p .fits; bare = p .bare };
+        stands = λ q i. record { marked = p .marked q i; first = p .first q i; time = p .time q i };
+      }
+
+-- a fact of one queue, and of the others, where two maps are written there
+pub at-queue : (P : (p h : ℕ) → Line → Type 0) (holder : ℕ → ℕ) (line : ℕ → Line) (q h : ℕ) (l : Line) → P q h l
+    → ((p : ℕ) → p < 4 → (p ≡ q → ⊥) → P p (holder p) (line p)) → (p : ℕ) → p < 4 → P p (put holder q h p) (put line q l p)
+at-queue P holder line q h l x f p i =
+    ⊎-elim
+    (λ e. subst (λ (y : ℕ). P y (put holder q h y) (put line q l y)) (sym e) (subst₂ (P q) (sym (put-same holder q h)) (sym (put-same line q l)) x))
+    (λ k. subst₂ (P p) (sym (put-other holder q h p k)) (sym (put-other line q l p k)) (f p i k))
+    (equal? p q)
+
+-- THE TURN OF QUEUE q: the words n become n′, its memory becomes W, which is laid out along l with the queue view at h.
+module _ (m n : List ℕ) (holder : ℕ → ℕ) (line : ℕ → Line) (way : Way m n holder line) (q : ℕ) (small : q < 4) (n′ : List ℕ) (M : Meaning) (W : Memory) (h : ℕ) (l : Line)
+    (becomes : Becomes n n′ M) (here : ofTasks (alive n) (memoryOf M q) ≡ W)
+    (others : (p : ℕ) → p < 4 → (p ≡ q → ⊥) → ofTasks (alive n) (memoryOf M p) ≡ sharing (W .store) (queueMemory n p))
+    (kept : StoreKept (mine (queueMemory n q .store) (line q)) (queueMemory n q .store) (W .store))
+    (row : Laid (mine (queueMemory n q .store) (line q)) W h l) where
+  abbrev Then : ℕ → Memory
+  Then = put (λ p. sharing (W .store) (queueMemory n p)) q W
+
+  is-here : queueMemory n′ q ≡ W
+  is-here = queue-memory q becomes ∙ here
+
+  is-other : (p : ℕ) → p < 4 → (p ≡ q → ⊥) → queueMemory n′ p ≡ sharing (W .store) (queueMemory n p)
+  is-other p i k = queue-memory p becomes ∙ others p i k
+
+  memory-is : (p : ℕ) → p < 4 → queueMemory n′ p ≡ Then p
+  memory-is p i =
+      ⊎-elim
+      (λ e. subst (λ (x : ℕ). queueMemory n′ x ≡ Then x) (sym e) (is-here ∙ sym (put-same _ q W)))
+      (λ k. is-other p i k ∙ sym (put-other _ q W p k))
+      (equal? p q)
+
+  over-new : Laids (opened m) (W .store) (queueMemory n′) (put holder q h) (put line q l)
+  over-new =
+      laids-as (opened m) (W .store) Then (queueMemory n′) (put holder q h) (put line q l) memory-is
+      (laids-row (opened m) (opened-single m) (storeIn n 0) (queueMemory n) holder line (way .laids) q small W h l kept row)
+
+  same-store : (st : Store) → queueMemory n′ q .store ≡ st → Laids (opened m) st (queueMemory n′) (put holder q h) (put line q l)
+      → Laids (opened m) (storeIn n′ 0) (queueMemory n′) (put holder q h) (put line q l)
+  unfolding queueMemory ofTasks sharing
+  same-store st e a =
+      let b = subst (λ (x : Store). Laids (opened m) x (queueMemory n′) (put holder q h) (put line q l)) (sym e) a in
+      record { laid = b .laid; shares = b .shares; pool = record { chains = b .pool .chains; total = b .pool .total } }
+
+  pub turn : All (Fits (usesIn m q)) l → ((x : ℕ) → usesIn m q x ≡ false → Vacant W x) → Way m n′ (put holder q h) (put line q l)
+  unfolding sharing
+  turn fits bare =
+      record {
+        kept = kept-then (way .kept) (becomes .kept);
+        sized = becomes .sized;
+        laids = same-store (W .store) (ap (λ (w : Memory). w .store) is-here) over-new;
+        fits = at-queue (λ p x k. All (Fits (usesIn m p)) k) holder line q h l fits (λ p i k. way .fits p i);
+        bare = λ p i.
+            ⊎-elim
+            (λ e. subst (λ (y : ℕ). (x : ℕ) → usesIn m y x ≡ false → Vacant (queueMemory n′ y) x) (sym e) (λ x u. subst (λ (w : Memory). Vacant w x) (sym is-here) (bare x u)))
+            (λ k x u. subst (λ (w : Memory). Vacant w x) (sym (is-other p i k)) (way .bare p i x u))
+            (equal? p q);
+      }
+
+  -- the values of the other queues are as they were
+  pub turn-time : (p : ℕ) → p < 4 → (p ≡ q → ⊥) → timeline (contentsIn n′) (line p) ≡ timeline (contentsIn n) (line p)
+  turn-time p i k =
+      ap (λ (f : ℕ → List ℕ). timeline f (line p)) contents-are
+      ∙ other-timeline (opened m) (opened-single m) (storeIn n 0) (queueMemory n) holder line (way .laids) q small W h l kept row p i k
+    where
+      contents-are : contentsIn n′ ≡ W .store .contents
+      contents-are = unfold queueMemory ofTasks in ap (λ (w : Memory). w .store .contents) is-here
+
+  -- so they stand as before
+  pub turn-other : (xs : List Item) (T : List ℕ) (p : ℕ) → p < 4 → (p ≡ q → ⊥) → Standing n xs T p (holder p) (line p) → Standing n′ xs T p (holder p) (line p)
+  turn-other xs T p i k s =
+      record { marked = s .marked; first = s .first; time = subst (Timeline p xs) (sym (turn-time p i k)) (s .time) }
+
+  -- and this one by the timeline of W
+  pub turn-here : (xs : List Item) (T : List ℕ) (ps : List Point) → marks l ≡ T → firstPopper q xs ≡ some h → timeline (W .store .contents) l ≡ ps → Timeline q xs ps
+      → Standing n′ xs T q h l
+  unfolding queueMemory ofTasks
+  turn-here xs T ps e f g s =
+      record {
+        marked = e;
+        first = f;
+        time = subst (Timeline q xs) (sym (ap (λ (w : Memory). timeline (w .store .contents) l) is-here ∙ g)) s;
+      }
+
+  -- A TURN IN WHICH NO MARK CHANGES: all stand as before.
+  pub turn-same : (xs : List Item) (T : List ℕ) → ((p : ℕ) → p < 4 → Standing n xs T p (holder p) (line p)) → All (Fits (usesIn m q)) l
+      → ((x : ℕ) → usesIn m q x ≡ false → Vacant W x) → marks l ≡ marks (line q) → h ≡ holder q → timeline (W .store .contents) l ≡ timeline (contentsIn n) (line q)
+      → AllStand m n′ (Standing n′ xs T)
+  turn-same xs T stands fits bare e f g =
+      let st = stands q small in
+      record {
+        holder = put holder q h;
+        line = put line q l;
+        way = turn fits bare;
+        stands = at-queue (Standing n′ xs T) holder line q h l
+            (turn-here xs T (timeline (contentsIn n) (line q)) (e ∙ st .marked) (st .first ∙ ap some (sym f)) g (st .time))
+            (λ p i k. turn-other xs T p i k (stands p i));
+      }
