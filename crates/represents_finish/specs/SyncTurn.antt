@@ -5,13 +5,14 @@ use mathlib.Core.List.{List, [], _∷_, _++_}
 use Prim.Native.Nat.{ℕ, _+_, _<_}
 use native.Mathlib.Omega.{arith}
 use Rattle.lists.specs.Counting.{occurrences}
-use Rattle.layout.specs.Layout.{NONE, NL, CHILDREN, USER}
+use Rattle.layout.specs.Layout.{NONE, NL, CHILDREN, USER, numberWord, read}
 use Rattle.calls.specs.Waits.{hasChild}
 use Rattle.calls.specs.Sync.{syncs, syncedQueue}
 use Rattle.order.specs.Steps.{Task, Item, spot, numberOf}
 use Rattle.order_queue.specs.Points.{Point}
 use Rattle.gaps.specs.Maps.{All, put, put-other}
-use Rattle.gaps.specs.Line.{Extent, vacant, left, met, Line, marks, segments, Fits}
+use Rattle.gaps.specs.Line.{Extent, vacant, left, met, Line, marks, segments, Fits, Mode, Views, meeting, rest, close}
+use Rattle.gaps.specs.Frames.{split}
 use Rattle.gaps.specs.Store.{Store, Memory, Laid, timeline}
 use Rattle.gaps.specs.Moves.{reduced, joined, synced}
 use Rattle.gaps.specs.After.{After, after-marks, after-fits}
@@ -24,6 +25,7 @@ use Rattle.meaning.specs.Extents.{reduces}
 use Rattle.meaning.specs.Reduce.{Links, Tailed}
 use Rattle.meaning.specs.Sync.{syncedIn, Syncs, sync-test, queue-synced, memory-synced, memory-synced-elsewhere}
 use Rattle.represents.specs.Represents.{alive, ofTasks, queueMemory, usesIn, Represents}
+use Rattle.represents.specs.Nexts.{Nexts, HeadBelow, nexts-joined}
 use Rattle.represents.specs.Laids.{sharing}
 use Rattle.represents.specs.Live.{live-sync}
 use Rattle.represents.specs.Push.{masked-share}
@@ -42,6 +44,12 @@ vacant-synced M q holder t e f =
     ∙ ap (λ (N : Meaning). withView N q USER t vacant) (ap (withView M q CHILDREN t) (sym e) ∙ view-self M q CHILDREN t)
     ∙ ap (withView M q USER t) (sym f)
     ∙ view-self M q USER t
+
+-- a user view has no local head
+user-head : {children user right : ℕ → Extent} (n : ℕ) (some-opened : 0 < n) (t : ℕ) (c : List ℕ) (a : Line) {k : Mode} → Views children user right (met t c ∷ a) k
+    → HeadBelow n some-opened (user t)
+user-head n o t c a (meeting v w e rest f g r) = subst (HeadBelow n o) (sym e) tt
+user-head n o t c a (meeting v w e close f g r) = subst (HeadBelow n o) (sym e) tt
 
 module _ (m : List ℕ) (ys zs : List Item) (s : Task) (r : Represents m (ys ++ spot s ∷ zs)) (barren : hasChild m (numberOf s) ≡ false) where
   abbrev t : ℕ
@@ -122,6 +130,12 @@ module _ (m : List ℕ) (ys zs : List Item) (s : Task) (r : Represents m (ys ++ 
           let k : x ≡ t → ⊥ = λ d. false≢true (sym e ∙ ap (usesIn m q) d ∙ u) in
           (put-other (Q .children) t vacant x k ∙ v .0, put-other (Q .user) t _ x k ∙ v .1, v .2)
 
+      nexts : Nexts (read m numberWord) (synced (holder q) t Q .store .next)
+      unfolding queueMemory ofTasks synced
+      nexts =
+          nexts-joined (read m numberWord) (let l = r .sized .number-range .0 in omega (arith, l)) (holder q) (Q .children t) (Q .user t) (Q .store)
+          (user-head (read m numberWord) (let l = r .sized .number-range .0 in omega (arith, l)) t c (left t ∷ a) (split b (met t c) (left t ∷ a) (was .views) .1)) (way .nexts)
+
     -- THE TASK HAS NO RIGHT, so no views
     module _ (no-right : usesIn m q t ≡ false) where
       none : Vacant Q t
@@ -172,7 +186,7 @@ module _ (m : List ℕ) (ys zs : List Item) (s : Task) (r : Represents m (ys ++ 
           turn-same m n holder line way q small (syncedQueue n t q) (syncedIn (meaningOf n) q (holder q) t) (synced (holder q) t (queueMemory n q)) (holder q) (after .line)
               (done n holder line way q small st b c a (p .3)) (here n holder line way q small st b c a (p .3)) (others n holder line way q small st b c a (p .3))
               (after .kept) (after .laid) Old (r .tour) (A .stands) (after-fits after (usesIn m q) (way .fits q small))
-              (λ x e. bare n holder line way q small st b c a (p .3) x u e) (after-marks after) refl (after .points),
+              (λ x e. bare n holder line way q small st b c a (p .3) x u e) (nexts n holder line way q small st b c a (p .3)) (after-marks after) refl (after .points),
         )
 
     without-views : usesIn m q t ≡ false → Turned
@@ -180,7 +194,7 @@ module _ (m : List ℕ) (ys zs : List Item) (s : Task) (r : Represents m (ys ++ 
     without-views u = (
       vacant-allowed n holder line way q small st u,
       turn-same m n holder line way q small (syncedQueue n t q) (meaningOf n) (queueMemory n q) (holder q) (line q) (vacant-done n holder line way q small st u) refl
-          (λ p i k. refl) (λ x e. (refl, refl)) (way .laids .laid q small) Old (r .tour) (A .stands) (way .fits q small) (way .bare q small) refl refl refl,
+          (λ p i k. refl) (λ x e. (refl, refl)) (way .laids .laid q small) Old (r .tour) (A .stands) (way .fits q small) (way .bare q small) (way .nexts) refl refl refl,
     )
 
     pub sync-turn : Turned

@@ -7,6 +7,7 @@ use mathlib.Core.List.{List, [], _∷_}
 use mathlib.Core.Logic.{⊎-elim}
 use Prim.Native.Nat.{ℕ, _<_}
 use Rattle.lists.specs.Counting.{equal?}
+use Rattle.layout.specs.Layout.{numberWord, read}
 use Rattle.order.specs.Steps.{Item}
 use Rattle.order_waits.specs.Popper.{firstPopper}
 use Rattle.order_queue.specs.Points.{Point, Timeline}
@@ -15,9 +16,10 @@ use Rattle.gaps.specs.Line.{vacant, Line, marks, Fits}
 use Rattle.gaps.specs.Store.{Store, Memory, Laid, timeline}
 use Rattle.gaps.specs.Stores.{Kept as StoreKept}
 use Rattle.gaps.specs.Pool.{mine}
-use Rattle.meaning.specs.Meaning.{Meaning, contentsIn, storeIn, memoryOf, Sized}
+use Rattle.meaning.specs.Meaning.{Meaning, contentsIn, nextIn, storeIn, memoryOf, Sized}
 use Rattle.meaning.specs.Kept.{Kept, kept-all, kept-then, Becomes}
 use Rattle.represents.specs.Represents.{alive, ofTasks, queueMemory, usesIn, opened, Represents}
+use Rattle.represents.specs.Nexts.{Nexts, words-nexts}
 use Rattle.represents.specs.Laids.{sharing, Laids, laids-row, other-timeline}
 use Rattle.represents.specs.Parts.{Parts, holders, parts-of, opened-single}
 use Rattle.represents.specs.Plain.{laids-as}
@@ -34,6 +36,7 @@ pub record Way (m n : List ℕ) (holder : ℕ → ℕ) (line : ℕ → Line) : T
   pub laids : Laids (opened m) (storeIn n 0) (queueMemory n) holder line
   pub fits : (q : ℕ) → q < 4 → All (Fits (usesIn m q)) (line q)
   pub bare : (q : ℕ) → q < 4 → (x : ℕ) → usesIn m q x ≡ false → Vacant (queueMemory n q) x
+  pub nexts : Nexts (read m numberWord) (nextIn n)
 
 -- ONE QUEUE stands as the list xs of program order and the tour T say.
 pub record Standing (n : List ℕ) (xs : List Item) (T : List ℕ) (q h : ℕ) (l : Line) : Type 0 where
@@ -56,7 +59,7 @@ module _ (m : List ℕ) (xs : List Item) (r : Represents m xs) where
       record {
         holder = holders m xs r;
         line = r .line;
-        way = record { kept = kept-all m; sized = r .sized; laids = p .laids; fits = p .fits; bare = p .bare };
+        way = record { kept = kept-all m; sized = r .sized; laids = p .laids; fits = p .fits; bare = p .bare; nexts = words-nexts m (r .sized) (r .nexts) };
         stands = λ q i. record { marked = p .marked q i; first = p .first q i; time = p .time q i };
       }
 
@@ -103,9 +106,9 @@ module _ (m n : List ℕ) (holder : ℕ → ℕ) (line : ℕ → Line) (way : Wa
       let b = subst (λ (x : Store). Laids (opened m) x (queueMemory n′) (put holder q h) (put line q l)) (sym e) a in
       record { laid = b .laid; shares = b .shares; pool = record { chains = b .pool .chains; total = b .pool .total } }
 
-  pub turn : All (Fits (usesIn m q)) l → ((x : ℕ) → usesIn m q x ≡ false → Vacant W x) → Way m n′ (put holder q h) (put line q l)
-  unfolding sharing
-  turn fits bare =
+  pub turn : All (Fits (usesIn m q)) l → ((x : ℕ) → usesIn m q x ≡ false → Vacant W x) → Nexts (read m numberWord) (W .store .next) → Way m n′ (put holder q h) (put line q l)
+  unfolding sharing queueMemory ofTasks
+  turn fits bare nexts =
       record {
         kept = kept-then (way .kept) (becomes .kept);
         sized = becomes .sized;
@@ -116,6 +119,7 @@ module _ (m n : List ℕ) (holder : ℕ → ℕ) (line : ℕ → Line) (way : Wa
             (λ e. subst (λ (y : ℕ). (x : ℕ) → usesIn m y x ≡ false → Vacant (queueMemory n′ y) x) (sym e) (λ x u. subst (λ (w : Memory). Vacant w x) (sym is-here) (bare x u)))
             (λ k x u. subst (λ (w : Memory). Vacant w x) (sym (is-other p i k)) (way .bare p i x u))
             (equal? p q);
+        nexts = subst (λ (w : Memory). Nexts (read m numberWord) (w .store .next)) (sym is-here) nexts;
       }
 
   -- the values of the other queues are as they were
@@ -145,14 +149,14 @@ module _ (m n : List ℕ) (holder : ℕ → ℕ) (line : ℕ → Line) (way : Wa
 
   -- A TURN IN WHICH NO MARK CHANGES: all stand as before.
   pub turn-same : (xs : List Item) (T : List ℕ) → ((p : ℕ) → p < 4 → Standing n xs T p (holder p) (line p)) → All (Fits (usesIn m q)) l
-      → ((x : ℕ) → usesIn m q x ≡ false → Vacant W x) → marks l ≡ marks (line q) → h ≡ holder q → timeline (W .store .contents) l ≡ timeline (contentsIn n) (line q)
+      → ((x : ℕ) → usesIn m q x ≡ false → Vacant W x) → Nexts (read m numberWord) (W .store .next) → marks l ≡ marks (line q) → h ≡ holder q → timeline (W .store .contents) l ≡ timeline (contentsIn n) (line q)
       → AllStand m n′ (Standing n′ xs T)
-  turn-same xs T stands fits bare e f g =
+  turn-same xs T stands fits bare nexts e f g =
       let st = stands q small in
       record {
         holder = put holder q h;
         line = put line q l;
-        way = turn fits bare;
+        way = turn fits bare nexts;
         stands = at-queue (Standing n′ xs T) holder line q h l
             (turn-here xs T (timeline (contentsIn n) (line q)) (e ∙ st .marked) (st .first ∙ ap some (sym f)) g (st .time))
             (λ p i k. turn-other xs T p i k (stands p i));
