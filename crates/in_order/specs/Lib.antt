@@ -4,3 +4,4 @@ pub mod Ladder
 pub mod Push
 pub mod Finding
 pub mod Pop
+pub mod Sync
