@@ -1,1 +1,3 @@
 pub mod OpenLinks
+pub mod Rows
+pub mod Open

@@ -1,7 +1,7 @@
 -- THE TREE OF A NEW CORE: the top alone, and 127 free task records.
 use mathlib.Core.Path.{_≡_, refl, ap, sym, _∙_, subst}
 use mathlib.Core.Bool.{true}
-use mathlib.Core.List.{List, [], _∷_, _++_}
+use mathlib.Core.List.{List, [], _∷_}
 use mathlib.Core.Logic.{_⊎_, inl, inr, ⊎-elim}
 use Prim.Native.Nat.{ℕ, zero, suc, _+_, _-_, _*_, _<_, _≤_}
 use native.Mathlib.Nat.{eq-zero-or-pos}
@@ -11,16 +11,15 @@ use borrow.Author.Tests.{leb-true}
 use Rattle.words.specs.Words.{load, size, pick, both-true}
 use Rattle.words.specs.Blocks.{storeAll, block-other, size-storeAll}
 use Rattle.lists.specs.Counting.{occurrences, occurs-nil, occurs-here, occurs-past, occurs-append, equal?}
-use Rattle.layout.specs.Layout.{WORDS, NONE, UNFINISHED, STATUS, RIGHTS, PARENT, OLDER, YOUNGER, YOUNGEST, freeTasks, freeTask, freeSegment, segment, task, address, read}
+use Rattle.layout.specs.Layout.{WORDS, STATUS, RIGHTS, PARENT, OLDER, YOUNGER, YOUNGEST, freeTasks, freeTask, freeSegment, task, address, read}
 use Rattle.tree.specs.Tour.{met}
 use Rattle.rules.specs.Contents.{Contents, decode, word}
 use Rattle.rules.specs.Test.{within, inRange}
 use Rattle.rules_tasks.specs.Tested.{Top, Idle, says-top, says-idle}
 use Rattle.calls.specs.Open.{down, emptySegment, topLinks, topViews, stacked, segmented, topped, opened}
-use Rattle.order.specs.Steps.{Name, Task, Item, spot, task as taskOf, nameOf, numberOf, rightsOf, begin}
-use Rattle.order.specs.Waits.{isOlder}
+use Rattle.order.specs.Steps.{Task, spot, task as taskOf, nameOf, numberOf, rightsOf, begin}
 use Rattle.order_laws.specs.Items.{In}
-use Rattle.links.specs.Row.{Leads, childless, Row}
+use Rattle.links.specs.Row.{childless}
 use Rattle.links.specs.Linked.{numbersBack, Linked, word-is}
 use Rattle.links.specs.Idle.{idle-length, idle-last}
 use Rattle.meaning.specs.Records.{block-same, record-same, record-other}
