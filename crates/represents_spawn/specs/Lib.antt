@@ -1,3 +1,4 @@
 pub mod OpenLinks
 pub mod Rows
 pub mod Open
+pub mod Child
