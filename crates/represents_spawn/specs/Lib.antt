@@ -3,3 +3,7 @@ pub mod Rows
 pub mod Open
 pub mod Child
 pub mod SpawnLive
+pub mod NewTask
+pub mod SpawnMemory
+pub mod SpawnQueue
+pub mod Spawn
