@@ -82,7 +82,7 @@ module _ (m : List ℕ) (ys zs : List Item) (s : Task) (r : Represents m (ys ++ 
   absent : (l : Line) → r .line q ≡ l → (occurrences c (marks l) ≡ 0) × (occurrences (128 + c) (marks l) ≡ 0)
   absent l e = subst (λ (k : List ℕ). (occurrences c k ≡ 0) × (occurrences (128 + c) k ≡ 0)) (sym (parts-of m Old r .marked q i) ∙ ap marks e) (child-unmarked m ys zs s r u sub some-free)
 
-  -- it has the marks of the new tour, and fits
+  -- a line with the marks of the new tour, which fits the new rights
   pub record Placed (l : Line) : Type 0 where
     pub marked : marks l ≡ Tour
     pub fits : All (Fits (usesIn n q)) l
@@ -119,7 +119,7 @@ module _ (m : List ℕ) (ys zs : List Item) (s : Task) (r : Represents m (ys ++ 
       }
 
   -- THE FIRST POPPER
-  pub first-same : mayPop u q ≡ false → firstPopper q Next ≡ some holder
+  first-same : mayPop u q ≡ false → firstPopper q Next ≡ some holder
   first-same p = ap (firstPopper q) (new-is m ys zs s r u sub some-free) ∙ spawn-kept ys zs s q c u p ∙ parts-of m Old r .first q i
 
   first-child : mayPop u q ≡ true → holder ≡ t → firstPopper q Next ≡ some c
