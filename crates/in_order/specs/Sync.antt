@@ -66,7 +66,8 @@ module _ (P : List ℕ → List Item → Type 0) (holds-of : (m : List ℕ) (xs 
   unfolding syncTested answerOf wordsOf noted counted
   sync-does m xs t =
       when-reduced sync-call (λ t. eachQueue (syncs m t)) (synced m) m
-      (λ ys zs s r b c.
-      (sync-allowed m ys zs s r (child-same m ys zs s r ∙ c),
-      record { answer = refl; holds = holds-of (synced m (numberOf s)) (advance (numberOf s) syncStep (ys ++ spot s ∷ zs)) (after-sync m ys zs s r b c) }))
+      (λ ys zs s r b c. (
+        sync-allowed m ys zs s r (child-same m ys zs s r ∙ c),
+        record { answer = refl; holds = holds-of (synced m (numberOf s)) (advance (numberOf s) syncStep (ys ++ spot s ∷ zs)) (after-sync m ys zs s r b c) },
+      ))
       xs t
