@@ -5,3 +5,4 @@ pub mod Push
 pub mod Finding
 pub mod Pop
 pub mod Sync
+pub mod Spawn

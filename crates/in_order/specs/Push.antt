@@ -22,7 +22,7 @@ use Rattle.calls.specs.Views.{viewOf, isEmpty, tailOf, reducible, justBefore, t
 use Rattle.calls.specs.Push.{pushedApart, pushedBehind, pushed, pushTested}
 use Rattle.order.specs.Steps.{Task, Item, spot, pushes, numberOf, rightsOf, advance, counted, noted}
 use Rattle.order.specs.Waits.{blocked}
-use Rattle.order.specs.Ordered.{rightsAt, forQueue}
+use Rattle.order.specs.Ordered.{rightsAt, forTask, forQueue}
 use Rattle.order_laws.specs.Reached.{Fresh}
 use Rattle.order_waits.specs.Spots.{says-unfinished}
 use Rattle.order_waits.specs.Played.{Asked, Played, plays}
@@ -43,7 +43,7 @@ use Rattle.represents.specs.FirstNamed.{segment-below}
 use Rattle.represents.specs.Room.{held-free}
 use Rattle.represents.specs.Push.{stands, push-into, push-behind, user-word}
 use Rattle.represents.specs.PushApart.{apart-reducible, push-apart}
-use Rattle.in_order.specs.Answered.{needsSegment, pushAnswer}
+use Rattle.in_order.specs.Answered.{needsSegment}
 use Rattle.in_order.specs.Does.{Does, refuses, waits, chooses, never, does-as}
 use Rattle.in_order.specs.Ladder.{for-task, for-queue, rights-are, rights-same, blocked-same}
 
@@ -198,8 +198,8 @@ module _ (P : List ℕ → List Item → Type 0) (runs : (m : List ℕ) (xs : Li
             let w = user-local (views .1) .0 h x d in
             behind h (w .0) (d ∙ ap (extent h) (w .1))
 
-  pub push-does : (m : List ℕ) (xs : List Item) (t q v : ℕ) → Represents m xs → Does P xs (push-call t q v) (pushTested m t q v) (pushAnswer m xs t q v)
-  unfolding pushTested pushAnswer
+  pub push-does : (m : List ℕ) (xs : List Item) (t q v : ℕ) → Represents m xs → Does P xs (push-call t q v) (pushTested m t q v) (forTask t xs (forQueue q (mayPush (rightsAt t xs) q) (pick (blocked t xs) Waits (pick (both (needsSegment m t q) (noneFree m)) (Refused 9) (Moved v)))))
+  unfolding pushTested
   push-does m xs t q v =
       for-task P runs (λ t. push-call t q v)
       (λ t. pick (leb 4 q) (outcome (Refused 5) m) (pick (not (mayPush (rightsIn m t) q)) (outcome (Refused 6) m) (pick (blockedIn m t) (outcome Waits m) (pushed m t q v))))
