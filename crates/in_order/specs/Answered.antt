@@ -1,7 +1,7 @@
 -- The answer that a call gets by the steps made before it, with what program order leaves open decided by the words: the
 -- number of a new task, 9 for a push, and opening.
-use mathlib.Core.Bool.{Bool, true, false, not}
-use mathlib.Core.List.{List, [], _∷_}
+use mathlib.Core.Bool.{Bool, not}
+use mathlib.Core.List.{List}
 use Prim.Native.Nat.{ℕ, _-_}
 use lib.Dec.{ltb}
 use Rattle.words.specs.Words.{pick, both, either}

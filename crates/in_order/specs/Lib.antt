@@ -6,3 +6,4 @@ pub mod Finding
 pub mod Pop
 pub mod Sync
 pub mod Spawn
+pub mod Alone

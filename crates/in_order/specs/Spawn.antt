@@ -1,21 +1,21 @@
 -- spawn: 8 exactly with 128 unfinished tasks, and the new task's number is no unfinished task's.
-use mathlib.Core.Path.{_≡_, refl, ap, sym, _∙_, subst}
-use mathlib.Core.Bool.{Bool, true, false, not}
-use mathlib.Core.List.{List, [], _∷_, _++_}
-use Prim.Native.Nat.{ℕ, _+_, _-_, _<_}
+use mathlib.Core.Path.{_≡_, refl, ap, sym, _∙_}
+use mathlib.Core.Bool.{not}
+use mathlib.Core.List.{List, _∷_, _++_}
+use Prim.Native.Nat.{ℕ, _+_, _-_}
 use native.Mathlib.Omega.{arith}
 use lib.Dec.{eqb}
 use borrow.Author.Tests.{eqb-true, eqb-false, eq-eqb}
 use Rattle.words.specs.Words.{pick, same-test}
-use Rattle.layout.specs.Layout.{freeTasks, freeTask, read}
+use Rattle.layout.specs.Layout.{freeTasks, read}
 use Rattle.answers.specs.declared.Answer.{Answer}
 use Rattle.answers.specs.declared.Answer.the-variants.{Moved, Waits, Refused}
-use Rattle.answers.specs.Answers.{Outcome, outcome, answerOf, wordsOf}
+use Rattle.answers.specs.Answers.{outcome, answerOf, wordsOf}
 use Rattle.answers.specs.Calls.{Call, spawn-call}
 use Rattle.tree.specs.Rights.{subset}
-use Rattle.calls.specs.Waits.{rightsOf as rightsIn, unfinished as unfinishedIn, blocked as blockedIn}
+use Rattle.calls.specs.Waits.{rightsOf as rightsIn, blocked as blockedIn}
 use Rattle.calls.specs.Spawn.{spawned, spawnTested}
-use Rattle.order.specs.Steps.{Task, Item, spot, spawns, numberOf, rightsOf, advance, counted, noted}
+use Rattle.order.specs.Steps.{Task, Item, spot, numberOf, counted, noted}
 use Rattle.order.specs.Waits.{blocked}
 use Rattle.order.specs.Ordered.{rightsAt, spots, forTask}
 use Rattle.links.specs.Many.{spots-many}

@@ -1,15 +1,14 @@
 -- sync: it waits exactly where program order says so, and every reduction is one that the paper has.
-use mathlib.Core.Path.{_≡_, refl, ap, ap₂, sym, _∙_, subst}
+use mathlib.Core.Path.{_≡_, refl, ap, ap₂, _∙_}
 use mathlib.Core.Bool.{Bool, true, false, not}
-use mathlib.Core.List.{List, [], _∷_, _++_}
-use Prim.Native.Nat.{ℕ, _<_}
+use mathlib.Core.List.{List, _∷_, _++_}
+use Prim.Native.Nat.{ℕ}
 use Rattle.words.specs.Words.{pick, either}
-use Rattle.answers.specs.declared.Answer.{Answer}
 use Rattle.answers.specs.declared.Answer.the-variants.{Moved, Waits, Refused}
-use Rattle.answers.specs.Answers.{Outcome, outcome, answerOf, wordsOf}
+use Rattle.answers.specs.Answers.{outcome, answerOf, wordsOf}
 use Rattle.answers.specs.Calls.{Call, sync-call}
 use Rattle.tree.specs.Rights.{eachQueue}
-use Rattle.calls.specs.Waits.{unfinished as unfinishedIn, blocked as blockedIn, hasChild as hasChildIn}
+use Rattle.calls.specs.Waits.{blocked as blockedIn, hasChild as hasChildIn}
 use Rattle.calls.specs.Sync.{syncs, synced, whenReduced, syncTested}
 use Rattle.order.specs.Steps.{Task, Item, spot, syncs as syncStep, numberOf, advance, counted, noted}
 use Rattle.order.specs.Waits.{blocked, hasChild}
