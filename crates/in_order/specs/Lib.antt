@@ -7,3 +7,4 @@ pub mod Pop
 pub mod Sync
 pub mod Spawn
 pub mod Alone
+pub mod Chains

@@ -78,7 +78,7 @@ nthValue i (user t ∷ ps) = nthValue i ps
 nthValue zero (value v ∷ ps) = some v
 nthValue (suc i) (value v ∷ ps) = nthValue i ps
 
-nth-behind : (vs : List ℕ) (i : ℕ) (ps : List Point) → nthValue (length vs + i) (values vs ++ ps) ≡ nthValue i ps
+pub nth-behind : (vs : List ℕ) (i : ℕ) (ps : List Point) → nthValue (length vs + i) (values vs ++ ps) ≡ nthValue i ps
 unfolding nthValue
 nth-behind [] i ps = ap (λ (n : ℕ). nthValue n ps) (let z : 0 + i ≡ i = omega arith in z)
 nth-behind (v ∷ vs) i ps = ap (λ (n : ℕ). nthValue n (value v ∷ (values vs ++ ps))) (let z : suc (length vs) + i ≡ suc (length vs + i) = omega arith in z) ∙ nth-behind vs i ps
