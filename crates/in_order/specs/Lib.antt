@@ -8,3 +8,5 @@ pub mod Sync
 pub mod Spawn
 pub mod Alone
 pub mod Chains
+pub mod State
+pub mod Left
