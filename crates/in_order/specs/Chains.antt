@@ -32,13 +32,13 @@ nth-listed f zero i ps l = let z : ⊥ = omega (arith, l) in absurd z
 nth-listed f (suc n) zero ps l = refl
 nth-listed f (suc n) (suc i) ps l = nth-listed (λ k. f (suc k)) n i ps (omega (arith, l))
 
--- a spot at the end is no value
-pub nth-spot : (i : ℕ) (t : ℕ) (ps : List Point) → nthValue i (ps ++ user t ∷ []) ≡ nthValue i ps
+-- a spot is no value
+pub nth-user : (i : ℕ) (t : ℕ) (ps rs : List Point) → nthValue i (ps ++ user t ∷ rs) ≡ nthValue i (ps ++ rs)
 unfolding nthValue
-nth-spot i t [] = refl
-nth-spot i t (user u ∷ ps) = nth-spot i t ps
-nth-spot zero t (point v ∷ ps) = refl
-nth-spot (suc i) t (point v ∷ ps) = nth-spot i t ps
+nth-user i t [] rs = refl
+nth-user i t (user u ∷ ps) rs = nth-user i t ps rs
+nth-user zero t (point v ∷ ps) rs = refl
+nth-user (suc i) t (point v ∷ ps) rs = nth-user i t ps rs
 
 left-some : (v : ℕ) → Moved v ≡ leftAnswer (some v)
 unfolding leftAnswer

@@ -6,10 +6,10 @@ use mathlib.Core.List.{List, [], _∷_, _++_, append-nil}
 use mathlib.Core.Logic.{inl, inr, ⊎-elim}
 use Prim.Native.Nat.{ℕ, _+_, _*_, _<_, _≤_}
 use native.Mathlib.Omega.{arith}
-use lib.Dec.{leb, eqb}
+use lib.Dec.{leb, ltb, eqb}
 use lib.ListN.{length}
-use borrow.Author.Tests.{leb-false, eq-eqb, ne-eqb, lt-ltb}
-use Rattle.words.specs.Words.{load, pick, pass as skip, halt, true-both, load-same, load-other}
+use borrow.Author.Tests.{leb-false, ltb-true, eqb-true, eq-eqb, ne-eqb, lt-ltb}
+use Rattle.words.specs.Words.{load, pick, pass as skip, halt, both, both-true, true-both, load-same, load-other}
 use Rattle.lists.specs.Counting.{occurrences, occurs-nil, occurs-here, occurs-past, equal?, length-total, total-ones}
 use Rattle.lists.specs.Sums.{total-le}
 use Rattle.layout.specs.Layout.{Field, UNFINISHED, FINISHED, STATUS, lengthWord, numberWord, first, count, next, value, task, queueHead, address, read, write}
@@ -22,13 +22,17 @@ use Rattle.calls.specs.Left.{queued, leftTested}
 use Rattle.order.specs.Steps.{Item, counted, noted}
 use Rattle.order.specs.Waits.{unfinished}
 use Rattle.order.specs.Finding.{leftOver}
-use Rattle.order.specs.Ordered.{leftAnswer}
+use Rattle.order.specs.Ordered.{forTask, leftAnswer}
 use Rattle.order_queue.specs.Points.{Point, Timeline}
 use Rattle.order_queue.specs.Finds.{nthValue, leaves}
 use Rattle.gaps.specs.Maps.{All, put-same}
 use Rattle.gaps.specs.Line.{Line, base, left, met, segments, firstChain}
 use Rattle.gaps.specs.Store.{Laid, LinkedFrom, Chain, valuesIn, timeline, headOf}
 use Rattle.gaps.specs.Pool.{mine}
+use Rattle.rules.specs.Contents.{decode}
+use Rattle.rules.specs.Rules.{Unfinished}
+use Rattle.links.specs.Linked.{word-is}
+use Rattle.links.specs.Marks.{mark-left}
 use Rattle.links.specs.Waits.{same-unfinished}
 use Rattle.meaning.specs.Meaning.{optional, nextIn, contentsIn, headsIn, storeIn}
 use Rattle.meaning.specs.Reads.{head-at}
@@ -39,7 +43,7 @@ use Rattle.represents.specs.Laids.{held-opened}
 use Rattle.represents.specs.FirstNamed.{segment-below, holder-unfinished, here}
 use Rattle.in_order.specs.Does.{Does, refuses, waits, chooses, never, does-as}
 use Rattle.in_order.specs.Alone.{tour-alone, line-alone}
-use Rattle.in_order.specs.Chains.{nth-spot, queued-chain}
+use Rattle.in_order.specs.Chains.{nth-user, queued-chain}
 use Rattle.in_order.specs.State.{Ended, State}
 
 -- BEFORE THE END the top is unfinished
@@ -157,7 +161,57 @@ module _ (m : List ℕ) (xs : List Item) (e : Ended m xs) where
         ap (λ (x : ℕ). queued 256 m x i) head-word
         ∙ queued-chain b m (read b numberWord) (r .sized .number-range .1) (unfold read address in other 0 (λ x. omega (arith, x))) segment-words value-words 256 g d i chained below short
         ∙ ap leftAnswer
-        (sym (nth-spot i 0 (valuesIn (contentsIn b) (g ∷ d)))
+        (sym (nth-user i 0 (valuesIn (contentsIn b) (g ∷ d)) [] ∙ ap (nthValue i) (append-nil (valuesIn (contentsIn b) (g ∷ d))))
         ∙ ap (λ (l : Line). nthValue i (timeline (contentsIn b) l)) (sym line-is)
         ∙ sym (leaves q i (e .steps) (timeline (contentsIn b) (r .line q)) (parts-of b (e .steps) r .time q small))
         ∙ sym (e .same-left q i small))
+
+  -- the answer changes nothing
+  answers : (q i : ℕ) (o : Option ℕ) → Does State xs (left-call q i) (outcome (leftAnswer o) m) (leftAnswer o)
+  unfolding answerOf wordsOf noted counted leftAnswer
+  answers q i none = record { answer = refl; holds = inr e }
+  answers q i (some v) = record { answer = refl; holds = inr e }
+
+  pub left-ended : (q i : ℕ) → Does State xs (left-call q i) (leftTested m q i) (pick (leb 4 q) (Refused 5) (pick (unfinished 0 xs) Waits (leftAnswer (leftOver q i xs))))
+  unfolding leftTested
+  left-ended q i =
+      chooses State (leb 4 q) (leb 4 q) refl (λ d. refuses State m xs (left-call q i) 5 (inr e)) (λ d.
+      let l = leb-false 4 q d in
+      does-as State _ (outcome (leftAnswer (leftOver q i xs)) m) _ (leftAnswer (leftOver q i xs))
+      (skip _ (ap not (eq-eqb (read m (task 0 STATUS)) FINISHED finished)) (ap (λ (a : Answer). outcome a m) (left-values q (omega (arith, l)) i)))
+      (skip _ (e .none-left 0) refl)
+      (answers q i (leftOver q i xs)))
+
+  status-word : (t : ℕ) → (t ≡ 0 → ⊥) → read b (task t STATUS) ≡ read m (task t STATUS)
+  unfolding read address
+  status-word t n = sym (other (1472 + t * 48 + STATUS) (λ x. n (omega (arith, x))))
+
+  -- NO OTHER CALL MOVES: nobody is unfinished
+  gone : (t : ℕ) → unfinishedIn m t ≡ false
+  unfolding unfinishedIn
+  gone t = go (both (ltb t 128) (eqb (read m (task t STATUS)) UNFINISHED)) refl
+    where
+      not-top : t < 128 → read m (task t STATUS) ≡ UNFINISHED → (t ≡ 0 → ⊥) → ⊥
+      not-top l f n =
+          let u : Unfinished (decode b) t = (l, word-is b t STATUS ∙ status-word t n ∙ f) in
+          let p = subst (λ (k : List ℕ). 0 < occurrences (128 + t) k) (tour-alone b (e .steps) r (e .alone)) (mark-left b (r .tour) (e .steps) (r .linked) t u) in
+          let a = occurs-past 0 (128 + t) (128 ∷ []) (λ x. omega (arith, x)) in
+          let c = occurs-past 128 (128 + t) [] (λ x. n (omega (arith, x))) in
+          let z = occurs-nil (128 + t) in
+          omega (arith, p, a, c, z)
+
+      go : (d : Bool) → both (ltb t 128) (eqb (read m (task t STATUS)) UNFINISHED) ≡ d → d ≡ false
+      go false f = refl
+      go true f =
+          let w = both-true _ _ f in
+          let l = ltb-true t 128 (w .0) in
+          let k = eqb-true (read m (task t STATUS)) UNFINISHED (w .1) in
+          absurd
+          (⊎-elim
+          (λ z. let a = ap (λ (x : ℕ). read m (task x STATUS)) z ∙ finished in omega (arith, a, k))
+          (λ n. not-top l k n)
+          (equal? t 0))
+
+  pub ended-refuses : (c : Call) (o : Outcome) (a : Answer) (t : ℕ) → Does State xs c (pick (not (unfinishedIn m t)) (outcome (Refused 4) m) o) (forTask t xs a)
+  unfolding forTask
+  ended-refuses c o a t = does-as State _ _ _ (Refused 4) (halt _ _ (ap not (gone t))) (skip _ (e .none-left t) refl) (refuses State m xs c 4 (inr e))
