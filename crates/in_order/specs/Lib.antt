@@ -10,3 +10,4 @@ pub mod Alone
 pub mod Chains
 pub mod State
 pub mod Left
+pub mod TopFinish

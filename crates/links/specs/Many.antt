@@ -29,7 +29,7 @@ total-parts n (suc k) f =
     let d : total (suc k + n) f ≡ total (k + n) f + f (k + n) = ap (λ (x : ℕ). total x f) (let z : suc k + n ≡ suc (k + n) = omega arith in z) in
     omega (arith, a, b, d)
 
-spots-length : (xs : List Item) → spots xs ≡ length (numbersBack xs)
+pub spots-length : (xs : List Item) → spots xs ≡ length (numbersBack xs)
 unfolding spots numbersBack
 spots-length [] = refl
 spots-length (step p a ∷ xs) = spots-length xs
