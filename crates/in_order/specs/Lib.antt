@@ -11,3 +11,7 @@ pub mod Chains
 pub mod State
 pub mod Left
 pub mod TopFinish
+pub mod Open
+pub mod Finish
+pub mod Statement
+pub mod InOrder
