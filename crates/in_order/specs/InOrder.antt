@@ -33,13 +33,13 @@ use Rattle.in_order.specs.Answered.{needsSegment, decided, answered}
 use Rattle.in_order.specs.Does.{Does, does-as}
 use Rattle.in_order.specs.State.{Ended, State, state-rules, state-size}
 use Rattle.in_order.specs.Open.{open-does, opens}
-use Rattle.in_order.specs.Spawn.{spawn-does}
+use Rattle.in_order.specs.Spawn.{spawn-does, fresh-task}
 use Rattle.in_order.specs.Push.{push-does}
 use Rattle.in_order.specs.Pop.{pop-does, test-does}
 use Rattle.in_order.specs.Sync.{sync-does}
 use Rattle.in_order.specs.Finish.{tested-is as finish-tested, finish-does}
 use Rattle.in_order.specs.Left.{left-waits, left-ended, ended-refuses}
-use Rattle.in_order.specs.Statement.{stepsAfter}
+use Rattle.in_order.specs.Statement.{stepsAfter, Kept, Promise}
 
 runs : (m : List ℕ) (xs : List Item) → Represents m xs → State m xs
 runs m xs r = inl r
@@ -119,3 +119,20 @@ module _ (finish-task : (m : List ℕ) (ys zs : List Item) (s : Task) → Repres
       let d = call-does c m xs st in
       calls-do cs (wordsOf (outcomeOf c m)) (noted c (answerOf (outcomeOf c m)) xs)
       (subst (λ (a : Answer). State (wordsOf (outcomeOf c m)) (noted c a xs)) (sym (d .answer)) (d .holds))
+
+  -- the number of a new task, in a state
+  fresh : (m : List ℕ) (xs : List Item) (st : State m xs) (t u v : ℕ) → answered (spawn-call t u) m xs ≡ Moved v → unfinished v xs ≡ false
+  unfolding answered ordered decided valueOf forTask
+  fresh m xs (inl r) t u v e = fresh-task m xs t u v r (unfold forTask in e)
+  fresh m xs (inr d) t u v e = let f : Refused 4 ≡ Moved v = sym (skip _ (d .none-left t) refl) ∙ e in let z : _≡_ {A = ℕ} 0 1 = cc in absurd (omega (arith, z))
+
+  -- THE PROMISE HOLDS.
+  pub in-order : Promise
+  in-order w l n e cs c =
+      let st = calls-do cs (wordsOf (openOutcome w l n)) begin (opens w l n e) in
+      let d = call-does c _ _ st in
+      record {
+        rules = state-rules _ _ st;
+        answer = d .answer;
+        fresh = λ t u v i j. fresh _ _ st t u v (sym (ap (λ (x : Call). answered x (wordsAfter cs (wordsOf (openOutcome w l n))) (stepsAfter cs (wordsOf (openOutcome w l n)) begin)) i) ∙ sym (d .answer) ∙ j);
+      }

@@ -1,6 +1,6 @@
 -- spawn: 8 exactly with 128 unfinished tasks, and the new task's number is no unfinished task's.
-use mathlib.Core.Path.{_≡_, refl, ap, sym, _∙_}
-use mathlib.Core.Bool.{not}
+use mathlib.Core.Path.{_≡_, refl, ap, sym, _∙_, subst}
+use mathlib.Core.Bool.{Bool, true, false, not}
 use mathlib.Core.List.{List, _∷_, _++_}
 use Prim.Native.Nat.{ℕ, _+_, _-_}
 use native.Mathlib.Omega.{arith}
@@ -15,12 +15,15 @@ use Rattle.answers.specs.Calls.{Call, spawn-call}
 use Rattle.tree.specs.Rights.{subset}
 use Rattle.calls.specs.Waits.{rightsOf as rightsIn, blocked as blockedIn}
 use Rattle.calls.specs.Spawn.{spawned, spawnTested}
-use Rattle.order.specs.Steps.{Task, Item, spot, numberOf, counted, noted}
-use Rattle.order.specs.Waits.{blocked}
+use Rattle.order.specs.Steps.{Task, Item, spot, numberOf, rightsOf, counted, noted}
+use Rattle.order.specs.Waits.{unfinished, blocked}
+use Rattle.order_laws.specs.Items.{in-split}
+use Rattle.order_waits.specs.Spots.{unfinished-says, rights-at}
+use Rattle.order_waits.specs.Played.{played-reached}
 use Rattle.order.specs.Ordered.{rightsAt, spots, forTask}
 use Rattle.links.specs.Many.{spots-many}
 use Rattle.represents.specs.Represents.{Represents}
-use Rattle.represents_spawn.specs.Spawn.{spawn-represents}
+use Rattle.represents_spawn.specs.Spawn.{spawn-represents, spawn-fresh}
 use Rattle.in_order.specs.Answered.{nextTask}
 use Rattle.in_order.specs.Does.{Does, refuses, waits, chooses, chooses-not}
 use Rattle.in_order.specs.Ladder.{for-task, rights-are, rights-same, blocked-same}
@@ -71,3 +74,28 @@ module _ (P : List ℕ → List Item → Type 0) (holds-of : (m : List ℕ) (xs 
       for-task P holds-of (λ t. spawn-call t u)
       (λ t. pick (not (subset u (rightsIn m t))) (outcome (Refused 6) m) (pick (blockedIn m t) (outcome Waits m) (pick (eqb (read m freeTasks) 0) (outcome (Refused 8) m) (spawned m t u))))
       (Answers m u) m (spawns-well m u) xs t
+
+-- the number of a new task is that of no unfinished one
+pub fresh-task : (m : List ℕ) (xs : List Item) (t u v : ℕ) → Represents m xs
+    → forTask t xs (pick (subset u (rightsAt t xs)) (pick (blocked t xs) Waits (pick (eqb (spots xs) 128) (Refused 8) (Moved (nextTask m)))) (Refused 6)) ≡ Moved v
+    → unfinished v xs ≡ false
+unfolding forTask
+fresh-task m xs t u v r = go (unfinished t xs) (subset u (rightsAt t xs)) (blocked t xs) (eqb (spots xs) 128) refl refl refl
+  where
+    -- at the caller's spot
+    number : unfinished t xs ≡ true → subset u (rightsAt t xs) ≡ true → eqb (spots xs) 128 ≡ false → unfinished (nextTask m) xs ≡ false
+    number a b c =
+        let w = unfinished-says xs (played-reached (r .played)) t a in
+        let k = in-split (spot (w .0)) xs (w .1) in
+        let r′ = subst (Represents m) (k .2) r in
+        let rights : rightsAt t xs ≡ rightsOf (w .0) = ap (λ (x : ℕ). rightsAt x xs) (sym (w .2)) ∙ rights-at xs (played-reached (r .played)) (w .0) (w .1) in
+        subst (λ (l : List Item). unfinished (nextTask m) l ≡ false) (sym (k .2))
+        (unfold nextTask in spawn-fresh m (k .0) (k .1) (w .0) r′ u (ap (subset u) (sym rights) ∙ b) (eqb-false (read m freeTasks) 0 (none-idle m xs r ∙ c)))
+
+    go : (a b c d : Bool) → unfinished t xs ≡ a → subset u (rightsAt t xs) ≡ b → eqb (spots xs) 128 ≡ d
+        → pick a (pick b (pick c Waits (pick d (Refused 8) (Moved (nextTask m)))) (Refused 6)) (Refused 4) ≡ Moved v → unfinished v xs ≡ false
+    go true true false false e f g h = unfold pick in let i : nextTask m ≡ v = cc in subst (λ (x : ℕ). unfinished x xs ≡ false) i (number e f g)
+    go false b c d e f g h = unfold pick in let z : _≡_ {A = ℕ} 0 1 = cc in absurd (omega (arith, z))
+    go true false c d e f g h = unfold pick in let z : _≡_ {A = ℕ} 0 1 = cc in absurd (omega (arith, z))
+    go true true true d e f g h = unfold pick in let z : _≡_ {A = ℕ} 0 1 = cc in absurd (omega (arith, z))
+    go true true false true e f g h = unfold pick in let z : _≡_ {A = ℕ} 0 1 = cc in absurd (omega (arith, z))
