@@ -154,7 +154,7 @@ other-head heads holder g c x o h e = ⊎-elim held others (equal? x holder)
     others n = named [] tt (sym (put-other (λ y. none) holder (headOf c) x n) ∙ (sym h ∙ e))
 
 -- a first chain that is not empty, as every line has
-first-chain : {children user right : ℕ → Extent} {m : Mode} {l : Line} → Views children user right l m
+pub first-chain : {children user right : ℕ → Extent} {m : Mode} {l : Line} → Views children user right l m
     → (s : ℕ) × (c : List ℕ) × (firstChain l ≡ s ∷ c)
 first-chain (queue {s = s} {c = c} e) = (s, c, refl)
 first-chain (leaving v e i r) = first-chain r

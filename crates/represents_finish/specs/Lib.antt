@@ -13,3 +13,5 @@ pub mod Target
 pub mod Reduced
 pub mod Returned
 pub mod Heir
+pub mod Change
+pub mod FinishRight
