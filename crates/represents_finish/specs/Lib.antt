@@ -15,3 +15,4 @@ pub mod Returned
 pub mod Heir
 pub mod Change
 pub mod FinishRight
+pub mod QueueView
