@@ -16,3 +16,4 @@ pub mod Heir
 pub mod Change
 pub mod FinishRight
 pub mod QueueView
+pub mod FinishPast
