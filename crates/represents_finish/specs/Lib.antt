@@ -17,3 +17,4 @@ pub mod Change
 pub mod FinishRight
 pub mod QueueView
 pub mod FinishPast
+pub mod FinishTurn

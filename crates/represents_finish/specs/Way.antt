@@ -103,8 +103,15 @@ module _ (m n : List ℕ) (holder : ℕ → ℕ) (line : ℕ → Line) (way : Wa
       let b = subst (λ (x : Store). Laids (opened m) x (queueMemory n′) (put holder q h) (put line q l)) (sym e) a in
       record { laid = b .laid; shares = b .shares; pool = record { chains = b .pool .chains; total = b .pool .total } }
 
-  pub turn : All (Fits (usesIn m q)) l → ((x : ℕ) → usesIn m q x ≡ false → Vacant W x) → Way m n′ (put holder q h) (put line q l)
+  -- tasks without views
+  pub turn-gone : (x : ℕ) → Vacant W x → Vacant (queueMemory n′ q) x
+  turn-gone x v = subst (λ (w : Memory). Vacant w x) (sym is-here) v
+
+  pub turn-vacant : (p : ℕ) → p < 4 → (p ≡ q → ⊥) → (x : ℕ) → Vacant (queueMemory n p) x → Vacant (queueMemory n′ p) x
   unfolding sharing
+  turn-vacant p i k x v = subst (λ (w : Memory). Vacant w x) (sym (is-other p i k)) v
+
+  pub turn : All (Fits (usesIn m q)) l → ((x : ℕ) → usesIn m q x ≡ false → Vacant W x) → Way m n′ (put holder q h) (put line q l)
   turn fits bare =
       record {
         kept = kept-then (way .kept) (becomes .kept);
@@ -113,8 +120,8 @@ module _ (m n : List ℕ) (holder : ℕ → ℕ) (line : ℕ → Line) (way : Wa
         fits = at-queue (λ p x k. All (Fits (usesIn m p)) k) holder line q h l fits (λ p i k. way .fits p i);
         bare = λ p i.
             ⊎-elim
-            (λ e. subst (λ (y : ℕ). (x : ℕ) → usesIn m y x ≡ false → Vacant (queueMemory n′ y) x) (sym e) (λ x u. subst (λ (w : Memory). Vacant w x) (sym is-here) (bare x u)))
-            (λ k x u. subst (λ (w : Memory). Vacant w x) (sym (is-other p i k)) (way .bare p i x u))
+            (λ e. subst (λ (y : ℕ). (x : ℕ) → usesIn m y x ≡ false → Vacant (queueMemory n′ y) x) (sym e) (λ x u. turn-gone x (bare x u)))
+            (λ k x u. turn-vacant p i k x (way .bare p i x u))
             (equal? p q);
       }
 
