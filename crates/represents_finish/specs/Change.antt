@@ -20,25 +20,15 @@ use Rattle.meaning.specs.Kept.{Becomes}
 use Rattle.represents.specs.Represents.{alive, ofTasks, queueMemory, usesIn, Represents}
 use Rattle.represents.specs.Laids.{sharing}
 use Rattle.represents.specs.At.{single-spot}
-use Rattle.represents_finish.specs.Way.{Vacant}
+use Rattle.represents_finish.specs.Way.{Vacant, Turn}
 
--- The words n become n′ in the turn of queue q, whose line was l: t is gone from it, and the queue view is at h. Program order
--- is xs then, the tour T.
+-- In the turn of queue q, whose line was l, t leaves it. Program order is xs then, the tour T.
 pub record Change (m n n′ : List ℕ) (t q : ℕ) (l : Line) (h : ℕ) (xs : List Item) (T : List ℕ) : Type 0 where
-  pub meaning : Meaning
-  pub memory : Memory
-  pub line : Line
-  pub becomes : Becomes n n′ meaning
-  pub here : ofTasks (alive n) (memoryOf meaning q) ≡ memory
-  pub others : (p : ℕ) → p < 4 → (p ≡ q → ⊥) → ofTasks (alive n) (memoryOf meaning p) ≡ sharing (memory .store) (queueMemory n p)
-  pub kept : Kept (mine (queueMemory n q .store) l) (queueMemory n q .store) (memory .store)
-  pub laid : Laid (mine (queueMemory n q .store) l) memory h line
-  pub fits : All (Fits (usesIn m q)) line
-  pub bare : (x : ℕ) → usesIn m q x ≡ false → Vacant memory x
+  pub turn : Turn m n n′ q l h
   -- the task has no view any more
-  pub gone : Vacant memory t
-  pub marked : marks line ≡ T
-  pub time : Timeline q xs (timeline (memory .store .contents) line)
+  pub gone : Vacant (turn .memory) t
+  pub marked : marks (turn .line) ≡ T
+  pub time : Timeline q xs (timeline (turn .memory .store .contents) (turn .line))
 
 -- THE WHOLE TURN: the queue view is with the first popper.
 pub record Turned (m n : List ℕ) (t q : ℕ) (l : Line) (xs : List Item) (T : List ℕ) : Type 0 where

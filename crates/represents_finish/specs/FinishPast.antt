@@ -31,7 +31,7 @@ use Rattle.represents.specs.Laids.{sharing}
 use Rattle.represents.specs.At.{mine-spot, task-unfinished, single-spot}
 use Rattle.represents_finish.specs.Leaf.{leaf, without-right}
 use Rattle.represents_finish.specs.Way.{Vacant, Way, Standing}
-use Rattle.represents_finish.specs.Turn.{spot-alive, children-word, user-word, right-word, head-word, not-holder}
+use Rattle.represents_finish.specs.Queue.{spot-alive, children-word, user-word, right-word, head-word, not-holder}
 use Rattle.represents_finish.specs.Change.{Change, Turned, first-stays}
 
 -- nothing is written where all three views are vacant
@@ -142,16 +142,18 @@ module _ (m : List ℕ) (ys zs : List Item) (s : Task) (r : Represents m (ys ++ 
           heir = h;
           first = first-stays m ys zs s r q h (stands .first) (λ e. other (sym e));
           change = record {
-            meaning = M;
-            memory = Q;
-            line = row .line;
-            becomes = done;
-            here = refl;
-            others = λ p i k. refl;
-            kept = row .kept;
-            laid = row .laid;
-            fits = after-fits row (usesIn m q) both-parts;
-            bare = way .bare q small;
+            turn = record {
+              meaning = M;
+              memory = Q;
+              line = row .line;
+              becomes = done;
+              here = refl;
+              others = λ p i k. refl;
+              kept = row .kept;
+              laid = row .laid;
+              fits = after-fits row (usesIn m q) both-parts;
+              bare = way .bare q small;
+            };
             gone = gone;
             marked = after-marks row ∙ marks-append b a ∙ ap₂ (λ (x z : List ℕ). x ++ z) later earlier;
             time = subst (Timeline q New) (sym (row .points)) (finish-past q ys zs s (single-spot m ys zs s r) no-use (stands .time));

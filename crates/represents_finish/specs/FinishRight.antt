@@ -42,7 +42,7 @@ use Rattle.represents.specs.Push.{masked-share}
 use Rattle.represents.specs.At.{task-unfinished, single-spot}
 use Rattle.represents_finish.specs.Leaf.{leaf, with-right}
 use Rattle.represents_finish.specs.Way.{Vacant, Way, Standing}
-use Rattle.represents_finish.specs.Turn.{way-linked, spot-alive, single}
+use Rattle.represents_finish.specs.Queue.{way-linked, spot-alive, single}
 use Rattle.represents_finish.specs.FirstNames.{Covered}
 use Rattle.represents_finish.specs.LiveFinish.{live-finish, live-passed}
 use Rattle.represents_finish.specs.Reduced.{alive-t, alive-h, was}
@@ -138,16 +138,18 @@ module _ (m : List ℕ) (ys zs : List Item) (s : Task) (r : Represents m (ys ++ 
     views-change : Change m n (viewsReturned n t q) t q (line q) h New Rest
     views-change =
         record {
-          meaning = back .meaning;
-          memory = W;
-          line = row .line;
-          becomes = back .becomes;
-          here = here;
-          others = λ p i. others p;
-          kept = row .kept;
-          laid = row .laid;
-          fits = after-fits row (usesIn m q) both-parts;
-          bare = bare;
+          turn = record {
+            meaning = back .meaning;
+            memory = W;
+            line = row .line;
+            becomes = back .becomes;
+            here = here;
+            others = λ p i. others p;
+            kept = row .kept;
+            laid = row .laid;
+            fits = after-fits row (usesIn m q) both-parts;
+            bare = bare;
+          };
           gone = gone;
           marked = after-marks row ∙ marks-append (y ∷ b) a ∙ ap₂ (λ (x z : List ℕ). x ++ z) later earlier;
           time = subst (Timeline q New) (sym (row .points)) time;

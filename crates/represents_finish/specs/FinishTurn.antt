@@ -28,7 +28,7 @@ use Rattle.represents.specs.Views.{met-in, left-in, uses-small}
 use Rattle.represents.specs.Walks.{marked}
 use Rattle.represents.specs.At.{mine-spot, task-unfinished}
 use Rattle.represents_finish.specs.Leaf.{Leaf, leaf}
-use Rattle.represents_finish.specs.Way.{Vacant, Way, Standing, AllStand, at-queue, turn, turn-other, turn-here, turn-gone, turn-vacant}
+use Rattle.represents_finish.specs.Way.{Vacant, Way, Standing, AllStand, at-queue, Turn, turn, turn-other, turn-here, turn-gone, turn-vacant}
 use Rattle.represents_finish.specs.FirstNames.{Covered}
 use Rattle.represents_finish.specs.Change.{Change, Turned}
 use Rattle.represents_finish.specs.FinishRight.{views-turn}
@@ -127,22 +127,21 @@ module _ (m : List ℕ) (ys zs : List Item) (s : Task) (r : Represents m (ys ++ 
             (views-turn m ys zs s r barren above free play n (A .holder) (A .line) (A .way) (covered n yet A) q small stands u (sym (uses-is q) ∙ u))
         go false u = past-turn m ys zs s r barren n (A .holder) (A .line) (A .way) q small stands u (sym (uses-is q) ∙ u)
 
-    abbrev c : Change m n n′ t q (A .line q) (turned .heir) New Rest
-    c = turned .change
+    abbrev c : Turn m n n′ q (A .line q) (turned .heir)
+    c = turned .change .turn
 
     here-now : Now n′ false q (turned .heir) (c .line)
     here-now = (
-      turn-here m n (A .holder) (A .line) (A .way) q small n′ (c .meaning) (c .memory) (turned .heir) (c .line) (c .becomes) (c .here) (c .others) (c .kept) (c .laid) New Rest
-          (timeline (c .memory .store .contents) (c .line)) (c .marked) (turned .first) refl (c .time),
-      turn-gone m n (A .holder) (A .line) (A .way) q small n′ (c .meaning) (c .memory) (turned .heir) (c .line) (c .becomes) (c .here) (c .others) (c .kept) (c .laid) t (c .gone),
+      turn-here m n (A .holder) (A .line) (A .way) q small n′ (turned .heir) c New Rest (turned .change .marked) (turned .first) (turned .change .time),
+      turn-gone m n (A .holder) (A .line) (A .way) q small n′ (turned .heir) c t (turned .change .gone),
     )
 
     other-now : (p : ℕ) → p < 4 → (p ≡ q → ⊥) → (b : Bool) → Now n b p (A .holder p) (A .line p) → Now n′ b p (A .holder p) (A .line p)
     other-now p i k true w =
-        turn-other m n (A .holder) (A .line) (A .way) q small n′ (c .meaning) (c .memory) (turned .heir) (c .line) (c .becomes) (c .here) (c .others) (c .kept) (c .laid) Old (r .tour) p i k w
+        turn-other m n (A .holder) (A .line) (A .way) q small n′ (turned .heir) c Old (r .tour) p i k w
     other-now p i k false w = (
-      turn-other m n (A .holder) (A .line) (A .way) q small n′ (c .meaning) (c .memory) (turned .heir) (c .line) (c .becomes) (c .here) (c .others) (c .kept) (c .laid) New Rest p i k (w .0),
-      turn-vacant m n (A .holder) (A .line) (A .way) q small n′ (c .meaning) (c .memory) (turned .heir) (c .line) (c .becomes) (c .here) (c .others) (c .kept) (c .laid) p i k t (w .1),
+      turn-other m n (A .holder) (A .line) (A .way) q small n′ (turned .heir) c New Rest p i k (w .0),
+      turn-vacant m n (A .holder) (A .line) (A .way) q small n′ (turned .heir) c p i k t (w .1),
     )
 
     -- THE TURN OF QUEUE q
@@ -151,7 +150,7 @@ module _ (m : List ℕ) (ys zs : List Item) (s : Task) (r : Represents m (ys ++ 
         record {
           holder = put (A .holder) q (turned .heir);
           line = put (A .line) q (c .line);
-          way = turn m n (A .holder) (A .line) (A .way) q small n′ (c .meaning) (c .memory) (turned .heir) (c .line) (c .becomes) (c .here) (c .others) (c .kept) (c .laid) (c .fits) (c .bare);
+          way = turn m n (A .holder) (A .line) (A .way) q small n′ (turned .heir) c;
           stands = at-queue (λ p x l. Now n′ (put yet q false p) p x l) (A .holder) (A .line) q (turned .heir) (c .line)
               (subst (λ (b : Bool). Now n′ b q (turned .heir) (c .line)) (sym (put-same yet q false)) here-now)
               (λ p i k. subst (λ (b : Bool). Now n′ b p (A .holder p) (A .line p)) (sym (put-other yet q false p k)) (other-now p i k (yet p) (A .stands p i)));

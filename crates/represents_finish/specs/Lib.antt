@@ -2,7 +2,7 @@ pub mod Leaf
 pub mod Way
 pub mod Meets
 pub mod Reductions
-pub mod Turn
+pub mod Queue
 pub mod SyncTurn
 pub mod Sync
 pub mod Naming

@@ -32,8 +32,8 @@ use Rattle.represents.specs.Represents.{alive, ofTasks, queueMemory, usesIn, Re
 use Rattle.represents.specs.Laids.{sharing}
 use Rattle.represents.specs.Plain.{same-links}
 use Rattle.represents.specs.At.{mine-spot, task-unfinished, single-spot}
-use Rattle.represents_finish.specs.Way.{Way}
-use Rattle.represents_finish.specs.Turn.{way-linked, spot-alive}
+use Rattle.represents_finish.specs.Way.{Way, Turn}
+use Rattle.represents_finish.specs.Queue.{way-linked, spot-alive}
 use Rattle.represents_finish.specs.LiveFinish.{live-passed}
 use Rattle.represents_finish.specs.Heir.{heir-next}
 use Rattle.represents_finish.specs.Change.{Change, Turned, first-stays}
@@ -69,8 +69,11 @@ module _ (m : List ℕ) (ys zs : List Item) (s : Task) (r : Represents m (ys ++ 
   abbrev own : ℕ → ℕ
   own = mine (queueMemory n q .store) (line q)
 
+  abbrev c : Turn m n n1 q (line q) h
+  c = views .turn
+
   abbrev W : Memory
-  W = views .memory
+  W = c .memory
 
   below : t < 128
   below = task-unfinished m ys zs s r .0
@@ -79,13 +82,13 @@ module _ (m : List ℕ) (ys zs : List Item) (s : Task) (r : Represents m (ys ++ 
   live-t = spot-alive m Old r n holder line way s (mine-spot m ys zs s r)
 
   -- the queue head of t, by the words and by the line
-  head-is : headsIn n1 q t ≡ put (λ y. none) h (headOf (firstChain (views .line))) t
+  head-is : headsIn n1 q t ≡ put (λ y. none) h (headOf (firstChain (c .line))) t
   unfolding ofTasks
   head-is =
-      ap (λ (N : Meaning). N .heads q t) (views .becomes .means)
-      ∙ sym (halt (views .meaning .heads q t) none live-t)
-      ∙ ap (λ (w : Memory). w .store .heads t) (views .here)
-      ∙ views .laid .held .head t
+      ap (λ (N : Meaning). N .heads q t) (c .becomes .means)
+      ∙ sym (halt (c .meaning .heads q t) none live-t)
+      ∙ ap (λ (w : Memory). w .store .heads t) (c .here)
+      ∙ c .laid .held .head t
 
   -- t IS NOT THE HOLDER: no queue view goes.
   stays : (t ≡ h → ⊥) → Turned m n t q (line q) New T
@@ -95,13 +98,13 @@ module _ (m : List ℕ) (ys zs : List Item) (s : Task) (r : Represents m (ys ++ 
         heir = h;
         first = first-stays m ys zs s r q h first (λ e. k (sym e));
         change = subst (λ (w : List ℕ). Change m n w t q (line q) h New T)
-            (sym (queue-kept n1 t q (views .becomes .sized) below small (head-is ∙ put-other (λ y. none) h (headOf (firstChain (views .line))) t k))) views;
+            (sym (queue-kept n1 t q (c .becomes .sized) below small (head-is ∙ put-other (λ y. none) h (headOf (firstChain (c .line))) t k))) views;
       }
 
   -- t IS THE HOLDER
   module _ (mine-view : t ≡ h) where
     linked : Linked n1 (r .tour) Old
-    linked = keeps-linked n n1 (same-links n n1 (way .sized) (views .becomes .kept)) (r .tour) Old Old (way-linked m Old r n holder line way) refl (λ o i. i)
+    linked = keeps-linked n n1 (same-links n n1 (way .sized) (c .becomes .kept)) (r .tour) Old Old (way-linked m Old r n holder line way) refl (λ o i. i)
 
     abbrev u : ℕ
     u = heir n1 t q
@@ -122,26 +125,26 @@ module _ (m : List ℕ) (ys zs : List Item) (s : Task) (r : Represents m (ys ++ 
 
     head-there : (x : ℕ) × (headsIn n1 q t ≡ some x)
     head-there =
-        let f = first-chain (views .laid .views) in
-        (f .0, head-is ∙ ap (put (λ y. none) h (headOf (firstChain (views .line)))) mine-view ∙ put-same (λ y. none) h (headOf (firstChain (views .line))) ∙ ap headOf (f .2))
+        let f = first-chain (c .laid .views) in
+        (f .0, head-is ∙ ap (put (λ y. none) h (headOf (firstChain (c .line)))) mine-view ∙ put-same (λ y. none) h (headOf (firstChain (c .line))) ∙ ap headOf (f .2))
 
-    moved : Becomes n (queueReturned n1 t q) (movedIn (views .meaning) q t u)
+    moved : Becomes n (queueReturned n1 t q) (movedIn (c .meaning) q t u)
     moved =
-        becomes-then (λ N. movedIn N q t u) (views .becomes)
-        (queue-returned n1 t q (views .becomes .sized) below small (head-there .0) u (head-there .1) refl u-below other)
+        becomes-then (λ N. movedIn N q t u) (c .becomes)
+        (queue-returned n1 t q (c .becomes .sized) below small (head-there .0) u (head-there .1) refl u-below other)
 
-    here : ofTasks (alive n) (memoryOf (movedIn (views .meaning) q t u) q) ≡ queuePassed t u W
+    here : ofTasks (alive n) (memoryOf (movedIn (c .meaning) q t u) q) ≡ queuePassed t u W
     here =
-        ap (ofTasks (alive n)) (memory-moved (views .meaning) q t u)
-        ∙ live-passed (alive n) t u live-t u-live (memoryOf (views .meaning) q)
-        ∙ ap (queuePassed t u) (views .here)
+        ap (ofTasks (alive n)) (memory-moved (c .meaning) q t u)
+        ∙ live-passed (alive n) t u live-t u-live (memoryOf (c .meaning) q)
+        ∙ ap (queuePassed t u) (c .here)
 
-    others : (p : ℕ) → p < 4 → (p ≡ q → ⊥) → ofTasks (alive n) (memoryOf (movedIn (views .meaning) q t u) p) ≡ sharing (queuePassed t u W .store) (queueMemory n p)
+    others : (p : ℕ) → p < 4 → (p ≡ q → ⊥) → ofTasks (alive n) (memoryOf (movedIn (c .meaning) q t u) p) ≡ sharing (queuePassed t u W .store) (queueMemory n p)
     unfolding queuePassed sharing
-    others p i k = ap (ofTasks (alive n)) (moved-elsewhere (views .meaning) q t u p k) ∙ views .others p i k
+    others p i k = ap (ofTasks (alive n)) (moved-elsewhere (c .meaning) q t u p k) ∙ c .others p i k
 
-    row : After own (W .store) (queuePassed t u W) u (views .line) (timeline (W .store .contents) (views .line))
-    row = queue-row own W (views .line) t u other (subst (λ (x : ℕ). Laid own W x (views .line)) (sym mine-view) (views .laid))
+    row : After own (W .store) (queuePassed t u W) u (c .line) (timeline (W .store .contents) (c .line))
+    row = queue-row own W (c .line) t u other (subst (λ (x : ℕ). Laid own W x (c .line)) (sym mine-view) (c .laid))
 
     goes : Turned m n t q (line q) New T
     unfolding finishedQueue queuePassed
@@ -150,16 +153,18 @@ module _ (m : List ℕ) (ys zs : List Item) (s : Task) (r : Represents m (ys ++ 
           heir = u;
           first = ap (firstPopper q) (advance-at ys zs s finishes (single-spot m ys zs s r)) ∙ next .4;
           change = record {
-            meaning = movedIn (views .meaning) q t u;
-            memory = queuePassed t u W;
-            line = row .line;
-            becomes = moved;
-            here = here;
-            others = others;
-            kept = λ x e. (row .kept x e .0 ∙ views .kept x e .0, row .kept x e .1 ∙ views .kept x e .1);
-            laid = row .laid;
-            fits = after-fits row (usesIn m q) (views .fits);
-            bare = views .bare;
+            turn = record {
+              meaning = movedIn (c .meaning) q t u;
+              memory = queuePassed t u W;
+              line = row .line;
+              becomes = moved;
+              here = here;
+              others = others;
+              kept = λ x e. (row .kept x e .0 ∙ c .kept x e .0, row .kept x e .1 ∙ c .kept x e .1);
+              laid = row .laid;
+              fits = after-fits row (usesIn m q) (c .fits);
+              bare = c .bare;
+            };
             gone = views .gone;
             marked = after-marks row ∙ views .marked;
             time = subst (Timeline q New) (sym (row .points)) (views .time);

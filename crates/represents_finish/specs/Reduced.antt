@@ -34,7 +34,7 @@ use Rattle.represents.specs.At.{mine-spot, task-unfinished}
 use Rattle.represents_finish.specs.Way.{Way}
 use Rattle.represents_finish.specs.Meets.{Meets, Apart, Tails, Headless, meets-links, apart-joined, tails-tailed, headless-not, vacant-not}
 use Rattle.represents_finish.specs.Reductions.{Link, Leaving, leaving-views}
-use Rattle.represents_finish.specs.Turn.{way-linked, spot-alive, single, held-below, held-local, room, children-word, user-word, right-word, holder-alive}
+use Rattle.represents_finish.specs.Queue.{way-linked, spot-alive, single, held-below, held-local, room, children-word, user-word, right-word, holder-alive}
 use Rattle.represents_finish.specs.Naming.{Names, names-view, names-by}
 use Rattle.represents_finish.specs.FirstNames.{Covered, first-names}
 

@@ -29,10 +29,10 @@ use Rattle.represents.specs.Live.{live-sync}
 use Rattle.represents.specs.Push.{masked-share}
 use Rattle.represents.specs.At.{mine-spot, task-unfinished}
 use Rattle.represents_finish.specs.Leaf.{with-right}
-use Rattle.represents_finish.specs.Way.{Vacant, Way, Standing, AllStand, turn-same}
+use Rattle.represents_finish.specs.Way.{Vacant, Way, Standing, AllStand, Turn, turn-same}
 use Rattle.represents_finish.specs.Meets.{Meets, Apart, Tails, meets-reduces, meets-links, tails-tailed}
 use Rattle.represents_finish.specs.Reductions.{Leaving, leaving-views}
-use Rattle.represents_finish.specs.Turn.{single, held-local, spot-alive, children-word, user-word, holder-alive}
+use Rattle.represents_finish.specs.Queue.{single, held-local, spot-alive, children-word, user-word, holder-alive}
 
 -- nothing is written where both views are vacant
 vacant-synced : (M : Meaning) (q holder t : ℕ) → M .views q CHILDREN t ≡ vacant → M .views q USER t ≡ vacant → syncedIn M q holder t ≡ M
@@ -122,6 +122,21 @@ module _ (m : List ℕ) (ys zs : List Item) (s : Task) (r : Represents m (ys ++ 
           let k : x ≡ t → ⊥ = λ d. false≢true (sym e ∙ ap (usesIn m q) d ∙ u) in
           (put-other (Q .children) t vacant x k ∙ v .0, put-other (Q .user) t _ x k ∙ v .1, v .2)
 
+      turned : usesIn m q t ≡ true → Turn m n (syncedQueue n t q) q (line q) (holder q)
+      turned u =
+          record {
+            meaning = syncedIn (meaningOf n) q (holder q) t;
+            memory = synced (holder q) t Q;
+            line = row .line;
+            becomes = done;
+            here = here;
+            others = others;
+            kept = row .kept;
+            laid = row .laid;
+            fits = after-fits row (usesIn m q) (way .fits q small);
+            bare = λ x e. bare x u e;
+          }
+
     -- THE TASK HAS NO RIGHT, so no views
     module _ (no-right : usesIn m q t ≡ false) where
       none : Vacant Q t
@@ -143,6 +158,22 @@ module _ (m : List ℕ) (ys zs : List Item) (s : Task) (r : Represents m (ys ++ 
           becomes-as (vacant-synced (meaningOf n) q (holder q) t (C ∙ none .0) (U ∙ none .1))
           (queue-synced n t q (holder q) (way .sized) (task-unfinished m ys zs s r .0) small vacant-syncable)
 
+      vacant-turned : Turn m n (syncedQueue n t q) q (line q) (holder q)
+      unfolding queueMemory ofTasks sharing
+      vacant-turned =
+          record {
+            meaning = meaningOf n;
+            memory = Q;
+            line = line q;
+            becomes = vacant-done;
+            here = refl;
+            others = λ p i k. refl;
+            kept = λ x e. (refl, refl);
+            laid = way .laids .laid q small;
+            fits = way .fits q small;
+            bare = way .bare q small;
+          }
+
   -- THE TURN: the paper has the reduction, and all queues stand after it as before.
   module _ (n : List ℕ) (A : AllStand m n (Standing n Old (r .tour))) (q : ℕ) (small : q < 4) where
     abbrev Turned : Type 0
@@ -161,26 +192,20 @@ module _ (m : List ℕ) (ys zs : List Item) (s : Task) (r : Represents m (ys ++ 
     st = A .stands q small
 
     with-views : usesIn m q t ≡ true → Turned
-    unfolding queueMemory ofTasks
+    unfolding queueMemory ofTasks turned
     with-views u =
         let p = with-right m ys zs s r barren q (line q) (way .laids .laid q small .views) (way .fits q small) (st .marked) u in
-        let b = p .0 in
-        let c = p .1 in
-        let a = p .2 in
-        let after = row n holder line way q small st b c a (p .3) in (
-          allowed n holder line way q small st b c a (p .3),
-          turn-same m n holder line way q small (syncedQueue n t q) (syncedIn (meaningOf n) q (holder q) t) (synced (holder q) t (queueMemory n q)) (holder q) (after .line)
-              (done n holder line way q small st b c a (p .3)) (here n holder line way q small st b c a (p .3)) (others n holder line way q small st b c a (p .3))
-              (after .kept) (after .laid) Old (r .tour) (A .stands) (after-fits after (usesIn m q) (way .fits q small))
-              (λ x e. bare n holder line way q small st b c a (p .3) x u e) (after-marks after) refl (after .points),
+        let after = row n holder line way q small st (p .0) (p .1) (p .2) (p .3) in (
+          allowed n holder line way q small st (p .0) (p .1) (p .2) (p .3),
+          turn-same m n holder line way q small (syncedQueue n t q) (holder q) (turned n holder line way q small st (p .0) (p .1) (p .2) (p .3) u) Old (r .tour) (A .stands)
+              (after-marks after) refl (after .points),
         )
 
     without-views : usesIn m q t ≡ false → Turned
-    unfolding queueMemory ofTasks sharing
+    unfolding queueMemory ofTasks vacant-turned
     without-views u = (
       vacant-allowed n holder line way q small st u,
-      turn-same m n holder line way q small (syncedQueue n t q) (meaningOf n) (queueMemory n q) (holder q) (line q) (vacant-done n holder line way q small st u) refl
-          (λ p i k. refl) (λ x e. (refl, refl)) (way .laids .laid q small) Old (r .tour) (A .stands) (way .fits q small) (way .bare q small) refl refl refl,
+      turn-same m n holder line way q small (syncedQueue n t q) (holder q) (vacant-turned n holder line way q small st u) Old (r .tour) (A .stands) refl refl refl,
     )
 
     pub sync-turn : Turned

@@ -38,7 +38,7 @@ use Rattle.represents.specs.Walks.{top-uses, marked}
 use Rattle.represents.specs.Live.{holdsAt}
 use Rattle.represents_finish.specs.Leaf.{leaf}
 use Rattle.represents_finish.specs.Way.{Way}
-use Rattle.represents_finish.specs.Turn.{children-word, right-word}
+use Rattle.represents_finish.specs.Queue.{children-word, right-word}
 use Rattle.represents_finish.specs.Back.{earlier-marks, earlier-ends, back-part, back-stand}
 
 -- the tasks of a line have a right to the queue

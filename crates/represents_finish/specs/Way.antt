@@ -69,20 +69,35 @@ at-queue P holder line q h l x f p i =
     (λ k. subst₂ (P p) (sym (put-other holder q h p k)) (sym (put-other line q l p k)) (f p i k))
     (equal? p q)
 
--- THE TURN OF QUEUE q: the words n become n′, its memory becomes W, which is laid out along l with the queue view at h.
-module _ (m n : List ℕ) (holder : ℕ → ℕ) (line : ℕ → Line) (way : Way m n holder line) (q : ℕ) (small : q < 4) (n′ : List ℕ) (M : Meaning) (W : Memory) (h : ℕ) (l : Line)
-    (becomes : Becomes n n′ M) (here : ofTasks (alive n) (memoryOf M q) ≡ W)
-    (others : (p : ℕ) → p < 4 → (p ≡ q → ⊥) → ofTasks (alive n) (memoryOf M p) ≡ sharing (W .store) (queueMemory n p))
-    (kept : StoreKept (mine (queueMemory n q .store) (line q)) (queueMemory n q .store) (W .store))
-    (row : Laid (mine (queueMemory n q .store) (line q)) W h l) where
+-- THE TURN OF QUEUE q, whose line is l: the words n become n′, and its memory is laid out along another line, with the queue
+-- view at h.
+pub record Turn (m n n′ : List ℕ) (q : ℕ) (l : Line) (h : ℕ) : Type 0 where
+  pub meaning : Meaning
+  pub memory : Memory
+  pub line : Line
+  pub becomes : Becomes n n′ meaning
+  pub here : ofTasks (alive n) (memoryOf meaning q) ≡ memory
+  pub others : (p : ℕ) → p < 4 → (p ≡ q → ⊥) → ofTasks (alive n) (memoryOf meaning p) ≡ sharing (memory .store) (queueMemory n p)
+  pub kept : StoreKept (mine (queueMemory n q .store) l) (queueMemory n q .store) (memory .store)
+  pub laid : Laid (mine (queueMemory n q .store) l) memory h line
+  pub fits : All (Fits (usesIn m q)) line
+  pub bare : (x : ℕ) → usesIn m q x ≡ false → Vacant memory x
+
+module _ (m n : List ℕ) (holder : ℕ → ℕ) (line : ℕ → Line) (way : Way m n holder line) (q : ℕ) (small : q < 4) (n′ : List ℕ) (h : ℕ) (c : Turn m n n′ q (line q) h) where
+  abbrev W : Memory
+  W = c .memory
+
+  abbrev l : Line
+  l = c .line
+
   abbrev Then : ℕ → Memory
   Then = put (λ p. sharing (W .store) (queueMemory n p)) q W
 
   is-here : queueMemory n′ q ≡ W
-  is-here = queue-memory q becomes ∙ here
+  is-here = queue-memory q (c .becomes) ∙ c .here
 
   is-other : (p : ℕ) → p < 4 → (p ≡ q → ⊥) → queueMemory n′ p ≡ sharing (W .store) (queueMemory n p)
-  is-other p i k = queue-memory p becomes ∙ others p i k
+  is-other p i k = queue-memory p (c .becomes) ∙ c .others p i k
 
   memory-is : (p : ℕ) → p < 4 → queueMemory n′ p ≡ Then p
   memory-is p i =
@@ -94,7 +109,7 @@ module _ (m n : List ℕ) (holder : ℕ → ℕ) (line : ℕ → Line) (way : Wa
   over-new : Laids (opened m) (W .store) (queueMemory n′) (put holder q h) (put line q l)
   over-new =
       laids-as (opened m) (W .store) Then (queueMemory n′) (put holder q h) (put line q l) memory-is
-      (laids-row (opened m) (opened-single m) (storeIn n 0) (queueMemory n) holder line (way .laids) q small W h l kept row)
+      (laids-row (opened m) (opened-single m) (storeIn n 0) (queueMemory n) holder line (way .laids) q small W h l (c .kept) (c .laid))
 
   same-store : (st : Store) → queueMemory n′ q .store ≡ st → Laids (opened m) st (queueMemory n′) (put holder q h) (put line q l)
       → Laids (opened m) (storeIn n′ 0) (queueMemory n′) (put holder q h) (put line q l)
@@ -111,16 +126,16 @@ module _ (m n : List ℕ) (holder : ℕ → ℕ) (line : ℕ → Line) (way : Wa
   unfolding sharing
   turn-vacant p i k x v = subst (λ (w : Memory). Vacant w x) (sym (is-other p i k)) v
 
-  pub turn : All (Fits (usesIn m q)) l → ((x : ℕ) → usesIn m q x ≡ false → Vacant W x) → Way m n′ (put holder q h) (put line q l)
-  turn fits bare =
+  pub turn : Way m n′ (put holder q h) (put line q l)
+  turn =
       record {
-        kept = kept-then (way .kept) (becomes .kept);
-        sized = becomes .sized;
+        kept = kept-then (way .kept) (c .becomes .kept);
+        sized = c .becomes .sized;
         laids = same-store (W .store) (ap (λ (w : Memory). w .store) is-here) over-new;
-        fits = at-queue (λ p x k. All (Fits (usesIn m p)) k) holder line q h l fits (λ p i k. way .fits p i);
+        fits = at-queue (λ p x k. All (Fits (usesIn m p)) k) holder line q h l (c .fits) (λ p i k. way .fits p i);
         bare = λ p i.
             ⊎-elim
-            (λ e. subst (λ (y : ℕ). (x : ℕ) → usesIn m y x ≡ false → Vacant (queueMemory n′ y) x) (sym e) (λ x u. turn-gone x (bare x u)))
+            (λ e. subst (λ (y : ℕ). (x : ℕ) → usesIn m y x ≡ false → Vacant (queueMemory n′ y) x) (sym e) (λ x u. turn-gone x (c .bare x u)))
             (λ k x u. turn-vacant p i k x (way .bare p i x u))
             (equal? p q);
       }
@@ -129,7 +144,7 @@ module _ (m n : List ℕ) (holder : ℕ → ℕ) (line : ℕ → Line) (way : Wa
   pub turn-time : (p : ℕ) → p < 4 → (p ≡ q → ⊥) → timeline (contentsIn n′) (line p) ≡ timeline (contentsIn n) (line p)
   turn-time p i k =
       ap (λ (f : ℕ → List ℕ). timeline f (line p)) contents-are
-      ∙ other-timeline (opened m) (opened-single m) (storeIn n 0) (queueMemory n) holder line (way .laids) q small W h l kept row p i k
+      ∙ other-timeline (opened m) (opened-single m) (storeIn n 0) (queueMemory n) holder line (way .laids) q small W h l (c .kept) (c .laid) p i k
     where
       contents-are : contentsIn n′ ≡ W .store .contents
       contents-are = unfold queueMemory ofTasks in ap (λ (w : Memory). w .store .contents) is-here
@@ -139,28 +154,22 @@ module _ (m n : List ℕ) (holder : ℕ → ℕ) (line : ℕ → Line) (way : Wa
   turn-other xs T p i k s =
       record { marked = s .marked; first = s .first; time = subst (Timeline p xs) (sym (turn-time p i k)) (s .time) }
 
-  -- and this one by the timeline of W
-  pub turn-here : (xs : List Item) (T : List ℕ) (ps : List Point) → marks l ≡ T → firstPopper q xs ≡ some h → timeline (W .store .contents) l ≡ ps → Timeline q xs ps
-      → Standing n′ xs T q h l
+  -- and this one by its new line
+  pub turn-here : (xs : List Item) (T : List ℕ) → marks l ≡ T → firstPopper q xs ≡ some h → Timeline q xs (timeline (W .store .contents) l) → Standing n′ xs T q h l
   unfolding queueMemory ofTasks
-  turn-here xs T ps e f g s =
-      record {
-        marked = e;
-        first = f;
-        time = subst (Timeline q xs) (sym (ap (λ (w : Memory). timeline (w .store .contents) l) is-here ∙ g)) s;
-      }
+  turn-here xs T e f g =
+      record { marked = e; first = f; time = subst (Timeline q xs) (sym (ap (λ (w : Memory). timeline (w .store .contents) l) is-here)) g }
 
   -- A TURN IN WHICH NO MARK CHANGES: all stand as before.
-  pub turn-same : (xs : List Item) (T : List ℕ) → ((p : ℕ) → p < 4 → Standing n xs T p (holder p) (line p)) → All (Fits (usesIn m q)) l
-      → ((x : ℕ) → usesIn m q x ≡ false → Vacant W x) → marks l ≡ marks (line q) → h ≡ holder q → timeline (W .store .contents) l ≡ timeline (contentsIn n) (line q)
-      → AllStand m n′ (Standing n′ xs T)
-  turn-same xs T stands fits bare e f g =
+  pub turn-same : (xs : List Item) (T : List ℕ) → ((p : ℕ) → p < 4 → Standing n xs T p (holder p) (line p)) → marks l ≡ marks (line q) → h ≡ holder q
+      → timeline (W .store .contents) l ≡ timeline (contentsIn n) (line q) → AllStand m n′ (Standing n′ xs T)
+  turn-same xs T stands e f g =
       let st = stands q small in
       record {
         holder = put holder q h;
         line = put line q l;
-        way = turn fits bare;
+        way = turn;
         stands = at-queue (Standing n′ xs T) holder line q h l
-            (turn-here xs T (timeline (contentsIn n) (line q)) (e ∙ st .marked) (st .first ∙ ap some (sym f)) g (st .time))
+            (turn-here xs T (e ∙ st .marked) (st .first ∙ ap some (sym f)) (subst (Timeline q xs) (sym g) (st .time)))
             (λ p i k. turn-other xs T p i k (stands p i));
       }
