@@ -18,3 +18,4 @@ pub mod FinishRight
 pub mod QueueView
 pub mod FinishPast
 pub mod FinishTurn
+pub mod FinishTest
