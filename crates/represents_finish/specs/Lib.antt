@@ -19,3 +19,4 @@ pub mod QueueView
 pub mod FinishPast
 pub mod FinishTurn
 pub mod FinishTest
+pub mod FinishAllowed
