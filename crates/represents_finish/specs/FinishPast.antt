@@ -7,8 +7,8 @@ use Prim.Native.Nat.{ℕ, _+_, _<_}
 use Rattle.layout.specs.Layout.{CHILDREN, USER, RIGHT}
 use Rattle.tree.specs.Rights.{uses}
 use Rattle.calls.specs.Waits.{hasChild}
-use Rattle.calls.specs.Finish.{viewsReturned, queueReturned, finishedQueue}
-use Rattle.order.specs.Steps.{Task, Item, spot, finishes, numberOf, rightsOf, advance}
+use Rattle.calls.specs.Finish.{finishes, viewsReturned, finishedQueue}
+use Rattle.order.specs.Steps.{Task, Item, spot, finishes as finishStep, numberOf, rightsOf, advance}
 use Rattle.order_queue.specs.Points.{Timeline}
 use Rattle.order_queue.specs.Laws.{finish-past}
 use Rattle.gaps.specs.Maps.{All, put, put-other, all-append, all-front, all-behind}
@@ -22,6 +22,7 @@ use Rattle.gaps.specs.Pool.{mine}
 use Rattle.meaning.specs.Meaning.{Meaning, meaningOf, storeOf, memoryOf, contentsIn, headsIn, viewIn}
 use Rattle.meaning.specs.Update.{withStore, withView, store-self, view-self}
 use Rattle.meaning.specs.Kept.{Becomes, becomes-as, becomes-at}
+use Rattle.meaning.specs.Extents.{reduces}
 use Rattle.meaning.specs.Reduce.{Links, Tailed}
 use Rattle.meaning.specs.Merges.{clearedIn, inner, whole, store2}
 use Rattle.meaning.specs.Finish.{words1, Reduces, none-returned}
@@ -31,6 +32,8 @@ use Rattle.represents.specs.Laids.{sharing}
 use Rattle.represents.specs.At.{mine-spot, task-unfinished, single-spot}
 use Rattle.represents_finish.specs.Leaf.{leaf, without-right}
 use Rattle.represents_finish.specs.Way.{Vacant, Way, Standing}
+use Rattle.represents_finish.specs.Meets.{Headless}
+use Rattle.represents_finish.specs.FinishTest.{none-allowed}
 use Rattle.represents_finish.specs.Queue.{spot-alive, children-word, user-word, right-word, head-word, not-holder}
 use Rattle.represents_finish.specs.Change.{Change, Turned, first-stays}
 
@@ -58,7 +61,7 @@ module _ (m : List ℕ) (ys zs : List Item) (s : Task) (r : Represents m (ys ++ 
   Old = ys ++ spot s ∷ zs
 
   abbrev New : List Item
-  New = advance t finishes Old
+  New = advance t finishStep Old
 
   abbrev M : Meaning
   M = meaningOf n
@@ -90,14 +93,14 @@ module _ (m : List ℕ) (ys zs : List Item) (s : Task) (r : Represents m (ys ++ 
   R : viewIn n q RIGHT t ≡ vacant
   R = right-word m Old r n holder line way q t live-t ∙ gone .2
 
-  pub no-inner : inner M q h t ≡ vacant
+  no-inner : inner M q h t ≡ vacant
   no-inner = ap₂ (λ (x y : Extent). reduced x y) C U
 
   no-whole : whole M q h t ≡ vacant
   no-whole = ap₂ (λ (x y : Extent). reduced x y) no-inner R
 
-  reduces : Reduces n t q h
-  reduces =
+  reductions : Reduces n t q h
+  reductions =
       record {
         user-tailed = subst Tailed (sym U) tt;
         user-links = subst (λ (x : Extent). Links n q h x (viewIn n q USER t)) (sym C) tt;
@@ -106,7 +109,13 @@ module _ (m : List ℕ) (ys zs : List Item) (s : Task) (r : Represents m (ys ++ 
       }
 
   same : Becomes n (viewsReturned n t q) M
-  same = becomes-as (vacant-returned M q h t C U R) (none-returned n t q h (way .sized) below small reduces no-whole)
+  same = becomes-as (vacant-returned M q h t C U R) (none-returned n t q h (way .sized) below small reductions no-whole)
+
+  -- the paper has these reductions
+  pub past-allowed : finishes n t q ≡ true
+  past-allowed =
+      none-allowed n t q below small (subst Headless (sym C) tt) (subst Headless (sym U) tt) (subst Headless (sym no-inner) tt) (reductions .user-tailed) (reductions .right-tailed)
+      (ap (λ (x : Extent). reduces x (viewIn n q USER t)) C) (ap (λ (x : Extent). reduces x (viewIn n q RIGHT t)) no-inner) no-whole
 
   other : t ≡ h → ⊥
   other = not-holder m Old r n holder line way q h (stands .first) s (mine-spot m ys zs s r) no-use

@@ -12,7 +12,7 @@ use Rattle.tree.specs.Rights.{uses}
 use Rattle.rules.specs.Contents.{decode}
 use Rattle.rules.specs.Rules.{Unfinished}
 use Rattle.calls.specs.Waits.{rightsOf as rightsIn, hasChild}
-use Rattle.calls.specs.Finish.{finishedQueue}
+use Rattle.calls.specs.Finish.{finishes as allows, finishedQueue}
 use Rattle.order.specs.Steps.{Task, Item, spot, finishes, numberOf, rightsOf, advance}
 use Rattle.order.specs.Waits.{blocked}
 use Rattle.order_waits.specs.Played.{Played}
@@ -27,13 +27,14 @@ use Rattle.represents.specs.Represents.{queueMemory, usesIn, Represents}
 use Rattle.represents.specs.Views.{met-in, left-in, uses-small}
 use Rattle.represents.specs.Walks.{marked}
 use Rattle.represents.specs.At.{mine-spot, task-unfinished}
-use Rattle.represents_finish.specs.Leaf.{Leaf, leaf}
+use Rattle.represents_finish.specs.Leaf.{Leaf, leaf, with-right}
 use Rattle.represents_finish.specs.Way.{Vacant, Way, Standing, AllStand, at-queue, Turn, turn, turn-other, turn-here, turn-gone, turn-vacant}
 use Rattle.represents_finish.specs.FirstNames.{Covered}
 use Rattle.represents_finish.specs.Change.{Change, Turned}
 use Rattle.represents_finish.specs.FinishRight.{views-turn}
 use Rattle.represents_finish.specs.QueueView.{queue-turn}
-use Rattle.represents_finish.specs.FinishPast.{past-turn}
+use Rattle.represents_finish.specs.FinishPast.{past-allowed, past-turn}
+use Rattle.represents_finish.specs.FinishAllowed.{queue-allowed}
 
 module _ (m : List ℕ) (ys zs : List Item) (s : Task) (r : Represents m (ys ++ spot s ∷ zs)) (barren : hasChild m (numberOf s) ≡ false) where
   abbrev t : ℕ
@@ -117,6 +118,16 @@ module _ (m : List ℕ) (ys zs : List Item) (s : Task) (r : Represents m (ys ++ 
 
     stands : Standing n Old (r .tour) q (A .holder q) (A .line q)
     stands = subst (λ (c : Bool). Now n c q (A .holder q) (A .line q)) due (A .stands q small)
+
+    -- THE PAPER HAS THE REDUCTIONS
+    pub turn-allowed : allows n t q ≡ true
+    turn-allowed = go (usesIn m q t) refl
+      where
+        go : (c : Bool) → usesIn m q t ≡ c → allows n t q ≡ true
+        go true u =
+            let p = with-right m ys zs s r barren q (A .line q) (A .way .laids .laid q small .views) (A .way .fits q small) (stands .marked) u in
+            queue-allowed m ys zs s r barren above n (A .holder) (A .line) (A .way) (covered n yet A) q small (stands .first) (p .0) (p .1) (p .2) (p .3) (p .5)
+        go false u = past-allowed m ys zs s r barren n (A .holder) (A .line) (A .way) q small stands u (sym (uses-is q) ∙ u)
 
     turned : Turned m n t q (A .line q) New Rest
     turned = go (usesIn m q t) refl
