@@ -20,3 +20,4 @@ pub mod FinishPast
 pub mod FinishTurn
 pub mod FinishTest
 pub mod FinishAllowed
+pub mod Unlinked
