@@ -21,3 +21,4 @@ pub mod FinishTurn
 pub mod FinishTest
 pub mod FinishAllowed
 pub mod Unlinked
+pub mod Freed
