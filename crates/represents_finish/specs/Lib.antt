@@ -22,3 +22,4 @@ pub mod FinishTest
 pub mod FinishAllowed
 pub mod Unlinked
 pub mod Freed
+pub mod Finish

@@ -5,20 +5,20 @@ use mathlib.Core.Bool.{Bool, true, false}
 use mathlib.Core.Option.{Option, some}
 use mathlib.Core.List.{List, [], _∷_}
 use mathlib.Core.Logic.{⊎-elim}
-use Prim.Native.Nat.{ℕ, _<_}
-use Rattle.lists.specs.Counting.{equal?}
+use Prim.Native.Nat.{ℕ, _+_, _<_}
+use Rattle.lists.specs.Counting.{occurrences, equal?}
 use Rattle.order.specs.Steps.{Item}
 use Rattle.order_waits.specs.Popper.{firstPopper}
 use Rattle.order_queue.specs.Points.{Point, Timeline}
 use Rattle.gaps.specs.Maps.{All, put, put-same, put-other}
 use Rattle.gaps.specs.Line.{vacant, Line, marks, Fits}
-use Rattle.gaps.specs.Store.{Store, Memory, Laid, timeline}
+use Rattle.gaps.specs.Store.{Store, Chain, Memory, Laid, timeline}
 use Rattle.gaps.specs.Stores.{Kept as StoreKept}
-use Rattle.gaps.specs.Pool.{mine}
-use Rattle.meaning.specs.Meaning.{Meaning, contentsIn, storeIn, memoryOf, Sized}
+use Rattle.gaps.specs.Pool.{allSegments, mine}
+use Rattle.meaning.specs.Meaning.{Meaning, nextIn, contentsIn, freeIn, storeIn, memoryOf, Sized}
 use Rattle.meaning.specs.Kept.{Kept, kept-all, kept-then, Becomes}
 use Rattle.represents.specs.Represents.{alive, ofTasks, queueMemory, usesIn, opened, Represents}
-use Rattle.represents.specs.Laids.{sharing, Laids, laids-row, other-timeline}
+use Rattle.represents.specs.Laids.{sharing, four, Laids, laids-row, other-timeline}
 use Rattle.represents.specs.Parts.{Parts, holders, parts-of, opened-single}
 use Rattle.represents.specs.Plain.{laids-as}
 use Rattle.represents.specs.Push.{queue-memory}
@@ -59,6 +59,20 @@ module _ (m : List ℕ) (xs : List Item) (r : Represents m xs) where
         way = record { kept = kept-all m; sized = r .sized; laids = p .laids; fits = p .fits; bare = p .bare };
         stands = λ q i. record { marked = p .marked q i; first = p .first q i; time = p .time q i };
       }
+
+-- the four queues over the segments of the words w, which are those of the store st
+pub laids-over : (own : ℕ → ℕ) (st : Store) (w : List ℕ) (holder : ℕ → ℕ) (line : ℕ → Line) → nextIn w ≡ st .next → contentsIn w ≡ st .contents → freeIn w ≡ st .free
+    → Laids own st (queueMemory w) holder line → Laids own (storeIn w 0) (queueMemory w) holder line
+unfolding queueMemory ofTasks sharing
+laids-over own st w holder line e f g h =
+    record {
+      laid = h .laid;
+      shares = λ q i. refl;
+      pool = record {
+        chains = subst₂ (λ (a : ℕ → Option ℕ) (b : ℕ → List ℕ). All (λ l. All (Chain a b) l) (four line)) (sym e) (sym f) (h .pool .chains);
+        total = subst (λ (a : List ℕ). (x : ℕ) → occurrences x (allSegments (four line)) + occurrences x a ≡ own x) (sym g) (h .pool .total);
+      };
+    }
 
 -- a fact of one queue, and of the others, where two maps are written there
 pub at-queue : (P : (p h : ℕ) → Line → Type 0) (holder : ℕ → ℕ) (line : ℕ → Line) (q h : ℕ) (l : Line) → P q h l
@@ -111,12 +125,11 @@ module _ (m n : List ℕ) (holder : ℕ → ℕ) (line : ℕ → Line) (way : Wa
       laids-as (opened m) (W .store) Then (queueMemory n′) (put holder q h) (put line q l) memory-is
       (laids-row (opened m) (opened-single m) (storeIn n 0) (queueMemory n) holder line (way .laids) q small W h l (c .kept) (c .laid))
 
-  same-store : (st : Store) → queueMemory n′ q .store ≡ st → Laids (opened m) st (queueMemory n′) (put holder q h) (put line q l)
-      → Laids (opened m) (storeIn n′ 0) (queueMemory n′) (put holder q h) (put line q l)
-  unfolding queueMemory ofTasks sharing
-  same-store st e a =
-      let b = subst (λ (x : Store). Laids (opened m) x (queueMemory n′) (put holder q h) (put line q l)) (sym e) a in
-      record { laid = b .laid; shares = b .shares; pool = record { chains = b .pool .chains; total = b .pool .total } }
+  same-laids : Laids (opened m) (storeIn n′ 0) (queueMemory n′) (put holder q h) (put line q l)
+  unfolding queueMemory ofTasks
+  same-laids =
+      laids-over (opened m) (W .store) n′ (put holder q h) (put line q l) (ap (λ (w : Memory). w .store .next) is-here) (ap (λ (w : Memory). w .store .contents) is-here)
+      (ap (λ (w : Memory). w .store .free) is-here) over-new
 
   -- tasks without views
   pub turn-gone : (x : ℕ) → Vacant W x → Vacant (queueMemory n′ q) x
@@ -131,7 +144,7 @@ module _ (m n : List ℕ) (holder : ℕ → ℕ) (line : ℕ → Line) (way : Wa
       record {
         kept = kept-then (way .kept) (c .becomes .kept);
         sized = c .becomes .sized;
-        laids = same-store (W .store) (ap (λ (w : Memory). w .store) is-here) over-new;
+        laids = same-laids;
         fits = at-queue (λ p x k. All (Fits (usesIn m p)) k) holder line q h l (c .fits) (λ p i k. way .fits p i);
         bare = λ p i.
             ⊎-elim
