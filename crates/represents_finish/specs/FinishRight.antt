@@ -51,7 +51,6 @@ use Rattle.represents_finish.specs.Heir.{heir-next}
 use Rattle.represents_finish.specs.Change.{Change, first-stays}
 
 module _ (m : List ℕ) (ys zs : List Item) (s : Task) (r : Represents m (ys ++ spot s ∷ zs)) (barren : hasChild m (numberOf s) ≡ false) (above : 0 < numberOf s)
-    (free : blocked (numberOf s) (ys ++ spot s ∷ zs) ≡ false) (play : Played (advance (numberOf s) finishes (ys ++ spot s ∷ zs)))
     (n : List ℕ) (holder : ℕ → ℕ) (line : ℕ → Line) (way : Way m n holder line) (covered : (p : ℕ) → p < 4 → Covered (queueMemory n p) (r .tour) (line p))
     (q : ℕ) (small : q < 4) (stands : Standing n (ys ++ spot s ∷ zs) (r .tour) q (holder q) (line q)) where
   abbrev t : ℕ

@@ -111,8 +111,7 @@ module _ (m : List ℕ) (ys zs : List Item) (s : Task) (r : Represents m (ys ++ 
   unfolding usesIn
   uses-is q = both-on (lt-ltb t 128 below) ∙ ap (λ (x : ℕ). uses x q) (same-rights m (r .tour) Old (r .played) (r .linked) s (mine-spot m ys zs s r))
 
-  module _ (above : 0 < numberOf s) (free : blocked (numberOf s) Old ≡ false) (play : Played New) (n : List ℕ) (yet : ℕ → Bool) (A : Stage n yet) (q : ℕ) (small : q < 4)
-      (due : yet q ≡ true) where
+  module _ (above : 0 < numberOf s) (n : List ℕ) (yet : ℕ → Bool) (A : Stage n yet) (q : ℕ) (small : q < 4) (due : yet q ≡ true) where
     abbrev n′ : List ℕ
     n′ = finishedQueue n t q
 
@@ -129,40 +128,41 @@ module _ (m : List ℕ) (ys zs : List Item) (s : Task) (r : Represents m (ys ++ 
             queue-allowed m ys zs s r barren above n (A .holder) (A .line) (A .way) (covered n yet A) q small (stands .first) (p .0) (p .1) (p .2) (p .3) (p .5)
         go false u = past-allowed m ys zs s r barren n (A .holder) (A .line) (A .way) q small stands u (sym (uses-is q) ∙ u)
 
-    turned : Turned m n t q (A .line q) New Rest
-    turned = go (usesIn m q t) refl
-      where
-        go : (c : Bool) → usesIn m q t ≡ c → Turned m n t q (A .line q) New Rest
-        go true u =
-            queue-turn m ys zs s r above free play n (A .holder) (A .line) (A .way) q small (stands .first) Rest
-            (views-turn m ys zs s r barren above free play n (A .holder) (A .line) (A .way) (covered n yet A) q small stands u (sym (uses-is q) ∙ u))
-        go false u = past-turn m ys zs s r barren n (A .holder) (A .line) (A .way) q small stands u (sym (uses-is q) ∙ u)
+    module _ (free : blocked (numberOf s) Old ≡ false) (play : Played New) where
+      turned : Turned m n t q (A .line q) New Rest
+      turned = go (usesIn m q t) refl
+        where
+          go : (c : Bool) → usesIn m q t ≡ c → Turned m n t q (A .line q) New Rest
+          go true u =
+              queue-turn m ys zs s r above free play n (A .holder) (A .line) (A .way) q small (stands .first) Rest
+              (views-turn m ys zs s r barren above n (A .holder) (A .line) (A .way) (covered n yet A) q small stands u (sym (uses-is q) ∙ u))
+          go false u = past-turn m ys zs s r barren n (A .holder) (A .line) (A .way) q small stands u (sym (uses-is q) ∙ u)
 
-    abbrev c : Turn m n n′ q (A .line q) (turned .heir)
-    c = turned .change .turn
+      abbrev c : Turn m n n′ q (A .line q) (turned .heir)
+      c = turned .change .turn
 
-    here-now : Now n′ false q (turned .heir) (c .line)
-    here-now = (
-      turn-here m n (A .holder) (A .line) (A .way) q small n′ (turned .heir) c New Rest (turned .change .marked) (turned .first) (turned .change .time),
-      turn-gone m n (A .holder) (A .line) (A .way) q small n′ (turned .heir) c t (turned .change .gone),
-    )
+      here-now : Now n′ false q (turned .heir) (c .line)
+      here-now = (
+        turn-here m n (A .holder) (A .line) (A .way) q small n′ (turned .heir) c New Rest (turned .change .marked) (turned .first) (turned .change .time),
+        turn-gone m n (A .holder) (A .line) (A .way) q small n′ (turned .heir) c t (turned .change .gone),
+      )
 
-    other-now : (p : ℕ) → p < 4 → (p ≡ q → ⊥) → (b : Bool) → Now n b p (A .holder p) (A .line p) → Now n′ b p (A .holder p) (A .line p)
-    other-now p i k true w =
-        turn-other m n (A .holder) (A .line) (A .way) q small n′ (turned .heir) c Old (r .tour) p i k w
-    other-now p i k false w = (
-      turn-other m n (A .holder) (A .line) (A .way) q small n′ (turned .heir) c New Rest p i k (w .0),
-      turn-vacant m n (A .holder) (A .line) (A .way) q small n′ (turned .heir) c p i k t (w .1),
-    )
+      other-now : (p : ℕ) → p < 4 → (p ≡ q → ⊥) → (b : Bool) → Now n b p (A .holder p) (A .line p) → Now n′ b p (A .holder p) (A .line p)
+      other-now p i k true w =
+          turn-other m n (A .holder) (A .line) (A .way) q small n′ (turned .heir) c Old (r .tour) p i k w
+      other-now p i k false w = (
+        turn-other m n (A .holder) (A .line) (A .way) q small n′ (turned .heir) c New Rest p i k (w .0),
+        turn-vacant m n (A .holder) (A .line) (A .way) q small n′ (turned .heir) c p i k t (w .1),
+      )
 
-    -- THE TURN OF QUEUE q
-    pub finish-turn : Stage n′ (put yet q false)
-    finish-turn =
-        record {
-          holder = put (A .holder) q (turned .heir);
-          line = put (A .line) q (c .line);
-          way = turn m n (A .holder) (A .line) (A .way) q small n′ (turned .heir) c;
-          stands = at-queue (λ p x l. Now n′ (put yet q false p) p x l) (A .holder) (A .line) q (turned .heir) (c .line)
-              (subst (λ (b : Bool). Now n′ b q (turned .heir) (c .line)) (sym (put-same yet q false)) here-now)
-              (λ p i k. subst (λ (b : Bool). Now n′ b p (A .holder p) (A .line p)) (sym (put-other yet q false p k)) (other-now p i k (yet p) (A .stands p i)));
-        }
+      -- THE TURN OF QUEUE q
+      pub finish-turn : Stage n′ (put yet q false)
+      finish-turn =
+          record {
+            holder = put (A .holder) q (turned .heir);
+            line = put (A .line) q (c .line);
+            way = turn m n (A .holder) (A .line) (A .way) q small n′ (turned .heir) c;
+            stands = at-queue (λ p x l. Now n′ (put yet q false p) p x l) (A .holder) (A .line) q (turned .heir) (c .line)
+                (subst (λ (b : Bool). Now n′ b q (turned .heir) (c .line)) (sym (put-same yet q false)) here-now)
+                (λ p i k. subst (λ (b : Bool). Now n′ b p (A .holder p) (A .line p)) (sym (put-other yet q false p k)) (other-now p i k (yet p) (A .stands p i)));
+          }
