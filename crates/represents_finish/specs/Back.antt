@@ -28,7 +28,7 @@ use Rattle.represents.specs.Views.{unfinished-alive}
 use Rattle.represents.specs.Walks.{first-path, tour-ends, marked}
 use Rattle.represents_finish.specs.Leaf.{Leaf, leaf}
 use Rattle.represents_finish.specs.Way.{Way}
-use Rattle.represents_finish.specs.Turn.{way-linked, children-word}
+use Rattle.represents_finish.specs.Queue.{way-linked, children-word}
 
 module _ (m : List ℕ) (ys zs : List Item) (s : Task) (r : Represents m (ys ++ spot s ∷ zs)) (barren : hasChild m (numberOf s) ≡ false) (above : 0 < numberOf s) where
   abbrev t : ℕ

@@ -22,7 +22,7 @@ use Rattle.represents.specs.Parts.{opened-single, same-alive}
 use Rattle.represents.specs.Views.{all-at}
 use Rattle.represents.specs.FirstNamed.{here}
 use Rattle.represents_finish.specs.Way.{Vacant, Way}
-use Rattle.represents_finish.specs.Turn.{single, children-word, user-word, right-word, head-word}
+use Rattle.represents_finish.specs.Queue.{single, children-word, user-word, right-word, head-word}
 use Rattle.represents_finish.specs.Naming.{Names}
 
 -- the first segment of a line stands among its segments

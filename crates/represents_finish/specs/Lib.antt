@@ -2,7 +2,8 @@ pub mod Leaf
 pub mod Way
 pub mod Meets
 pub mod Reductions
-pub mod Turn
+pub mod Queue
+pub mod HeadsBelow
 pub mod SyncTurn
 pub mod Sync
 pub mod Naming
@@ -13,3 +14,13 @@ pub mod Target
 pub mod Reduced
 pub mod Returned
 pub mod Heir
+pub mod Change
+pub mod FinishRight
+pub mod QueueView
+pub mod FinishPast
+pub mod FinishTurn
+pub mod FinishTest
+pub mod FinishAllowed
+pub mod Unlinked
+pub mod Freed
+pub mod Finish

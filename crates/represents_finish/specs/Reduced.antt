@@ -34,7 +34,7 @@ use Rattle.represents.specs.At.{mine-spot, task-unfinished}
 use Rattle.represents_finish.specs.Way.{Way}
 use Rattle.represents_finish.specs.Meets.{Meets, Apart, Tails, Headless, meets-links, apart-joined, tails-tailed, headless-not, vacant-not}
 use Rattle.represents_finish.specs.Reductions.{Link, Leaving, leaving-views}
-use Rattle.represents_finish.specs.Turn.{way-linked, spot-alive, single, held-below, held-local, room, children-word, user-word, right-word, holder-alive}
+use Rattle.represents_finish.specs.Queue.{way-linked, spot-alive, single, held-below, held-local, room, children-word, user-word, right-word, holder-alive}
 use Rattle.represents_finish.specs.Naming.{Names, names-view, names-by}
 use Rattle.represents_finish.specs.FirstNames.{Covered, first-names}
 
@@ -72,20 +72,20 @@ module _ (m : List ℕ) (ys zs : List Item) (s : Task) (r : Represents m (ys ++ 
   pub alive-h : alive n h ≡ true
   alive-h = holder-alive m Old r n holder line way q h first
 
-  C : viewIn n q CHILDREN t ≡ Q .children t
-  C = children-word m Old r n holder line way q t alive-t
+  pub children-is : viewIn n q CHILDREN t ≡ Q .children t
+  children-is = children-word m Old r n holder line way q t alive-t
 
-  U : viewIn n q USER t ≡ Q .user t
-  U = user-word m Old r n holder line way q t alive-t
+  pub user-is : viewIn n q USER t ≡ Q .user t
+  user-is = user-word m Old r n holder line way q t alive-t
 
-  R : viewIn n q RIGHT t ≡ Q .right t
-  R = right-word m Old r n holder line way q t alive-t
+  pub right-is : viewIn n q RIGHT t ≡ Q .right t
+  right-is = right-word m Old r n holder line way q t alive-t
 
   pub inner-is : inner M q h t ≡ reduced (Q .children t) (Q .user t)
-  inner-is = ap₂ (λ (x y : Extent). reduced x y) C U
+  inner-is = ap₂ (λ (x y : Extent). reduced x y) children-is user-is
 
   pub whole-is : whole M q h t ≡ returned t Q
-  whole-is = ap₂ (λ (x y : Extent). reduced x y) inner-is R
+  whole-is = ap₂ (λ (x y : Extent). reduced x y) inner-is right-is
 
   pub was : Laid own Q h Line-t
   was = subst (Laid own Q h) parts (way .laids .laid q small)
@@ -131,10 +131,10 @@ module _ (m : List ℕ) (ys zs : List Item) (s : Task) (r : Represents m (ys ++ 
 
   -- THE FIRST REDUCTION links nothing.
   user-apart : Apart (viewIn n q CHILDREN t) (viewIn n q USER t)
-  user-apart = subst₂ (λ (x y : Extent). Apart x y) (sym C) (sym U) (views .user-apart)
+  user-apart = subst₂ (λ (x y : Extent). Apart x y) (sym children-is) (sym user-is) (views .user-apart)
 
   user-tailed : Tailed (viewIn n q USER t)
-  user-tailed = tails-tailed (λ x. 0 < occurrences x (segments Line-t)) not-none (viewIn n q USER t) (subst (Tails (λ x. 0 < occurrences x (segments Line-t))) (sym U) (views .user-held))
+  user-tailed = tails-tailed (λ x. 0 < occurrences x (segments Line-t)) not-none (viewIn n q USER t) (subst (Tails (λ x. 0 < occurrences x (segments Line-t))) (sym user-is) (views .user-held))
 
   user-links : Links n q h (viewIn n q CHILDREN t) (viewIn n q USER t)
   user-links = meets-links (λ x y. ⊥) n q h (λ x y z. absurd z) (viewIn n q CHILDREN t) (viewIn n q USER t) user-apart
@@ -164,9 +164,9 @@ module _ (m : List ℕ) (ys zs : List Item) (s : Task) (r : Represents m (ys ++ 
         user-tailed = user-tailed;
         user-links = user-links;
         right-tailed = tails-tailed (λ x. 0 < occurrences x (segments Line-t)) not-none (viewIn n q RIGHT t)
-            (subst (Tails (λ x. 0 < occurrences x (segments Line-t))) (sym R) (views .right-held));
+            (subst (Tails (λ x. 0 < occurrences x (segments Line-t))) (sym right-is) (views .right-held));
         right-links = meets-links (Link Q Line-t) (words1 n t q) q h
             (λ z x k. linkable (words1 n t q) (merged .kept) (ap (λ (N : Meaning). N .contents) means-merged) (ap (λ (N : Meaning). N .free) means-merged) z x k (names-merged z))
             (inner M q h t) (viewIn n q RIGHT t)
-            (subst₂ (λ (x y : Extent). Meets (Link Q Line-t) x y) (sym inner-is) (sym R) (views .right-meets));
+            (subst₂ (λ (x y : Extent). Meets (Link Q Line-t) x y) (sym inner-is) (sym right-is) (views .right-meets));
       }

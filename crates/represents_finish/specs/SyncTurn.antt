@@ -11,8 +11,7 @@ use Rattle.calls.specs.Sync.{syncs, syncedQueue}
 use Rattle.order.specs.Steps.{Task, Item, spot, numberOf}
 use Rattle.order_queue.specs.Points.{Point}
 use Rattle.gaps.specs.Maps.{All, put, put-other}
-use Rattle.gaps.specs.Line.{Extent, vacant, left, met, Line, marks, segments, Fits, Mode, Views, meeting, rest, close}
-use Rattle.gaps.specs.Frames.{split}
+use Rattle.gaps.specs.Line.{Extent, vacant, left, met, Line, marks, segments, Fits}
 use Rattle.gaps.specs.Store.{Store, Memory, Laid, timeline}
 use Rattle.gaps.specs.Moves.{reduced, joined, synced}
 use Rattle.gaps.specs.After.{After, after-marks, after-fits}
@@ -25,16 +24,17 @@ use Rattle.meaning.specs.Extents.{reduces}
 use Rattle.meaning.specs.Reduce.{Links, Tailed}
 use Rattle.meaning.specs.Sync.{syncedIn, Syncs, sync-test, queue-synced, memory-synced, memory-synced-elsewhere}
 use Rattle.represents.specs.Represents.{alive, ofTasks, queueMemory, usesIn, Represents}
-use Rattle.represents.specs.Nexts.{Nexts, HeadBelow, nexts-joined}
+use Rattle.represents.specs.Nexts.{Nexts, nexts-joined}
 use Rattle.represents.specs.Laids.{sharing}
 use Rattle.represents.specs.Live.{live-sync}
 use Rattle.represents.specs.Push.{masked-share}
 use Rattle.represents.specs.At.{mine-spot, task-unfinished}
 use Rattle.represents_finish.specs.Leaf.{with-right}
-use Rattle.represents_finish.specs.Way.{Vacant, Way, Standing, AllStand, turn-same}
+use Rattle.represents_finish.specs.Way.{Vacant, Way, Standing, AllStand, Turn, turn-same}
 use Rattle.represents_finish.specs.Meets.{Meets, Apart, Tails, meets-reduces, meets-links, tails-tailed}
+use Rattle.represents_finish.specs.HeadsBelow.{headless-below}
 use Rattle.represents_finish.specs.Reductions.{Leaving, leaving-views}
-use Rattle.represents_finish.specs.Turn.{single, held-local, spot-alive, children-word, user-word, holder-alive}
+use Rattle.represents_finish.specs.Queue.{single, held-local, spot-alive, children-word, user-word, holder-alive}
 
 -- nothing is written where both views are vacant
 vacant-synced : (M : Meaning) (q holder t : ℕ) → M .views q CHILDREN t ≡ vacant → M .views q USER t ≡ vacant → syncedIn M q holder t ≡ M
@@ -44,12 +44,6 @@ vacant-synced M q holder t e f =
     ∙ ap (λ (N : Meaning). withView N q USER t vacant) (ap (withView M q CHILDREN t) (sym e) ∙ view-self M q CHILDREN t)
     ∙ ap (withView M q USER t) (sym f)
     ∙ view-self M q USER t
-
--- a user view has no local head
-user-head : {children user right : ℕ → Extent} (n : ℕ) (some-opened : 0 < n) (t : ℕ) (c : List ℕ) (a : Line) {k : Mode} → Views children user right (met t c ∷ a) k
-    → HeadBelow n some-opened (user t)
-user-head n o t c a (meeting v w e rest f g r) = subst (HeadBelow n o) (sym e) tt
-user-head n o t c a (meeting v w e close f g r) = subst (HeadBelow n o) (sym e) tt
 
 module _ (m : List ℕ) (ys zs : List Item) (s : Task) (r : Represents m (ys ++ spot s ∷ zs)) (barren : hasChild m (numberOf s) ≡ false) where
   abbrev t : ℕ
@@ -133,8 +127,27 @@ module _ (m : List ℕ) (ys zs : List Item) (s : Task) (r : Represents m (ys ++ 
       nexts : Nexts (read m numberWord) (synced (holder q) t Q .store .next)
       unfolding queueMemory ofTasks synced
       nexts =
-          nexts-joined (read m numberWord) (let l = r .sized .number-range .0 in omega (arith, l)) (holder q) (Q .children t) (Q .user t) (Q .store)
-          (user-head (read m numberWord) (let l = r .sized .number-range .0 in omega (arith, l)) t c (left t ∷ a) (split b (met t c) (left t ∷ a) (was .views) .1)) (way .nexts)
+          nexts-joined (read m numberWord) some-opened (holder q) (Q .children t) (Q .user t) (Q .store)
+          (headless-below (read m numberWord) some-opened (Q .user t) (views .user-headless)) (way .nexts)
+        where
+          some-opened : 0 < read m numberWord
+          some-opened = let l = r .sized .number-range .0 in omega (arith, l)
+
+      turned : usesIn m q t ≡ true → Turn m n (syncedQueue n t q) q (line q) (holder q)
+      turned u =
+          record {
+            meaning = syncedIn (meaningOf n) q (holder q) t;
+            memory = synced (holder q) t Q;
+            line = row .line;
+            becomes = done;
+            here = here;
+            others = others;
+            kept = row .kept;
+            laid = row .laid;
+            fits = after-fits row (usesIn m q) (way .fits q small);
+            bare = λ x e. bare x u e;
+            nexts = nexts;
+          }
 
     -- THE TASK HAS NO RIGHT, so no views
     module _ (no-right : usesIn m q t ≡ false) where
@@ -157,6 +170,23 @@ module _ (m : List ℕ) (ys zs : List Item) (s : Task) (r : Represents m (ys ++ 
           becomes-as (vacant-synced (meaningOf n) q (holder q) t (C ∙ none .0) (U ∙ none .1))
           (queue-synced n t q (holder q) (way .sized) (task-unfinished m ys zs s r .0) small vacant-syncable)
 
+      vacant-turned : Turn m n (syncedQueue n t q) q (line q) (holder q)
+      unfolding queueMemory ofTasks sharing
+      vacant-turned =
+          record {
+            meaning = meaningOf n;
+            memory = Q;
+            line = line q;
+            becomes = vacant-done;
+            here = refl;
+            others = λ p i k. refl;
+            kept = λ x e. (refl, refl);
+            laid = way .laids .laid q small;
+            fits = way .fits q small;
+            bare = way .bare q small;
+            nexts = way .nexts;
+          }
+
   -- THE TURN: the paper has the reduction, and all queues stand after it as before.
   module _ (n : List ℕ) (A : AllStand m n (Standing n Old (r .tour))) (q : ℕ) (small : q < 4) where
     abbrev Turned : Type 0
@@ -175,26 +205,20 @@ module _ (m : List ℕ) (ys zs : List Item) (s : Task) (r : Represents m (ys ++ 
     st = A .stands q small
 
     with-views : usesIn m q t ≡ true → Turned
-    unfolding queueMemory ofTasks
+    unfolding queueMemory ofTasks turned
     with-views u =
         let p = with-right m ys zs s r barren q (line q) (way .laids .laid q small .views) (way .fits q small) (st .marked) u in
-        let b = p .0 in
-        let c = p .1 in
-        let a = p .2 in
-        let after = row n holder line way q small st b c a (p .3) in (
-          allowed n holder line way q small st b c a (p .3),
-          turn-same m n holder line way q small (syncedQueue n t q) (syncedIn (meaningOf n) q (holder q) t) (synced (holder q) t (queueMemory n q)) (holder q) (after .line)
-              (done n holder line way q small st b c a (p .3)) (here n holder line way q small st b c a (p .3)) (others n holder line way q small st b c a (p .3))
-              (after .kept) (after .laid) Old (r .tour) (A .stands) (after-fits after (usesIn m q) (way .fits q small))
-              (λ x e. bare n holder line way q small st b c a (p .3) x u e) (nexts n holder line way q small st b c a (p .3)) (after-marks after) refl (after .points),
+        let after = row n holder line way q small st (p .0) (p .1) (p .2) (p .3) in (
+          allowed n holder line way q small st (p .0) (p .1) (p .2) (p .3),
+          turn-same m n holder line way q small (syncedQueue n t q) (holder q) (turned n holder line way q small st (p .0) (p .1) (p .2) (p .3) u) Old (r .tour) (A .stands)
+              (after-marks after) refl (after .points),
         )
 
     without-views : usesIn m q t ≡ false → Turned
-    unfolding queueMemory ofTasks sharing
+    unfolding queueMemory ofTasks vacant-turned
     without-views u = (
       vacant-allowed n holder line way q small st u,
-      turn-same m n holder line way q small (syncedQueue n t q) (meaningOf n) (queueMemory n q) (holder q) (line q) (vacant-done n holder line way q small st u) refl
-          (λ p i k. refl) (λ x e. (refl, refl)) (way .laids .laid q small) Old (r .tour) (A .stands) (way .fits q small) (way .bare q small) (way .nexts) refl refl refl,
+      turn-same m n holder line way q small (syncedQueue n t q) (holder q) (vacant-turned n holder line way q small st u) Old (r .tour) (A .stands) refl refl refl,
     )
 
     pub sync-turn : Turned

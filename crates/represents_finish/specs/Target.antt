@@ -38,7 +38,7 @@ use Rattle.represents.specs.Walks.{top-uses, marked}
 use Rattle.represents.specs.Live.{holdsAt}
 use Rattle.represents_finish.specs.Leaf.{leaf}
 use Rattle.represents_finish.specs.Way.{Way}
-use Rattle.represents_finish.specs.Turn.{children-word, right-word}
+use Rattle.represents_finish.specs.Queue.{unfinished-there, children-word, right-word}
 use Rattle.represents_finish.specs.Back.{earlier-marks, earlier-ends, back-part, back-stand}
 
 -- the tasks of a line have a right to the queue
@@ -117,6 +117,7 @@ module _ (m : List ℕ) (ys zs : List Item) (s : Task) (r : Represents m (ys ++ 
     pub range : u < 128
     pub other : u ≡ t → ⊥
     pub live : alive n u ≡ true
+    pub there : 0 < occurrences u (r .tour)
 
   unfinished-live : (u : ℕ) → Unfinished (decode m) u → alive n u ≡ true
   unfinished-live u k = ap (λ (f : ℕ → Bool). f u) (same-alive m n (way .kept)) ∙ unfinished-alive m u k
@@ -124,6 +125,7 @@ module _ (m : List ℕ) (ys zs : List Item) (s : Task) (r : Represents m (ys ++ 
   met-other : (u : ℕ) → 0 < occurrences u (mets a) → Other u
   met-other u p =
       let range = uses-small m q u (all-at (λ x. usesIn m q x ≡ true) (mets a) u (mets-use (usesIn m q) a fits) p) in
+      let there = in-earlier u (let k = met-marks u a in omega (arith, k, p)) in
       record {
         range = range;
         other = λ e.
@@ -131,7 +133,8 @@ module _ (m : List ℕ) (ys zs : List Item) (s : Task) (r : Represents m (ys ++ 
             let f = count-mets u b (met t c ∷ (left t ∷ a)) in
             let g = occurs-here t u (mets a) (sym e) in
             omega (arith, d, f, g, p);
-        live = unfinished-live u (met-unfinished u range (in-earlier u (let k = met-marks u a in omega (arith, k, p))));
+        live = unfinished-live u (met-unfinished u range there);
+        there = there;
       }
     where
       met-unfinished : (u : ℕ) → u < 128 → 0 < occurrences u (r .tour) → Unfinished (decode m) u
@@ -139,6 +142,7 @@ module _ (m : List ℕ) (ys zs : List Item) (s : Task) (r : Represents m (ys ++ 
 
   left-other : (u : ℕ) → 0 < occurrences u (lefts a) → Other u
   left-other u p =
+      let k = subst (Unfinished (decode m)) (task-left u) (marked m Old r (128 + u) (in-earlier (128 + u) (let k = left-marks u a in omega (arith, k, p))) .1) in
       record {
         range = uses-small m q u (all-at (λ x. usesIn m q x ≡ true) (lefts a) u (lefts-use (usesIn m q) a fits) p);
         other = λ e.
@@ -146,8 +150,8 @@ module _ (m : List ℕ) (ys zs : List Item) (s : Task) (r : Represents m (ys ++ 
             let f = count-lefts u b (met t c ∷ (left t ∷ a)) in
             let g = occurs-here t u (lefts a) (sym e) in
             omega (arith, d, f, g, p);
-        live = unfinished-live u
-            (subst (Unfinished (decode m)) (task-left u) (marked m Old r (128 + u) (in-earlier (128 + u) (let k = left-marks u a in omega (arith, k, p))) .1));
+        live = unfinished-live u k;
+        there = unfinished-there m Old r n holder line way u k;
       }
 
   abbrev Rest : Place → Type 0

@@ -5,22 +5,22 @@ use mathlib.Core.Bool.{Bool, true, false}
 use mathlib.Core.Option.{Option, some}
 use mathlib.Core.List.{List, [], _∷_}
 use mathlib.Core.Logic.{⊎-elim}
-use Prim.Native.Nat.{ℕ, _<_}
-use Rattle.lists.specs.Counting.{equal?}
+use Prim.Native.Nat.{ℕ, _+_, _<_}
+use Rattle.lists.specs.Counting.{occurrences, equal?}
 use Rattle.layout.specs.Layout.{numberWord, read}
 use Rattle.order.specs.Steps.{Item}
 use Rattle.order_waits.specs.Popper.{firstPopper}
 use Rattle.order_queue.specs.Points.{Point, Timeline}
 use Rattle.gaps.specs.Maps.{All, put, put-same, put-other}
 use Rattle.gaps.specs.Line.{vacant, Line, marks, Fits}
-use Rattle.gaps.specs.Store.{Store, Memory, Laid, timeline}
+use Rattle.gaps.specs.Store.{Store, Chain, Memory, Laid, timeline}
 use Rattle.gaps.specs.Stores.{Kept as StoreKept}
-use Rattle.gaps.specs.Pool.{mine}
-use Rattle.meaning.specs.Meaning.{Meaning, contentsIn, nextIn, storeIn, memoryOf, Sized}
+use Rattle.gaps.specs.Pool.{allSegments, mine}
+use Rattle.meaning.specs.Meaning.{Meaning, nextIn, contentsIn, freeIn, storeIn, memoryOf, Sized}
 use Rattle.meaning.specs.Kept.{Kept, kept-all, kept-then, Becomes}
 use Rattle.represents.specs.Represents.{alive, ofTasks, queueMemory, usesIn, opened, Represents}
 use Rattle.represents.specs.Nexts.{Nexts, words-nexts}
-use Rattle.represents.specs.Laids.{sharing, Laids, laids-row, other-timeline}
+use Rattle.represents.specs.Laids.{sharing, four, Laids, laids-row, other-timeline}
 use Rattle.represents.specs.Parts.{Parts, holders, parts-of, opened-single}
 use Rattle.represents.specs.Plain.{laids-as}
 use Rattle.represents.specs.Push.{queue-memory}
@@ -63,6 +63,20 @@ module _ (m : List ℕ) (xs : List Item) (r : Represents m xs) where
         stands = λ q i. record { marked = p .marked q i; first = p .first q i; time = p .time q i };
       }
 
+-- the four queues over the segments of the words w, which are those of the store st
+pub laids-over : (own : ℕ → ℕ) (st : Store) (w : List ℕ) (holder : ℕ → ℕ) (line : ℕ → Line) → nextIn w ≡ st .next → contentsIn w ≡ st .contents → freeIn w ≡ st .free
+    → Laids own st (queueMemory w) holder line → Laids own (storeIn w 0) (queueMemory w) holder line
+unfolding queueMemory ofTasks sharing
+laids-over own st w holder line e f g h =
+    record {
+      laid = h .laid;
+      shares = λ q i. refl;
+      pool = record {
+        chains = subst₂ (λ (a : ℕ → Option ℕ) (b : ℕ → List ℕ). All (λ l. All (Chain a b) l) (four line)) (sym e) (sym f) (h .pool .chains);
+        total = subst (λ (a : List ℕ). (x : ℕ) → occurrences x (allSegments (four line)) + occurrences x a ≡ own x) (sym g) (h .pool .total);
+      };
+    }
+
 -- a fact of one queue, and of the others, where two maps are written there
 pub at-queue : (P : (p h : ℕ) → Line → Type 0) (holder : ℕ → ℕ) (line : ℕ → Line) (q h : ℕ) (l : Line) → P q h l
     → ((p : ℕ) → p < 4 → (p ≡ q → ⊥) → P p (holder p) (line p)) → (p : ℕ) → p < 4 → P p (put holder q h p) (put line q l p)
@@ -72,20 +86,36 @@ at-queue P holder line q h l x f p i =
     (λ k. subst₂ (P p) (sym (put-other holder q h p k)) (sym (put-other line q l p k)) (f p i k))
     (equal? p q)
 
--- THE TURN OF QUEUE q: the words n become n′, its memory becomes W, which is laid out along l with the queue view at h.
-module _ (m n : List ℕ) (holder : ℕ → ℕ) (line : ℕ → Line) (way : Way m n holder line) (q : ℕ) (small : q < 4) (n′ : List ℕ) (M : Meaning) (W : Memory) (h : ℕ) (l : Line)
-    (becomes : Becomes n n′ M) (here : ofTasks (alive n) (memoryOf M q) ≡ W)
-    (others : (p : ℕ) → p < 4 → (p ≡ q → ⊥) → ofTasks (alive n) (memoryOf M p) ≡ sharing (W .store) (queueMemory n p))
-    (kept : StoreKept (mine (queueMemory n q .store) (line q)) (queueMemory n q .store) (W .store))
-    (row : Laid (mine (queueMemory n q .store) (line q)) W h l) where
+-- THE TURN OF QUEUE q, whose line is l: the words n become n′, and its memory is laid out along another line, with the queue
+-- view at h.
+pub record Turn (m n n′ : List ℕ) (q : ℕ) (l : Line) (h : ℕ) : Type 0 where
+  pub meaning : Meaning
+  pub memory : Memory
+  pub line : Line
+  pub becomes : Becomes n n′ meaning
+  pub here : ofTasks (alive n) (memoryOf meaning q) ≡ memory
+  pub others : (p : ℕ) → p < 4 → (p ≡ q → ⊥) → ofTasks (alive n) (memoryOf meaning p) ≡ sharing (memory .store) (queueMemory n p)
+  pub kept : StoreKept (mine (queueMemory n q .store) l) (queueMemory n q .store) (memory .store)
+  pub laid : Laid (mine (queueMemory n q .store) l) memory h line
+  pub fits : All (Fits (usesIn m q)) line
+  pub bare : (x : ℕ) → usesIn m q x ≡ false → Vacant memory x
+  pub nexts : Nexts (read m numberWord) (memory .store .next)
+
+module _ (m n : List ℕ) (holder : ℕ → ℕ) (line : ℕ → Line) (way : Way m n holder line) (q : ℕ) (small : q < 4) (n′ : List ℕ) (h : ℕ) (c : Turn m n n′ q (line q) h) where
+  abbrev W : Memory
+  W = c .memory
+
+  abbrev l : Line
+  l = c .line
+
   abbrev Then : ℕ → Memory
   Then = put (λ p. sharing (W .store) (queueMemory n p)) q W
 
   is-here : queueMemory n′ q ≡ W
-  is-here = queue-memory q becomes ∙ here
+  is-here = queue-memory q (c .becomes) ∙ c .here
 
   is-other : (p : ℕ) → p < 4 → (p ≡ q → ⊥) → queueMemory n′ p ≡ sharing (W .store) (queueMemory n p)
-  is-other p i k = queue-memory p becomes ∙ others p i k
+  is-other p i k = queue-memory p (c .becomes) ∙ c .others p i k
 
   memory-is : (p : ℕ) → p < 4 → queueMemory n′ p ≡ Then p
   memory-is p i =
@@ -97,36 +127,43 @@ module _ (m n : List ℕ) (holder : ℕ → ℕ) (line : ℕ → Line) (way : Wa
   over-new : Laids (opened m) (W .store) (queueMemory n′) (put holder q h) (put line q l)
   over-new =
       laids-as (opened m) (W .store) Then (queueMemory n′) (put holder q h) (put line q l) memory-is
-      (laids-row (opened m) (opened-single m) (storeIn n 0) (queueMemory n) holder line (way .laids) q small W h l kept row)
+      (laids-row (opened m) (opened-single m) (storeIn n 0) (queueMemory n) holder line (way .laids) q small W h l (c .kept) (c .laid))
 
-  same-store : (st : Store) → queueMemory n′ q .store ≡ st → Laids (opened m) st (queueMemory n′) (put holder q h) (put line q l)
-      → Laids (opened m) (storeIn n′ 0) (queueMemory n′) (put holder q h) (put line q l)
-  unfolding queueMemory ofTasks sharing
-  same-store st e a =
-      let b = subst (λ (x : Store). Laids (opened m) x (queueMemory n′) (put holder q h) (put line q l)) (sym e) a in
-      record { laid = b .laid; shares = b .shares; pool = record { chains = b .pool .chains; total = b .pool .total } }
+  same-laids : Laids (opened m) (storeIn n′ 0) (queueMemory n′) (put holder q h) (put line q l)
+  unfolding queueMemory ofTasks
+  same-laids =
+      laids-over (opened m) (W .store) n′ (put holder q h) (put line q l) (ap (λ (w : Memory). w .store .next) is-here) (ap (λ (w : Memory). w .store .contents) is-here)
+      (ap (λ (w : Memory). w .store .free) is-here) over-new
 
-  pub turn : All (Fits (usesIn m q)) l → ((x : ℕ) → usesIn m q x ≡ false → Vacant W x) → Nexts (read m numberWord) (W .store .next) → Way m n′ (put holder q h) (put line q l)
-  unfolding sharing queueMemory ofTasks
-  turn fits bare nexts =
+  -- tasks without views
+  pub turn-gone : (x : ℕ) → Vacant W x → Vacant (queueMemory n′ q) x
+  turn-gone x v = subst (λ (w : Memory). Vacant w x) (sym is-here) v
+
+  pub turn-vacant : (p : ℕ) → p < 4 → (p ≡ q → ⊥) → (x : ℕ) → Vacant (queueMemory n p) x → Vacant (queueMemory n′ p) x
+  unfolding sharing
+  turn-vacant p i k x v = subst (λ (w : Memory). Vacant w x) (sym (is-other p i k)) v
+
+  pub turn : Way m n′ (put holder q h) (put line q l)
+  unfolding queueMemory ofTasks
+  turn =
       record {
-        kept = kept-then (way .kept) (becomes .kept);
-        sized = becomes .sized;
-        laids = same-store (W .store) (ap (λ (w : Memory). w .store) is-here) over-new;
-        fits = at-queue (λ p x k. All (Fits (usesIn m p)) k) holder line q h l fits (λ p i k. way .fits p i);
+        kept = kept-then (way .kept) (c .becomes .kept);
+        sized = c .becomes .sized;
+        laids = same-laids;
+        fits = at-queue (λ p x k. All (Fits (usesIn m p)) k) holder line q h l (c .fits) (λ p i k. way .fits p i);
         bare = λ p i.
             ⊎-elim
-            (λ e. subst (λ (y : ℕ). (x : ℕ) → usesIn m y x ≡ false → Vacant (queueMemory n′ y) x) (sym e) (λ x u. subst (λ (w : Memory). Vacant w x) (sym is-here) (bare x u)))
-            (λ k x u. subst (λ (w : Memory). Vacant w x) (sym (is-other p i k)) (way .bare p i x u))
+            (λ e. subst (λ (y : ℕ). (x : ℕ) → usesIn m y x ≡ false → Vacant (queueMemory n′ y) x) (sym e) (λ x u. turn-gone x (c .bare x u)))
+            (λ k x u. turn-vacant p i k x (way .bare p i x u))
             (equal? p q);
-        nexts = subst (λ (w : Memory). Nexts (read m numberWord) (w .store .next)) (sym is-here) nexts;
+        nexts = subst (λ (w : Memory). Nexts (read m numberWord) (w .store .next)) (sym is-here) (c .nexts);
       }
 
   -- the values of the other queues are as they were
   pub turn-time : (p : ℕ) → p < 4 → (p ≡ q → ⊥) → timeline (contentsIn n′) (line p) ≡ timeline (contentsIn n) (line p)
   turn-time p i k =
       ap (λ (f : ℕ → List ℕ). timeline f (line p)) contents-are
-      ∙ other-timeline (opened m) (opened-single m) (storeIn n 0) (queueMemory n) holder line (way .laids) q small W h l kept row p i k
+      ∙ other-timeline (opened m) (opened-single m) (storeIn n 0) (queueMemory n) holder line (way .laids) q small W h l (c .kept) (c .laid) p i k
     where
       contents-are : contentsIn n′ ≡ W .store .contents
       contents-are = unfold queueMemory ofTasks in ap (λ (w : Memory). w .store .contents) is-here
@@ -136,28 +173,22 @@ module _ (m n : List ℕ) (holder : ℕ → ℕ) (line : ℕ → Line) (way : Wa
   turn-other xs T p i k s =
       record { marked = s .marked; first = s .first; time = subst (Timeline p xs) (sym (turn-time p i k)) (s .time) }
 
-  -- and this one by the timeline of W
-  pub turn-here : (xs : List Item) (T : List ℕ) (ps : List Point) → marks l ≡ T → firstPopper q xs ≡ some h → timeline (W .store .contents) l ≡ ps → Timeline q xs ps
-      → Standing n′ xs T q h l
+  -- and this one by its new line
+  pub turn-here : (xs : List Item) (T : List ℕ) → marks l ≡ T → firstPopper q xs ≡ some h → Timeline q xs (timeline (W .store .contents) l) → Standing n′ xs T q h l
   unfolding queueMemory ofTasks
-  turn-here xs T ps e f g s =
-      record {
-        marked = e;
-        first = f;
-        time = subst (Timeline q xs) (sym (ap (λ (w : Memory). timeline (w .store .contents) l) is-here ∙ g)) s;
-      }
+  turn-here xs T e f g =
+      record { marked = e; first = f; time = subst (Timeline q xs) (sym (ap (λ (w : Memory). timeline (w .store .contents) l) is-here)) g }
 
   -- A TURN IN WHICH NO MARK CHANGES: all stand as before.
-  pub turn-same : (xs : List Item) (T : List ℕ) → ((p : ℕ) → p < 4 → Standing n xs T p (holder p) (line p)) → All (Fits (usesIn m q)) l
-      → ((x : ℕ) → usesIn m q x ≡ false → Vacant W x) → Nexts (read m numberWord) (W .store .next) → marks l ≡ marks (line q) → h ≡ holder q → timeline (W .store .contents) l ≡ timeline (contentsIn n) (line q)
-      → AllStand m n′ (Standing n′ xs T)
-  turn-same xs T stands fits bare nexts e f g =
+  pub turn-same : (xs : List Item) (T : List ℕ) → ((p : ℕ) → p < 4 → Standing n xs T p (holder p) (line p)) → marks l ≡ marks (line q) → h ≡ holder q
+      → timeline (W .store .contents) l ≡ timeline (contentsIn n) (line q) → AllStand m n′ (Standing n′ xs T)
+  turn-same xs T stands e f g =
       let st = stands q small in
       record {
         holder = put holder q h;
         line = put line q l;
-        way = turn fits bare nexts;
+        way = turn;
         stands = at-queue (Standing n′ xs T) holder line q h l
-            (turn-here xs T (timeline (contentsIn n) (line q)) (e ∙ st .marked) (st .first ∙ ap some (sym f)) g (st .time))
+            (turn-here xs T (e ∙ st .marked) (st .first ∙ ap some (sym f)) (subst (Timeline q xs) (sym g) (st .time)))
             (λ p i k. turn-other xs T p i k (stands p i));
       }

@@ -12,6 +12,9 @@ use Rattle.lists.specs.Counting.{occurrences, occurs-here, occurs-past, equal?,
 use Rattle.lists.specs.Sums.{total-le}
 use Rattle.layout.specs.Layout.{NONE, NL, CHILDREN, USER, RIGHT, numberWord, read}
 use Rattle.tree.specs.Rights.{uses, pops as mayPop}
+use Rattle.rules.specs.Contents.{decode}
+use Rattle.rules.specs.Rules.{Unfinished}
+use Rattle.rules_tasks.specs.Holders.{met-count}
 use Rattle.order.specs.Steps.{Task, Item, spot, numberOf, rightsOf}
 use Rattle.order_laws.specs.Items.{In}
 use Rattle.order_waits.specs.Played.{played-reached}
@@ -23,7 +26,7 @@ use Rattle.gaps.specs.Maps.{put, put-same, put-other}
 use Rattle.gaps.specs.Line.{Extent, vacant, Line, segments, firstChain}
 use Rattle.gaps.specs.Store.{Store, Memory, Laid, headOf}
 use Rattle.gaps.specs.Pool.{mine}
-use Rattle.links.specs.Linked.{Linked, spot-unfinished}
+use Rattle.links.specs.Linked.{says-back, Linked, spot-unfinished, unfinished-spot}
 use Rattle.links.specs.Frame.{keeps-linked}
 use Rattle.meaning.specs.Meaning.{freeIn, contentsIn, headsIn, viewIn, storeIn}
 use Rattle.represents.specs.Represents.{alive, ofTasks, queueMemory, usesIn, opened, Represents}
@@ -43,6 +46,15 @@ module _ (m : List ℕ) (xs : List Item) (r : Represents m xs) (n : List ℕ) (h
   pub spot-alive : (o : Task) → In (spot o) xs → alive n (numberOf o) ≡ true
   spot-alive o i =
       ap (λ (f : ℕ → Bool). f (numberOf o)) (same-alive m n (way .kept)) ∙ unfinished-alive m (numberOf o) (spot-unfinished m (r .tour) xs (r .linked) o i)
+
+  -- and the tour meets it
+  pub unfinished-there : (u : ℕ) → Unfinished (decode m) u → 0 < occurrences u (r .tour)
+  unfinished-there u k =
+      let w = unfinished-spot m (r .tour) xs (r .linked) u k in
+      let a = says-back (w .0) xs (w .1) in
+      let b = ap (occurrences (numberOf (w .0))) (r .linked .spots) in
+      let d = met-count (r .tour) (numberOf (w .0)) (let l = k .0 in let e = w .2 in omega (arith, l, e)) in
+      subst (λ (x : ℕ). 0 < occurrences x (r .tour)) (w .2) (omega (arith, a, b, d))
 
   -- SEGMENTS
   held : (q : ℕ) → q < 4 → (x : ℕ) → occurrences x (segments (line q)) + occurrences x (freeIn n) ≤ opened m x

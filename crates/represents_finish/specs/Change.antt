@@ -1,0 +1,42 @@
+-- FINISH, WHAT THE TURN OF ONE QUEUE DOES: the queue's memory is laid out along a line without the marks of the task that finishes.
+use mathlib.Core.Path.{_≡_, ap, sym, _∙_}
+use mathlib.Core.Bool.{false}
+use mathlib.Core.Option.{some}
+use mathlib.Core.List.{List, _++_, _∷_}
+use Prim.Native.Nat.{ℕ, _<_}
+use Rattle.calls.specs.Finish.{finishedQueue}
+use Rattle.order.specs.Steps.{Task, Item, spot, finishes, numberOf, made, advance}
+use Rattle.order_laws.specs.Numbers.{advance-at}
+use Rattle.order_waits.specs.Popper.{firstPopper}
+use Rattle.order_waits.specs.Heirs.{finish-other}
+use Rattle.order_queue.specs.Points.{Point, Timeline}
+use Rattle.gaps.specs.Maps.{All}
+use Rattle.gaps.specs.Line.{Line, marks, Fits}
+use Rattle.gaps.specs.Store.{Memory, Laid, timeline}
+use Rattle.gaps.specs.Stores.{Kept}
+use Rattle.gaps.specs.Pool.{mine}
+use Rattle.meaning.specs.Meaning.{Meaning, memoryOf}
+use Rattle.meaning.specs.Kept.{Becomes}
+use Rattle.represents.specs.Represents.{alive, ofTasks, queueMemory, usesIn, Represents}
+use Rattle.represents.specs.Laids.{sharing}
+use Rattle.represents.specs.At.{single-spot}
+use Rattle.represents_finish.specs.Way.{Vacant, Turn}
+
+-- In the turn of queue q, whose line was l, t leaves it. Program order is xs then, the tour T.
+pub record Change (m n n′ : List ℕ) (t q : ℕ) (l : Line) (h : ℕ) (xs : List Item) (T : List ℕ) : Type 0 where
+  pub turn : Turn m n n′ q l h
+  -- the task has no view any more
+  pub gone : Vacant (turn .memory) t
+  pub marked : marks (turn .line) ≡ T
+  pub time : Timeline q xs (timeline (turn .memory .store .contents) (turn .line))
+
+-- THE WHOLE TURN: the queue view is with the first popper.
+pub record Turned (m n : List ℕ) (t q : ℕ) (l : Line) (xs : List Item) (T : List ℕ) : Type 0 where
+  pub heir : ℕ
+  pub first : firstPopper q xs ≡ some heir
+  pub change : Change m n (finishedQueue n t q) t q l heir xs T
+
+-- a holder that does not finish stays the first popper
+pub first-stays : (m : List ℕ) (ys zs : List Item) (s : Task) → Represents m (ys ++ spot s ∷ zs) → (q h : ℕ) → firstPopper q (ys ++ spot s ∷ zs) ≡ some h → (h ≡ numberOf s → ⊥)
+    → firstPopper q (advance (numberOf s) finishes (ys ++ spot s ∷ zs)) ≡ some h
+first-stays m ys zs s r q h e n = ap (firstPopper q) (advance-at ys zs s finishes (single-spot m ys zs s r)) ∙ finish-other ys zs s q h e n
