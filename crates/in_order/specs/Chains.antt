@@ -1,18 +1,17 @@
 -- LEFT ALONG A CHAIN: value number i of the linked segments is value number i of their values, one after the other.
-use mathlib.Core.Path.{_≡_, refl, ap, ap₂, sym, _∙_, subst}
+use mathlib.Core.Path.{_≡_, refl, ap, sym, _∙_}
 use mathlib.Core.Bool.{Bool, true, false}
-use mathlib.Core.Option.{Option, none, some}
+use mathlib.Core.Option.{some}
 use mathlib.Core.List.{List, [], _∷_, _++_}
 use mathlib.Core.Logic.{⊎-elim}
 use Prim.Native.Nat.{ℕ, zero, suc, _+_, _-_, _*_, _<_, _≤_}
 use native.Mathlib.Omega.{arith}
-use lib.Dec.{leb, ltb}
+use lib.Dec.{ltb}
 use lib.ListN.{length}
 use borrow.Author.Tests.{lt-leb, le-leb, ltb-true, ltb-false}
 use Rattle.words.specs.Words.{pick, pass as skip, halt}
 use Rattle.lists.specs.Counting.{occurrences, occurs-here, occurs-past, equal?}
-use Rattle.layout.specs.Layout.{NONE, NL, lengthWord, numberWord, first, count, next, value, read}
-use Rattle.answers.specs.declared.Answer.{Answer}
+use Rattle.layout.specs.Layout.{NONE, NL, lengthWord, first, count, next, value, read}
 use Rattle.answers.specs.declared.Answer.the-variants.{Moved, Refused}
 use Rattle.calls.specs.Segments.{place, valueAt}
 use Rattle.calls.specs.Left.{queued}
@@ -20,7 +19,7 @@ use Rattle.order.specs.Ordered.{leftAnswer}
 use Rattle.order_queue.specs.Points.{Point, value as point, user, values}
 use Rattle.order_queue.specs.Finds.{nthValue, nth-behind}
 use Rattle.gaps.specs.Store.{LinkedFrom, valuesIn}
-use Rattle.meaning.specs.Meaning.{listed, optional, nextIn, contentsIn}
+use Rattle.meaning.specs.Meaning.{listed, nextIn, contentsIn}
 use Rattle.meaning.specs.Reads.{next-at, contents-at, value-word}
 use Rattle.meaning.specs.Ring.{count-length}
 use Rattle.meaning.specs.Free.{none-word, link-word}

@@ -1,20 +1,19 @@
 -- DEMAND 2, PROVED: every call in every state answers as the statement says, and leads to a state.
 use mathlib.Core.Path.{_≡_, refl, ap, sym, _∙_, subst}
-use mathlib.Core.Bool.{Bool, true, false, not, false≢true}
-use mathlib.Core.List.{List, [], _∷_, _++_}
+use mathlib.Core.Bool.{Bool, true, false, not}
+use mathlib.Core.List.{List, [], _∷_}
 use mathlib.Core.Logic.{inl, inr}
-use Prim.Native.Nat.{ℕ, _+_, _-_, _<_}
+use Prim.Native.Nat.{ℕ, _-_}
 use native.Mathlib.Omega.{arith}
 use lib.Dec.{eqb}
 use borrow.Author.Tests.{eq-eqb}
-use Rattle.words.specs.Words.{size, pick, pass as skip, halt, both}
+use Rattle.words.specs.Words.{size, pick, pass as skip, both}
 use Rattle.layout.specs.Layout.{WORDS}
 use Rattle.answers.specs.declared.Answer.{Answer}
 use Rattle.answers.specs.declared.Answer.the-variants.{Moved, Waits, Refused}
-use Rattle.answers.specs.Answers.{Outcome, outcome, answerOf, wordsOf, statusOf, valueOf}
+use Rattle.answers.specs.Answers.{Outcome, answerOf, wordsOf, statusOf, valueOf}
 use Rattle.answers.specs.Calls.{Call, open-call, spawn-call, push-call, pop-call, test-call, sync-call, finish-call, left-call}
-use Rattle.tree.specs.Rights.{eachQueue, pushes as mayPush}
-use Rattle.rules.specs.Test.{rulesHold}
+use Rattle.tree.specs.Rights.{pushes as mayPush}
 use Rattle.calls.specs.Waits.{tested}
 use Rattle.calls.specs.Segments.{noneFree}
 use Rattle.calls.specs.Open.{openOutcome}
@@ -22,11 +21,11 @@ use Rattle.calls.specs.Spawn.{spawnTested, spawnOutcome}
 use Rattle.calls.specs.Push.{pushTested, pushOutcome}
 use Rattle.calls.specs.Find.{popAllowed, popTested, testTested, popOutcome, testOutcome}
 use Rattle.calls.specs.Sync.{whenReduced, syncTested, syncOutcome}
-use Rattle.calls.specs.Finish.{finishes as finishesIn, finished, finishTested, finishOutcome}
+use Rattle.calls.specs.Finish.{finished, finishTested, finishOutcome}
 use Rattle.calls.specs.Left.{leftTested, leftOutcome}
 use Rattle.calls.specs.Outcomes.{outcomeOf, wordsAfter}
-use Rattle.order.specs.Steps.{Task, Item, spot, finishes, numberOf, advance, begin, noted}
-use Rattle.order.specs.Waits.{unfinished, blocked, hasChild}
+use Rattle.order.specs.Steps.{Item, begin, noted}
+use Rattle.order.specs.Waits.{unfinished, blocked}
 use Rattle.order.specs.Ordered.{rightsAt, forTask, forQueue, ordered}
 use Rattle.represents.specs.Represents.{Represents}
 use Rattle.in_order.specs.Answered.{needsSegment, decided, answered}
@@ -39,7 +38,7 @@ use Rattle.in_order.specs.Pop.{pop-does, test-does}
 use Rattle.in_order.specs.Sync.{sync-does}
 use Rattle.in_order.specs.Finish.{tested-is as finish-tested, finish-does}
 use Rattle.in_order.specs.Left.{left-waits, left-ended, ended-refuses}
-use Rattle.in_order.specs.Statement.{stepsAfter, Kept, Promise}
+use Rattle.in_order.specs.Statement.{stepsAfter, Promise}
 
 runs : (m : List ℕ) (xs : List Item) → Represents m xs → State m xs
 runs m xs r = inl r
@@ -85,54 +84,51 @@ module _ (m : List ℕ) (xs : List Item) (e : Ended m xs) where
   unfolding whenReduced
   finish-ended t a = does-as State _ _ _ _ (finish-tested m t) refl (ended-refuses m xs e (finish-call t) _ a t)
 
-module _ (finish-task : (m : List ℕ) (ys zs : List Item) (s : Task) → Represents m (ys ++ spot s ∷ zs) → (numberOf s ≡ 0 → ⊥)
-    → blocked (numberOf s) (ys ++ spot s ∷ zs) ≡ false → hasChild (numberOf s) (ys ++ spot s ∷ zs) ≡ false
-    → (eachQueue (finishesIn m (numberOf s)) ≡ true) × Represents (finished m (numberOf s)) (advance (numberOf s) finishes (ys ++ spot s ∷ zs))) where
-  -- A CALL IN A STATE
-  pub call-does : (c : Call) (m : List ℕ) (xs : List Item) → State m xs → Does State xs c (outcomeOf c m) (answered c m xs)
-  unfolding outcomeOf answered ordered decided valueOf spawnOutcome pushOutcome popOutcome testOutcome syncOutcome finishOutcome leftOutcome
-  call-does (open-call l n) m xs st = open-does m xs l n (state-size m xs st) st
-  call-does (spawn-call t u) m xs (inl r) = through m xs (inl r) (spawnTested m t u) (spawn-does State runs m xs t u r)
-  call-does (spawn-call t u) m xs (inr e) = through m xs (inr e) (spawnTested m t u) (spawn-ended m xs e t u _)
-  call-does (push-call t q v) m xs (inl r) =
-      through m xs (inl r) (pushTested m t q v)
-      (does-as State _ _ _ _ refl
-      (ap (λ (a : Answer). forTask t xs (forQueue q (mayPush (rightsAt t xs) q) (pick (blocked t xs) Waits a))) (nine (both (needsSegment m t q) (noneFree m)) v))
-      (push-does State runs m xs t q v r))
-  call-does (push-call t q v) m xs (inr e) = through m xs (inr e) (pushTested m t q v) (push-ended m xs e t q v _)
-  call-does (pop-call t q) m xs (inl r) = through m xs (inl r) (popTested m t q) (pop-does State runs m xs t q r)
-  call-does (pop-call t q) m xs (inr e) = through m xs (inr e) (popTested m t q) (pop-ended m xs e t q _)
-  call-does (test-call t q) m xs (inl r) = through m xs (inl r) (testTested m t q) (test-does State runs m xs t q r)
-  call-does (test-call t q) m xs (inr e) = through m xs (inr e) (testTested m t q) (test-ended m xs e t q _)
-  call-does (sync-call t) m xs (inl r) = through m xs (inl r) (syncTested m t) (sync-does State runs m xs t r)
-  call-does (sync-call t) m xs (inr e) = through m xs (inr e) (syncTested m t) (sync-ended m xs e t _)
-  call-does (finish-call t) m xs (inl r) = through m xs (inl r) (finishTested m t) (finish-does finish-task m xs t r)
-  call-does (finish-call t) m xs (inr e) = through m xs (inr e) (finishTested m t) (finish-ended m xs e t _)
-  call-does (left-call q i) m xs (inl r) = through m xs (inl r) (leftTested m q i) (left-waits m xs q i r)
-  call-does (left-call q i) m xs (inr e) = through m xs (inr e) (leftTested m q i) (left-ended m xs e q i)
+-- A CALL IN A STATE
+pub call-does : (c : Call) (m : List ℕ) (xs : List Item) → State m xs → Does State xs c (outcomeOf c m) (answered c m xs)
+unfolding outcomeOf answered ordered decided valueOf spawnOutcome pushOutcome popOutcome testOutcome syncOutcome finishOutcome leftOutcome
+call-does (open-call l n) m xs st = open-does m xs l n (state-size m xs st) st
+call-does (spawn-call t u) m xs (inl r) = through m xs (inl r) (spawnTested m t u) (spawn-does State runs m xs t u r)
+call-does (spawn-call t u) m xs (inr e) = through m xs (inr e) (spawnTested m t u) (spawn-ended m xs e t u _)
+call-does (push-call t q v) m xs (inl r) =
+    through m xs (inl r) (pushTested m t q v)
+    (does-as State _ _ _ _ refl
+    (ap (λ (a : Answer). forTask t xs (forQueue q (mayPush (rightsAt t xs) q) (pick (blocked t xs) Waits a))) (nine (both (needsSegment m t q) (noneFree m)) v))
+    (push-does State runs m xs t q v r))
+call-does (push-call t q v) m xs (inr e) = through m xs (inr e) (pushTested m t q v) (push-ended m xs e t q v _)
+call-does (pop-call t q) m xs (inl r) = through m xs (inl r) (popTested m t q) (pop-does State runs m xs t q r)
+call-does (pop-call t q) m xs (inr e) = through m xs (inr e) (popTested m t q) (pop-ended m xs e t q _)
+call-does (test-call t q) m xs (inl r) = through m xs (inl r) (testTested m t q) (test-does State runs m xs t q r)
+call-does (test-call t q) m xs (inr e) = through m xs (inr e) (testTested m t q) (test-ended m xs e t q _)
+call-does (sync-call t) m xs (inl r) = through m xs (inl r) (syncTested m t) (sync-does State runs m xs t r)
+call-does (sync-call t) m xs (inr e) = through m xs (inr e) (syncTested m t) (sync-ended m xs e t _)
+call-does (finish-call t) m xs (inl r) = through m xs (inl r) (finishTested m t) (finish-does m xs t r)
+call-does (finish-call t) m xs (inr e) = through m xs (inr e) (finishTested m t) (finish-ended m xs e t _)
+call-does (left-call q i) m xs (inl r) = through m xs (inl r) (leftTested m q i) (left-waits m xs q i r)
+call-does (left-call q i) m xs (inr e) = through m xs (inr e) (leftTested m q i) (left-ended m xs e q i)
 
-  -- A LIST OF CALLS leads from a state to a state.
-  pub calls-do : (cs : List Call) (m : List ℕ) (xs : List Item) → State m xs → State (wordsAfter cs m) (stepsAfter cs m xs)
-  unfolding wordsAfter stepsAfter
-  calls-do [] m xs st = st
-  calls-do (c ∷ cs) m xs st =
-      let d = call-does c m xs st in
-      calls-do cs (wordsOf (outcomeOf c m)) (noted c (answerOf (outcomeOf c m)) xs)
-      (subst (λ (a : Answer). State (wordsOf (outcomeOf c m)) (noted c a xs)) (sym (d .answer)) (d .holds))
+-- A LIST OF CALLS leads from a state to a state.
+pub calls-do : (cs : List Call) (m : List ℕ) (xs : List Item) → State m xs → State (wordsAfter cs m) (stepsAfter cs m xs)
+unfolding wordsAfter stepsAfter
+calls-do [] m xs st = st
+calls-do (c ∷ cs) m xs st =
+    let d = call-does c m xs st in
+    calls-do cs (wordsOf (outcomeOf c m)) (noted c (answerOf (outcomeOf c m)) xs)
+    (subst (λ (a : Answer). State (wordsOf (outcomeOf c m)) (noted c a xs)) (sym (d .answer)) (d .holds))
 
-  -- the number of a new task, in a state
-  fresh : (m : List ℕ) (xs : List Item) (st : State m xs) (t u v : ℕ) → answered (spawn-call t u) m xs ≡ Moved v → unfinished v xs ≡ false
-  unfolding answered ordered decided valueOf forTask
-  fresh m xs (inl r) t u v e = fresh-task m xs t u v r (unfold forTask in e)
-  fresh m xs (inr d) t u v e = let f : Refused 4 ≡ Moved v = sym (skip _ (d .none-left t) refl) ∙ e in let z : _≡_ {A = ℕ} 0 1 = cc in absurd (omega (arith, z))
+-- the number of a new task, in a state
+fresh : (m : List ℕ) (xs : List Item) (st : State m xs) (t u v : ℕ) → answered (spawn-call t u) m xs ≡ Moved v → unfinished v xs ≡ false
+unfolding answered ordered decided valueOf forTask
+fresh m xs (inl r) t u v e = fresh-task m xs t u v r (unfold forTask in e)
+fresh m xs (inr d) t u v e = let f : Refused 4 ≡ Moved v = sym (skip _ (d .none-left t) refl) ∙ e in let z : _≡_ {A = ℕ} 0 1 = cc in absurd (omega (arith, z))
 
-  -- THE PROMISE HOLDS.
-  pub in-order : Promise
-  in-order w l n e cs c =
-      let st = calls-do cs (wordsOf (openOutcome w l n)) begin (opens w l n e) in
-      let d = call-does c _ _ st in
-      record {
-        rules = state-rules _ _ st;
-        answer = d .answer;
-        fresh = λ t u v i j. fresh _ _ st t u v (sym (ap (λ (x : Call). answered x (wordsAfter cs (wordsOf (openOutcome w l n))) (stepsAfter cs (wordsOf (openOutcome w l n)) begin)) i) ∙ sym (d .answer) ∙ j);
-      }
+-- THE PROMISE HOLDS.
+pub in-order : Promise
+in-order w l n e cs c =
+    let st = calls-do cs (wordsOf (openOutcome w l n)) begin (opens w l n e) in
+    let d = call-does c _ _ st in
+    record {
+      rules = state-rules _ _ st;
+      answer = d .answer;
+      fresh = λ t u v i j. fresh _ _ st t u v (sym (ap (λ (x : Call). answered x (wordsAfter cs (wordsOf (openOutcome w l n))) (stepsAfter cs (wordsOf (openOutcome w l n)) begin)) i) ∙ sym (d .answer) ∙ j);
+    }

@@ -1,8 +1,8 @@
 -- left: once the top has finished it gives exactly the values pushed and not popped, in program order; before that it waits.
-use mathlib.Core.Path.{_≡_, refl, ap, ap₂, sym, _∙_, subst}
+use mathlib.Core.Path.{_≡_, refl, ap, sym, _∙_, subst}
 use mathlib.Core.Bool.{Bool, true, false, not}
 use mathlib.Core.Option.{Option, none, some}
-use mathlib.Core.List.{List, [], _∷_, _++_, append-nil}
+use mathlib.Core.List.{List, [], _∷_, append-nil}
 use mathlib.Core.Logic.{inl, inr, ⊎-elim}
 use Prim.Native.Nat.{ℕ, _+_, _*_, _<_, _≤_}
 use native.Mathlib.Omega.{arith}
@@ -12,9 +12,9 @@ use borrow.Author.Tests.{leb-false, ltb-true, eqb-true, eq-eqb, ne-eqb, lt-ltb}
 use Rattle.words.specs.Words.{load, pick, pass as skip, halt, both, both-true, true-both, load-same, load-other}
 use Rattle.lists.specs.Counting.{occurrences, occurs-nil, occurs-here, occurs-past, equal?, length-total, total-ones}
 use Rattle.lists.specs.Sums.{total-le}
-use Rattle.layout.specs.Layout.{Field, UNFINISHED, FINISHED, STATUS, lengthWord, numberWord, first, count, next, value, task, queueHead, address, read, write}
+use Rattle.layout.specs.Layout.{UNFINISHED, FINISHED, STATUS, numberWord, first, count, next, value, task, queueHead, address, read, write}
 use Rattle.answers.specs.declared.Answer.{Answer}
-use Rattle.answers.specs.declared.Answer.the-variants.{Moved, Waits, Refused}
+use Rattle.answers.specs.declared.Answer.the-variants.{Waits, Refused}
 use Rattle.answers.specs.Answers.{Outcome, outcome, answerOf, wordsOf}
 use Rattle.answers.specs.Calls.{Call, left-call}
 use Rattle.calls.specs.Waits.{unfinished as unfinishedIn}
@@ -23,7 +23,6 @@ use Rattle.order.specs.Steps.{Item, counted, noted}
 use Rattle.order.specs.Waits.{unfinished}
 use Rattle.order.specs.Finding.{leftOver}
 use Rattle.order.specs.Ordered.{forTask, leftAnswer}
-use Rattle.order_queue.specs.Points.{Point, Timeline}
 use Rattle.order_queue.specs.Finds.{nthValue, leaves}
 use Rattle.gaps.specs.Maps.{All, put-same}
 use Rattle.gaps.specs.Line.{Line, base, left, met, segments, firstChain}
@@ -34,14 +33,14 @@ use Rattle.rules.specs.Rules.{Unfinished}
 use Rattle.links.specs.Linked.{word-is}
 use Rattle.links.specs.Marks.{mark-left}
 use Rattle.links.specs.Waits.{same-unfinished}
-use Rattle.meaning.specs.Meaning.{optional, nextIn, contentsIn, headsIn, storeIn}
+use Rattle.meaning.specs.Meaning.{nextIn, contentsIn, headsIn, storeIn}
 use Rattle.meaning.specs.Reads.{head-at}
 use Rattle.meaning.specs.Free.{link-word}
 use Rattle.represents.specs.Represents.{queueMemory, ofTasks, Represents, opened}
 use Rattle.represents.specs.Parts.{holders, parts-of, opened-single}
 use Rattle.represents.specs.Laids.{held-opened}
 use Rattle.represents.specs.FirstNamed.{segment-below, holder-unfinished, here}
-use Rattle.in_order.specs.Does.{Does, refuses, waits, chooses, never, does-as}
+use Rattle.in_order.specs.Does.{Does, refuses, waits, chooses, does-as}
 use Rattle.in_order.specs.Alone.{tour-alone, line-alone}
 use Rattle.in_order.specs.Chains.{nth-user, queued-chain}
 use Rattle.in_order.specs.State.{Ended, State}

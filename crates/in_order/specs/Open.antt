@@ -1,18 +1,17 @@
 -- open: on words of the right number it tests the numbers alone, and leaves a core with the top's spot.
-use mathlib.Core.Path.{_≡_, refl, ap, sym, _∙_, subst}
+use mathlib.Core.Path.{_≡_, refl, ap}
 use mathlib.Core.Bool.{Bool, true, false, not}
-use mathlib.Core.List.{List, [], _∷_}
-use mathlib.Core.Logic.{inl, inr}
+use mathlib.Core.List.{List}
+use mathlib.Core.Logic.{inl}
 use Prim.Native.Nat.{ℕ}
 use native.Mathlib.Omega.{arith}
 use lib.Dec.{eqb}
 use borrow.Author.Tests.{eq-eqb}
 use Rattle.words.specs.Words.{size, pick, pass as skip}
 use Rattle.layout.specs.Layout.{WORDS}
-use Rattle.answers.specs.declared.Answer.{Answer}
 use Rattle.answers.specs.declared.Answer.the-variants.{Moved, Refused}
-use Rattle.answers.specs.Answers.{Outcome, outcome, answerOf, wordsOf}
-use Rattle.answers.specs.Calls.{Call, open-call}
+use Rattle.answers.specs.Answers.{outcome, answerOf, wordsOf}
+use Rattle.answers.specs.Calls.{open-call}
 use Rattle.rules.specs.Test.{inRange}
 use Rattle.calls.specs.Open.{opened, openOutcome}
 use Rattle.order.specs.Steps.{Item, begin, counted, noted}

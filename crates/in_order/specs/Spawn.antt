@@ -75,27 +75,28 @@ module _ (P : List ℕ → List Item → Type 0) (holds-of : (m : List ℕ) (xs 
       (λ t. pick (not (subset u (rightsIn m t))) (outcome (Refused 6) m) (pick (blockedIn m t) (outcome Waits m) (pick (eqb (read m freeTasks) 0) (outcome (Refused 8) m) (spawned m t u))))
       (Answers m u) m (spawns-well m u) xs t
 
+-- the free record used next is that of no unfinished task
+free-number : (m : List ℕ) (xs : List Item) (t u : ℕ) → Represents m xs → unfinished t xs ≡ true → subset u (rightsAt t xs) ≡ true → eqb (spots xs) 128 ≡ false → unfinished (nextTask m) xs ≡ false
+unfolding nextTask
+free-number m xs t u r a b c =
+    let w = unfinished-says xs (played-reached (r .played)) t a in
+    let k = in-split (spot (w .0)) xs (w .1) in
+    let r′ = subst (Represents m) (k .2) r in
+    let rights : rightsAt t xs ≡ rightsOf (w .0) = ap (λ (x : ℕ). rightsAt x xs) (sym (w .2)) ∙ rights-at xs (played-reached (r .played)) (w .0) (w .1) in
+    subst (λ (l : List Item). unfinished (nextTask m) l ≡ false) (sym (k .2))
+    (spawn-fresh m (k .0) (k .1) (w .0) r′ u (ap (subset u) (sym rights) ∙ b) (eqb-false (read m freeTasks) 0 (none-idle m xs r ∙ c)))
+
 -- the number of a new task is that of no unfinished one
 pub fresh-task : (m : List ℕ) (xs : List Item) (t u v : ℕ) → Represents m xs
     → forTask t xs (pick (subset u (rightsAt t xs)) (pick (blocked t xs) Waits (pick (eqb (spots xs) 128) (Refused 8) (Moved (nextTask m)))) (Refused 6)) ≡ Moved v
     → unfinished v xs ≡ false
-unfolding forTask
+unfolding forTask pick
 fresh-task m xs t u v r = go (unfinished t xs) (subset u (rightsAt t xs)) (blocked t xs) (eqb (spots xs) 128) refl refl refl
   where
-    -- at the caller's spot
-    number : unfinished t xs ≡ true → subset u (rightsAt t xs) ≡ true → eqb (spots xs) 128 ≡ false → unfinished (nextTask m) xs ≡ false
-    number a b c =
-        let w = unfinished-says xs (played-reached (r .played)) t a in
-        let k = in-split (spot (w .0)) xs (w .1) in
-        let r′ = subst (Represents m) (k .2) r in
-        let rights : rightsAt t xs ≡ rightsOf (w .0) = ap (λ (x : ℕ). rightsAt x xs) (sym (w .2)) ∙ rights-at xs (played-reached (r .played)) (w .0) (w .1) in
-        subst (λ (l : List Item). unfinished (nextTask m) l ≡ false) (sym (k .2))
-        (unfold nextTask in spawn-fresh m (k .0) (k .1) (w .0) r′ u (ap (subset u) (sym rights) ∙ b) (eqb-false (read m freeTasks) 0 (none-idle m xs r ∙ c)))
-
     go : (a b c d : Bool) → unfinished t xs ≡ a → subset u (rightsAt t xs) ≡ b → eqb (spots xs) 128 ≡ d
         → pick a (pick b (pick c Waits (pick d (Refused 8) (Moved (nextTask m)))) (Refused 6)) (Refused 4) ≡ Moved v → unfinished v xs ≡ false
-    go true true false false e f g h = unfold pick in let i : nextTask m ≡ v = cc in subst (λ (x : ℕ). unfinished x xs ≡ false) i (number e f g)
-    go false b c d e f g h = unfold pick in let z : _≡_ {A = ℕ} 0 1 = cc in absurd (omega (arith, z))
-    go true false c d e f g h = unfold pick in let z : _≡_ {A = ℕ} 0 1 = cc in absurd (omega (arith, z))
-    go true true true d e f g h = unfold pick in let z : _≡_ {A = ℕ} 0 1 = cc in absurd (omega (arith, z))
-    go true true false true e f g h = unfold pick in let z : _≡_ {A = ℕ} 0 1 = cc in absurd (omega (arith, z))
+    go true true false false e f g h = let i : nextTask m ≡ v = cc in subst (λ (x : ℕ). unfinished x xs ≡ false) i (free-number m xs t u r e f g)
+    go false b c d e f g h = let z : _≡_ {A = ℕ} 0 1 = cc in absurd (omega (arith, z))
+    go true false c d e f g h = let z : _≡_ {A = ℕ} 0 1 = cc in absurd (omega (arith, z))
+    go true true true d e f g h = let z : _≡_ {A = ℕ} 0 1 = cc in absurd (omega (arith, z))
+    go true true false true e f g h = let z : _≡_ {A = ℕ} 0 1 = cc in absurd (omega (arith, z))

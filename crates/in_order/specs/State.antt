@@ -1,8 +1,8 @@
 -- THE STATE OF A CORE: the words represent the steps made so far, or the top has finished.
-use mathlib.Core.Path.{_≡_, refl, ap, sym, _∙_, subst}
-use mathlib.Core.Bool.{Bool, true, false}
-use mathlib.Core.List.{List, [], _∷_, _++_}
-use mathlib.Core.Logic.{_⊎_, inl, inr, ⊎-elim}
+use mathlib.Core.Path.{_≡_, ap, _∙_}
+use mathlib.Core.Bool.{true, false}
+use mathlib.Core.List.{List}
+use mathlib.Core.Logic.{_⊎_, inl, inr}
 use Prim.Native.Nat.{ℕ, _<_}
 use Rattle.words.specs.Words.{size}
 use Rattle.layout.specs.Layout.{WORDS, NONE, FINISHED, STATUS, YOUNGEST, task, read, write}

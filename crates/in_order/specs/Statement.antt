@@ -2,12 +2,11 @@
 -- is called empty, or a task is told to wait, each exactly where the serial order of document 01 says so for the calls
 -- made so far, and nowhere else." It is proved in InOrder.antt.
 use mathlib.Core.Path.{_≡_}
-use mathlib.Core.Bool.{Bool, true, false}
+use mathlib.Core.Bool.{true, false}
 use mathlib.Core.List.{List, [], _∷_}
-use Prim.Native.Nat.{ℕ, _<_}
-use Rattle.answers.specs.declared.Answer.{Answer}
+use Prim.Native.Nat.{ℕ}
 use Rattle.answers.specs.declared.Answer.the-variants.{Moved}
-use Rattle.answers.specs.Answers.{Outcome, answerOf, wordsOf}
+use Rattle.answers.specs.Answers.{answerOf, wordsOf}
 use Rattle.answers.specs.Calls.{Call, spawn-call}
 use Rattle.rules.specs.Test.{rulesHold}
 use Rattle.calls.specs.Open.{openOutcome}

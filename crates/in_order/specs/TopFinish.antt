@@ -1,10 +1,10 @@
 -- THE TOP'S FINISH: a sync, and the top's status.
-use mathlib.Core.Path.{_≡_, refl, ap, ap₂, sym, _∙_, subst}
+use mathlib.Core.Path.{_≡_, refl, ap, sym, _∙_, subst}
 use mathlib.Core.Bool.{Bool, true, false, not}
 use mathlib.Core.List.{List, [], _∷_, _++_}
-use Prim.Native.Nat.{ℕ, _+_, _<_, _≤_}
+use Prim.Native.Nat.{ℕ, _+_, _<_}
 use native.Mathlib.Omega.{arith}
-use lib.Dec.{ltb, eqb}
+use lib.Dec.{ltb}
 use lib.ListN.{length}
 use borrow.Author.Tests.{eqb-true}
 use Rattle.words.specs.Words.{pick, both-true}
@@ -21,12 +21,12 @@ use Rattle.order.specs.Ordered.{spots}
 use Rattle.order_laws.specs.Numbers.{advance-at}
 use Rattle.order_queue.specs.Points.{Point, user, Timeline, added, takes}
 use Rattle.order_queue.specs.Laws.{finish-line, plain-line}
-use Rattle.order_queue.specs.Finds.{nthValue, leaves}
+use Rattle.order_queue.specs.Finds.{leaves}
 use Rattle.gaps.specs.Store.{timeline}
 use Rattle.links.specs.Many.{spots-length}
 use Rattle.meaning.specs.Meaning.{contentsIn}
 use Rattle.represents.specs.Represents.{Represents, usesIn}
-use Rattle.represents.specs.At.{At, at, Behind, time-at, single-spot, mine-spot}
+use Rattle.represents.specs.At.{At, at, Behind, time-at, single-spot}
 use Rattle.represents.specs.Walks.{top-uses}
 use Rattle.represents_finish.specs.Sync.{all-synced}
 use Rattle.in_order.specs.Chains.{nth-user}

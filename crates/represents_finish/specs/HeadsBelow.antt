@@ -1,10 +1,10 @@
 -- THE HEADS OF VIEWS that a sync or a finish reduces: a local one is a segment opened with.
-use mathlib.Core.Path.{_≡_, refl, sym, subst}
-use mathlib.Core.List.{List, [], _∷_}
+use mathlib.Core.Path.{refl, sym, subst}
+use mathlib.Core.List.{List, _∷_}
 use Prim.Native.Nat.{ℕ, _<_}
 use native.Mathlib.Omega.{arith}
 use Rattle.lists.specs.Counting.{occurrences, occurs-here}
-use Rattle.gaps.specs.Line.{End, nonlocal, local, Extent, vacant, extent, Line, met, Mode, Begins, bare, whole, begun, Views, meeting}
+use Rattle.gaps.specs.Line.{nonlocal, local, Extent, vacant, extent, Line, met, Mode, bare, whole, begun, Views, meeting}
 use Rattle.gaps.specs.Moves.{reduced}
 use Rattle.represents.specs.Nexts.{HeadBelow}
 use Rattle.represents_finish.specs.Meets.{Headless}
