@@ -38,6 +38,7 @@ use Rattle.in_order.specs.Pop.{pop-does, test-does}
 use Rattle.in_order.specs.Sync.{sync-does}
 use Rattle.in_order.specs.Finish.{tested-is as finish-tested, finish-does}
 use Rattle.in_order.specs.Left.{left-waits, left-ended, ended-refuses}
+use Rattle.in_order.specs.NotTwo.{never-two}
 use Rattle.in_order.specs.Statement.{stepsAfter, Promise}
 
 runs : (m : List ℕ) (xs : List Item) → Represents m xs → State m xs
@@ -130,5 +131,6 @@ in-order w l n e cs c =
     record {
       rules = state-rules _ _ st;
       answer = d .answer;
+      not-two = λ z. never-two c _ _ (ap statusOf (sym (d .answer)) ∙ z);
       fresh = λ t u v i j. fresh _ _ st t u v (sym (ap (λ (x : Call). answered x (wordsAfter cs (wordsOf (openOutcome w l n))) (stepsAfter cs (wordsOf (openOutcome w l n)) begin)) i) ∙ sym (d .answer) ∙ j);
     }

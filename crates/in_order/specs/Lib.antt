@@ -13,5 +13,6 @@ pub mod Left
 pub mod TopFinish
 pub mod Open
 pub mod Finish
+pub mod NotTwo
 pub mod Statement
 pub mod InOrder

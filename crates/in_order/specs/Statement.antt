@@ -6,7 +6,7 @@ use mathlib.Core.Bool.{true, false}
 use mathlib.Core.List.{List, [], _∷_}
 use Prim.Native.Nat.{ℕ}
 use Rattle.answers.specs.declared.Answer.the-variants.{Moved}
-use Rattle.answers.specs.Answers.{answerOf, wordsOf}
+use Rattle.answers.specs.Answers.{answerOf, wordsOf, statusOf}
 use Rattle.answers.specs.Calls.{Call, spawn-call}
 use Rattle.rules.specs.Test.{rulesHold}
 use Rattle.calls.specs.Open.{openOutcome}
@@ -22,10 +22,12 @@ stepsAfter (c ∷ cs) m xs = stepsAfter cs (wordsOf (outcomeOf c m)) (noted c (a
 
 -- What is promised of call c on the words m, where xs are the steps and spots so far.
 pub record Kept (m : List ℕ) (xs : List Item) (c : Call) : Type 0 where
-  -- the memory rules hold, so no call is refused with 2 before it has begun
+  -- the memory rules hold
   pub rules : rulesHold m ≡ true
-  -- the answer is that of program order; it is never 2 either, which no line of `ordered` has
+  -- the answer is that of program order: a value, a wait, 4, 5, 6, 7, 8, 9 exactly where it says so
   pub answer : answerOf (outcomeOf c m) ≡ answered c m xs
+  -- it is never 2, neither for the memory rules nor for a reduction that the paper leaves out
+  pub not-two : statusOf (answerOf (outcomeOf c m)) ≡ 2 → ⊥
   -- the number of a new task is that of no unfinished one
   pub fresh : (t r v : ℕ) → c ≡ spawn-call t r → answerOf (outcomeOf c m) ≡ Moved v → unfinished v xs ≡ false
 
