@@ -23,3 +23,4 @@ pub mod FinishAllowed
 pub mod Unlinked
 pub mod Freed
 pub mod Finish
+pub mod Alone
