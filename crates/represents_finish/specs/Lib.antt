@@ -24,3 +24,4 @@ pub mod Unlinked
 pub mod Freed
 pub mod Finish
 pub mod Alone
+pub mod TopTree
