@@ -25,3 +25,5 @@ pub mod Freed
 pub mod Finish
 pub mod Alone
 pub mod TopTree
+pub mod Ended
+pub mod TopFinish
