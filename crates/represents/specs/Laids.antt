@@ -38,7 +38,7 @@ by-queue P a b c d (suc (suc (suc zero))) l = d
 by-queue P a b c d (suc (suc (suc (suc q)))) l = let z : ⊥ = omega (arith, l) in absurd z
 
 -- a property of every number that stands in a list
-all-in : (P : ℕ → Type 0) (c : List ℕ) → ((x : ℕ) → 0 < occurrences x c → P x) → All P c
+pub all-in : (P : ℕ → Type 0) (c : List ℕ) → ((x : ℕ) → 0 < occurrences x c → P x) → All P c
 all-in P [] f = tt
 all-in P (y ∷ c) f = (
   f y (let e = occurs-here y y c refl in omega (arith, e)),

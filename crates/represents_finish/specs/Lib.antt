@@ -27,3 +27,4 @@ pub mod Alone
 pub mod TopTree
 pub mod Ended
 pub mod TopFinish
+pub mod Left
