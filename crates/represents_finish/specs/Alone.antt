@@ -1,13 +1,10 @@
 -- THE TOP ALONE: where it has no child the tour is its two marks, and each queue has one gap.
-use mathlib.Core.Path.{_≡_, refl, ap, ap₂, sym, _∙_, subst, subst₂}
-use mathlib.Core.Bool.{Bool, true, false}
-use mathlib.Core.Option.{some}
+use mathlib.Core.Path.{_≡_, refl, ap, ap₂, sym, _∙_, subst}
+use mathlib.Core.Bool.{false}
 use mathlib.Core.List.{List, [], _∷_, _++_, head-eq-of-cons-eq}
-use Prim.Native.Nat.{ℕ, _+_, _<_, _≤_}
+use Prim.Native.Nat.{ℕ, _+_, _<_}
 use native.Mathlib.Omega.{arith}
-use Rattle.lists.specs.Counting.{occurrences, occurs-here, occurs-past, occurs-nil, occurs-append}
-use mathlib.Core.Logic.{⊎-elim}
-use Rattle.lists.specs.Counting.{equal?}
+use Rattle.lists.specs.Counting.{occurrences, occurs-here, occurs-append}
 use Rattle.calls.specs.Waits.{hasChild}
 use Rattle.order.specs.Steps.{Task, Item, spot, numberOf}
 use Rattle.gaps.specs.Maps.{All}

@@ -7,9 +7,8 @@ use native.Mathlib.Omega.{arith}
 use lib.Dec.{ltb, eqb}
 use borrow.Author.Tests.{lt-ltb}
 use Rattle.words.specs.Words.{both, either, halt, both-on, pass as skip}
-use Rattle.lists.specs.Counting.{occurrences, occurs-here, occurs-append, occurs-past, equal?}
-use mathlib.Core.Logic.{⊎-elim}
-use Rattle.layout.specs.Layout.{CHILDREN, RIGHTS, task, read, recordOf}
+use Rattle.lists.specs.Counting.{occurrences, occurs-append}
+use Rattle.layout.specs.Layout.{CHILDREN, RIGHTS, recordOf}
 use Rattle.tree.specs.Rights.{uses}
 use Rattle.tree.specs.Tour.{MARKS, after, seek}
 use Rattle.rules.specs.Contents.{decode}

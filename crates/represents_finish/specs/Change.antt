@@ -1,24 +1,17 @@
 -- FINISH, WHAT THE TURN OF ONE QUEUE DOES: the queue's memory is laid out along a line without the marks of the task that finishes.
-use mathlib.Core.Path.{_≡_, ap, sym, _∙_}
-use mathlib.Core.Bool.{false}
+use mathlib.Core.Path.{_≡_, ap, _∙_}
 use mathlib.Core.Option.{some}
 use mathlib.Core.List.{List, _++_, _∷_}
-use Prim.Native.Nat.{ℕ, _<_}
+use Prim.Native.Nat.{ℕ}
 use Rattle.calls.specs.Finish.{finishedQueue}
-use Rattle.order.specs.Steps.{Task, Item, spot, finishes, numberOf, made, advance}
+use Rattle.order.specs.Steps.{Task, Item, spot, finishes, numberOf, advance}
 use Rattle.order_laws.specs.Numbers.{advance-at}
 use Rattle.order_waits.specs.Popper.{firstPopper}
 use Rattle.order_waits.specs.Heirs.{finish-other}
-use Rattle.order_queue.specs.Points.{Point, Timeline}
-use Rattle.gaps.specs.Maps.{All}
-use Rattle.gaps.specs.Line.{Line, marks, Fits}
-use Rattle.gaps.specs.Store.{Memory, Laid, timeline}
-use Rattle.gaps.specs.Stores.{Kept}
-use Rattle.gaps.specs.Pool.{mine}
-use Rattle.meaning.specs.Meaning.{Meaning, memoryOf}
-use Rattle.meaning.specs.Kept.{Becomes}
-use Rattle.represents.specs.Represents.{alive, ofTasks, queueMemory, usesIn, Represents}
-use Rattle.represents.specs.Laids.{sharing}
+use Rattle.order_queue.specs.Points.{Timeline}
+use Rattle.gaps.specs.Line.{Line, marks}
+use Rattle.gaps.specs.Store.{timeline}
+use Rattle.represents.specs.Represents.{Represents}
 use Rattle.represents.specs.At.{single-spot}
 use Rattle.represents_finish.specs.Way.{Vacant, Turn}
 

@@ -1,7 +1,7 @@
 -- FINISH of a task other than the top keeps the invariant: the four queues have their turns, then the task leaves the tree.
 use mathlib.Core.Path.{_≡_, refl, ap, sym, _∙_, subst}
 use mathlib.Core.Bool.{Bool, true, false}
-use mathlib.Core.Option.{Option, none, some}
+use mathlib.Core.Option.{none}
 use mathlib.Core.List.{List, [], _∷_, _++_}
 use mathlib.Core.Logic.{_⊎_, inl, inr, ⊎-elim}
 use Prim.Native.Nat.{ℕ, _+_, _<_}
@@ -27,13 +27,13 @@ use Rattle.meaning.specs.Meaning.{storeIn}
 use Rattle.meaning.specs.Tree.{LinksOnly}
 use Rattle.represents.specs.Represents.{queueMemory, usesIn, opened, Represents}
 use Rattle.represents.specs.Laids.{Laids, by-queue}
-use Rattle.represents.specs.Parts.{Parts, of-parts}
+use Rattle.represents.specs.Parts.{of-parts}
 use Rattle.represents.specs.Plain.{laids-as}
 use Rattle.represents.specs.At.{task-unfinished, single-spot}
 use Rattle.represents_finish.specs.Leaf.{Leaf, leaf}
-use Rattle.represents_finish.specs.Way.{Vacant, Way, Standing, AllStand, all-begin, laids-over}
+use Rattle.represents_finish.specs.Way.{Vacant, Way, Standing, all-begin, laids-over}
 use Rattle.represents_finish.specs.Heir.{gone}
-use Rattle.represents_finish.specs.FinishTurn.{Rest, Now, Stage, turn-allowed, finish-turn}
+use Rattle.represents_finish.specs.FinishTurn.{Rest, Stage, turn-allowed, finish-turn}
 use Rattle.represents_finish.specs.Unlinked.{freed, words, links-only, tree-after}
 use Rattle.represents_finish.specs.Freed.{fits-without, freed-sized, freed-next, freed-contents, freed-free, freed-opened, freed-uses, freed-memory}
 

@@ -1,9 +1,9 @@
 -- FINISH, NO LATE REFUSAL: for each queue the paper has the reductions, decided on the words as the call finds them.
 use mathlib.Core.Path.{_≡_, refl, ap, ap₂, sym, _∙_, subst, subst₂}
-use mathlib.Core.Bool.{Bool, true, false}
+use mathlib.Core.Bool.{true, false}
 use mathlib.Core.Option.{some}
 use mathlib.Core.List.{List, [], _∷_, _++_}
-use Prim.Native.Nat.{ℕ, _+_, _<_}
+use Prim.Native.Nat.{ℕ, _<_}
 use native.Mathlib.Omega.{arith}
 use lib.Dec.{eqb}
 use borrow.Author.Tests.{ne-eqb}
@@ -17,12 +17,12 @@ use Rattle.calls.specs.Views.{viewOf, isEmpty, headOf, tailOf, frees, behind, r
 use Rattle.calls.specs.Finish.{returned as returnedView, finishes}
 use Rattle.order.specs.Steps.{Task, Item, spot, numberOf}
 use Rattle.order_waits.specs.Popper.{firstPopper}
-use Rattle.gaps.specs.Line.{End, nonlocal, local, Extent, vacant, extent, left, met, Line, marks}
+use Rattle.gaps.specs.Line.{End, local, Extent, vacant, extent, left, met, Line, marks}
 use Rattle.gaps.specs.Store.{Memory}
 use Rattle.gaps.specs.Moves.{viewAt, reduced, returned}
 use Rattle.gaps.specs.Search.{placeAt}
 use Rattle.gaps.specs.Pool.{mine}
-use Rattle.meaning.specs.Meaning.{Meaning, meaningOf, endOf, extentOf, listed, contentsIn, viewIn}
+use Rattle.meaning.specs.Meaning.{endOf, extentOf, listed, contentsIn, viewIn}
 use Rattle.meaning.specs.Reads.{view-at, contents-at}
 use Rattle.meaning.specs.Segment.{number-below}
 use Rattle.meaning.specs.Extents.{end-local, filled-extent, reduces}
@@ -38,7 +38,7 @@ use Rattle.represents_finish.specs.Queue.{single, held-below, held-local
 use Rattle.represents_finish.specs.FirstNames.{Covered}
 use Rattle.represents_finish.specs.Target.{markOf, returns, returned-at, target-at}
 use Rattle.represents_finish.specs.Reduced.{children-is, user-is, right-is, inner-is, whole-is, views, held, names, reduces as reductions}
-use Rattle.represents_finish.specs.FinishTest.{Frees, frees-says, inner-extent, first-keeps, stays, none-allowed}
+use Rattle.represents_finish.specs.FinishTest.{frees-says, inner-extent, first-keeps, stays, none-allowed}
 
 -- a view that begins with segment z
 begins : (p : View) (z : ℕ) → headOf p ≡ z → z < NL → extentOf p ≡ extent (local z) (endOf (tailOf p))

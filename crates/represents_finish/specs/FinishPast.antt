@@ -1,8 +1,8 @@
 -- FINISH, THE TURN OF A QUEUE that the task has no right to: no view is there, and its marks leave the line.
-use mathlib.Core.Path.{_≡_, refl, ap, ap₂, sym, _∙_, subst, subst₂}
-use mathlib.Core.Bool.{Bool, true, false}
-use mathlib.Core.Option.{Option, none, some}
-use mathlib.Core.List.{List, [], _∷_, _++_}
+use mathlib.Core.Path.{_≡_, refl, ap, ap₂, sym, _∙_, subst}
+use mathlib.Core.Bool.{true, false}
+use mathlib.Core.Option.{none}
+use mathlib.Core.List.{List, _∷_, _++_}
 use Prim.Native.Nat.{ℕ, _+_, _<_}
 use Rattle.layout.specs.Layout.{CHILDREN, USER, RIGHT}
 use Rattle.tree.specs.Rights.{uses}
@@ -11,15 +11,15 @@ use Rattle.calls.specs.Finish.{finishes, viewsReturned, finishedQueue}
 use Rattle.order.specs.Steps.{Task, Item, spot, finishes as finishStep, numberOf, rightsOf, advance}
 use Rattle.order_queue.specs.Points.{Timeline}
 use Rattle.order_queue.specs.Laws.{finish-past}
-use Rattle.gaps.specs.Maps.{All, put, put-other, all-append, all-front, all-behind}
+use Rattle.gaps.specs.Maps.{All, put-other, all-append, all-front, all-behind}
 use Rattle.gaps.specs.Line.{Extent, vacant, pass, Line, marks, Fits, firstChain}
-use Rattle.gaps.specs.Store.{Store, Memory, Laid, headOf, timeline}
+use Rattle.gaps.specs.Store.{Memory, Laid, headOf, timeline}
 use Rattle.gaps.specs.Lines.{marks-append}
 use Rattle.gaps.specs.Moves.{reduced, joined}
 use Rattle.gaps.specs.After.{After, after-marks, after-fits}
 use Rattle.gaps.specs.TaskRows.{finish-past-row}
 use Rattle.gaps.specs.Pool.{mine}
-use Rattle.meaning.specs.Meaning.{Meaning, meaningOf, storeOf, memoryOf, contentsIn, headsIn, viewIn}
+use Rattle.meaning.specs.Meaning.{Meaning, meaningOf, storeOf, contentsIn, headsIn, viewIn}
 use Rattle.meaning.specs.Update.{withStore, withView, store-self, view-self}
 use Rattle.meaning.specs.Kept.{Becomes, becomes-as, becomes-at}
 use Rattle.meaning.specs.Extents.{reduces}
@@ -35,7 +35,7 @@ use Rattle.represents_finish.specs.Way.{Vacant, Way, Standing}
 use Rattle.represents_finish.specs.Meets.{Headless}
 use Rattle.represents_finish.specs.FinishTest.{none-allowed}
 use Rattle.represents_finish.specs.Queue.{spot-alive, children-word, user-word, right-word, head-word, not-holder}
-use Rattle.represents_finish.specs.Change.{Change, Turned, first-stays}
+use Rattle.represents_finish.specs.Change.{Turned, first-stays}
 
 -- nothing is written where all three views are vacant
 vacant-returned : (M : Meaning) (q holder t : ℕ) → M .views q CHILDREN t ≡ vacant → M .views q USER t ≡ vacant → M .views q RIGHT t ≡ vacant

@@ -1,54 +1,37 @@
 -- FINISH, THE TURN OF A QUEUE that the task has a right to: its views go to the view just before, its queue view to the heir.
-use mathlib.Core.Path.{_≡_, refl, ap, ap₂, sym, _∙_, subst}
-use mathlib.Core.Bool.{Bool, true, false, false≢true}
-use mathlib.Core.Option.{Option, none, some}
+use mathlib.Core.Path.{_≡_, ap, ap₂, sym, _∙_, subst}
+use mathlib.Core.Bool.{true, false, false≢true}
 use mathlib.Core.List.{List, [], _∷_, _++_, head-eq-of-cons-eq}
-use mathlib.Core.Logic.{⊎-elim}
 use Prim.Native.Nat.{ℕ, _+_, _<_}
 use native.Mathlib.Omega.{arith}
-use Rattle.words.specs.Words.{pick, halt}
-use Rattle.lists.specs.Counting.{equal?}
 use Rattle.tree.specs.Rights.{uses}
 use Rattle.calls.specs.Waits.{hasChild}
-use Rattle.calls.specs.Finish.{heir, viewsReturned, queueReturned, finishedQueue}
-use Rattle.order.specs.Steps.{Task, Item, spot, finishes, numberOf, rightsOf, made, advance}
-use Rattle.order.specs.Waits.{blocked}
-use Rattle.order_laws.specs.Numbers.{advance-at}
-use Rattle.order_waits.specs.Played.{Played}
-use Rattle.order_waits.specs.Popper.{firstPopper}
+use Rattle.calls.specs.Finish.{viewsReturned}
+use Rattle.order.specs.Steps.{Task, Item, spot, finishes, numberOf, rightsOf, advance}
 use Rattle.order_queue.specs.Points.{Point, user, Timeline}
 use Rattle.order_queue.specs.Laws.{finish-line}
-use Rattle.gaps.specs.Maps.{All, put, put-same, put-other, all-append, all-front, all-behind}
-use Rattle.gaps.specs.Line.{Extent, vacant, Mark, left, met, Line, marks, Fits, firstChain}
-use Rattle.gaps.specs.Store.{Store, Memory, Laid, headOf, valuesIn, timeline}
+use Rattle.gaps.specs.Maps.{All, put-same, put-other, all-append, all-front, all-behind}
+use Rattle.gaps.specs.Line.{vacant, Mark, left, met, Line, marks, Fits}
+use Rattle.gaps.specs.Store.{Memory, valuesIn, timeline}
 use Rattle.gaps.specs.Lines.{marks-append}
-use Rattle.gaps.specs.Moves.{Place, childrenWith, rightsWith, returned, headMoved, queuePassed, finishedWith, finished}
-use Rattle.gaps.specs.After.{After, after-marks, after-fits, after-then}
+use Rattle.gaps.specs.Moves.{finishedWith, finished}
+use Rattle.gaps.specs.After.{After, after-marks, after-fits}
 use Rattle.gaps.specs.FinishRow.{finish-row}
-use Rattle.gaps.specs.HolderRows.{queue-row}
-use Rattle.gaps.specs.Frames.{bottomed}
 use Rattle.gaps.specs.Timelines.{timeline-at}
 use Rattle.gaps.specs.Pool.{mine}
-use Rattle.links.specs.Linked.{Linked, spot-unfinished}
-use Rattle.links.specs.Frame.{keeps-linked}
-use Rattle.meaning.specs.Meaning.{Meaning, meaningOf, memoryOf, memoryIn, contentsIn, headsIn}
-use Rattle.meaning.specs.Kept.{Becomes, becomes-then, becomes-at}
-use Rattle.meaning.specs.Update.{withHeads}
-use Rattle.meaning.specs.Return.{movedIn, memory-moved, queue-kept, queue-returned}
+use Rattle.meaning.specs.Meaning.{memoryOf, memoryIn, contentsIn}
 use Rattle.represents.specs.Represents.{alive, ofTasks, queueMemory, usesIn, Represents}
 use Rattle.represents.specs.Laids.{sharing}
-use Rattle.represents.specs.Plain.{same-links}
 use Rattle.represents.specs.Push.{masked-share}
-use Rattle.represents.specs.At.{task-unfinished, single-spot}
+use Rattle.represents.specs.At.{single-spot}
 use Rattle.represents_finish.specs.Leaf.{leaf, with-right}
 use Rattle.represents_finish.specs.Way.{Vacant, Way, Standing}
-use Rattle.represents_finish.specs.Queue.{way-linked, spot-alive, single}
+use Rattle.represents_finish.specs.Queue.{single}
 use Rattle.represents_finish.specs.FirstNames.{Covered}
-use Rattle.represents_finish.specs.LiveFinish.{live-finish, live-passed}
+use Rattle.represents_finish.specs.LiveFinish.{live-finish}
 use Rattle.represents_finish.specs.Reduced.{alive-t, alive-h, was}
 use Rattle.represents_finish.specs.Returned.{Back, views-back}
-use Rattle.represents_finish.specs.Heir.{heir-next}
-use Rattle.represents_finish.specs.Change.{Change, first-stays}
+use Rattle.represents_finish.specs.Change.{Change}
 
 module _ (m : List ℕ) (ys zs : List Item) (s : Task) (r : Represents m (ys ++ spot s ∷ zs)) (barren : hasChild m (numberOf s) ≡ false) (above : 0 < numberOf s)
     (n : List ℕ) (holder : ℕ → ℕ) (line : ℕ → Line) (way : Way m n holder line) (covered : (p : ℕ) → p < 4 → Covered (queueMemory n p) (r .tour) (line p))

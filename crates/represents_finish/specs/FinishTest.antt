@@ -1,15 +1,14 @@
 -- THE TEST OF A FINISH: the paper has all its reductions, so the late refusal never comes.
-use mathlib.Core.Path.{_≡_, refl, ap, ap₂, sym, _∙_, subst, subst₂}
-use mathlib.Core.Bool.{Bool, true, false, not, false≢true}
-use mathlib.Core.List.{List, [], _∷_, _++_}
-use Prim.Native.Nat.{ℕ, _+_, _<_}
+use mathlib.Core.Path.{_≡_, refl, ap, ap₂, sym, _∙_, subst}
+use mathlib.Core.Bool.{true}
+use mathlib.Core.List.{List}
+use Prim.Native.Nat.{ℕ, _<_}
 use native.Mathlib.Omega.{arith}
-use lib.Dec.{ltb, eqb}
 use borrow.Author.Tests.{ltb-true, eqb-true, not-true}
-use Rattle.words.specs.Words.{both, either, both-true, true-both, true-left, true-right}
-use Rattle.layout.specs.Layout.{NONE, NL, CHILDREN, USER, RIGHT, count, read}
+use Rattle.words.specs.Words.{both-true, true-both, true-left}
+use Rattle.layout.specs.Layout.{NL, CHILDREN, USER, RIGHT, count, read}
 use Rattle.rules.specs.Views.{View, view}
-use Rattle.calls.specs.Views.{viewOf, isEmpty, headOf, tailOf, reducible, frees, behind, reduced}
+use Rattle.calls.specs.Views.{viewOf, headOf, tailOf, reducible, frees, behind, reduced}
 use Rattle.calls.specs.Finish.{returned, finishes}
 use Rattle.gaps.specs.Line.{End, nonlocal, local, Extent, vacant, extent}
 use Rattle.gaps.specs.Moves.{reduced as reduceTo}

@@ -1,24 +1,23 @@
 -- FINISH, FROM QUEUE TO QUEUE: the queues that have had their turn stand as after the finish, the others as before it.
 use mathlib.Core.Path.{_≡_, refl, ap, sym, _∙_, subst}
 use mathlib.Core.Bool.{Bool, true, false}
-use mathlib.Core.List.{List, [], _∷_, _++_}
+use mathlib.Core.List.{List, _∷_, _++_}
 use mathlib.Core.Logic.{_⊎_, inl, inr, ⊎-elim}
 use Prim.Native.Nat.{ℕ, _+_, _<_}
 use native.Mathlib.Omega.{arith}
 use borrow.Author.Tests.{lt-ltb}
-use Rattle.words.specs.Words.{pick, both-on}
+use Rattle.words.specs.Words.{both-on}
 use Rattle.lists.specs.Counting.{occurrences, occurs-append, occurs-past, equal?}
 use Rattle.tree.specs.Rights.{uses}
 use Rattle.rules.specs.Contents.{decode}
 use Rattle.rules.specs.Rules.{Unfinished}
-use Rattle.calls.specs.Waits.{rightsOf as rightsIn, hasChild}
+use Rattle.calls.specs.Waits.{hasChild}
 use Rattle.calls.specs.Finish.{finishes as allows, finishedQueue}
 use Rattle.order.specs.Steps.{Task, Item, spot, finishes, numberOf, rightsOf, advance}
 use Rattle.order.specs.Waits.{blocked}
 use Rattle.order_waits.specs.Played.{Played}
 use Rattle.gaps.specs.Maps.{All, put, put-same, put-other}
 use Rattle.gaps.specs.Line.{Line, marks, lefts, mets, Fits}
-use Rattle.gaps.specs.Store.{timeline}
 use Rattle.gaps.specs.Search.{task-met}
 use Rattle.gaps.specs.Splits.{small-mets}
 use Rattle.links.specs.Marks.{mark-left}
@@ -30,7 +29,7 @@ use Rattle.represents.specs.At.{mine-spot, task-unfinished}
 use Rattle.represents_finish.specs.Leaf.{Leaf, leaf, with-right}
 use Rattle.represents_finish.specs.Way.{Vacant, Way, Standing, AllStand, at-queue, Turn, turn, turn-other, turn-here, turn-gone, turn-vacant}
 use Rattle.represents_finish.specs.FirstNames.{Covered}
-use Rattle.represents_finish.specs.Change.{Change, Turned}
+use Rattle.represents_finish.specs.Change.{Turned}
 use Rattle.represents_finish.specs.FinishRight.{views-turn}
 use Rattle.represents_finish.specs.QueueView.{queue-turn}
 use Rattle.represents_finish.specs.FinishPast.{past-allowed, past-turn}

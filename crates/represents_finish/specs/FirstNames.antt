@@ -1,16 +1,15 @@
 -- BETWEEN TWO TURNS the first segment of a queue is named by its queue view's head only.
 use mathlib.Core.Path.{_≡_, refl, ap, sym, _∙_, subst}
-use mathlib.Core.Bool.{Bool, true, false}
-use mathlib.Core.Option.{Option, none, some}
+use mathlib.Core.Bool.{Bool, true}
+use mathlib.Core.Option.{none, some}
 use mathlib.Core.List.{List, [], _∷_}
 use mathlib.Core.Logic.{_⊎_, inl, inr, ⊎-elim}
-use Prim.Native.Nat.{ℕ, zero, suc, _+_, _<_, _≤_}
+use Prim.Native.Nat.{ℕ, zero, suc, _<_, _≤_}
 use native.Mathlib.Omega.{arith}
-use Rattle.words.specs.Words.{halt}
 use Rattle.lists.specs.Counting.{occurrences, occurs-here, occurs-append, equal?}
 use Rattle.layout.specs.Layout.{CHILDREN, USER, RIGHT}
 use Rattle.order.specs.Steps.{Item}
-use Rattle.gaps.specs.Maps.{All, put, put-other}
+use Rattle.gaps.specs.Maps.{All, put-other}
 use Rattle.gaps.specs.Line.{End, nonlocal, local, Extent, vacant, extent, base, left, met, pass, Line, lefts, mets, segments, firstChain}
 use Rattle.gaps.specs.Store.{Memory, headOf}
 use Rattle.gaps.specs.Names.{OnlyHead, only-head, Unnamed, unnamed}

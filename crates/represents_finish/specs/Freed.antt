@@ -1,9 +1,9 @@
 -- FINISH, THE RECORD IS FREE: no queue's memory changes, since the task had no view any more.
-use mathlib.Core.Path.{_≡_, refl, ap, ap₂, sym, _∙_, subst, subst₂, fun-ext}
+use mathlib.Core.Path.{_≡_, refl, ap, ap₂, sym, _∙_, subst, fun-ext}
 use mathlib.Core.Bool.{Bool, true, false, not}
-use mathlib.Core.Option.{Option, none}
-use mathlib.Core.List.{List, [], _∷_, _++_}
-use mathlib.Core.Logic.{_⊎_, inl, inr, ⊎-elim}
+use mathlib.Core.Option.{none}
+use mathlib.Core.List.{List, [], _∷_}
+use mathlib.Core.Logic.{⊎-elim}
 use Prim.Native.Nat.{ℕ, _+_, _-_, _*_, _<_, _≤_}
 use native.Mathlib.Omega.{arith}
 use lib.Dec.{ltb, eqb}
@@ -15,13 +15,11 @@ use Rattle.tree.specs.Rights.{uses}
 use Rattle.calls.specs.Waits.{rightsOf as rightsIn}
 use Rattle.calls.specs.Finish.{unlinked, recordFreed}
 use Rattle.gaps.specs.Maps.{All}
-use Rattle.gaps.specs.Line.{Extent, vacant, base, left, met, pass, Line, marks, Fits}
-use Rattle.gaps.specs.Store.{Store, Memory}
+use Rattle.gaps.specs.Line.{vacant, base, left, met, pass, Line, marks, Fits}
 use Rattle.links.specs.Finish.{Finished}
 use Rattle.meaning.specs.Meaning.{Meaning, meaningOf, nextIn, contentsIn, freeIn, headsIn, viewIn, Sized}
 use Rattle.meaning.specs.Reads.{head-same-at, view-same-at}
 use Rattle.meaning.specs.Kept.{Kept, Means}
-use Rattle.meaning.specs.TasksOnly.{TasksOnly}
 use Rattle.meaning.specs.Tree.{LinksOnly, links-mean}
 use Rattle.meaning.specs.Freed.{freedIn, freed-only, other-word, record-freed}
 use Rattle.represents.specs.Represents.{alive, ofTasks, queueMemory, usesIn, opened}

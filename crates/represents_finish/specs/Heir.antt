@@ -1,15 +1,15 @@
 -- THE HEIR of a returned queue view, which the words find, is the first popper of the queue after the finish.
 use mathlib.Core.Path.{_≡_, refl, ap, sym, _∙_, subst}
-use mathlib.Core.Bool.{Bool, true, false}
+use mathlib.Core.Bool.{true, false}
 use mathlib.Core.Option.{some}
-use mathlib.Core.List.{List, [], _∷_, _++_, head-eq-of-cons-eq}
+use mathlib.Core.List.{List, [], _∷_, _++_}
 use mathlib.Core.Logic.{_⊎_, inl, inr, ⊎-elim}
 use Prim.Native.Nat.{ℕ, _+_, _<_, _≤_}
 use native.Mathlib.Omega.{arith}
 use lib.ListN.{length}
 use Rattle.tree.specs.Rights.{pops as mayPop}
 use Rattle.calls.specs.Finish.{heir}
-use Rattle.order.specs.Steps.{Name, Task, Item, step, spot, task, finishes, nameOf, numberOf, rightsOf, made}
+use Rattle.order.specs.Steps.{Name, Task, Item, spot, task, finishes, nameOf, numberOf, rightsOf, made}
 use Rattle.order.specs.Waits.{blocked}
 use Rattle.order_laws.specs.Items.{In, in-parts}
 use Rattle.order_laws.specs.Count.{count, spotNumbered, count-append, count-in}

@@ -1,9 +1,8 @@
 -- A TASK WITHOUT CHILDREN in the tour and in the line of a queue: it is met and left side by side.
-use mathlib.Core.Path.{_≡_, refl, ap, sym, _∙_, subst}
-use mathlib.Core.Bool.{Bool, true, false, not}
-use mathlib.Core.List.{List, [], _∷_, _++_}
-use Prim.Native.Nat.{ℕ, _+_, _<_}
-use lib.Dec.{eqb}
+use mathlib.Core.Path.{_≡_, ap, sym, _∙_}
+use mathlib.Core.Bool.{true, false}
+use mathlib.Core.List.{List, _∷_, _++_}
+use Prim.Native.Nat.{ℕ, _+_}
 use borrow.Author.Tests.{eqb-true, not-false}
 use Rattle.layout.specs.Layout.{NONE, YOUNGEST, task, read}
 use Rattle.calls.specs.Waits.{hasChild}

@@ -1,12 +1,12 @@
 -- LEFT, once the top has finished: the words give value number i of what program order leaves in the queue.
-use mathlib.Core.Path.{_≡_, refl, ap, ap₂, sym, _∙_, subst}
+use mathlib.Core.Path.{_≡_, refl, ap, sym, _∙_, subst}
 use mathlib.Core.Bool.{Bool, true, false, not}
-use mathlib.Core.Option.{Option, none, some}
+use mathlib.Core.Option.{none, some}
 use mathlib.Core.List.{List, [], _∷_, _++_, append-nil}
 use mathlib.Core.Logic.{⊎-elim}
-use Prim.Native.Nat.{ℕ, zero, suc, _+_, _-_, _<_, _≤_}
+use Prim.Native.Nat.{ℕ, zero, suc, _-_, _<_, _≤_}
 use native.Mathlib.Omega.{arith}
-use lib.Dec.{leb, ltb, eqb}
+use lib.Dec.{ltb}
 use lib.ListN.{length}
 use borrow.Author.Tests.{lt-ltb, le-ltb, lt-leb, le-leb, ltb-true, ltb-false, eq-eqb, ne-eqb}
 use Rattle.words.specs.Words.{pick, halt, pass, true-both}
@@ -14,27 +14,27 @@ use Rattle.lists.specs.Counting.{one, occurrences, length-total, total-ones}
 use Rattle.lists.specs.Sums.{total-le}
 use Rattle.layout.specs.Layout.{NONE, NL, FREE, FINISHED, STATUS, numberWord, count, next, task, queueHead, read}
 use Rattle.answers.specs.declared.Answer.{Answer}
-use Rattle.answers.specs.declared.Answer.the-variants.{Moved, Waits, Refused}
-use Rattle.answers.specs.Answers.{Outcome, outcome}
+use Rattle.answers.specs.declared.Answer.the-variants.{Moved, Refused}
+use Rattle.answers.specs.Answers.{outcome}
 use Rattle.rules_tasks.specs.Holders.{below?}
 use Rattle.calls.specs.Segments.{valueAt}
 use Rattle.calls.specs.Left.{queued, leftTested}
 use Rattle.order.specs.Steps.{Item}
 use Rattle.order.specs.Finding.{leftOver}
 use Rattle.order.specs.Ordered.{leftAnswer}
-use Rattle.order_queue.specs.Points.{Point, value, values}
+use Rattle.order_queue.specs.Points.{Point, values}
 use Rattle.order_queue.specs.Finds.{nthValue, leaves}
-use Rattle.gaps.specs.Maps.{All, put, put-same}
+use Rattle.gaps.specs.Maps.{All, put-same}
 use Rattle.gaps.specs.Line.{Line, segments, firstChain}
 use Rattle.gaps.specs.Store.{LinkedFrom, Chain, Laid, headOf, valuesIn}
 use Rattle.gaps.specs.Pool.{mine}
-use Rattle.meaning.specs.Meaning.{listed, nextIn, contentsIn, headsIn, storeIn}
+use Rattle.meaning.specs.Meaning.{listed, nextIn, contentsIn, storeIn}
 use Rattle.meaning.specs.Reads.{next-at, contents-at, head-at}
 use Rattle.meaning.specs.Free.{none-word, link-word}
 use Rattle.represents.specs.Represents.{alive, ofTasks, queueMemory, opened}
 use Rattle.represents.specs.Laids.{all-in, held-opened}
 use Rattle.represents.specs.Parts.{opened-single}
-use Rattle.represents_finish.specs.Ended.{topLine, valuesOf, values-in, EndedQueue, Ended}
+use Rattle.represents_finish.specs.Ended.{valuesOf, values-in, EndedQueue, Ended}
 
 -- value number i of a list f 0, .., f (n - 1), and of what comes behind it
 number-listed : (f : ℕ → ℕ) (n i : ℕ) (ps : List Point) → i < n → nthValue i (values (listed f n) ++ ps) ≡ some (f i)

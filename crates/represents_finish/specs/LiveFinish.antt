@@ -1,13 +1,13 @@
 -- What a finish does to the memory of a queue it does to the part that is of tasks in use.
 use mathlib.Core.Path.{_≡_, refl, ap, ap₂, sym, _∙_}
-use mathlib.Core.Bool.{Bool, true, false}
+use mathlib.Core.Bool.{Bool, true}
 use mathlib.Core.Option.{none}
 use Prim.Native.Nat.{ℕ}
 use Rattle.words.specs.Words.{pick, halt}
 use Rattle.gaps.specs.Maps.{put}
 use Rattle.gaps.specs.Line.{Extent, vacant}
 use Rattle.gaps.specs.Store.{Store, Memory}
-use Rattle.gaps.specs.Moves.{Place, viewAt, reduced, childrenWith, rightsWith, joined, headMoved, queuePassed, finishedWith, finished}
+use Rattle.gaps.specs.Moves.{Place, viewAt, reduced, childrenWith, rightsWith, joined, queuePassed, finishedWith, finished}
 use Rattle.represents.specs.Represents.{ofTasks}
 use Rattle.represents.specs.Live.{masked-put, ofStore, live-joined, memory-path, holdsAt, live-children, live-rights, live-view}
 

@@ -4,7 +4,6 @@ use mathlib.Core.Bool.{true, not}
 use mathlib.Core.List.{List}
 use Prim.Native.Nat.{ℕ}
 use native.Mathlib.Omega.{arith}
-use lib.Dec.{eqb}
 use borrow.Author.Tests.{ne-eqb}
 use Rattle.layout.specs.Layout.{NONE}
 use Rattle.gaps.specs.Line.{End, nonlocal, local, Extent, vacant, extent}

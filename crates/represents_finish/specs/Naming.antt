@@ -1,8 +1,8 @@
 -- WHAT NAMES A SEGMENT, by the meaning of the words: the head of one queue view, and nothing else.
-use mathlib.Core.Path.{_≡_, refl, ap, sym, _∙_}
+use mathlib.Core.Path.{_≡_, ap, sym, _∙_}
 use mathlib.Core.Bool.{false}
-use mathlib.Core.Option.{Option, none, some}
-use mathlib.Core.List.{List, [], _∷_}
+use mathlib.Core.Option.{some}
+use mathlib.Core.List.{List}
 use mathlib.Core.Logic.{_⊎_, inl, inr, ⊎-elim}
 use Prim.Native.Nat.{ℕ, _+_, _-_, _*_, _/_, _%_, _<_}
 use native.Mathlib.Omega.{arith}
@@ -18,7 +18,7 @@ use Rattle.gaps.specs.Maps.{put, put-same, put-other}
 use Rattle.gaps.specs.Line.{End, local, Extent, extent}
 use Rattle.order.specs.Steps.{Item}
 use Rattle.links.specs.Linked.{Linked, tour-is}
-use Rattle.meaning.specs.Meaning.{Meaning, meaningOf, optional, endOf, viewIn}
+use Rattle.meaning.specs.Meaning.{Meaning, meaningOf, optional, endOf}
 use Rattle.meaning.specs.Reads.{head-at, view-at}
 use Rattle.meaning.specs.Free.{optional-some, link-word}
 use Rattle.meaning.specs.Extents.{end-local, filled-extent}

@@ -1,16 +1,16 @@
 -- A QUEUE WHOSE TURN IT IS: its segments, its views and its queue heads, by the words n.
 use mathlib.Core.Path.{_≡_, refl, ap, sym, _∙_, subst}
 use mathlib.Core.Bool.{Bool, true, false, false≢true}
-use mathlib.Core.Option.{Option, none, some}
-use mathlib.Core.List.{List, [], _∷_, _++_}
+use mathlib.Core.Option.{some}
+use mathlib.Core.List.{List, _∷_}
 use mathlib.Core.Logic.{⊎-elim}
-use Prim.Native.Nat.{ℕ, zero, suc, _+_, _<_, _≤_}
+use Prim.Native.Nat.{ℕ, _+_, _<_, _≤_}
 use native.Mathlib.Omega.{arith}
 use lib.ListN.{length}
-use Rattle.words.specs.Words.{pick, halt}
+use Rattle.words.specs.Words.{halt}
 use Rattle.lists.specs.Counting.{occurrences, occurs-here, occurs-past, equal?, length-total, total-ones}
 use Rattle.lists.specs.Sums.{total-le}
-use Rattle.layout.specs.Layout.{NONE, NL, CHILDREN, USER, RIGHT, numberWord, read}
+use Rattle.layout.specs.Layout.{NL, CHILDREN, USER, RIGHT, numberWord, read}
 use Rattle.tree.specs.Rights.{uses, pops as mayPop}
 use Rattle.rules.specs.Contents.{decode}
 use Rattle.rules.specs.Rules.{Unfinished}
@@ -22,20 +22,18 @@ use Rattle.order_waits.specs.Spots.{same-number}
 use Rattle.order_waits.specs.Popper.{firstPopper}
 use Rattle.order_waits.specs.Poppers.{popper-says}
 use Rattle.order_queue.specs.Users.{pops-uses}
-use Rattle.gaps.specs.Maps.{put, put-same, put-other}
-use Rattle.gaps.specs.Line.{Extent, vacant, Line, segments, firstChain}
-use Rattle.gaps.specs.Store.{Store, Memory, Laid, headOf}
+use Rattle.gaps.specs.Line.{Line, segments}
 use Rattle.gaps.specs.Pool.{mine}
 use Rattle.links.specs.Linked.{says-back, Linked, spot-unfinished, unfinished-spot}
 use Rattle.links.specs.Frame.{keeps-linked}
-use Rattle.meaning.specs.Meaning.{freeIn, contentsIn, headsIn, viewIn, storeIn}
-use Rattle.represents.specs.Represents.{alive, ofTasks, queueMemory, usesIn, opened, Represents}
-use Rattle.represents.specs.Laids.{Laids, held-opened, mine-one}
+use Rattle.meaning.specs.Meaning.{freeIn, headsIn, viewIn, storeIn}
+use Rattle.represents.specs.Represents.{alive, ofTasks, queueMemory, opened, Represents}
+use Rattle.represents.specs.Laids.{held-opened, mine-one}
 use Rattle.represents.specs.Parts.{opened-single, same-alive}
 use Rattle.represents.specs.Plain.{same-links}
 use Rattle.represents.specs.Room.{opened-below}
 use Rattle.represents.specs.Views.{unfinished-alive}
-use Rattle.represents_finish.specs.Way.{Way, Standing}
+use Rattle.represents_finish.specs.Way.{Way}
 
 module _ (m : List ℕ) (xs : List Item) (r : Represents m xs) (n : List ℕ) (holder : ℕ → ℕ) (line : ℕ → Line) (way : Way m n holder line) where
   -- THE TREE is that of m

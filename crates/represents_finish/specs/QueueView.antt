@@ -1,11 +1,11 @@
 -- FINISH, THE QUEUE VIEW: where the task that finishes holds it, it goes to the heir.
 use mathlib.Core.Path.{_≡_, refl, ap, sym, _∙_, subst}
 use mathlib.Core.Bool.{true, false}
-use mathlib.Core.Option.{Option, none, some}
-use mathlib.Core.List.{List, [], _∷_, _++_}
+use mathlib.Core.Option.{none, some}
+use mathlib.Core.List.{List, _∷_, _++_}
 use mathlib.Core.Logic.{⊎-elim}
 use Prim.Native.Nat.{ℕ, _<_}
-use Rattle.words.specs.Words.{pick, halt}
+use Rattle.words.specs.Words.{halt}
 use Rattle.lists.specs.Counting.{equal?}
 use Rattle.calls.specs.Finish.{heir, viewsReturned, queueReturned, finishedQueue}
 use Rattle.order.specs.Steps.{Task, Item, spot, finishes, numberOf, made, advance}
@@ -26,7 +26,7 @@ use Rattle.gaps.specs.Pool.{mine}
 use Rattle.links.specs.Linked.{Linked, spot-unfinished}
 use Rattle.links.specs.Frame.{keeps-linked}
 use Rattle.meaning.specs.Meaning.{Meaning, memoryOf, headsIn}
-use Rattle.meaning.specs.Kept.{Becomes, becomes-then, becomes-at}
+use Rattle.meaning.specs.Kept.{Becomes, becomes-then}
 use Rattle.meaning.specs.Return.{movedIn, memory-moved, queue-kept, queue-returned}
 use Rattle.represents.specs.Represents.{alive, ofTasks, queueMemory, usesIn, Represents}
 use Rattle.represents.specs.Laids.{sharing}

@@ -1,33 +1,31 @@
 -- FINISH, THE FIRST TWO REDUCTIONS of a queue's turn: children, user and right view of the task, by the words.
 use mathlib.Core.Path.{_≡_, refl, ap, ap₂, sym, _∙_, subst, subst₂}
-use mathlib.Core.Bool.{Bool, true, false}
+use mathlib.Core.Bool.{true}
 use mathlib.Core.Option.{some, Option·some-injective}
 use mathlib.Core.List.{List, [], _∷_, _++_}
-use Prim.Native.Nat.{ℕ, _+_, _<_}
+use Prim.Native.Nat.{ℕ, _<_}
 use native.Mathlib.Omega.{arith}
 use lib.ListN.{length}
 use Rattle.lists.specs.Counting.{occurrences}
-use Rattle.layout.specs.Layout.{NONE, NL, CHILDREN, USER, RIGHT, numberWord, read}
+use Rattle.layout.specs.Layout.{NONE, CHILDREN, USER, RIGHT}
 use Rattle.rules.specs.Contents.{decode}
 use Rattle.rules.specs.Rules.{Unfinished}
-use Rattle.calls.specs.Waits.{hasChild}
 use Rattle.order.specs.Steps.{Task, Item, spot, numberOf}
 use Rattle.order_waits.specs.Popper.{firstPopper}
-use Rattle.gaps.specs.Line.{End, nonlocal, local, Extent, vacant, extent, left, met, Line, segments, firstChain}
+use Rattle.gaps.specs.Line.{Extent, vacant, left, met, Line, segments, firstChain}
 use Rattle.gaps.specs.Store.{Store, Memory, Laid}
 use Rattle.gaps.specs.Moves.{reduced, joined, returned}
 use Rattle.gaps.specs.Pool.{mine}
-use Rattle.links.specs.Linked.{Linked}
 use Rattle.links.specs.Frame.{keeps-linked}
 use Rattle.meaning.specs.Meaning.{Meaning, meaningOf, storeOf, contentsIn, freeIn, viewIn}
 use Rattle.meaning.specs.Update.{withStore, withView, store-self}
 use Rattle.meaning.specs.Kept.{Kept, Becomes}
-use Rattle.meaning.specs.Links.{NamedBy, Linkable}
+use Rattle.meaning.specs.Links.{Linkable}
 use Rattle.meaning.specs.Reduce.{Links, Tailed, mergedIn, view-merged}
 use Rattle.meaning.specs.Merges.{inner, whole}
 use Rattle.meaning.specs.Finish.{words1, Reduces}
 use Rattle.represents.specs.Represents.{alive, ofTasks, queueMemory, Represents}
-use Rattle.represents.specs.Parts.{holders, parts-of}
+use Rattle.represents.specs.Parts.{parts-of}
 use Rattle.represents.specs.Plain.{same-links}
 use Rattle.represents.specs.FirstNamed.{holder-unfinished}
 use Rattle.represents.specs.At.{mine-spot, task-unfinished}

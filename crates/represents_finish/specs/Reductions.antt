@@ -5,8 +5,8 @@ use mathlib.Core.List.{List, [], _∷_, _++_}
 use Prim.Native.Nat.{ℕ, _+_, _<_, _≤_}
 use native.Mathlib.Omega.{arith}
 use Rattle.lists.specs.Counting.{occurrences, occurs-append, occurs-here}
-use Rattle.gaps.specs.Maps.{All, lastOf, last-in, all-behind}
-use Rattle.gaps.specs.Line.{End, nonlocal, local, Extent, vacant, extent, left, met, Line, segments, firstChain, Mode, settled, awaiting, Inside, rest, mid, close, Begins, bare, whole, begun, Views, leaving, meeting, passing}
+use Rattle.gaps.specs.Maps.{lastOf, last-in, all-behind}
+use Rattle.gaps.specs.Line.{End, nonlocal, local, Extent, extent, left, met, Line, segments, firstChain, Mode, settled, awaiting, Inside, rest, mid, close, Begins, bare, whole, begun, Views, leaving, meeting, passing}
 use Rattle.gaps.specs.Store.{Chain, Memory, Laid}
 use Rattle.gaps.specs.Lines.{count-segments, first-behind}
 use Rattle.gaps.specs.Frames.{split, no-base}

@@ -1,27 +1,26 @@
 -- FINISH, THE VIEWS OF ONE QUEUE: children, user and right view are reduced, and the result goes to the view just before.
 use mathlib.Core.Path.{_≡_, refl, ap, ap₂, sym, _∙_, subst, subst₂}
-use mathlib.Core.Bool.{Bool, true, false, false≢true}
+use mathlib.Core.Bool.{false}
 use mathlib.Core.Option.{some}
-use mathlib.Core.List.{List, [], _∷_, _++_}
-use Prim.Native.Nat.{ℕ, _+_, _<_}
+use mathlib.Core.List.{List, _∷_, _++_}
+use Prim.Native.Nat.{ℕ, _<_}
 use native.Mathlib.Omega.{arith}
-use Rattle.lists.specs.Counting.{occurrences}
 use Rattle.layout.specs.Layout.{CHILDREN, USER, RIGHT}
 use Rattle.calls.specs.Waits.{hasChild}
 use Rattle.calls.specs.Views.{viewOf, taskAt, kindAt}
 use Rattle.calls.specs.Finish.{viewsReturned}
 use Rattle.order.specs.Steps.{Task, Item, spot, numberOf}
 use Rattle.order_waits.specs.Popper.{firstPopper}
-use Rattle.gaps.specs.Line.{End, nonlocal, local, Extent, vacant, extent, left, met, Line, marks, segments}
+use Rattle.gaps.specs.Line.{End, nonlocal, local, Extent, vacant, extent, left, met, Line, marks}
 use Rattle.gaps.specs.Store.{Store, Memory}
 use Rattle.gaps.specs.Moves.{Place, childrenOf, viewAt, reduced, childrenWith, rightsWith, joined, returned, finished}
 use Rattle.gaps.specs.Places.{Returns}
 use Rattle.gaps.specs.Search.{placeAt}
-use Rattle.meaning.specs.Meaning.{Meaning, meaningOf, storeOf, memoryOf, contentsIn, freeIn, viewIn}
+use Rattle.meaning.specs.Meaning.{Meaning, meaningOf, storeOf, memoryOf, viewIn}
 use Rattle.meaning.specs.Update.{withStore, withView, store-self, shared}
 use Rattle.meaning.specs.Kept.{Becomes}
 use Rattle.meaning.specs.Reduce.{Links, Tailed}
-use Rattle.meaning.specs.Merges.{inner, whole, store2, threeIn, returnedIn}
+use Rattle.meaning.specs.Merges.{whole, store2, threeIn, returnedIn}
 use Rattle.meaning.specs.Finish.{words2, Reduces, views-reduced, returned-extent, none-returned, views-returned}
 use Rattle.meaning.specs.FinishMemory.{memory-none-returned, memory-returned, none-returned-elsewhere, returned-elsewhere}
 use Rattle.represents.specs.Represents.{alive, queueMemory, usesIn, Represents}
@@ -29,7 +28,7 @@ use Rattle.represents.specs.Live.{holdsAt}
 use Rattle.represents.specs.At.{task-unfinished}
 use Rattle.represents_finish.specs.Leaf.{leaf}
 use Rattle.represents_finish.specs.Way.{Way}
-use Rattle.represents_finish.specs.Meets.{Meets, Tails, Headless, tails-tailed, vacant-not}
+use Rattle.represents_finish.specs.Meets.{Meets, Headless, tails-tailed, vacant-not}
 use Rattle.represents_finish.specs.Reductions.{Link}
 use Rattle.represents_finish.specs.Naming.{Names, names-view}
 use Rattle.represents_finish.specs.FirstNames.{Covered}

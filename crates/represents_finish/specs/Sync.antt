@@ -1,7 +1,7 @@
 -- SYNC keeps the invariant: the four queues have their turns, and no reduction is one that the paper leaves out.
-use mathlib.Core.Path.{_≡_, refl, ap, sym, _∙_, subst}
-use mathlib.Core.Bool.{Bool, true, false}
-use mathlib.Core.Option.{some, Option·some-injective}
+use mathlib.Core.Path.{_≡_, refl, sym, _∙_, subst}
+use mathlib.Core.Bool.{true, false}
+use mathlib.Core.Option.{Option·some-injective}
 use mathlib.Core.List.{List, [], _∷_, _++_}
 use Prim.Native.Nat.{ℕ, _<_}
 use native.Mathlib.Omega.{arith}
@@ -14,9 +14,6 @@ use Rattle.order_laws.specs.Courses.{plain}
 use Rattle.order_waits.specs.Played.{Played}
 use Rattle.order_queue.specs.Points.{added, takes}
 use Rattle.order_queue.specs.Laws.{plain-line}
-use Rattle.gaps.specs.Line.{Line}
-use Rattle.gaps.specs.Store.{Memory, Laid}
-use Rattle.gaps.specs.Pool.{mine}
 use Rattle.meaning.specs.Meaning.{storeIn}
 use Rattle.represents.specs.Represents.{queueMemory, opened, Represents}
 use Rattle.represents.specs.Laids.{Laids}

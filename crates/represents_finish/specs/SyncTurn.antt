@@ -1,23 +1,22 @@
 -- SYNC, THE TURN OF ONE QUEUE: the children view joins the user view, and the queue stands as before.
 use mathlib.Core.Path.{_≡_, refl, ap, ap₂, sym, _∙_, subst, subst₂}
 use mathlib.Core.Bool.{Bool, true, false, false≢true}
-use mathlib.Core.List.{List, [], _∷_, _++_}
-use Prim.Native.Nat.{ℕ, _+_, _<_}
+use mathlib.Core.List.{List, _∷_, _++_}
+use Prim.Native.Nat.{ℕ, _<_}
 use native.Mathlib.Omega.{arith}
 use Rattle.lists.specs.Counting.{occurrences}
-use Rattle.layout.specs.Layout.{NONE, NL, CHILDREN, USER}
+use Rattle.layout.specs.Layout.{CHILDREN, USER}
 use Rattle.calls.specs.Waits.{hasChild}
 use Rattle.calls.specs.Sync.{syncs, syncedQueue}
 use Rattle.order.specs.Steps.{Task, Item, spot, numberOf}
-use Rattle.order_queue.specs.Points.{Point}
-use Rattle.gaps.specs.Maps.{All, put, put-other}
-use Rattle.gaps.specs.Line.{Extent, vacant, left, met, Line, marks, segments, Fits}
-use Rattle.gaps.specs.Store.{Store, Memory, Laid, timeline}
+use Rattle.gaps.specs.Maps.{put-other}
+use Rattle.gaps.specs.Line.{Extent, vacant, left, met, Line, segments}
+use Rattle.gaps.specs.Store.{Memory, Laid, timeline}
 use Rattle.gaps.specs.Moves.{reduced, joined, synced}
 use Rattle.gaps.specs.After.{After, after-marks, after-fits}
 use Rattle.gaps.specs.SyncRow.{sync-row}
 use Rattle.gaps.specs.Pool.{mine}
-use Rattle.meaning.specs.Meaning.{Meaning, meaningOf, memoryOf, memoryIn, storeIn, viewIn, contentsIn}
+use Rattle.meaning.specs.Meaning.{Meaning, meaningOf, memoryOf, memoryIn, viewIn, contentsIn}
 use Rattle.meaning.specs.Update.{withStore, withView, store-self, view-self}
 use Rattle.meaning.specs.Kept.{Becomes, becomes-as}
 use Rattle.meaning.specs.Extents.{reduces}
@@ -30,7 +29,7 @@ use Rattle.represents.specs.Push.{masked-share}
 use Rattle.represents.specs.At.{mine-spot, task-unfinished}
 use Rattle.represents_finish.specs.Leaf.{with-right}
 use Rattle.represents_finish.specs.Way.{Vacant, Way, Standing, AllStand, Turn, turn-same}
-use Rattle.represents_finish.specs.Meets.{Meets, Apart, Tails, meets-reduces, meets-links, tails-tailed}
+use Rattle.represents_finish.specs.Meets.{Apart, Tails, meets-reduces, meets-links, tails-tailed}
 use Rattle.represents_finish.specs.Reductions.{Leaving, leaving-views}
 use Rattle.represents_finish.specs.Queue.{single, held-local, spot-alive, children-word, user-word, holder-alive}
 

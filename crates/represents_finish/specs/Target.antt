@@ -2,23 +2,20 @@
 use mathlib.Core.Path.{_≡_, refl, ap, sym, _∙_, subst}
 use mathlib.Core.Bool.{Bool, true, false, false≢true}
 use mathlib.Core.List.{List, [], _∷_, _++_}
-use Prim.Native.Nat.{ℕ, _+_, _-_, _<_, _≤_}
+use Prim.Native.Nat.{ℕ, _+_, _-_, _<_}
 use native.Mathlib.Omega.{arith}
 use lib.Dec.{ltb}
-use borrow.Author.Tests.{ltb-true}
 use Rattle.words.specs.Words.{pick}
 use Rattle.lists.specs.Counting.{occurrences, occurs-here}
 use Rattle.layout.specs.Layout.{RIGHT, CHILDREN}
-use Rattle.tree.specs.Tour.{met as metIn}
 use Rattle.rules.specs.Contents.{decode}
 use Rattle.rules.specs.Rules.{Unfinished}
 use Rattle.rules.specs.Views.{View}
-use Rattle.rules_tasks.specs.Holders.{met-count}
 use Rattle.calls.specs.Waits.{hasChild}
 use Rattle.calls.specs.Views.{taskAt, kindAt, returnedTo}
 use Rattle.order.specs.Steps.{Task, Item, spot, numberOf}
 use Rattle.gaps.specs.Maps.{All, put-other, all-behind}
-use Rattle.gaps.specs.Line.{End, nonlocal, local, Extent, vacant, extent, base, left, met, pass, Line, marks, lefts, mets, Fits, Mode, Views, leaving, meeting}
+use Rattle.gaps.specs.Line.{nonlocal, local, Extent, vacant, extent, base, left, met, pass, Line, marks, lefts, mets, Fits, Mode, Views, leaving, meeting}
 use Rattle.gaps.specs.Store.{Memory, Laid}
 use Rattle.gaps.specs.Lines.{count-lefts, count-mets}
 use Rattle.gaps.specs.Frames.{split}
@@ -28,7 +25,6 @@ use Rattle.gaps.specs.Search.{firstOf, task-met, task-left, placeAt, takesPart 
 use Rattle.gaps.specs.Absent.{met-marks, left-marks}
 use Rattle.gaps.specs.Pool.{mine}
 use Rattle.gaps.specs.Splits.{small-mets}
-use Rattle.links.specs.Marks.{mark-held}
 use Rattle.meaning.specs.Meaning.{extentOf, viewIn}
 use Rattle.meaning.specs.FinishTest.{returned-nonlocal, returned-local}
 use Rattle.represents.specs.Represents.{alive, queueMemory, usesIn, Represents}

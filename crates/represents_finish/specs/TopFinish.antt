@@ -1,10 +1,9 @@
 -- FINISH OF THE TOP: all others have finished; the queues are synced, and its status is written.
-use mathlib.Core.Path.{_≡_, refl, ap, ap₂, sym, _∙_, subst, fun-ext}
+use mathlib.Core.Path.{_≡_, ap, ap₂, sym, _∙_, subst, fun-ext}
 use mathlib.Core.Bool.{Bool, true, false}
-use mathlib.Core.Option.{some}
 use mathlib.Core.List.{List, [], _∷_, _++_, append-nil}
 use mathlib.Core.Logic.{⊎-elim}
-use Prim.Native.Nat.{ℕ, _+_, _<_}
+use Prim.Native.Nat.{ℕ, _<_}
 use native.Mathlib.Omega.{arith}
 use lib.Dec.{ltb}
 use borrow.Author.Tests.{eqb-true, not-false}
@@ -18,10 +17,9 @@ use Rattle.order.specs.Steps.{Task, Item, spot, finishes, numberOf, rightsOf, a
 use Rattle.order_laws.specs.Items.{In}
 use Rattle.order_laws.specs.Numbers.{advance-at}
 use Rattle.order_waits.specs.Played.{Played}
-use Rattle.order_queue.specs.Points.{Point, user, values, Timeline}
+use Rattle.order_queue.specs.Points.{user, values, Timeline}
 use Rattle.order_queue.specs.Laws.{finish-line}
-use Rattle.gaps.specs.Line.{Line}
-use Rattle.gaps.specs.Store.{Memory, valuesIn, timeline}
+use Rattle.gaps.specs.Store.{valuesIn, timeline}
 use Rattle.links.specs.Linked.{Linked, spot-unfinished}
 use Rattle.meaning.specs.Meaning.{Meaning, meaningOf, memoryOf, storeIn, contentsIn}
 use Rattle.meaning.specs.Kept.{Means}

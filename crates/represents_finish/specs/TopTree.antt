@@ -1,29 +1,28 @@
 -- THE TOP FINISHES: its status is written, and the tests of the tree still hold.
 use mathlib.Core.Path.{_≡_, refl, ap, sym, _∙_, subst, fun-ext}
-use mathlib.Core.Bool.{Bool, true, false, not}
+use mathlib.Core.Bool.{true, not}
 use mathlib.Core.List.{List, [], _∷_}
 use mathlib.Core.Logic.{inr, ⊎-elim}
-use Prim.Native.Nat.{ℕ, _+_, _-_, _*_, _<_, _≤_}
+use Prim.Native.Nat.{ℕ, _<_, _≤_}
 use native.Mathlib.Omega.{arith}
 use lib.Dec.{ltb, eqb}
 use lib.ListN.{length, drop, take}
 use borrow.Author.Tests.{lt-ltb, ne-eqb}
-use Rattle.words.specs.Words.{size, both, true-both}
+use Rattle.words.specs.Words.{both, true-both}
 use Rattle.lists.specs.Counting.{occurrences, equal?}
 use Rattle.lists.specs.Distinct.{Distinct}
-use Rattle.layout.specs.Layout.{WORDS, NONE, FREE, FINISHED, STATUS, RIGHTS, PARENT, OLDER, YOUNGER, YOUNGEST, Field, freeTasks, freeTask, task, address, read, write}
+use Rattle.layout.specs.Layout.{NONE, FREE, FINISHED, STATUS, RIGHTS, PARENT, OLDER, YOUNGER, YOUNGEST, freeTasks, freeTask, task, address, read, write}
 use Rattle.layout.specs.Frame.{read-same, size-write}
 use Rattle.rules.specs.Contents.{Contents, decode, word}
 use Rattle.rules.specs.Test.{topTest, idleTest}
 use Rattle.rules_tasks.specs.Tested.{Top, Idle, top-says, says-top, idle-says, says-idle}
 use Rattle.order.specs.Steps.{Item}
-use Rattle.links.specs.Row.{Leads, childless, Row}
+use Rattle.links.specs.Row.{childless, Row}
 use Rattle.links.specs.Linked.{Linked, word-is}
 use Rattle.links.specs.Idle.{idle-height, same-stack}
 use Rattle.meaning.specs.Kept.{read-away}
 use Rattle.meaning.specs.Views.{task-other}
 use Rattle.represents.specs.Represents.{alive}
-use Rattle.represents.specs.Views.{unfinished-alive}
 
 module _ (n : List ℕ) (T : List ℕ) (xs : List Item) (linked : Linked n T xs) (barren : read n (task 0 YOUNGEST) ≡ NONE) where
   abbrev pub f : List ℕ

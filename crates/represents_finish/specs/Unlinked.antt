@@ -1,9 +1,9 @@
 -- FINISH, THE TREE: the task leaves the list of its siblings and its record is free; the tour is the one without its two marks.
-use mathlib.Core.Path.{_≡_, refl, ap, sym, _∙_, subst}
-use mathlib.Core.Bool.{true, false}
-use mathlib.Core.List.{List, [], _∷_, _++_, head-eq-of-cons-eq, tail-eq-of-cons-eq}
+use mathlib.Core.Path.{_≡_, ap, sym, _∙_, subst}
+use mathlib.Core.Bool.{false}
+use mathlib.Core.List.{List, _∷_, _++_, head-eq-of-cons-eq}
 use mathlib.Core.Logic.{_⊎_, inl, inr, ⊎-elim}
-use Prim.Native.Nat.{ℕ, _+_, _<_}
+use Prim.Native.Nat.{ℕ, _<_}
 use native.Mathlib.Omega.{arith}
 use lib.ListN.{length}
 use Rattle.layout.specs.Layout.{NONE, PARENT, OLDER, YOUNGER, freeTasks, task, read}
@@ -11,8 +11,7 @@ use Rattle.rules.specs.Contents.{Contents, decode, word}
 use Rattle.rules.specs.Rules.{Unfinished, Child, TaskRules}
 use Rattle.calls.specs.Waits.{hasChild as hasChildIn}
 use Rattle.calls.specs.Finish.{unlinked, recordFreed}
-use Rattle.order.specs.Steps.{Name, Task, Item, spot, finishes, nameOf, numberOf, made, advance}
-use Rattle.order.specs.Waits.{hasChild}
+use Rattle.order.specs.Steps.{Task, Item, spot, finishes, nameOf, numberOf, advance}
 use Rattle.order_laws.specs.Numbers.{advance-at}
 use Rattle.order_waits.specs.Spots.{same-number, older-says}
 use Rattle.order_waits.specs.Played.{Played, played-reached}
@@ -28,7 +27,7 @@ use Rattle.meaning.specs.Tree.{LinksOnly, task-unlinked}
 use Rattle.represents.specs.Represents.{Represents}
 use Rattle.represents.specs.Plain.{same-links}
 use Rattle.represents.specs.At.{mine-spot, task-unfinished, single-spot}
-use Rattle.represents_finish.specs.Leaf.{Leaf, leaf}
+use Rattle.represents_finish.specs.Leaf.{leaf}
 
 module _ (m : List ℕ) (ys zs : List Item) (s : Task) (r : Represents m (ys ++ spot s ∷ zs)) (barren : hasChildIn m (numberOf s) ≡ false) (above : 0 < numberOf s) where
   abbrev t : ℕ

@@ -1,15 +1,15 @@
 -- FROM QUEUE TO QUEUE: a sync or a finish goes through the four queues in turn. What holds of the words n between two turns,
 -- and what the turn of one queue leaves of it.
 use mathlib.Core.Path.{_≡_, refl, ap, sym, _∙_, subst, subst₂}
-use mathlib.Core.Bool.{Bool, true, false}
+use mathlib.Core.Bool.{false}
 use mathlib.Core.Option.{Option, some}
-use mathlib.Core.List.{List, [], _∷_}
+use mathlib.Core.List.{List}
 use mathlib.Core.Logic.{⊎-elim}
 use Prim.Native.Nat.{ℕ, _+_, _<_}
 use Rattle.lists.specs.Counting.{occurrences, equal?}
 use Rattle.order.specs.Steps.{Item}
 use Rattle.order_waits.specs.Popper.{firstPopper}
-use Rattle.order_queue.specs.Points.{Point, Timeline}
+use Rattle.order_queue.specs.Points.{Timeline}
 use Rattle.gaps.specs.Maps.{All, put, put-same, put-other}
 use Rattle.gaps.specs.Line.{vacant, Line, marks, Fits}
 use Rattle.gaps.specs.Store.{Store, Chain, Memory, Laid, timeline}
@@ -19,7 +19,7 @@ use Rattle.meaning.specs.Meaning.{Meaning, nextIn, contentsIn, freeIn, storeIn,
 use Rattle.meaning.specs.Kept.{Kept, kept-all, kept-then, Becomes}
 use Rattle.represents.specs.Represents.{alive, ofTasks, queueMemory, usesIn, opened, Represents}
 use Rattle.represents.specs.Laids.{sharing, four, Laids, laids-row, other-timeline}
-use Rattle.represents.specs.Parts.{Parts, holders, parts-of, opened-single}
+use Rattle.represents.specs.Parts.{holders, parts-of, opened-single}
 use Rattle.represents.specs.Plain.{laids-as}
 use Rattle.represents.specs.Push.{queue-memory}
 
