@@ -65,7 +65,7 @@ module _ {children user right : ℕ → Extent} where
       (λ h x g. let i : extent nonlocal (local z) ≡ extent h x = sym e ∙ g in (z, cc), user-local r)
   user-local (passing r) = user-local r
 
-  count-parts : {l : Line} {m : Mode} (x : ℕ) → Views children user right l m
+  pub count-parts : {l : Line} {m : Mode} (x : ℕ) → Views children user right l m
       → occurrences x (segments l) ≡ occurrences x (firstChain l) + occurrences x (laterSegments l)
   unfolding occurrences
   count-parts x (queue {s = s} {c = c} e) = omega (arith, occurs-append x c [])

@@ -15,3 +15,4 @@ pub mod SpawnWords
 pub mod Finish
 pub mod Finishing
 pub mod FinishWords
+pub mod Many

@@ -1,17 +1,57 @@
--- More of sums over the numbers below a limit: from the first on, term by term against another sum, one place alone.
-use mathlib.Core.Path.{_≡_, refl, ap, sym, _∙_}
+-- More of sums, over a list and over the numbers below a limit: term by term, from the first on, against another sum, one
+-- place alone.
+use mathlib.Core.Path.{_≡_, refl, ap, ap₂, sym, _∙_}
 use mathlib.Core.List.{List, [], _∷_}
 use mathlib.Core.Logic.{⊎-elim}
 use Prim.Native.Nat.{ℕ, zero, suc, _+_, _*_, _<_, _≤_}
 use native.Mathlib.Omega.{arith}
-use native.Mathlib.Nat.{le-of-suc-le-suc, eq-or-lt-of-le}
+use native.Mathlib.Nat.{le-of-suc-le-suc, eq-or-lt-of-le, add-mul, zero-mul}
 use lib.Dec.{eqb}
-use Rattle.lists.specs.Counting.{one, over, total, equal?, one-yes, one-no, total-ext, total-at}
+use Rattle.lists.specs.Counting.{one, occurrences, over, total, equal?, one-yes, one-no, occurs-nil, occurs-cons, occurs-here, occurs-past, total-ext, total-at}
 
 pub over-zero : (xs : List ℕ) → over xs (λ y. 0) ≡ 0
 unfolding over
 over-zero [] = refl
 over-zero (x ∷ xs) = let a = over-zero xs in omega (arith, a)
+
+pub over-plus : (xs : List ℕ) (g h : ℕ → ℕ) → over xs (λ t. g t + h t) ≡ over xs g + over xs h
+unfolding over
+over-plus [] g h = refl
+over-plus (x ∷ xs) g h = let a = over-plus xs g h in omega (arith, a)
+
+pub over-ext : (xs : List ℕ) (g h : ℕ → ℕ) → ((t : ℕ) → g t ≡ h t) → over xs g ≡ over xs h
+unfolding over
+over-ext [] g h e = refl
+over-ext (x ∷ xs) g h e = ap₂ (λ (a b : ℕ). a + b) (e x) (over-ext xs g h e)
+
+-- Only the terms of k count.
+pub over-at : (xs : List ℕ) (g : ℕ → ℕ) (k : ℕ) → ((x : ℕ) → 0 < occurrences x xs → (x ≡ k → ⊥) → g x ≡ 0) → over xs g ≡ occurrences k xs * g k
+unfolding over
+over-at [] g k h = sym (ap (λ (n : ℕ). n * g k) (occurs-nil k) ∙ zero-mul (g k))
+over-at (x ∷ xs) g k h =
+    ap (λ (n : ℕ). g x + n) (over-at xs g k (λ y p. h y (let a = occurs-cons x y xs in omega (arith, a, p))))
+    ∙ ⊎-elim
+    (λ e.
+    ap (λ (n : ℕ). n + occurrences k xs * g k) (ap g e)
+    ∙ sym (ap (λ (n : ℕ). n * g k) (occurs-here x k xs e) ∙ add-mul 1 (occurrences k xs) (g k) ∙ ap (λ (n : ℕ). n + occurrences k xs * g k) (let z : 1 * g k ≡ g k = omega arith in z)))
+    (λ n.
+    ap (λ (y : ℕ). y + occurrences k xs * g k) (h x (let a = occurs-here x x xs refl in omega (arith, a)) n)
+    ∙ (let z : 0 + occurrences k xs * g k ≡ occurrences k xs * g k = omega arith in z)
+    ∙ ap (λ (y : ℕ). y * g k) (sym (occurs-past x k xs n)))
+    (equal? x k)
+
+-- how often s stands in a list, as a sum over it
+pub occurs-over : (s : ℕ) (xs : List ℕ) → occurrences s xs ≡ over xs (λ x. one (eqb x s))
+unfolding over
+occurs-over s [] = occurs-nil s
+occurs-over s (x ∷ xs) = let a = occurs-cons x s xs in let b = occurs-over s xs in omega (arith, a, b)
+
+-- a sum over a list of sums is the sum of sums over the list
+pub over-total : (n : ℕ) (xs : List ℕ) (f : ℕ → ℕ → ℕ) → over xs (λ x. total n (λ y. f y x)) ≡ total n (λ y. over xs (f y))
+unfolding total
+over-total zero xs f = over-zero xs
+over-total (suc n) xs f =
+    over-plus xs (λ x. total n (λ y. f y x)) (f n) ∙ ap (λ (k : ℕ). k + over xs (f n)) (over-total n xs f)
 
 -- a sum that begins with its first term
 pub total-first : (n : ℕ) (f : ℕ → ℕ) → total (suc n) f ≡ f 0 + total n (λ y. f (suc y))

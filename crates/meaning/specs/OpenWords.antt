@@ -16,12 +16,12 @@ use Rattle.meaning.specs.Free.{recordSet, record-set, set-only, set-firs
 use Rattle.meaning.specs.Records.{by-four, block-same, record-same, record-other}
 
 -- NUMBERS FROM x DOWN
-down-length : (n x : ℕ) → length (down n x) ≡ n
+pub down-length : (n x : ℕ) → length (down n x) ≡ n
 unfolding down
 down-length zero x = refl
 down-length (suc n) x = ap suc (down-length n (x - 1))
 
-down-at : (n x i : ℕ) → i < n → load (down n x) i ≡ x - i
+pub down-at : (n x i : ℕ) → i < n → load (down n x) i ≡ x - i
 unfolding down load
 down-at zero x i h = let z : ⊥ = omega (arith, h) in absurd z
 down-at (suc n) x zero h = let z : x ≡ x - 0 = omega arith in z

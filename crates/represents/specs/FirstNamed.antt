@@ -38,7 +38,7 @@ use Rattle.represents.specs.Views.{all-at, met-in, left-in, unfinished-a
 use Rattle.represents.specs.Named.{OnlyNamed}
 
 -- the first segment of a line stands among its segments
-first-in : (l : Line) (g : ℕ) (c : List ℕ) → firstChain l ≡ g ∷ c → 0 < occurrences g (segments l)
+pub first-in : (l : Line) (g : ℕ) (c : List ℕ) → firstChain l ≡ g ∷ c → 0 < occurrences g (segments l)
 first-in l g c e = let a = go l in let b = ap (occurrences g) e in let d = occurs-here g g c refl in omega (arith, a, b, d)
   where
     go : (l : Line) → occurrences g (firstChain l) ≤ occurrences g (segments l)

@@ -2,6 +2,7 @@ pub mod Represents
 pub mod Laids
 pub mod Parts
 pub mod Live
+pub mod Nexts
 pub mod Plain
 pub mod Views
 pub mod Named
@@ -10,3 +11,7 @@ pub mod Room
 pub mod At
 pub mod Push
 pub mod Walks
+pub mod Found
+pub mod PushApart
+pub mod Pop
+pub mod Test

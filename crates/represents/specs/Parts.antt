@@ -22,9 +22,10 @@ use Rattle.gaps.specs.Line.{vacant, Line, marks, Fits}
 use Rattle.gaps.specs.Store.{Store, Memory, Laid, timeline}
 use Rattle.gaps.specs.Pool.{Pool, mine}
 use Rattle.links.specs.Linked.{Linked}
-use Rattle.meaning.specs.Meaning.{contentsIn, storeIn, memoryIn, Sized}
+use Rattle.meaning.specs.Meaning.{nextIn, contentsIn, storeIn, memoryIn, Sized}
 use Rattle.meaning.specs.Kept.{Kept}
 use Rattle.represents.specs.Represents.{alive, ofTasks, queueMemory, usesIn, Queue, opened, Represents}
+use Rattle.represents.specs.Nexts.{Nexts, nexts-words}
 use Rattle.represents.specs.Laids.{sharing, four, Laids, by-queue}
 
 -- one number for each queue
@@ -70,8 +71,8 @@ module _ (m : List ℕ) (xs : List Item) (r : Represents m xs) where
         bare = λ q i. r .queue q i .bare;
       }
 
-pub of-parts : (m : List ℕ) (T : List ℕ) (xs : List Item) (line : ℕ → Line) (holder : ℕ → ℕ) → Linked m T xs → Played xs → Sized m → Parts m T xs line holder → Represents m xs
-of-parts m T xs line holder l p s a =
+pub of-parts : (m : List ℕ) (T : List ℕ) (xs : List Item) (line : ℕ → Line) (holder : ℕ → ℕ) → Linked m T xs → Played xs → Sized m → Nexts (read m numberWord) (nextIn m) → Parts m T xs line holder → Represents m xs
+of-parts m T xs line holder l p s n a =
     record {
       tour = T;
       linked = l;
@@ -89,6 +90,7 @@ of-parts m T xs line holder l p s a =
             bare = a .bare q i;
           };
       pool = a .laids .pool;
+      nexts = nexts-words m s n;
     }
 
 -- WHAT AN OPERATION KEEPS: which records are in use, who has a right, which segments are opened

@@ -8,6 +8,7 @@ use Prim.Native.Nat.{ℕ, _+_, _<_, _≤_}
 use native.Mathlib.Omega.{arith}
 use Rattle.words.specs.Words.{size}
 use Rattle.lists.specs.Counting.{equal?}
+use Rattle.layout.specs.Layout.{numberWord, read}
 use Rattle.order.specs.Steps.{Task, Item, step, spot, Act, nameOf, numberOf, rightsOf, made, advance}
 use Rattle.order_laws.specs.Items.{In, in-parts}
 use Rattle.order_laws.specs.Count.{count, spotNumbered}
@@ -28,9 +29,10 @@ use Rattle.gaps.specs.After.{After, after-marks, after-fits}
 use Rattle.gaps.specs.Pool.{mine}
 use Rattle.links.specs.Linked.{numbersBack, back-append, Linked}
 use Rattle.links.specs.Frame.{SameLinks, keeps-linked}
-use Rattle.meaning.specs.Meaning.{contentsIn, storeIn, memoryIn, Sized}
+use Rattle.meaning.specs.Meaning.{nextIn, contentsIn, storeIn, memoryIn, Sized}
 use Rattle.meaning.specs.Kept.{Kept}
 use Rattle.represents.specs.Represents.{alive, ofTasks, queueMemory, usesIn, opened, Represents}
+use Rattle.represents.specs.Nexts.{Nexts}
 use Rattle.represents.specs.Laids.{sharing, four, Laids, laids-row, other-timeline}
 use Rattle.represents.specs.Parts.{Parts, holders, parts-of, of-parts, opened-single, same-uses, same-opened}
 
@@ -86,23 +88,23 @@ module _ (m : List ℕ) (ys zs : List Item) (s : Task) (r : Represents m (ys ++ 
     new-linked = keeps-linked m n (same-links m n (r .sized) kept) (r .tour) Old New (r .linked) same-back same-spots
 
     -- all parts, queue by queue
-    pub plain-represents : (line : ℕ → Line) → Laids (opened n) (storeIn n 0) (queueMemory n) holder line → ((q : ℕ) → q < 4 → marks (line q) ≡ r .tour)
+    pub plain-represents : (line : ℕ → Line) → Nexts (read m numberWord) (nextIn n) → Laids (opened n) (storeIn n 0) (queueMemory n) holder line → ((q : ℕ) → q < 4 → marks (line q) ≡ r .tour)
         → ((q : ℕ) → q < 4 → All (Fits (usesIn m q)) (line q)) → ((q : ℕ) → q < 4 → Timeline q New (timeline (contentsIn n) (line q)))
         → ((q : ℕ) → q < 4 → (t : ℕ) → usesIn m q t ≡ false → (queueMemory n q .children t ≡ vacant) × (queueMemory n q .user t ≡ vacant) × (queueMemory n q .right t ≡ vacant))
         → Represents n New
-    plain-represents line l k f t b =
-        of-parts n (r .tour) New line holder new-linked played sized
+    plain-represents line e l k f t b =
+        of-parts n (r .tour) New line holder new-linked played sized (subst (λ (x : ℕ). Nexts x (nextIn n)) (sym (kept .number)) e)
         (record {
           laids = l;
           first = λ q i. same-popper q ∙ parts-of m Old r .first q i;
           marked = k;
           fits = λ q i. subst (λ (u : ℕ → Bool). All (Fits u) (line q)) (sym (same-uses m n kept q)) (f q i);
           time = t;
-          bare = λ q i x e. b q i x (ap (λ (u : ℕ → Bool). u x) (sym (same-uses m n kept q)) ∙ e);
+          bare = λ q i x d. b q i x (ap (λ (u : ℕ → Bool). u x) (sym (same-uses m n kept q)) ∙ d);
         })
 
     -- ONE QUEUE CHANGES
-    module _ (q : ℕ) (small : q < 4) (ps : List Point)
+    module _ (q : ℕ) (small : q < 4) (ps : List Point) (nexts : Nexts (read m numberWord) (nextIn n))
         (row : After (mine (queueMemory m q .store) (r .line q)) (queueMemory m q .store) (queueMemory n q) (holder q) (r .line q) ps)
         (others : (p : ℕ) → p < 4 → (p ≡ q → ⊥) → queueMemory n p ≡ sharing (queueMemory n q .store) (queueMemory m p))
         (bare : (t : ℕ) → usesIn m q t ≡ false → (queueMemory n q .children t ≡ vacant) × (queueMemory n q .user t ≡ vacant) × (queueMemory n q .right t ≡ vacant))
@@ -153,7 +155,7 @@ module _ (m : List ℕ) (ys zs : List Item) (s : Task) (r : Represents m (ys ++ 
       pub queue-represents : Represents n New
       unfolding queueMemory ofTasks sharing
       queue-represents =
-          plain-represents line laids
+          plain-represents line nexts laids
           (by (λ p l. marks l ≡ r .tour) (after-marks row ∙ old .marked q small) (λ p i k. old .marked p i))
           (by (λ p l. All (Fits (usesIn m p)) l) (after-fits row (usesIn m q) (old .fits q small)) (λ p i k. old .fits p i))
           (by (λ p l. Timeline p New (timeline (contentsIn n) l)) (subst (Timeline q New) (sym (row .points)) time) other-time)

@@ -19,7 +19,7 @@ use Rattle.order_queue.specs.Laws.{push-line}
 use Rattle.gaps.specs.Maps.{put}
 use Rattle.gaps.specs.Line.{End, local, Extent, vacant, extent, Line, met}
 use Rattle.gaps.specs.Store.{Store, Memory, timeline}
-use Rattle.gaps.specs.Moves.{pushedInto}
+use Rattle.gaps.specs.Moves.{pushedInto, taken as taken-store}
 use Rattle.gaps.specs.After.{After}
 use Rattle.gaps.specs.PushRows.{into-row}
 use Rattle.gaps.specs.Pool.{mine}
@@ -28,6 +28,7 @@ use Rattle.meaning.specs.Update.{withContents}
 use Rattle.meaning.specs.Kept.{Kept, Becomes}
 use Rattle.meaning.specs.Values.{value-stored}
 use Rattle.represents.specs.Represents.{alive, ofTasks, queueMemory, usesIn, Represents}
+use Rattle.represents.specs.Nexts.{Nexts, nexts-taken, nexts-linked, words-nexts}
 use Rattle.represents.specs.Laids.{sharing}
 use Rattle.represents.specs.Parts.{holders, parts-of, same-alive}
 use Rattle.represents.specs.Live.{live-into}
@@ -83,10 +84,10 @@ module _ (m : List ℕ) (ys zs : List Item) (s : Task) (r : Represents m (ys ++ 
   abbrev New : List Item
   New = advance t (pushes q v) Old
 
-  has-right : uses (rightsOf s) q ≡ true
+  pub has-right : uses (rightsOf s) q ≡ true
   has-right = pushes-uses (rightsOf s) q may
 
-  stands : At m ys zs s r q
+  pub stands : At m ys zs s r q
   stands = at m ys zs s r q small has-right
 
   abbrev Pushed : List Point
@@ -96,13 +97,14 @@ module _ (m : List ℕ) (ys zs : List Item) (s : Task) (r : Represents m (ys ++ 
   new-time = push-line q ys zs s (single-spot m ys zs s r) (timeline (contentsIn m) (stands .earlier)) (Behind m ys zs s r q small stands) v has-right (time-at m ys zs s r q small stands)
 
   -- from a row of the queue's line, and what the words have come to mean
-  pushed : (n : List ℕ) (M : Meaning) (W : Memory) → Becomes m n M → Played New → ofTasks (alive m) (memoryOf M q) ≡ W
+  pub pushed : (n : List ℕ) (M : Meaning) (W : Memory) → Becomes m n M → Played New → Nexts (read m numberWord) (W .store .next) → ofTasks (alive m) (memoryOf M q) ≡ W
       → ((p : ℕ) → p < 4 → (p ≡ q → ⊥) → ofTasks (alive m) (memoryOf M p) ≡ sharing (W .store) (queueMemory m p))
       → ((x : ℕ) → usesIn m q x ≡ false → (W .children x ≡ vacant) × (W .user x ≡ vacant) × (W .right x ≡ vacant))
       → After (mine (queueMemory m q .store) (r .line q)) (queueMemory m q .store) W (holders m Old r q) (stands .later ++ (met t (stands .chain) ∷ stands .earlier)) Pushed
       → Represents n New
-  pushed n M W b play e others bare row =
-      queue-represents m ys zs s r (pushes q v) (plain-push q v) (made-push s q v) n (b .kept) (b .sized) play q small Pushed
+  unfolding queueMemory ofTasks
+  pushed n M W b play f e others bare row =
+      queue-represents m ys zs s r (pushes q v) (plain-push q v) (made-push s q v) n (b .kept) (b .sized) play q small Pushed (subst (λ (w : Memory). Nexts (read m numberWord) (w .store .next)) (sym is) f)
       (subst (λ (w : Memory). After (mine (queueMemory m q .store) (r .line q)) (queueMemory m q .store) w (holders m Old r q) (r .line q) Pushed) (sym is)
       (subst (λ (l : Line). After (mine (queueMemory m q .store) (r .line q)) (queueMemory m q .store) W (holders m Old r q) l Pushed) (sym (stands .parts)) row))
       (λ p i k. queue-memory p b ∙ others p i k ∙ ap (λ (w : Memory). sharing (w .store) (queueMemory m p)) (sym is))
@@ -112,28 +114,35 @@ module _ (m : List ℕ) (ys zs : List Item) (s : Task) (r : Represents m (ys ++ 
       is : queueMemory n q ≡ W
       is = queue-memory q b ∙ e
 
+  pub some-opened : 0 < read m numberWord
+  some-opened = let l = r .sized .number-range .0 in omega (arith, l)
+
+  pub old-nexts : Nexts (read m numberWord) (queueMemory m q .store .next)
+  unfolding queueMemory ofTasks
+  old-nexts = words-nexts m (r .sized) (r .nexts)
+
   -- THE TAIL SEGMENT HAS ROOM.
   pub push-into : (h : End) (z : ℕ) → queueMemory m q .user t ≡ extent h (local z) → z < read m numberWord → read m (count z) < read m lengthWord → Played New
       → Represents (stored m z v) New
   unfolding queueMemory ofTasks sharing pushedInto
   push-into h z u low room play =
-      pushed (stored m z v) (withContents (meaningOf m) z (contentsIn m z ++ v ∷ [])) (pushedInto z v (queueMemory m q)) (value-stored m z v (r .sized) low room) play refl
+      pushed (stored m z v) (withContents (meaningOf m) z (contentsIn m z ++ v ∷ [])) (pushedInto z v (queueMemory m q)) (value-stored m z v (r .sized) low room) play old-nexts refl
       (λ p i k. refl) (λ x e. parts-of m Old r .bare q small x e)
       (into-row (mine (queueMemory m q .store) (r .line q)) (one-mine m Old r q small) (queueMemory m q) (holders m Old r q) (stands .later) t (stands .chain) (stands .earlier) v
       (laid-at m ys zs s r q small stands) h z u)
 
   -- only the task's own user view, and a place before it, are written
-  other-user : (x : ℕ) (v : Extent) → usesIn m q x ≡ false → put (queueMemory m q .user) t v x ≡ queueMemory m q .user x
+  pub other-user : (x : ℕ) (v : Extent) → usesIn m q x ≡ false → put (queueMemory m q .user) t v x ≡ queueMemory m q .user x
   other-user x v e = put-other (queueMemory m q .user) t v x (λ f. false≢true (sym e ∙ ap (usesIn m q) f ∙ uses-here m ys zs s r q has-right))
 
   abbrev holder : ℕ
   holder = holders m Old r q
 
-  holder-alive : alive m holder ≡ true
+  pub holder-alive : alive m holder ≡ true
   holder-alive = let w = holder-unfinished m Old r q small in here m Old r holder (w .0 .0) (w .1)
 
   -- the user view by the words
-  user-word : {v : Extent} → queueMemory m q .user t ≡ v → viewIn m q USER t ≡ v
+  pub user-word : {v : Extent} → queueMemory m q .user t ≡ v → viewIn m q USER t ≡ v
   unfolding queueMemory ofTasks
   user-word u = sym (halt _ _ (task-alive m ys zs s r)) ∙ u
 
@@ -141,10 +150,11 @@ module _ (m : List ℕ) (ys zs : List Item) (s : Task) (r : Represents m (ys ++ 
   pub push-behind : (h : End) (z g : ℕ) (rest : List ℕ) (w : ℕ) (ws : List ℕ) → queueMemory m q .user t ≡ extent h (local z) → z < read m numberWord
       → freeIn m ≡ g ∷ rest → contentsIn m z ≡ w ∷ ws → (z ≡ g → ⊥) → Played New
       → Represents (write (write (taken m v) (next z) (nextFree m)) (tail USER t q) (nextFree m)) New
-  unfolding queueMemory ofTasks sharing
+  unfolding queueMemory ofTasks sharing pushedBehind
   push-behind h z g rest w ws u low ef filled ne play =
       pushed _ (behindIn (meaningOf m) q t h z g rest v) (pushedBehind holder t h z g rest v (queueMemory m q))
       (pushed-behind m t q v g rest (r .sized) (task-unfinished m ys zs s r .0) small ef g-below z h (local z) low (user-word u)) play
+      (nexts-linked (read m numberWord) some-opened (taken-store g rest v (queueMemory m q .store) .contents z) holder z g (taken-store g rest v (queueMemory m q .store)) g-below (nexts-taken (read m numberWord) some-opened g rest v (queueMemory m q .store) old-nexts))
       same others bare
       (behind-row (mine (queueMemory m q .store) (r .line q)) (one-mine m Old r q small) (queueMemory m q) holder (stands .later) t (stands .chain) (stands .earlier) v
       (laid-at m ys zs s r q small stands) g rest free-is h z u)

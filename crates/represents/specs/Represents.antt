@@ -3,11 +3,12 @@ use mathlib.Core.Path.{_≡_}
 use mathlib.Core.Bool.{Bool, true, false, not}
 use mathlib.Core.Option.{Option, none, some}
 use mathlib.Core.List.{List, [], _∷_}
+use mathlib.Core.Logic.{_⊎_}
 use Prim.Native.Nat.{ℕ, _<_}
 use lib.Dec.{ltb, eqb}
 use Rattle.words.specs.Words.{pick, both}
 use Rattle.lists.specs.Counting.{one}
-use Rattle.layout.specs.Layout.{FREE, STATUS, numberWord, task, read}
+use Rattle.layout.specs.Layout.{NONE, FREE, STATUS, numberWord, next, task, read}
 use Rattle.tree.specs.Rights.{uses}
 use Rattle.calls.specs.Waits.{rightsOf as rightsIn}
 use Rattle.order.specs.Steps.{Item}
@@ -74,3 +75,5 @@ pub record Represents (m : List ℕ) (xs : List Item) : Type 0 where
   pub queue : (q : ℕ) → q < 4 → Queue m tour xs q (line q)
   -- each segment opened with stands once, in one chain of one queue or among the free ones
   pub pool : Pool (opened m) (storeIn m 0) (line 0 ∷ line 1 ∷ line 2 ∷ line 3 ∷ [])
+  -- the next of every segment opened with, held or free, is a segment opened with or none
+  pub nexts : (s : ℕ) → s < read m numberWord → (read m (next s) ≡ NONE) ⊎ (read m (next s) < read m numberWord)

@@ -1,5 +1,5 @@
 -- FINISH of a task other than the top keeps the invariant: the four queues have their turns, then the task leaves the tree.
-use mathlib.Core.Path.{_≡_, refl, ap, sym, _∙_, subst}
+use mathlib.Core.Path.{_≡_, refl, ap, sym, _∙_, subst, subst₂}
 use mathlib.Core.Bool.{Bool, true, false}
 use mathlib.Core.Option.{none}
 use mathlib.Core.List.{List, [], _∷_, _++_}
@@ -26,6 +26,7 @@ use Rattle.links.specs.Finish.{Finished}
 use Rattle.meaning.specs.Meaning.{storeIn}
 use Rattle.meaning.specs.Tree.{LinksOnly}
 use Rattle.represents.specs.Represents.{queueMemory, usesIn, opened, Represents}
+use Rattle.represents.specs.Nexts.{Nexts}
 use Rattle.represents.specs.Laids.{Laids, by-queue}
 use Rattle.represents.specs.Parts.{of-parts}
 use Rattle.represents.specs.Plain.{laids-as}
@@ -35,7 +36,7 @@ use Rattle.represents_finish.specs.Way.{Vacant, Way, Standing, all-begin
 use Rattle.represents_finish.specs.Heir.{gone}
 use Rattle.represents_finish.specs.FinishTurn.{Rest, Stage, turn-allowed, finish-turn}
 use Rattle.represents_finish.specs.Unlinked.{freed, words, links-only, tree-after}
-use Rattle.represents_finish.specs.Freed.{fits-without, freed-sized, freed-next, freed-contents, freed-free, freed-opened, freed-uses, freed-memory}
+use Rattle.represents_finish.specs.Freed.{fits-without, freed-sized, freed-number, freed-next, freed-contents, freed-free, freed-opened, freed-uses, freed-memory}
 
 module _ (m : List ℕ) (ys zs : List Item) (s : Task) (r : Represents m (ys ++ spot s ∷ zs)) (barren : hasChild m (numberOf s) ≡ false) (above : 0 < numberOf s) where
   abbrev t : ℕ
@@ -143,6 +144,7 @@ module _ (m : List ℕ) (ys zs : List Item) (s : Task) (r : Represents m (ys ++ 
     unfolding finished
     finish-represents =
         of-parts f T New line holder (tree-after m ys zs s r barren above n (way .kept) play) play (freed-sized m n t below (way .kept) (way .sized) links w)
+        (subst₂ Nexts (sym (freed-number m n t below (way .kept) (way .sized) links w)) (sym (freed-next m n t below (way .kept) (way .sized) links w)) (way .nexts))
         (record {
           laids = laids;
           first = λ q i. done q i .0 .first;

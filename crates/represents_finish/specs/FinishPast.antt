@@ -162,6 +162,7 @@ module _ (m : List ℕ) (ys zs : List Item) (s : Task) (r : Represents m (ys ++ 
               laid = row .laid;
               fits = after-fits row (usesIn m q) both-parts;
               bare = way .bare q small;
+              nexts = way .nexts;
             };
             gone = gone;
             marked = after-marks row ∙ marks-append b a ∙ ap₂ (λ (x z : List ℕ). x ++ z) later earlier;

@@ -4,6 +4,8 @@ use mathlib.Core.Bool.{true, false, false≢true}
 use mathlib.Core.List.{List, [], _∷_, _++_, head-eq-of-cons-eq}
 use Prim.Native.Nat.{ℕ, _+_, _<_}
 use native.Mathlib.Omega.{arith}
+use Rattle.lists.specs.Counting.{occurrences, occurs-append}
+use Rattle.layout.specs.Layout.{numberWord, read}
 use Rattle.tree.specs.Rights.{uses}
 use Rattle.calls.specs.Waits.{hasChild}
 use Rattle.calls.specs.Finish.{viewsReturned}
@@ -11,22 +13,26 @@ use Rattle.order.specs.Steps.{Task, Item, spot, finishes, numberOf, rightsOf, a
 use Rattle.order_queue.specs.Points.{Point, user, Timeline}
 use Rattle.order_queue.specs.Laws.{finish-line}
 use Rattle.gaps.specs.Maps.{All, put-same, put-other, all-append, all-front, all-behind}
-use Rattle.gaps.specs.Line.{vacant, Mark, left, met, Line, marks, Fits}
-use Rattle.gaps.specs.Store.{Memory, valuesIn, timeline}
-use Rattle.gaps.specs.Lines.{marks-append}
-use Rattle.gaps.specs.Moves.{finishedWith, finished}
+use Rattle.gaps.specs.Line.{Extent, vacant, Mark, left, met, Line, marks, segments, Fits}
+use Rattle.gaps.specs.Store.{Memory, Laid, valuesIn, timeline}
+use Rattle.gaps.specs.Lines.{marks-append, count-segments}
+use Rattle.gaps.specs.Moves.{viewAt, reduced, joined, finishedWith, finished}
 use Rattle.gaps.specs.After.{After, after-marks, after-fits}
 use Rattle.gaps.specs.FinishRow.{finish-row}
+use Rattle.gaps.specs.Frames.{split}
 use Rattle.gaps.specs.Timelines.{timeline-at}
 use Rattle.gaps.specs.Pool.{mine}
 use Rattle.meaning.specs.Meaning.{memoryOf, memoryIn, contentsIn}
 use Rattle.represents.specs.Represents.{alive, ofTasks, queueMemory, usesIn, Represents}
+use Rattle.represents.specs.Nexts.{Nexts, HeadBelow, nexts-joined}
 use Rattle.represents.specs.Laids.{sharing}
 use Rattle.represents.specs.Push.{masked-share}
 use Rattle.represents.specs.At.{single-spot}
 use Rattle.represents_finish.specs.Leaf.{leaf, with-right}
 use Rattle.represents_finish.specs.Way.{Vacant, Way, Standing}
-use Rattle.represents_finish.specs.Queue.{single}
+use Rattle.represents_finish.specs.Queue.{single, held-below}
+use Rattle.represents_finish.specs.Reductions.{Leaving, leaving-views}
+use Rattle.represents_finish.specs.HeadsBelow.{headless-below, reduced-below, right-below}
 use Rattle.represents_finish.specs.FirstNames.{Covered}
 use Rattle.represents_finish.specs.LiveFinish.{live-finish}
 use Rattle.represents_finish.specs.Reduced.{alive-t, alive-h, was}
@@ -113,6 +119,41 @@ module _ (m : List ℕ) (ys zs : List Item) (s : Task) (r : Represents m (ys ++ 
         let k : x ≡ t → ⊥ = λ d. false≢true (sym e ∙ ap (usesIn m q) d ∙ right) in
         (put-other _ t vacant x k ∙ w .0 ∙ v .0, put-other (Q .user) t vacant x k ∙ v .1, put-other _ t vacant x k ∙ w .1 ∙ v .2)
 
+    nexts : Nexts (read m numberWord) (W .store .next)
+    unfolding queueMemory ofTasks finished finishedWith
+    nexts =
+        nexts-joined N some-opened h (viewAt (Q .children) (Q .right) (back .place)) (reduced inner (Q .right t)) (joined h inner (Q .right t) (joined h (Q .children t) (Q .user t) (Q .store)))
+        (reduced-below N some-opened inner (Q .right t) (views .inner-headless) right-head)
+        (nexts-joined N some-opened h inner (Q .right t) (joined h (Q .children t) (Q .user t) (Q .store)) right-head
+        (nexts-joined N some-opened h (Q .children t) (Q .user t) (Q .store) (headless-below N some-opened (Q .user t) (views .user-headless)) (way .nexts)))
+      where
+        N : ℕ
+        N = read m numberWord
+
+        some-opened : 0 < N
+        some-opened = let l = r .sized .number-range .0 in omega (arith, l)
+
+        inner : Extent
+        inner = reduced (Q .children t) (Q .user t)
+
+        laid : Laid own Q h ((y ∷ b) ++ (met t c ∷ (left t ∷ a)))
+        laid = was m ys zs s r n holder line way covered q small (stands .first) (y ∷ b) c a parts
+
+        views : Leaving own (single m Old r n holder line way q small) Q h (y ∷ b) t a c
+        views = leaving-views own (single m Old r n holder line way q small) Q h (y ∷ b) t a c laid
+
+        low : (x : ℕ) → 0 < occurrences x c → x < N
+        low x p =
+            let e = ap (λ (l : Line). occurrences x (segments l)) parts in
+            let f = count-segments x (y ∷ b) (met t c ∷ (left t ∷ a)) in
+            let g = occurs-append x c (segments (left t ∷ a)) in
+            let k = held-below m Old r n holder line way q small x (omega (arith, e, f, g, p)) in
+            let w = way .kept .number in
+            omega (arith, k, w)
+
+        right-head : HeadBelow N some-opened (Q .right t)
+        right-head = right-below N some-opened t c (left t ∷ a) (split (y ∷ b) (met t c) (left t ∷ a) (laid .views) .1) low
+
     gone : Vacant W t
     unfolding finished finishedWith
     gone = (put-same _ t vacant, put-same (Q .user) t vacant, put-same _ t vacant)
@@ -131,6 +172,7 @@ module _ (m : List ℕ) (ys zs : List Item) (s : Task) (r : Represents m (ys ++ 
             laid = row .laid;
             fits = after-fits row (usesIn m q) both-parts;
             bare = bare;
+            nexts = nexts;
           };
           gone = gone;
           marked = after-marks row ∙ marks-append (y ∷ b) a ∙ ap₂ (λ (x z : List ℕ). x ++ z) later earlier;

@@ -86,11 +86,13 @@ module _ (m n : List ℕ) (t : ℕ) (small : t < 128) (kept : Kept m n) (sized :
   pub freed-free : freeIn f ≡ freeIn n
   freed-free = ap (λ (M : Meaning). M .free) (whole .means) ∙ ap (λ (M : Meaning). M .free) (halfway .means)
 
+  pub freed-number : read f numberWord ≡ read m numberWord
+  freed-number =
+      freed-only u t (halfway .sized) small .same numberWord (omega arith, λ q. omega (arith, q)) ∙ only .only .same numberWord (omega arith, λ q. omega (arith, q)) ∙ kept .number
+
   pub freed-opened : opened f ≡ opened m
   unfolding opened
-  freed-opened =
-      fun-ext λ s. ap (λ (x : ℕ). one (ltb s x))
-      (freed-only u t (halfway .sized) small .same numberWord (omega arith, λ q. omega (arith, q)) ∙ only .only .same numberWord (omega arith, λ q. omega (arith, q)) ∙ kept .number)
+  freed-opened = fun-ext λ s. ap (λ (x : ℕ). one (ltb s x)) freed-number
 
   -- the words of views of the other tasks
   view-word : (x j : ℕ) → x < 128 → (x ≡ t → ⊥) → 16 ≤ j → j < 48 → read f (task x j) ≡ read n (task x j)

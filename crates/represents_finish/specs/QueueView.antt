@@ -164,6 +164,7 @@ module _ (m : List ℕ) (ys zs : List Item) (s : Task) (r : Represents m (ys ++ 
               laid = row .laid;
               fits = after-fits row (usesIn m q) (c .fits);
               bare = c .bare;
+              nexts = c .nexts;
             };
             gone = views .gone;
             marked = after-marks row ∙ views .marked;

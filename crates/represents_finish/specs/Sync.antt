@@ -71,7 +71,7 @@ module _ (m : List ℕ) (ys zs : List Item) (s : Task) (r : Represents m (ys ++ 
   sync-represents play =
       let A = all-synced in
       let k = A .way .kept in
-      plain-represents m ys zs s r syncStep plain-sync (made-sync s) (synced m t) k (A .way .sized) play (A .line)
+      plain-represents m ys zs s r syncStep plain-sync (made-sync s) (synced m t) k (A .way .sized) play (A .line) (A .way .nexts)
       (subst (λ (own : ℕ → ℕ). Laids own (storeIn (synced m t) 0) (queueMemory (synced m t)) (holders m Old r) (A .line)) (sym (same-opened m (synced m t) k))
       (holders-as (opened m) (synced m t) (A .holder) (holders m Old r) (A .line)
       (λ q i. Option·some-injective _ _ (sym (A .stands q i .first) ∙ parts-of m Old r .first q i)) (A .way .laids)))

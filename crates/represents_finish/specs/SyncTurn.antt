@@ -5,7 +5,7 @@ use mathlib.Core.List.{List, _∷_, _++_}
 use Prim.Native.Nat.{ℕ, _<_}
 use native.Mathlib.Omega.{arith}
 use Rattle.lists.specs.Counting.{occurrences}
-use Rattle.layout.specs.Layout.{CHILDREN, USER}
+use Rattle.layout.specs.Layout.{CHILDREN, USER, numberWord, read}
 use Rattle.calls.specs.Waits.{hasChild}
 use Rattle.calls.specs.Sync.{syncs, syncedQueue}
 use Rattle.order.specs.Steps.{Task, Item, spot, numberOf}
@@ -23,6 +23,7 @@ use Rattle.meaning.specs.Extents.{reduces}
 use Rattle.meaning.specs.Reduce.{Links, Tailed}
 use Rattle.meaning.specs.Sync.{syncedIn, Syncs, sync-test, queue-synced, memory-synced, memory-synced-elsewhere}
 use Rattle.represents.specs.Represents.{alive, ofTasks, queueMemory, usesIn, Represents}
+use Rattle.represents.specs.Nexts.{Nexts, nexts-joined}
 use Rattle.represents.specs.Laids.{sharing}
 use Rattle.represents.specs.Live.{live-sync}
 use Rattle.represents.specs.Push.{masked-share}
@@ -30,6 +31,7 @@ use Rattle.represents.specs.At.{mine-spot, task-unfinished}
 use Rattle.represents_finish.specs.Leaf.{with-right}
 use Rattle.represents_finish.specs.Way.{Vacant, Way, Standing, AllStand, Turn, turn-same}
 use Rattle.represents_finish.specs.Meets.{Apart, Tails, meets-reduces, meets-links, tails-tailed}
+use Rattle.represents_finish.specs.HeadsBelow.{headless-below}
 use Rattle.represents_finish.specs.Reductions.{Leaving, leaving-views}
 use Rattle.represents_finish.specs.Queue.{single, held-local, spot-alive, children-word, user-word, holder-alive}
 
@@ -121,6 +123,15 @@ module _ (m : List ℕ) (ys zs : List Item) (s : Task) (r : Represents m (ys ++ 
           let k : x ≡ t → ⊥ = λ d. false≢true (sym e ∙ ap (usesIn m q) d ∙ u) in
           (put-other (Q .children) t vacant x k ∙ v .0, put-other (Q .user) t _ x k ∙ v .1, v .2)
 
+      nexts : Nexts (read m numberWord) (synced (holder q) t Q .store .next)
+      unfolding queueMemory ofTasks synced
+      nexts =
+          nexts-joined (read m numberWord) some-opened (holder q) (Q .children t) (Q .user t) (Q .store)
+          (headless-below (read m numberWord) some-opened (Q .user t) (views .user-headless)) (way .nexts)
+        where
+          some-opened : 0 < read m numberWord
+          some-opened = let l = r .sized .number-range .0 in omega (arith, l)
+
       turned : usesIn m q t ≡ true → Turn m n (syncedQueue n t q) q (line q) (holder q)
       turned u =
           record {
@@ -134,6 +145,7 @@ module _ (m : List ℕ) (ys zs : List Item) (s : Task) (r : Represents m (ys ++ 
             laid = row .laid;
             fits = after-fits row (usesIn m q) (way .fits q small);
             bare = λ x e. bare x u e;
+            nexts = nexts;
           }
 
     -- THE TASK HAS NO RIGHT, so no views
@@ -171,6 +183,7 @@ module _ (m : List ℕ) (ys zs : List Item) (s : Task) (r : Represents m (ys ++ 
             laid = way .laids .laid q small;
             fits = way .fits q small;
             bare = way .bare q small;
+            nexts = way .nexts;
           }
 
   -- THE TURN: the paper has the reduction, and all queues stand after it as before.

@@ -7,6 +7,7 @@ use mathlib.Core.List.{List}
 use mathlib.Core.Logic.{⊎-elim}
 use Prim.Native.Nat.{ℕ, _+_, _<_}
 use Rattle.lists.specs.Counting.{occurrences, equal?}
+use Rattle.layout.specs.Layout.{numberWord, read}
 use Rattle.order.specs.Steps.{Item}
 use Rattle.order_waits.specs.Popper.{firstPopper}
 use Rattle.order_queue.specs.Points.{Timeline}
@@ -18,6 +19,7 @@ use Rattle.gaps.specs.Pool.{allSegments, mine}
 use Rattle.meaning.specs.Meaning.{Meaning, nextIn, contentsIn, freeIn, storeIn, memoryOf, Sized}
 use Rattle.meaning.specs.Kept.{Kept, kept-all, kept-then, Becomes}
 use Rattle.represents.specs.Represents.{alive, ofTasks, queueMemory, usesIn, opened, Represents}
+use Rattle.represents.specs.Nexts.{Nexts, words-nexts}
 use Rattle.represents.specs.Laids.{sharing, four, Laids, laids-row, other-timeline}
 use Rattle.represents.specs.Parts.{holders, parts-of, opened-single}
 use Rattle.represents.specs.Plain.{laids-as}
@@ -34,6 +36,7 @@ pub record Way (m n : List ℕ) (holder : ℕ → ℕ) (line : ℕ → Line) : T
   pub laids : Laids (opened m) (storeIn n 0) (queueMemory n) holder line
   pub fits : (q : ℕ) → q < 4 → All (Fits (usesIn m q)) (line q)
   pub bare : (q : ℕ) → q < 4 → (x : ℕ) → usesIn m q x ≡ false → Vacant (queueMemory n q) x
+  pub nexts : Nexts (read m numberWord) (nextIn n)
 
 -- ONE QUEUE stands as the list xs of program order and the tour T say.
 pub record Standing (n : List ℕ) (xs : List Item) (T : List ℕ) (q h : ℕ) (l : Line) : Type 0 where
@@ -56,7 +59,7 @@ module _ (m : List ℕ) (xs : List Item) (r : Represents m xs) where
       record {
         holder = holders m xs r;
         line = r .line;
-        way = record { kept = kept-all m; sized = r .sized; laids = p .laids; fits = p .fits; bare = p .bare };
+        way = record { kept = kept-all m; sized = r .sized; laids = p .laids; fits = p .fits; bare = p .bare; nexts = words-nexts m (r .sized) (r .nexts) };
         stands = λ q i. record { marked = p .marked q i; first = p .first q i; time = p .time q i };
       }
 
@@ -106,6 +109,7 @@ pub record Turn (m n n′ : List ℕ) (q : ℕ) (l : Line) (h : ℕ) : Type 0 wh
   pub laid : Laid (mine (queueMemory n q .store) l) memory h line
   pub fits : All (Fits (usesIn m q)) line
   pub bare : (x : ℕ) → usesIn m q x ≡ false → Vacant memory x
+  pub nexts : Nexts (read m numberWord) (memory .store .next)
 
 module _ (m n : List ℕ) (holder : ℕ → ℕ) (line : ℕ → Line) (way : Way m n holder line) (q : ℕ) (small : q < 4) (n′ : List ℕ) (h : ℕ) (c : Turn m n n′ q (line q) h) where
   abbrev W : Memory
@@ -150,6 +154,7 @@ module _ (m n : List ℕ) (holder : ℕ → ℕ) (line : ℕ → Line) (way : Wa
   turn-vacant p i k x v = subst (λ (w : Memory). Vacant w x) (sym (is-other p i k)) v
 
   pub turn : Way m n′ (put holder q h) (put line q l)
+  unfolding queueMemory ofTasks
   turn =
       record {
         kept = kept-then (way .kept) (c .becomes .kept);
@@ -161,6 +166,7 @@ module _ (m n : List ℕ) (holder : ℕ → ℕ) (line : ℕ → Line) (way : Wa
             (λ e. subst (λ (y : ℕ). (x : ℕ) → usesIn m y x ≡ false → Vacant (queueMemory n′ y) x) (sym e) (λ x u. turn-gone x (c .bare x u)))
             (λ k x u. turn-vacant p i k x (way .bare p i x u))
             (equal? p q);
+        nexts = subst (λ (w : Memory). Nexts (read m numberWord) (w .store .next)) (sym is-here) (c .nexts);
       }
 
   -- the values of the other queues are as they were

@@ -8,12 +8,12 @@ use native.Mathlib.Nat.{le-of-suc-le-suc, add-comm, add-mul, mul-assoc, zero-mul
 use native.Mathlib.Omega.{arith}
 use lib.Dec.{leb, ltb, eqb}
 use lib.ListN.{getD, drop, take}
-use lib.Seq.{drop-drop}
+use lib.Seq.{drop-drop, getD-drop}
 use borrow.Author.Tests.{ltb-true}
 use Rattle.words.specs.Words.{load, pick, pick-true, pick-false, either}
 use Rattle.words.specs.Blocks.{rows, row-at}
 use Rattle.lists.specs.Counting.{occurrences}
-use Rattle.layout.specs.Layout.{NONE, NL, STATUS, UNFINISHED, lengthWord, numberWord, freeSegments, freeTasks, read, recordOf}
+use Rattle.layout.specs.Layout.{NONE, NL, STATUS, UNFINISHED, lengthWord, numberWord, freeSegments, freeTasks, segment, address, read, recordOf}
 
 pub record Contents : Type 0 where
   -- the length L of a segment, and the number of segments opened
@@ -109,6 +109,10 @@ word c t k = load (c .recs t) k
 
 unfoldable pub part : Contents → ℕ → ℕ → ℕ
 part c s k = load (c .segs s) k
+
+pub part-word : (m : List ℕ) (s k : ℕ) → part (decode m) s k ≡ read m (segment s k)
+unfolding part segmentOf load read address
+part-word m s k = getD-drop (448 + s * 4) m k 0
 
 -- the first n words of r that are segments, no mark
 unfoldable pub locals : ℕ → List ℕ → List ℕ

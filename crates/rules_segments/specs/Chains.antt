@@ -30,11 +30,11 @@ module _ (c : Contents) where
   unfolding chain
   chain-short s e = let a = occurs-here NONE NONE [] refl in omega (arith, a, e)
 
-  chain-last : (k s : ℕ) → part c s 2 ≡ NONE → chain c (suc k) s ≡ s ∷ []
+  pub chain-last : (k s : ℕ) → part c s 2 ≡ NONE → chain c (suc k) s ≡ s ∷ []
   unfolding chain
   chain-last k s q = ap (λ (r : List ℕ). s ∷ r) (halt _ _ (eq-eqb _ _ q))
 
-  chain-more : (k s : ℕ) → (part c s 2 ≡ NONE → ⊥) → chain c (suc k) s ≡ s ∷ chain c k (part c s 2)
+  pub chain-more : (k s : ℕ) → (part c s 2 ≡ NONE → ⊥) → chain c (suc k) s ≡ s ∷ chain c k (part c s 2)
   unfolding chain
   chain-more k s q = ap (λ (r : List ℕ). s ∷ r) (pass _ (ne-eqb _ _ q) refl)
 

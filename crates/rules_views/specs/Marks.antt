@@ -43,19 +43,19 @@ module _ (c : Contents) (q : ℕ) where
     pub left : ltb x 128 ≡ false → uses (word c (x - 128) RIGHTS) q ≡ true → PairAt (x - 128) CHILDREN
 
   module _ (x : ℕ) where
-    at-met : (o : ℕ) → ltb x 128 ≡ true → uses (word c x RIGHTS) q ≡ true → orderAt c q x o ≡ passedAt c q x USER (passedAt c q x RIGHT o)
+    pub at-met : (o : ℕ) → ltb x 128 ≡ true → uses (word c x RIGHTS) q ≡ true → orderAt c q x o ≡ passedAt c q x USER (passedAt c q x RIGHT o)
     unfolding orderAt
     at-met o a b = halt _ _ a ∙ halt _ _ b
 
-    at-met-none : (o : ℕ) → ltb x 128 ≡ true → uses (word c x RIGHTS) q ≡ false → orderAt c q x o ≡ o
+    pub at-met-none : (o : ℕ) → ltb x 128 ≡ true → uses (word c x RIGHTS) q ≡ false → orderAt c q x o ≡ o
     unfolding orderAt
     at-met-none o a b = halt _ _ a ∙ pass _ b refl
 
-    at-left : (o : ℕ) → ltb x 128 ≡ false → uses (word c (x - 128) RIGHTS) q ≡ true → orderAt c q x o ≡ passedAt c q (x - 128) CHILDREN o
+    pub at-left : (o : ℕ) → ltb x 128 ≡ false → uses (word c (x - 128) RIGHTS) q ≡ true → orderAt c q x o ≡ passedAt c q (x - 128) CHILDREN o
     unfolding orderAt
     at-left o a b = pass _ a (halt _ _ b)
 
-    at-left-none : (o : ℕ) → ltb x 128 ≡ false → uses (word c (x - 128) RIGHTS) q ≡ false → orderAt c q x o ≡ o
+    pub at-left-none : (o : ℕ) → ltb x 128 ≡ false → uses (word c (x - 128) RIGHTS) q ≡ false → orderAt c q x o ≡ o
     unfolding orderAt
     at-left-none o a b = pass _ a (pass _ b refl)
 

@@ -40,11 +40,11 @@ unfolding both
 not-both b e = pass b e refl
 
 module _ (h e o : ℕ) where
-  passed-none : h ≡ NONE → e ≡ NONE → passed h e o ≡ o
+  pub passed-none : h ≡ NONE → e ≡ NONE → passed h e o ≡ o
   unfolding passed
   passed-none p q = halt _ _ (eq-eqb h NONE p) ∙ halt _ _ (eq-eqb e NONE q)
 
-  passed-fit : (h ≡ NONE → ⊥) → (e ≡ NONE → ⊥) → marked e ≡ o → passed h e o ≡ marked h
+  pub passed-fit : (h ≡ NONE → ⊥) → (e ≡ NONE → ⊥) → marked e ≡ o → passed h e o ≡ marked h
   unfolding passed
   passed-fit p q m = pass _ (ne-eqb h NONE p) (pass _ (neither (ne-eqb e NONE q) (ap not (eq-eqb (marked e) o m))) refl)
 

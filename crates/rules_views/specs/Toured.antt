@@ -40,7 +40,7 @@ module _ (c : Contents) where
   over-tails s (t ∷ ts) =
       let a = occurs-append s (locals 12 (drop 32 (c .recs t))) (tails c ts) in let b = over-tails s ts in omega (arith, a, b)
 
-  over-owners : (q : ℕ) (ts : List ℕ) → length (owners c q ts) ≡ over ts (λ t. pick (eqb (word c t (16 + q)) NONE) 0 1)
+  pub over-owners : (q : ℕ) (ts : List ℕ) → length (owners c q ts) ≡ over ts (λ t. pick (eqb (word c t (16 + q)) NONE) 0 1)
   unfolding owners over
   over-owners q [] = refl
   over-owners q (t ∷ ts) = let a = over-owners q ts in let b = counted (eqb (word c t (16 + q)) NONE) t (owners c q ts) in omega (arith, a, b)

@@ -10,17 +10,16 @@ use lib.ListN.{length, getD, take, drop, length-take, length-drop}
 use borrow.Author.Tests.{ltb-true, eqb-true, leb-true}
 use Rattle.words.specs.Words.{load, size, both-true}
 use Rattle.lists.specs.Counting.{occurrences, occurs-here, occurs-cons}
-use Rattle.layout.specs.Layout.{NONE, NL, UNFINISHED, STATUS, RIGHTS, lengthWord, numberWord, freeSegments, freeTasks, freeSegment, freeTask, segment, task, first, count, next, address, read, recordOf}
+use Rattle.layout.specs.Layout.{NONE, NL, UNFINISHED, STATUS, RIGHTS, lengthWord, numberWord, freeSegments, freeTasks, freeSegment, freeTask, task, first, count, next, address, read, recordOf}
 use Rattle.layout.specs.Frame.{record-word}
 use Rattle.tree.specs.Tour.{met}
-use Rattle.rules.specs.Contents.{Contents, decode, scan-decodes, word, part, segmentOf, heads, tails}
+use Rattle.rules.specs.Contents.{Contents, decode, scan-decodes, word, part-word, heads, tails}
 use Rattle.rules.specs.Rules.{Link, Holder, TaskRules}
 use Rattle.rules.specs.Test.{test, rulesHold}
 use Rattle.rules_segments.specs.Segments.{segments-say}
 use Rattle.rules_segments.specs.Tested.{segments-sound}
 use Rattle.rules_tasks.specs.Tasks.{tasks-say}
 use Rattle.rules_views.specs.Ends.{heads-fit, tails-fit}
-use Rattle.rules_views.specs.Members.{load-drop}
 use Rattle.rules_same.specs.Passed.{Passed, test-says, opening-says, toured}
 use Rattle.rules_same.specs.Same.{whole-tour}
 use Rattle.calls.specs.Waits.{unfinished}
@@ -70,10 +69,6 @@ module _ (m : List ℕ) where
     -- the task tree
     pub tasks : TaskRules (decode m)
 
-  part-word : (s k : ℕ) → part (decode m) s k ≡ read m (segment s k)
-  unfolding part segmentOf read address
-  part-word s k = load-drop m (448 + s * 4) k
-
   task-word : (t k : ℕ) → word (decode m) t k ≡ read m (task t k)
   unfolding word
   task-word t k = record-word m t k
@@ -109,9 +104,9 @@ module _ (m : List ℕ) where
         length-range = o .length-range;
         number-range = o .number-range;
         product-range = o .product-range;
-        firsts = λ s l. let a = sound s l .first in let b = part-word s 0 in omega (arith, a, b);
-        counts = λ s l. let a = sound s l .count in let b = part-word s 1 in omega (arith, a, b);
-        nexts = λ s l. rw (part-word s 2) at (sound s l .link);
+        firsts = λ s l. let a = sound s l .first in let b = part-word m s 0 in omega (arith, a, b);
+        counts = λ s l. let a = sound s l .count in let b = part-word m s 1 in omega (arith, a, b);
+        nexts = λ s l. rw (part-word m s 2) at (sound s l .link);
         heads-open = λ t i h l q.
             let e = task-word t (16 + i) in
             let a = heads-fit c xs v (g .1) t i (live-holder t h) l (omega (arith, e, q)) in

@@ -31,11 +31,11 @@ unfolding pick
 twice true g a o = refl
 twice false g a o = refl
 
-met-here : (x : ℕ) (xs : List ℕ) → x < 128 → met (x ∷ xs) ≡ x ∷ met xs
+pub met-here : (x : ℕ) (xs : List ℕ) → x < 128 → met (x ∷ xs) ≡ x ∷ met xs
 unfolding met
 met-here x xs l = halt _ _ (lt-ltb x 128 l)
 
-met-past : (x : ℕ) (xs : List ℕ) → 128 ≤ x → met (x ∷ xs) ≡ met xs
+pub met-past : (x : ℕ) (xs : List ℕ) → 128 ≤ x → met (x ∷ xs) ≡ met xs
 unfolding met
 met-past x xs l = pass _ (le-ltb x 128 l) refl
 

@@ -1,6 +1,6 @@
 -- Where the marks are those of a whole tour: heads and tails are as often there as in the lists of the test of the rules,
 -- and the words of the views are right of both or of neither.
-use mathlib.Core.Path.{_≡_, refl, ap, ap₂, sym, _∙_, subst}
+use mathlib.Core.Path.{_≡_, ap, sym, _∙_, subst}
 use mathlib.Core.Bool.{true, false}
 use mathlib.Core.List.{List, [], _∷_}
 use mathlib.Core.Logic.{⊎-elim}
@@ -9,6 +9,7 @@ use native.Mathlib.Omega.{arith}
 use native.Mathlib.Nat.{eq-zero-or-pos}
 use lib.ListN.{drop}
 use Rattle.lists.specs.Counting.{occurrences, over, equal?, occurs-nil, occurs-here, occurs-past, over-same}
+use Rattle.lists.specs.Sums.{over-plus, over-ext}
 use Rattle.lists.specs.Tests.{each}
 use Rattle.layout.specs.Layout.{NONE, NL, RIGHTS, CHILDREN, USER, RIGHT}
 use Rattle.tree.specs.Rights.{uses}
@@ -25,16 +26,6 @@ use Rattle.view_laws.specs.Good.{allowed, tailsOf, headsOf}
 use Rattle.view_laws.specs.Tasks.{MayKind, MayQueues}
 use Rattle.view_laws.specs.Counts.{heads-count, tails-count}
 use Rattle.view_laws.specs.Marks.{lefts, lefts-here, lefts-past, headsMet, headsLeft, tailsMet, tailsLeft, heads-marks, tails-marks, Allowed, allowed-marks, marks-allowed}
-
-over-plus : (xs : List ℕ) (g h : ℕ → ℕ) → over xs (λ t. g t + h t) ≡ over xs g + over xs h
-unfolding over
-over-plus [] g h = refl
-over-plus (x ∷ xs) g h = let a = over-plus xs g h in omega (arith, a)
-
-over-ext : (xs : List ℕ) (g h : ℕ → ℕ) → ((t : ℕ) → g t ≡ h t) → over xs g ≡ over xs h
-unfolding over
-over-ext [] g h e = refl
-over-ext (x ∷ xs) g h e = ap₂ (λ (a b : ℕ). a + b) (e x) (over-ext xs g h e)
 
 lefts-count : (xs : List ℕ) (t : ℕ) → occurrences t (lefts xs) ≡ occurrences (128 + t) xs
 lefts-count [] t = unfold lefts in occurs-nil t ∙ sym (occurs-nil (128 + t))
@@ -85,7 +76,7 @@ module _ (c : Contents) (xs : List ℕ) (v : Toured c xs) (once : (y : ℕ) → 
   met-low : (t : ℕ) → 0 < occurrences t (met xs) → t < 128
   met-low t p = ⊎-elim (λ l. l) (λ l. let a = met-below xs t l in let z : ⊥ = omega (arith, a, p) in absurd z) (below? t 128)
 
-  over-left : (g : ℕ → ℕ) → over (lefts xs) g ≡ over (met xs) g
+  pub over-left : (g : ℕ → ℕ) → over (lefts xs) g ≡ over (met xs) g
   over-left g = over-same 128 (lefts xs) (met xs) g same-left met-low
 
   -- HEADS AND TAILS
@@ -107,10 +98,10 @@ module _ (c : Contents) (xs : List ℕ) (v : Toured c xs) (once : (y : ℕ) → 
 
   -- WORDS
   -- all view words of a holder
-  abbrev Words : ℕ → Type 0
+  abbrev pub Words : ℕ → Type 0
   Words t = (i : ℕ) → i < 28 → viewWord (word c t RIGHTS) i (word c t (16 + i)) ≡ true
 
-  kinds-words : (t : ℕ) → MayQueues c t → MayKind c t CHILDREN → MayKind c t USER → MayKind c t RIGHT → Words t
+  pub kinds-words : (t : ℕ) → MayQueues c t → MayKind c t CHILDREN → MayKind c t USER → MayKind c t RIGHT → Words t
   kinds-words t a b d e i l = word-right (word c t RIGHTS) i (word c t (16 + i)) none local
     where
       -- head or tail of a view of a kind

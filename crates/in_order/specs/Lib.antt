@@ -1,0 +1,17 @@
+pub mod Answered
+pub mod Does
+pub mod Ladder
+pub mod Push
+pub mod Finding
+pub mod Pop
+pub mod Sync
+pub mod Spawn
+pub mod Alone
+pub mod Chains
+pub mod State
+pub mod Left
+pub mod TopFinish
+pub mod Open
+pub mod Finish
+pub mod Statement
+pub mod InOrder

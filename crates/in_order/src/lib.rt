@@ -1,0 +1,1 @@
+// What the core answers is what program order says: demand 2; laws only.

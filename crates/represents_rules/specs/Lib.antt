@@ -1,0 +1,17 @@
+pub mod Words
+pub mod Tasks
+pub mod Segments
+pub mod Heads
+pub mod Views
+pub mod Modes
+pub mod Order
+pub mod Ends
+pub mod MarkSums
+pub mod Named
+pub mod Chains
+pub mod Free
+pub mod Lists
+pub mod Held
+pub mod RulesHold
+pub mod TopStatus
+pub mod Finished

@@ -1,0 +1,1 @@
+// Memory that represents program order passes the memory test; laws only.

@@ -1,0 +1,9 @@
+pub mod OpenLinks
+pub mod Rows
+pub mod Open
+pub mod Child
+pub mod SpawnLive
+pub mod NewTask
+pub mod SpawnMemory
+pub mod SpawnQueue
+pub mod Spawn

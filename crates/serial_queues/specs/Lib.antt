@@ -1,0 +1,4 @@
+pub mod Front
+pub mod Rings
+pub mod Pushed
+pub mod Popped

@@ -1,0 +1,64 @@
+// The four lists of the serial runner, as rings in the working words. A queue that is none is an empty list.
+ghost use mathlib.Core.Path.{_≡_};
+ghost use mathlib.Core.List.{[], _∷_, _++_};
+ghost use Prim.Native.Nat.{_<_};
+ghost use lib.ListN.{length, set, drop};
+ghost use Rattle.words.specs.Words.{size};
+ghost use Rattle.plain.specs.Machine.{queue, front};
+ghost use Rattle.serial.specs.Working.{WORKING, lists};
+ghost use Rattle.serial_queues.specs.Front.{frontOf};
+
+// The front of a list.
+pub enum Front {
+    Value(u32),
+    Nothing,
+}
+
+// The number of values in queue q.
+pub fn count(w: &[u32], q: u32) -> u32
+    ensures { λ r. ⌜ r ≡ length (queue (lists (now (w .entry))) q) ⌝ }
+{
+    if 4 <= q {
+        return 0;
+    }
+    memory::get(w, 16385 + q as usize * 2)
+}
+
+pub fn first(w: &[u32], q: u32) -> Front
+    ensures { λ r. ⌜ frontOf r ≡ front (queue (lists (now (w .entry))) q) ⌝ }
+{
+    let n = count(w, q);
+    if n == 0 {
+        return Front::Nothing;
+    }
+    let h = memory::get(w, 16384 + q as usize * 2) as usize;
+    Front::Value(memory::get(w, q as usize * 4096 + h % 4096))
+}
+
+// Adds v at the end of queue q.
+pub fn push(w: &mut [u32], q: u32, v: u32)
+    requires { ⌜ (size (now w) ≡ WORKING) × (length (queue (lists (now w)) q) < 4096) ⌝ }
+    ensures { λ _. ⌜ lists (now (w .exit)) ≡ set (lists (now (w .entry))) q (queue (lists (now (w .entry))) q ++ (v ∷ [])) ⌝ }
+{
+    if 4 <= q {
+        return;
+    }
+    let h = memory::get(w, 16384 + q as usize * 2) as usize;
+    let n = memory::get(w, 16385 + q as usize * 2);
+    memory::put(w, q as usize * 4096 + (h + n as usize) % 4096, v);
+    memory::put(w, 16385 + q as usize * 2, n + 1);
+}
+
+// Takes the front of queue q away, if it has one.
+pub fn pop(w: &mut [u32], q: u32)
+    requires { ⌜ size (now w) ≡ WORKING ⌝ }
+    ensures { λ _. ⌜ lists (now (w .exit)) ≡ set (lists (now (w .entry))) q (drop 1 (queue (lists (now (w .entry))) q)) ⌝ }
+{
+    let n = count(w, q);
+    if n == 0 {
+        return;
+    }
+    let h = memory::get(w, 16384 + q as usize * 2) as usize;
+    memory::put(w, 16384 + q as usize * 2, ((h + 1) % 4096) as u32);
+    memory::put(w, 16385 + q as usize * 2, n - 1);
+}

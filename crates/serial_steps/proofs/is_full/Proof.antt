@@ -1,0 +1,22 @@
+use Rattle.serial_steps.proofs.Glue.{full-push, full-below, full-above}
+use borrow.Author.Needs.{needs}
+use Rattle.serial_steps.proofs.is_full.Statement.{statement}
+use Rattle.serial_steps.proofs.is_full.Tie as tie
+use Rattle.serial_steps.proofs.is_full.Reads as reads
+use Rattle.serial_steps.proofs.is_full.Lts as lts
+use Rattle.serial_queues.proofs.count.Reads as count-reads
+
+count-requires : tie.Need-count-requires
+count-requires c κs = search needs
+
+returns : tie.Need-returns
+returns c = full-push _ _ _ (c .count .ensures) (c .before .before .if1 .left) (c .before .if2 .taken)
+
+returns-2 : tie.Need-returns-2
+returns-2 c = full-below _ _ (c .if1 .taken)
+
+returns-3 : tie.Need-returns-3
+returns-3 c = full-above _ _ (c .before .if1 .left) (c .if2 .left)
+
+pub is-full-spec : {M : Type 1} → statement M
+is-full-spec = tie.close (tie.spec count-requires returns returns-2 returns-3)

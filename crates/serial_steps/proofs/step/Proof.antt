@@ -1,0 +1,78 @@
+use mathlib.Core.Logic.{⊎-elim}
+use Rattle.serial_steps.proofs.Glue.{room, keyed, none-below, sync-does}
+use native.Mathlib.Omega.{arith}
+use borrow.Author.Needs.{needs}
+use Rattle.serial_steps.proofs.step.Statement.{statement}
+use Rattle.serial_steps.proofs.step.Tie as tie
+use Rattle.serial_steps.proofs.step.Reads as reads
+use Rattle.serial_steps.proofs.step.Lts as lts
+use Rattle.serial_steps.proofs.add_step.Reads as add-step-reads
+use Rattle.serial_steps.proofs.go_step.Reads as go-step-reads
+use Rattle.serial_steps.proofs.pop_step.Reads as pop-step-reads
+use Rattle.serial_steps.proofs.push_step.Reads as push-step-reads
+use Rattle.serial_steps.proofs.test_step.Reads as test-step-reads
+
+pop-step-requires : tie.Need-pop-step-requires
+pop-step-requires c κs = search needs
+
+test-step-requires : tie.Need-test-step-requires
+test-step-requires c κs = search needs
+
+add-step-requires : tie.Need-add-step-requires
+add-step-requires c κs = search needs
+
+push-step-requires : tie.Need-push-step-requires
+push-step-requires c κs = (c .before .before .before .before .before .pre .0, room _ _ (c .before .before .before .before .before .pre .2) (c .before .before .if1 .left) (c .before .if2 .taken), c .before .before .if1 .left, omega (arith, c .before .if2 .taken), c .before .before .before .before .before .pre .3)
+
+go-step-requires : tie.Need-go-step-requires
+go-step-requires c κs = search needs
+
+add-t16 : tie.Need-add-t16
+add-t16 c = search needs
+
+same-length : tie.Need-same-length
+same-length c = search needs
+
+returns : tie.Need-returns
+returns c = keyed _ _ _ _ _ _ _ (c .before .before .before .before .match .keys1) (c .before .before .pop-step .ensures)
+
+same-length-2 : tie.Need-same-length-2
+same-length-2 c = search needs
+
+returns-2 : tie.Need-returns-2
+returns-2 c = keyed _ _ _ _ _ _ _ (c .before .before .match .keys2) (c .test-step .ensures)
+
+returns-3 : tie.Need-returns-3
+returns-3 c = keyed _ _ _ _ _ _ _ (c .before .match .keys3) (c .add-step .ensures .moves _ _)
+
+same-length-3 : tie.Need-same-length-3
+same-length-3 c = search needs
+
+returns-4 : tie.Need-returns-4
+returns-4 c = search needs
+
+returns-5 : tie.Need-returns-5
+returns-5 c = c .go-step .ensures .moves _ _
+
+returns-6 : tie.Need-returns-6
+returns-6 c = sync-does _ _ _ _ _ _ (c .before .before .before .pre .1) (⊎-elim (λ s. none-below _ (c .before .before .before .pre .1) (s .taken)) (λ s. s .2 .left) (c .if1 .came)) (c .before .match .rest .1)
+
+pub step-spec : {M : Type 1} → statement M
+step-spec =
+    tie.close
+    (tie.spec
+    pop-step-requires
+    test-step-requires
+    add-step-requires
+    push-step-requires
+    go-step-requires
+    add-t16
+    same-length
+    returns
+    same-length-2
+    returns-2
+    returns-3
+    same-length-3
+    returns-4
+    returns-5
+    returns-6)
