@@ -24,8 +24,3 @@ pub mod FinishAllowed
 pub mod Unlinked
 pub mod Freed
 pub mod Finish
-pub mod Alone
-pub mod TopTree
-pub mod Ended
-pub mod TopFinish
-pub mod Left
