@@ -8,7 +8,7 @@ use Rattle.lists.specs.Counting.{occurrences, occurs-append}
 use Rattle.layout.specs.Layout.{numberWord, read}
 use Rattle.tree.specs.Rights.{uses}
 use Rattle.calls.specs.Waits.{hasChild}
-use Rattle.calls.specs.Finish.{heir, viewsReturned}
+use Rattle.calls.specs.Finish.{viewsReturned}
 use Rattle.order.specs.Steps.{Task, Item, spot, finishes, numberOf, rightsOf, advance}
 use Rattle.order_queue.specs.Points.{Point, user, Timeline}
 use Rattle.order_queue.specs.Laws.{finish-line}

@@ -1,11 +1,11 @@
 -- THE TEST OF A FINISH: the paper has all its reductions, so the late refusal never comes.
 use mathlib.Core.Path.{_≡_, refl, ap, ap₂, sym, _∙_, subst}
-use mathlib.Core.Bool.{true, not}
+use mathlib.Core.Bool.{true}
 use mathlib.Core.List.{List}
 use Prim.Native.Nat.{ℕ, _<_}
 use native.Mathlib.Omega.{arith}
 use borrow.Author.Tests.{ltb-true, eqb-true, not-true}
-use Rattle.words.specs.Words.{both, both-true, true-both, true-left}
+use Rattle.words.specs.Words.{both-true, true-both, true-left}
 use Rattle.layout.specs.Layout.{NL, CHILDREN, USER, RIGHT, count, read}
 use Rattle.rules.specs.Views.{View, view}
 use Rattle.calls.specs.Views.{viewOf, headOf, tailOf, reducible, frees, behind, reduced}

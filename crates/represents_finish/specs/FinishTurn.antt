@@ -106,7 +106,7 @@ module _ (m : List ℕ) (ys zs : List Item) (s : Task) (r : Represents m (ys ++ 
           (in-rest (128 + x) (λ d. omega (arith, d, b)) (λ d. e (omega (arith, d))) (is-left x l k)))
           (equal? x t)
 
-  uses-is : (q : ℕ) → usesIn m q t ≡ uses (rightsOf s) q
+  pub uses-is : (q : ℕ) → usesIn m q t ≡ uses (rightsOf s) q
   unfolding usesIn
   uses-is q = both-on (lt-ltb t 128 below) ∙ ap (λ (x : ℕ). uses x q) (same-rights m (r .tour) Old (r .played) (r .linked) s (mine-spot m ys zs s r))
 

@@ -48,7 +48,7 @@ module _ (ys zs : List Item) (s : Task) (play : Played (ys ++ spot s ∷ zs)) wh
   parted o i =
       ⊎-elim (λ j. inl j) (λ j. ⊎-elim (λ k. absurd (no-spot s o k)) (λ k. inr k) (in-parts (spot o) (made s finishes) zs j)) (in-parts (spot o) ys (made s finishes ++ zs) i)
 
-  was : (o : Task) → In (spot o) New → In (spot o) Old
+  pub was : (o : Task) → In (spot o) New → In (spot o) Old
   was o i = ⊎-elim (in-left (spot o) ys (spot s ∷ zs)) (λ k. in-right (spot o) ys (spot s ∷ zs) (inr k)) (parted o i)
 
   -- and no spot has its number

@@ -14,16 +14,13 @@ use Rattle.order_laws.specs.Courses.{plain}
 use Rattle.order_waits.specs.Played.{Played}
 use Rattle.order_queue.specs.Points.{added, takes}
 use Rattle.order_queue.specs.Laws.{plain-line}
-use Rattle.gaps.specs.Line.{Line}
-use Rattle.gaps.specs.Store.{Laid}
-use Rattle.gaps.specs.Pool.{mine}
 use Rattle.meaning.specs.Meaning.{storeIn}
 use Rattle.represents.specs.Represents.{queueMemory, opened, Represents}
 use Rattle.represents.specs.Laids.{Laids}
 use Rattle.represents.specs.Parts.{holders, parts-of, same-opened}
 use Rattle.represents.specs.Plain.{plain-represents}
 use Rattle.represents.specs.At.{single-spot}
-use Rattle.represents_finish.specs.Way.{Standing, AllStand, all-begin}
+use Rattle.represents_finish.specs.Way.{Standing, AllStand, all-begin, holders-as}
 use Rattle.represents_finish.specs.SyncTurn.{sync-turn}
 
 made-sync : (s : Task) → made s syncStep ≡ step (nameOf s) syncStep ∷ spot s ∷ []
@@ -38,16 +35,6 @@ plain-sync = refl
 quiet : (q : ℕ) → (added q syncStep ≡ []) × (takes q syncStep ≡ 0)
 unfolding added takes
 quiet q = (refl, refl)
-
--- the four queues with other names for the holders
-holders-as : (own : ℕ → ℕ) (n : List ℕ) (holder holder′ : ℕ → ℕ) (line : ℕ → Line) → ((q : ℕ) → q < 4 → holder q ≡ holder′ q)
-    → Laids own (storeIn n 0) (queueMemory n) holder line → Laids own (storeIn n 0) (queueMemory n) holder′ line
-holders-as own n holder holder′ line e h =
-    record {
-      laid = λ q i. subst (λ (x : ℕ). Laid (mine (queueMemory n q .store) (line q)) (queueMemory n q) x (line q)) (e q i) (h .laid q i);
-      shares = h .shares;
-      pool = h .pool;
-    }
 
 module _ (m : List ℕ) (ys zs : List Item) (s : Task) (r : Represents m (ys ++ spot s ∷ zs)) (barren : hasChild m (numberOf s) ≡ false) where
   abbrev t : ℕ

@@ -63,6 +63,16 @@ module _ (m : List ℕ) (xs : List Item) (r : Represents m xs) where
         stands = λ q i. record { marked = p .marked q i; first = p .first q i; time = p .time q i };
       }
 
+-- the four queues with other names for the holders
+pub holders-as : (own : ℕ → ℕ) (n : List ℕ) (holder holder′ : ℕ → ℕ) (line : ℕ → Line) → ((q : ℕ) → q < 4 → holder q ≡ holder′ q)
+    → Laids own (storeIn n 0) (queueMemory n) holder line → Laids own (storeIn n 0) (queueMemory n) holder′ line
+holders-as own n holder holder′ line e h =
+    record {
+      laid = λ q i. subst (λ (x : ℕ). Laid (mine (queueMemory n q .store) (line q)) (queueMemory n q) x (line q)) (e q i) (h .laid q i);
+      shares = h .shares;
+      pool = h .pool;
+    }
+
 -- the four queues over the segments of the words w, which are those of the store st
 pub laids-over : (own : ℕ → ℕ) (st : Store) (w : List ℕ) (holder : ℕ → ℕ) (line : ℕ → Line) → nextIn w ≡ st .next → contentsIn w ≡ st .contents → freeIn w ≡ st .free
     → Laids own st (queueMemory w) holder line → Laids own (storeIn w 0) (queueMemory w) holder line
