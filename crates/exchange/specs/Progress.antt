@@ -14,14 +14,14 @@ use Rattle.exchange.specs.Agreement.{First}
 
 module _ {S : Type 0} (T : Tasks S) where
   -- with no spot before it a task's search goes past everything, or finds its value
-  lead-found : (s : S) (b : Bool) (q v : ℕ) (f : Option ℕ → List (Item S)) → T .next s ≡ looks b q f → (vs r : List (Item S)) → All NoSpot vs
+  pub lead-found : (s : S) (b : Bool) (q v : ℕ) (f : Option ℕ → List (Item S)) → T .next s ≡ looks b q f → (vs r : List (Item S)) → All NoSpot vs
       → Lead T (found b q v) (vs ++ (spot s ∷ r)) (vs ++ (f (some v) ++ r))
   lead-found s b q v f e [] r h = Lead.here {m = found b q v} {s = s} (f (some v)) (rw e (refl, refl, refl))
   lead-found s b q v f e (value p w ∷ vs) r h = Lead.past tt tt (lead-found s b q v f e vs r (h .1))
   lead-found s b q v f e (spot t ∷ vs) r h = absurd (h .0)
   lead-found s b q v f e (finished t ∷ vs) r h = Lead.past tt tt (lead-found s b q v f e vs r (h .1))
 
-  lead-free : (s : S) (xs : List (Item S)) → T .next s ≡ puts xs → (vs r : List (Item S)) → All NoSpot vs → Lead T free (vs ++ (spot s ∷ r)) (vs ++ (xs ++ r))
+  pub lead-free : (s : S) (xs : List (Item S)) → T .next s ≡ puts xs → (vs r : List (Item S)) → All NoSpot vs → Lead T free (vs ++ (spot s ∷ r)) (vs ++ (xs ++ r))
   lead-free s xs e [] r h = Lead.here {m = free} {s = s} xs (rw e refl)
   lead-free s xs e (x ∷ vs) r h = Lead.past (h .0) tt (lead-free s xs e vs r (h .1))
 

@@ -1,0 +1,4 @@
+pub mod Tasks
+pub mod Within
+pub mod Lasting
+pub mod Front
