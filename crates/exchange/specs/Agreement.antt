@@ -1,7 +1,7 @@
 -- AGREEMENT: where the run that always moves the first task ends, every run is a part of one that ends in the same line after as
 -- many moves.
 use mathlib.Core.Path.{_≡_, refl, ap, subst}
-use mathlib.Core.List.{List, [], _∷_, _++_}
+use mathlib.Core.List.{List}
 use Prim.Native.Nat.{ℕ, zero, suc, _+_}
 use native.Mathlib.Omega.{arith}
 use Rattle.gaps.specs.Maps.{All}

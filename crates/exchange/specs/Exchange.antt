@@ -2,11 +2,11 @@
 -- line in the end.
 use mathlib.Core.Path.{_≡_, refl, sym, _∙_, ap}
 use mathlib.Core.Bool.{Bool, true, false}
-use mathlib.Core.Option.{Option, none, some}
+use mathlib.Core.Option.{some}
 use mathlib.Core.List.{List, [], _∷_, _++_}
 use Prim.Native.Nat.{ℕ}
 use Rattle.gaps.specs.Maps.{All}
-use Rattle.exchange.specs.Line.{Item, value, spot, finished, Search, free, seeking, found, Apart, Fit, apart-fit, NoSpot, Acts, leave, acts-once}
+use Rattle.exchange.specs.Line.{Item, value, spot, Search, free, seeking, found, Apart, Fit, apart-fit, NoSpot, Acts, leave, acts-once}
 use Rattle.exchange.specs.Rights.{Passes, passes-all, put-under, looks-alone, Tasks}
 
 module _ {S : Type 0} (T : Tasks S) where

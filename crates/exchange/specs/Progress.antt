@@ -7,7 +7,7 @@ use mathlib.Core.List.{List, [], _∷_, _++_}
 use Prim.Native.Nat.{ℕ}
 use Rattle.lists.specs.Counting.{equal?}
 use Rattle.gaps.specs.Maps.{All}
-use Rattle.exchange.specs.Line.{Item, value, spot, finished, Action, puts, looks, Search, free, seeking, found, NoSpot, leave}
+use Rattle.exchange.specs.Line.{Item, value, spot, finished, Action, puts, looks, free, seeking, found, NoSpot, leave}
 use Rattle.exchange.specs.Rights.{Tasks}
 use Rattle.exchange.specs.Exchange.{Lead}
 use Rattle.exchange.specs.Agreement.{First}

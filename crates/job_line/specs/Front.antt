@@ -6,13 +6,12 @@ use mathlib.Core.Option.{Option, none, some}
 use mathlib.Core.List.{List, [], _∷_, _++_}
 use Prim.Native.Nat.{ℕ}
 use lib.Dec.{eqb}
-use lib.ListN.{drop}
 use borrow.Author.Tests.{eq-eqb, ne-eqb}
 use Rattle.words.specs.Words.{pick, halt, pass}
 use Rattle.lists.specs.Counting.{equal?}
 use Rattle.gaps.specs.Maps.{All}
 use Rattle.plain.specs.Machine.{front}
-use Rattle.exchange.specs.Line.{Item, value, spot, finished, looks, Search, seeking, found, NoSpot, leave}
+use Rattle.exchange.specs.Line.{Item, value, spot, finished, looks, seeking, NoSpot, leave}
 use Rattle.exchange.specs.Rights.{Tasks}
 use Rattle.exchange.specs.Exchange.{Lead}
 use Rattle.exchange.specs.Progress.{lead-found}

@@ -1,15 +1,14 @@
 -- A task of a job stays on the line with its name, and its answers only grow.
 use mathlib.Core.Path.{_≡_, refl, ap, sym, _∙_}
-use mathlib.Core.Bool.{Bool, true, false}
 use mathlib.Core.Option.{Option, none, some}
 use mathlib.Core.List.{List, [], _∷_, _++_, append-assoc, append-nil}
 use Prim.Native.Nat.{ℕ}
 use Rattle.job.specs.declared.Instruction.{Instruction}
 use Rattle.job.specs.Operations.{Operation, return, push, pushSum, pop, goIfEmpty, go, goIfZero, add, spawn, sync, operationAt}
 use Rattle.plain.specs.Machine.{Task, Event, eventOf, advanced, parent}
-use Rattle.exchange.specs.Line.{Item, spot, Action, puts, looks, Search, free, seeking, found, Acts}
+use Rattle.exchange.specs.Line.{Item, Action, puts, looks, Search, free, seeking, found, Acts}
 use Rattle.exchange.specs.Answers.{On, unfinished, over, behind, Lasting}
-use Rattle.job_line.specs.Tasks.{Runner, does, answering, goesOn, afterSpawn, actionBy, action, instructionOf, by-test}
+use Rattle.job_line.specs.Tasks.{Runner, does, answering, actionBy, action, instructionOf, by-test}
 use Rattle.job_line.specs.Within.{jobTasks}
 
 -- v is the task u, as late or later

@@ -2,3 +2,5 @@ pub mod Tasks
 pub mod Within
 pub mod Lasting
 pub mod Front
+pub mod Lists
+pub mod Plain

@@ -1,21 +1,19 @@
 -- THE TASKS OF A JOB ON THE LINE: what each does next, by its instruction, within its rights.
-use mathlib.Core.Path.{_≡_, refl, ap, sym, _∙_}
+use mathlib.Core.Path.{_≡_, refl}
 use mathlib.Core.Bool.{Bool, true, false}
-use mathlib.Core.Option.{Option, none, some}
+use mathlib.Core.Option.{Option, none}
 use mathlib.Core.List.{List, [], _∷_, _++_}
 use Prim.Native.Nat.{ℕ}
 use lib.Dec.{ltb}
 use Rattle.words.specs.Words.{pick, both}
 use Rattle.tree.specs.Rights.{pushes as mayPush, pops as mayPop, subset}
-use Rattle.gaps.specs.Maps.{All}
 use Rattle.job.specs.declared.Instruction.{Instruction}
 use Rattle.job.specs.Fields.{rights, instructionAt}
 use Rattle.job.specs.Operations.{Operation, return, push, pushSum, pop, goIfEmpty, go, goIfZero, add, spawn, sync, operationAt}
 use Rattle.job.specs.Effects.{Effect, effect}
 use Rattle.plain.specs.Machine.{Task, Event, eventOf, advanced, parent, child}
 use Rattle.plain.specs.Stack.{rightsOf}
-use Rattle.exchange.specs.Line.{Item, value, spot, finished, Action, puts, looks}
-use Rattle.exchange.specs.Rights.{Within, Tasks}
+use Rattle.exchange.specs.Line.{value, spot, finished, Action, puts, looks}
 
 -- a right to a queue that there is
 unfoldable pub canPush : ℕ → ℕ → Bool

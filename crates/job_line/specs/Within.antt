@@ -1,20 +1,19 @@
 -- Each task of a job acts within its rights.
 use mathlib.Core.Path.{_≡_, refl, ap, sym, _∙_}
-use mathlib.Core.Bool.{Bool, true, false}
+use mathlib.Core.Bool.{true}
 use mathlib.Core.Option.{none}
-use mathlib.Core.List.{List, [], _∷_}
+use mathlib.Core.List.{List}
 use Prim.Native.Nat.{ℕ}
 use borrow.Author.Tests.{ltb-true}
 use Rattle.words.specs.Words.{both-true, true-both}
 use Rattle.tree.specs.Rights.{subset}
 use Rattle.order_waits.specs.Popper.{subset-pops, subset-pushes}
-use Rattle.gaps.specs.Maps.{All}
 use Rattle.job.specs.declared.Instruction.{Instruction}
 use Rattle.job.specs.Fields.{rights}
 use Rattle.job.specs.Operations.{Operation, return, push, pushSum, pop, goIfEmpty, go, goIfZero, add, spawn, sync, operationAt}
-use Rattle.plain.specs.Machine.{Task, advanced, parent, child}
+use Rattle.plain.specs.Machine.{advanced, parent, child}
 use Rattle.plain.specs.Stack.{rightsOf}
-use Rattle.exchange.specs.Line.{Item, spot, Action, puts, looks}
+use Rattle.exchange.specs.Line.{Item, spot}
 use Rattle.exchange.specs.Rights.{Under, Within, Tasks}
 use Rattle.job_line.specs.Tasks.{canPush, canPop, Runner, goesOn, afterSpawn, newTask, actionBy, action, instructionOf, Pushing, Popping, by-test}
 
