@@ -4,3 +4,5 @@ pub mod Lasting
 pub mod Front
 pub mod Lists
 pub mod Plain
+pub mod Serial
+pub mod Agree
