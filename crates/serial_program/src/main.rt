@@ -1,62 +1,62 @@
 // Runs the job in the file that the first argument names, without overlap, and prints the run in document 01's lines. Where
 // the file cannot be read it says why on standard error and prints nothing.
 ghost use mathlib.Core.Path.{_≡_};
-ghost use Prim.Native.Nat.{_-_, _^_, _<_, _≤_, min};
+ghost use Prim.Native.Nat.{_+_, _^_, _<_, _≤_};
 ghost use Rattle.serial_program.specs.Inside.{Inside};
 use libc::STDERR_FILENO;
 use libc::STDOUT_FILENO;
 use serial::End;
 
-// How many of n lines stand in the block that begins with line `first`.
+// How many of n lines stand in the block that begins with line `first`: at most 1,024, and one at least.
 fn part(n: u32, first: u32) -> u32
-    ensures { λ r. ⌜ (r ≡ min (n - first) 1024) × (r ≤ 1024) ⌝ }
+    requires { ⌜ first < n ⌝ }
+    ensures { λ r. ⌜ (r ≤ 1024) × (0 < r) × (first + r ≤ n) ⌝ }
 {
-    if n <= first {
-        return 0;
-    }
     let rest = n - first;
     if rest < 1024 { rest } else { 1024 }
 }
 
 // Prints the lines of n steps from step `first` on.
 fn print_step_block(a: &[u32], first: u32, n: u32) -> bool
-    requires { ⌜ (first < 2 ^ 16) × (n ≤ 1024) ⌝ }
+    requires { ⌜ (first + n < 2 ^ 32) × (n ≤ 1024) ⌝ }
 {
     let mut out = io::large_buffer();
     let r = serial_text::step_lines(&mut out, a, first, n);
     io::write_all(STDOUT_FILENO, &out[..r])
 }
 
-// Prints a line for each step, of which there are at most 65,535.
+// Prints a line for each step.
 fn print_steps(a: &[u32], steps: u32) -> bool {
-    for b in 0..64 {
-        let first = b * 1024;
+    let mut first: u32 = 0;
+    while first < steps {
         let n = part(steps, first);
         if !print_step_block(a, first, n) {
             return false;
         }
+        first += n;
     }
     true
 }
 
 // Prints the lines of n values of queue q from value `first` on.
 fn print_value_block(w: &[u32], q: u32, first: u32, n: u32) -> bool
-    requires { ⌜ (first < 2 ^ 16) × (n ≤ 1024) ⌝ }
+    requires { ⌜ (first + n < 2 ^ 32) × (n ≤ 1024) ⌝ }
 {
     let mut out = io::large_buffer();
     let r = serial_text::value_lines(&mut out, w, q, first, n);
     io::write_all(STDOUT_FILENO, &out[..r])
 }
 
-// Prints a line for each value left in queue q, of which there are at most 4,096.
+// Prints a line for each value left in queue q.
 fn print_queue(w: &[u32], q: u32) -> bool {
     let values = serial_queues::count(w, q);
-    for b in 0..4 {
-        let first = b * 1024;
+    let mut first: u32 = 0;
+    while first < values {
         let n = part(values, first);
         if !print_value_block(w, q, first, n) {
             return false;
         }
+        first += n;
     }
     true
 }

@@ -12,7 +12,7 @@ use serial::End;
 
 // The line of step number i, counted from 0.
 fn step_line(out: &mut [u8], at: usize, a: &[u32], i: u32) -> usize
-    requires { ⌜ (at < 2 ^ 38) × (i < 2 ^ 20) ⌝ }
+    requires { ⌜ (at < 2 ^ 38) × (i + 1 < 2 ^ 32) ⌝ }
     ensures { λ r. ⌜ Puts (now (out .entry)) at (stepLine (now (a .entry)) i) (now (out .exit)) r × (r ≤ at + 42) ⌝ }
 {
     let b = i as usize * 3;
@@ -24,7 +24,7 @@ fn step_line(out: &mut [u8], at: usize, a: &[u32], i: u32) -> usize
 
 // The lines of n steps from step `first` on.
 pub fn step_lines(out: &mut [u8], a: &[u32], first: u32, n: u32) -> usize
-    requires { ⌜ (65536 ≤ length (now out)) × (first < 2 ^ 16) × (n ≤ 1024) ⌝ }
+    requires { ⌜ (65536 ≤ length (now out)) × (first + n < 2 ^ 32) × (n ≤ 1024) ⌝ }
     ensures { λ r. ⌜ Block (now (out .exit)) r (linesFrom (stepLine (now (a .entry))) first n) ⌝ }
 {
     let mut at: usize = 0;
@@ -47,7 +47,7 @@ fn value_line(out: &mut [u8], at: usize, w: &[u32], q: u32, i: u32) -> usize
 
 // The lines of n values of queue q from value `first` on.
 pub fn value_lines(out: &mut [u8], w: &[u32], q: u32, first: u32, n: u32) -> usize
-    requires { ⌜ (65536 ≤ length (now out)) × (first < 2 ^ 16) × (n ≤ 1024) ⌝ }
+    requires { ⌜ (65536 ≤ length (now out)) × (first + n < 2 ^ 32) × (n ≤ 1024) ⌝ }
     ensures { λ r. ⌜ Block (now (out .exit)) r (linesFrom (valueLine (lists (now (w .entry))) q) first n) ⌝ }
 {
     let mut at: usize = 0;

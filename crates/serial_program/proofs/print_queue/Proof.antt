@@ -1,6 +1,6 @@
 use borrow.Author.Needs.{needs}
 use native.Mathlib.Omega.{arith}
-use Prim.Native.Nat.{_-_, _≤_}
+use Prim.Native.Nat.{_-_, _^_, _<_, _≤_}
 use Rattle.serial_program.proofs.print_queue.Statement.{statement}
 use Rattle.serial_program.proofs.print_queue.Tie as tie
 use Rattle.serial_program.proofs.print_queue.Reads as reads
@@ -10,37 +10,34 @@ use Rattle.serial_program.proofs.print_value_block.Reads as print-value
 use Rattle.serial_queues.proofs.count.Reads as count-reads
 
 abbrev Inv-loop : tie.InvT-loop
-Inv-loop w q values b₀ b = b ≤ 4
+Inv-loop w q values first₀ first = (first ≤ values) × (values < 2 ^ 32)
 
 abbrev μ-loop : tie.MeasureT-loop
-μ-loop w q values b₀ b = 4 - b
+μ-loop w q values first₀ first = values - first
 
 count-requires : tie.Need-count-requires Inv-loop μ-loop
 count-requires c κs = search needs
 
 loop-holds : tie.Need-loop-holds Inv-loop μ-loop
-loop-holds c = omega arith
-
-mul-first : tie.Need-mul-first Inv-loop μ-loop
-mul-first c = omega arith
+loop-holds c = (omega arith, omega arith)
 
 part-requires : tie.Need-part-requires Inv-loop μ-loop
-part-requires c κs = search needs
+part-requires c κs = omega arith
 
 print-value-block-requires : tie.Need-print-value-block-requires Inv-loop μ-loop
-print-value-block-requires c κs = (omega arith, c .part .ensures .1)
+print-value-block-requires c κs = (omega arith, c .part .ensures .0)
 
 returns : tie.Need-returns Inv-loop μ-loop
 returns c = search needs
 
-add-b : tie.Need-add-b Inv-loop μ-loop
-add-b c = omega arith
+add-first : tie.Need-add-first Inv-loop μ-loop
+add-first c = omega arith
 
 loop-less : tie.Need-loop-less Inv-loop μ-loop
 loop-less c = omega arith
 
 loop-again : tie.Need-loop-again Inv-loop μ-loop
-loop-again c = omega arith
+loop-again c = (omega arith, omega arith)
 
 returns-2 : tie.Need-returns-2 Inv-loop μ-loop
 returns-2 c = search needs
@@ -53,11 +50,10 @@ print-queue-spec =
     μ-loop
     count-requires
     loop-holds
-    mul-first
     part-requires
     print-value-block-requires
     returns
-    add-b
+    add-first
     loop-less
     loop-again
     returns-2)
