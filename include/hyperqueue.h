@@ -1,4 +1,5 @@
-/* The queue core: four queues and a tree of tasks, in memory lent by the host.
+/* The queue core: four queues and a tree of tasks, in memory lent by the host;
+ * and the run of a written job without overlap, at the end of this file.
  *
  * Every call gets the host's words and their number: words points to len words
  * that may be written, and len should be HQ_WORDS. Nothing else has to be
@@ -27,7 +28,7 @@ extern "C" {
 #define HQ_STATUS(answer) ((uint32_t)((answer) >> 32))
 #define HQ_VALUE(answer) ((uint32_t)(answer))
 
-/* The statuses. 1 to 20 are refusals, of which 1 to 9 are in use. A call that
+/* The statuses. 1 to 20 are refusals, of which 1 to 12 are in use. A call that
  * waits may be made again once other tasks have moved. */
 enum {
     HQ_MOVED = 0,
@@ -40,6 +41,9 @@ enum {
     HQ_PAST_THE_END = 7,  /* pop, left: no value is there */
     HQ_NO_RECORD = 8,     /* spawn: 128 tasks are unfinished */
     HQ_NO_SEGMENT = 9,    /* push: no segment is free */
+    HQ_JOB_HEAD = 10,     /* a job too short, or its first numbers wrong */
+    HQ_JOB_CONTENTS = 11, /* an entry of a job or its length is wrong */
+    HQ_JOB_BODY = 12,     /* an instruction of a job is wrong */
     HQ_WAITS = 32,
     HQ_EMPTY = 33,    /* test: a pop would find no value */
     HQ_NOT_EMPTY = 34 /* test: a pop would find a value */
@@ -78,6 +82,49 @@ uint64_t hq_finish(uint32_t *words, size_t len, uint32_t task);
 
 /* Value number `index`, from 0, still in the queue once the top has finished. */
 uint64_t hq_left(uint32_t *words, size_t len, uint32_t queue, uint32_t index);
+
+/* JOBS. A job is the len bytes of a job file; any bytes may be handed in, and
+ * none of them is written. What is lent beside them must not overlap. */
+
+/* HQ_MOVED where the bytes are a job; else HQ_JOB_HEAD, HQ_JOB_CONTENTS or
+ * HQ_JOB_BODY. The value is 0. */
+uint64_t hq_job_test(const uint8_t *job, size_t len);
+
+/* Words that a run without overlap is lent for working and for its answers;
+ * any other numbers are refused with 1. Their contents before do not matter. */
+#define HQ_WORKING_WORDS 16392
+#define HQ_ANSWER_WORDS 196605
+
+/* Runs the job: a child wholly before its spawner goes on. The low 32 bits of
+ * the answer are the number of steps made, the high 32 bits say why the run
+ * stopped: HQ_MOVED where the top task has finished, HQ_SPENT after 65,535
+ * steps, 8 where 128 tasks are unfinished and one more would be spawned, 9
+ * where a queue holds 4,096 values and one more would be pushed. Bytes that are
+ * no job are refused as by hq_job_test, and nothing is run.
+ *
+ * Step number n, from 0, has the three words from answers[3 * n] on: the task,
+ * numbered in the order of spawns with the top 0; the answer, one of those
+ * below; the value, the child's number for a spawn, 0 where there is none. */
+#define HQ_SPENT 35
+enum {
+    HQ_STEP_SPAWNED = 0,
+    HQ_STEP_PUSHED = 1,
+    HQ_STEP_TOOK = 2,
+    HQ_STEP_MOVED = 3,
+    HQ_STEP_FINISHED = 4,
+    HQ_STEP_EMPTY = 5,
+    HQ_STEP_NOT_EMPTY = 6
+};
+uint64_t hq_run_serially(const uint8_t *job, size_t len, uint32_t *working,
+                         size_t working_len, uint32_t *answers,
+                         size_t answers_len);
+
+/* After a run: how many values queue 0 to 3 holds, and value number `index` of
+ * it, from 0. */
+#define HQ_QUEUED(working, queue) ((working)[16385 + 2 * (queue)])
+#define HQ_QUEUED_VALUE(working, queue, index)                                 \
+    ((working)[4096 * (queue) +                                                \
+               ((working)[16384 + 2 * (queue)] + (index)) % 4096])
 
 #ifdef __cplusplus
 }

@@ -1,4 +1,6 @@
 // The eight calls of the core, on any words and with any arguments.
+pub mod jobs;
+
 ghost use mathlib.Core.Path.{_≡_};
 ghost use Rattle.answers.specs.Answers.{Outcome};
 ghost use Rattle.answers.specs.Answers.Outcome.{outcome};

@@ -4,7 +4,7 @@ use mathlib.Core.List.{List, [], _∷_, _++_}
 use mathlib.Core.Option.{none, some}
 use mathlib.Core.Logic.{⊎-elim}
 use Prim.Native.Nat.{ℕ, zero, suc, _+_, _*_, _%_, _<_, _≤_}
-use native.Mathlib.Nat.{add-zero}
+use native.Mathlib.Nat.{add-zero, le-of-suc-le-suc}
 use native.Mathlib.Omega.{arith}
 use lib.ListN.{length, getD, set, length-set, List·getD-eq-default}
 use lib.Seq.{getD-set-same, getD-set-other, ext-getD}
@@ -62,6 +62,14 @@ ring-more w q h zero = ap (λ (k : ℕ). load w (placeAt q k) ∷ []) (sym (add-
 ring-more w q h (suc n) =
     ap (λ (xs : List ℕ). load w (placeAt q h) ∷ xs)
     (ring-more w q (h + 1) n ∙ ap (λ (k : ℕ). ringFrom w q (h + 1) n ++ (load w (placeAt q k) ∷ [])) (let z : h + 1 + n ≡ h + suc n = omega arith in z))
+
+-- value number i
+pub ring-at : (w : List ℕ) (q h n i : ℕ) → i < n → getD (ringFrom w q h n) i 0 ≡ load w (placeAt q (h + i))
+unfolding ringFrom
+ring-at w q h zero i l = let z : ⊥ = omega arith in absurd z
+ring-at w q h (suc n) zero l = ap (λ (k : ℕ). load w (placeAt q k)) (sym (add-zero h))
+ring-at w q h (suc n) (suc i) l =
+    ring-at w q (h + 1) n i (le-of-suc-le-suc l) ∙ ap (λ (k : ℕ). load w (placeAt q k)) (let z : h + 1 + i ≡ h + suc i = omega arith in z)
 
 -- ring q with another content, the other rings as they were
 pub rings-set : (w u : List ℕ) (q : ℕ) (xs : List ℕ) → q < 4 → ring u q ≡ xs → ((p : ℕ) → p < 4 → (p ≡ q → ⊥) → ring u p ≡ ring w p) → lists u ≡ set (lists w) q xs

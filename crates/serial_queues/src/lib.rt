@@ -2,7 +2,7 @@
 ghost use mathlib.Core.Path.{_≡_};
 ghost use mathlib.Core.List.{[], _∷_, _++_};
 ghost use Prim.Native.Nat.{_<_};
-ghost use lib.ListN.{length, set, drop};
+ghost use lib.ListN.{length, getD, set, drop};
 ghost use Rattle.words.specs.Words.{size};
 ghost use Rattle.plain.specs.Machine.{queue, front};
 ghost use Rattle.serial.specs.Working.{WORKING, lists};
@@ -33,6 +33,18 @@ pub fn first(w: &[u32], q: u32) -> Front
     }
     let h = memory::get(w, 16384 + q as usize * 2) as usize;
     Front::Value(memory::get(w, q as usize * 4096 + h % 4096))
+}
+
+// Value number i of queue q, counted from 0; 0 past the last.
+pub fn value(w: &[u32], q: u32, i: u32) -> u32
+    ensures { λ r. ⌜ r ≡ getD (queue (lists (now (w .entry))) q) i 0 ⌝ }
+{
+    let n = count(w, q);
+    if n <= i {
+        return 0;
+    }
+    let h = memory::get(w, 16384 + q as usize * 2) as usize;
+    memory::get(w, q as usize * 4096 + (h + i as usize) % 4096)
 }
 
 // Adds v at the end of queue q.

@@ -151,7 +151,7 @@ pub fn run_serially(job: &[u8], w: &mut [u32], a: &mut [u32]) -> Stopped
     Stopped { end, steps }
 }
 
-// FOR HOSTS IN OTHER LANGUAGES: a slice is a pointer and a length, the end and the steps are one number.
+// FOR HOSTS IN OTHER LANGUAGES: the end and the steps are one number. Crate `hyperqueue` exports it.
 
 // Document 01's number of a refusal; 0 ended, 35 spent.
 fn status(e: End) -> u32
@@ -171,8 +171,7 @@ fn wide(x: u32) -> u64
 }
 
 // The status in the high half, the steps in the low half.
-#[no_mangle]
-pub extern "C" fn hq_run_serially(job: &[u8], w: &mut [u32], a: &mut [u32]) -> u64
+pub fn run_packed(job: &[u8], w: &mut [u32], a: &mut [u32]) -> u64
     ensures { λ r. ⌜ Handed r (lists (now (w .exit))) (now (a .exit)) (serialOutcome (now (job .entry)) (now (w .entry)) (now (a .entry))) ⌝ }
 {
     let r = run_serially(job, w, a);

@@ -1,6 +1,11 @@
 //! The proved core as a linked library, and what compares it with the model.
 
 pub mod counts;
+pub mod guarded;
 pub mod linked;
+pub mod linked_jobs;
+pub mod long_job;
 pub mod pair;
+pub mod rounds;
 pub mod scenes;
+pub mod serial_pair;

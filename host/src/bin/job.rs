@@ -1,22 +1,50 @@
 //! Jobs from text to bytes and back.
 //!
 //! `job asm FILE.txt OUT.job` writes the job that a text describes;
-//! `job dis FILE.job` prints a text that gives the same job.
+//! `job dis FILE.job` prints a text that gives the same job;
+//! `job run FILE.job` prints the run of any bytes without overlap;
+//! `job random SEED OUT.job` writes a random job.
 
 use host::asm::assemble;
 use host::dis::disassemble;
 use host::job::Job;
+use host::random::Random;
+use host::random_jobs::accepted;
+use host::serial;
 use std::fs;
 use std::process::ExitCode;
+
+const USAGE: &str = "job asm FILE.txt OUT.job
+job dis FILE.job
+job run FILE.job
+job random SEED OUT.job";
+
+fn read(file: &str) -> Result<Vec<u8>, String> {
+    fs::read(file).map_err(|e| format!("{file}: {e}"))
+}
+
+fn write(file: &str, bytes: Vec<u8>) -> Result<(), String> {
+    fs::write(file, bytes).map_err(|e| format!("{file}: {e}"))
+}
 
 fn asm(text: &str, out: &str) -> Result<(), String> {
     let read = fs::read_to_string(text).map_err(|e| format!("{text}: {e}"))?;
     let bytes = assemble(&read).map_err(|fault| format!("{text}: {fault}"))?;
-    fs::write(out, bytes).map_err(|e| format!("{out}: {e}"))
+    write(out, bytes)
+}
+
+fn run(file: &str) -> Result<(), String> {
+    print!("{}", serial::text(&read(file)?));
+    Ok(())
+}
+
+fn random(seed: &str, out: &str) -> Result<(), String> {
+    let seed = seed.parse().map_err(|_| format!("{seed} is no number"))?;
+    write(out, accepted(&mut Random::new(seed)))
 }
 
 fn dis(file: &str) -> Result<(), String> {
-    let bytes = fs::read(file).map_err(|e| format!("{file}: {e}"))?;
+    let bytes = read(file)?;
     let refused = |r| {
         format!(
             "{file}: job refused {}: {r}",
@@ -34,7 +62,9 @@ fn main() -> ExitCode {
     let outcome = match words[..] {
         ["asm", text, out] => asm(text, out),
         ["dis", file] => dis(file),
-        _ => Err("job asm FILE.txt OUT.job\njob dis FILE.job".to_string()),
+        ["run", file] => run(file),
+        ["random", seed, out] => random(seed, out),
+        _ => Err(USAGE.to_string()),
     };
     match outcome {
         Ok(()) => ExitCode::SUCCESS,

@@ -2,11 +2,16 @@
 //!
 //! `bench` makes the same calls on the linked core and on the model, in turn.
 //! `bench growth` makes calls on the linked core alone, on memories of growing
-//! size.
+//! size. `bench serial` runs a job of 60,000 steps without overlap on both.
 
+use host::asm::assemble;
 use host::call::Call;
+use host::job::Job;
 use host::layout::WORDS;
+use host::serial::{self, End};
 use link::linked;
+use link::linked_jobs::{packed, run_serially, ANSWERS, WORKING};
+use link::long_job;
 use link::scenes::{self, held_segments, unfinished_tasks, Scene};
 use std::process::ExitCode;
 use std::time::Instant;
@@ -100,18 +105,44 @@ fn growth() {
     }
 }
 
+/// Nanoseconds that this takes.
+fn timed<T>(work: impl FnOnce() -> T) -> (f64, T) {
+    let begin = Instant::now();
+    let result = work();
+    (begin.elapsed().as_nanos() as f64, result)
+}
+
+/// The job test and the run of a long job, on the library and on the model.
+fn without_overlap() {
+    let job = assemble(long_job::TEXT).expect("the long job assembles");
+    let (mut working, mut answers) = (vec![0; WORKING], vec![0; ANSWERS]);
+    let (mut linked, mut model) = (f64::INFINITY, f64::INFINITY);
+    for _ in 0..ROUNDS {
+        let (time, answer) = timed(|| run_serially(&job, &mut working, &mut answers));
+        assert_eq!(answer, packed(End::Ended, long_job::STEPS));
+        linked = linked.min(time / long_job::STEPS as f64);
+        let (time, run) = timed(|| Job::read(&job).map(|job| serial::run(&job)));
+        assert_eq!(run.map(|run| run.events.len()), Ok(long_job::STEPS));
+        model = model.min(time / long_job::STEPS as f64);
+    }
+    println!("{:10}{:>10}{:>10}{:>8}", "", "linked", "model", "ratio");
+    let ratio = linked / model;
+    println!("{:10}{linked:>10.2}{model:>10.2}{ratio:>8.2}", "a step");
+}
+
 fn main() -> ExitCode {
     let words: Vec<String> = std::env::args().skip(1).collect();
     let words: Vec<&str> = words.iter().map(String::as_str).collect();
     let run = match words[..] {
         [] => beside_the_model,
         ["growth"] => growth,
+        ["serial"] => without_overlap,
         _ => {
-            eprintln!("bench [growth]");
+            eprintln!("bench [growth | serial]");
             return ExitCode::FAILURE;
         }
     };
-    println!("ns a call, best of {ROUNDS} rounds");
+    println!("nanoseconds, best of {ROUNDS} rounds");
     run();
     ExitCode::SUCCESS
 }

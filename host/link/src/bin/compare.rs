@@ -12,6 +12,7 @@ use host::random::Random;
 use host::sample::*;
 use host::{foreign, hand};
 use link::pair::Pair;
+use link::rounds::random_of;
 use link::scenes;
 use std::process::ExitCode;
 
@@ -254,12 +255,6 @@ fn noisy(pair: &mut Pair, r: &mut Random, _: u32) -> Outcome {
         pair.make(hostile_call(r))?;
     }
     Ok(())
-}
-
-/// The numbers of a round depend on nothing but the seed, its part and itself.
-fn random_of(seed: u64, part: usize, round: u32) -> Random {
-    let mixed = seed.wrapping_mul(0x1_0000_01B3) ^ (part as u64) << 56 ^ u64::from(round) << 24;
-    Random::new(mixed)
 }
 
 fn make_round(pair: &mut Pair, seed: u64, at: usize, round: u32) -> Outcome {

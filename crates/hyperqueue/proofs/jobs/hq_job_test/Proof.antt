@@ -1,0 +1,21 @@
+use mathlib.Core.Path.{ap, _∙_}
+use Rattle.hyperqueue.specs.Packed.{packed}
+use borrow.Author.Needs.{needs}
+use Rattle.hyperqueue.proofs.jobs.hq_job_test.Statement.{statement}
+use Rattle.hyperqueue.proofs.jobs.hq_job_test.Tie as tie
+use Rattle.hyperqueue.proofs.jobs.hq_job_test.Reads as reads
+use Rattle.hyperqueue.proofs.jobs.hq_job_test.Lts as lts
+use Rattle.hyperqueue.proofs.pack.Reads as pack-reads
+use Rattle.job_test.proofs.job_test.Reads as job-test-reads
+
+job-test-requires : tie.Need-job-test-requires
+job-test-requires c κs = search needs
+
+pack-requires : tie.Need-pack-requires
+pack-requires c κs = search needs
+
+returns : tie.Need-returns
+returns c = c .pack .ensures ∙ ap packed (c .before .job-test .ensures)
+
+pub hq-job-test-spec : {M : Type 1} → statement M
+hq-job-test-spec = tie.close (tie.spec job-test-requires pack-requires returns)

@@ -1,0 +1,101 @@
+-- Answers and values as text, by their numbers.
+use mathlib.Core.Path.{_≡_, refl, ap, sym, _∙_}
+use mathlib.Core.Bool.{true, false}
+use mathlib.Core.List.{List, [], _∷_, _++_}
+use Prim.Native.Nat.{ℕ, _+_, _^_, _<_, _≤_}
+use native.Mathlib.Omega.{arith}
+use lib.Dec.{ltb, leb}
+use lib.ListN.{length, getD, List·getD-eq-default}
+use borrow.Author.Tests.{lt-ltb, le-ltb, le-leb, lt-leb}
+use Rattle.words.specs.Words.{pick, either, halt, pass}
+use Rattle.text.specs.Text.{ascii, decimal}
+use Rattle.text.specs.Puts.{Puts, puts-then, puts-first}
+use Rattle.run_text.specs.Few.{number-ends}
+use Rattle.run_text.specs.Lines.{answerTexts, answerText, hasValue, valueText, spaced, ended, line, leftLine, refusedLine, endLine}
+use Rattle.serial.specs.declared.End.{End}
+use Rattle.serial.specs.declared.End.the-variants.{Ended, Spent, Refused}
+
+-- text that is put under another name
+pub named : {m ws m1 us : List ℕ} {a r : ℕ} → ws ≡ us → Puts m a ws m1 r → Puts m a us m1 r
+named e p = rw (← e) p
+
+pub above : (n k : ℕ) → n ≤ k → (k ≡ n → ⊥) → n + 1 ≤ k
+above n k h f = omega arith
+
+one-more : {m ws m1 m2 : List ℕ} {a b r : ℕ} (n : ℕ) → n < 2 ^ 32 → length ws ≡ 1 → Puts m a (decimal n) m1 b → Puts m1 b ws m2 r → r ≤ a + 11
+one-more n h l p q = let f = number-ends n h p in let e = q .end in omega (arith, f, e, l)
+
+-- the word of answer number i, and that of a number past those
+pub said : {m ws m1 : List ℕ} {a r : ℕ} (k i : ℕ) → k ≡ i → ws ≡ spaced (answerText i) → Puts m a ws m1 r → Puts m a (spaced (answerText k)) m1 r
+said k i e f p = named (f ∙ ap (λ (j : ℕ). spaced (answerText j)) (sym e)) p
+
+pub said-past : {m ws m1 : List ℕ} {a r : ℕ} (k : ℕ) → 8 ≤ k → ws ≡ spaced (ascii "refused") → Puts m a ws m1 r → Puts m a (spaced (answerText k)) m1 r
+unfolding answerText
+said-past k h e p = named (e ∙ ap spaced (sym (List·getD-eq-default answerTexts (ascii "refused") h))) p
+
+-- a number and one byte behind it
+pub spaced-few : {m ws m1 m2 : List ℕ} {a b r : ℕ} (n : ℕ) → n < 2 ^ 32 → ws ≡ ascii " " → Puts m a (decimal n) m1 b → Puts m1 b ws m2 r
+    → Puts m a (spaced (decimal n)) m2 r × (r ≤ a + 11)
+unfolding spaced ascii
+spaced-few n h e p q = (puts-then p (named e q), one-more n h (ap length e) p q)
+
+pub ended-few : {m ws m1 m2 : List ℕ} {a b r : ℕ} (n : ℕ) → n < 2 ^ 32 → ws ≡ ascii "\n" → Puts m a (decimal n) m1 b → Puts m1 b ws m2 r
+    → Puts m a (ended (decimal n)) m2 r × (r ≤ a + 11)
+unfolding ended ascii
+ended-few n h e p q = (puts-then p (named e q), one-more n h (ap length e) p q)
+
+-- the value of an answer
+value-low : (k v : ℕ) → k < 3 → decimal v ≡ valueText k v
+unfolding valueText hasValue either
+value-low k v h = sym (halt _ _ (halt _ _ (lt-ltb k 3 h)))
+
+value-high : (k v : ℕ) → 8 ≤ k → decimal v ≡ valueText k v
+unfolding valueText hasValue either
+value-high k v h = sym (halt _ _ (pass _ (le-ltb k 3 (omega arith)) (le-leb 8 k h)))
+
+value-none : (k v : ℕ) → 3 ≤ k → k < 8 → ascii "-" ≡ valueText k v
+unfolding valueText hasValue either
+value-none k v h l = sym (pass _ (pass _ (le-ltb k 3 h) (lt-leb 8 k l)) refl)
+
+module _ {m m1 : List ℕ} {a r : ℕ} (k v : ℕ) where
+  pub given-low : k < 3 → Puts m a (ended (decimal v)) m1 r → Puts m a (ended (valueText k v)) m1 r
+  given-low h p = named (ap ended (value-low k v h)) p
+
+  pub given-high : 8 ≤ k → Puts m a (ended (decimal v)) m1 r → Puts m a (ended (valueText k v)) m1 r
+  given-high h p = named (ap ended (value-high k v h)) p
+
+  pub given-none : {ws : List ℕ} → 3 ≤ k → k < 8 → ws ≡ ended (ascii "-") → Puts m a ws m1 r → Puts m a (ended (valueText k v)) m1 r
+  given-none h l e p = named (e ∙ ap ended (value-none k v h l)) p
+
+-- the whole lines
+pub whole-line : {m m1 m2 m3 m4 : List ℕ} {p0 p1 p2 p3 p4 : ℕ} (n t k v : ℕ) → Puts m p0 (spaced (decimal n)) m1 p1 → Puts m1 p1 (spaced (decimal t)) m2 p2
+    → Puts m2 p2 (spaced (answerText k)) m3 p3 → Puts m3 p3 (ended (valueText k v)) m4 p4 → Puts m p0 (line n t k v) m4 p4
+unfolding line
+whole-line n t k v a b c d = puts-then (puts-then (puts-then a b) c) d
+
+pub whole-left : {m ws m1 m2 m3 : List ℕ} {p0 p1 p2 p3 : ℕ} (q v : ℕ) → ws ≡ ascii "left " → Puts m p0 ws m1 p1 → Puts m1 p1 (spaced (decimal q)) m2 p2
+    → Puts m2 p2 (ended (decimal v)) m3 p3 → Puts m p0 (leftLine q v) m3 p3
+unfolding leftLine
+whole-left q v e a b c = puts-then (puts-then (named e a) b) c
+
+pub whole-refused : {m ws m1 m2 : List ℕ} {p0 p1 p2 : ℕ} (k : ℕ) → ws ≡ ascii "refused " → Puts m p0 ws m1 p1 → Puts m1 p1 (ended (decimal k)) m2 p2
+    → Puts m p0 (refusedLine k) m2 p2
+unfolding refusedLine
+whole-refused k e a b = puts-then (named e a) b
+
+module _ {m m1 : List ℕ} {p1 : ℕ} (e : End) where
+  pub end-spent : {ws : List ℕ} → e ≡ Spent → ws ≡ ascii "spent\n" → Puts m 0 ws m1 p1 → Puts m 0 (endLine e) m1 p1
+  unfolding endLine
+  end-spent h f p = named (f ∙ ap endLine (sym h)) p
+
+  pub end-refused : (k : ℕ) → e ≡ Refused k → k < 10 → Puts m 0 (refusedLine k) m1 p1 → Puts m 0 (endLine e) m1 p1
+  unfolding endLine
+  end-refused k h l p = named (sym (halt _ _ (lt-ltb k 10 l)) ∙ ap endLine (sym h)) p
+
+  pub end-job : {ws m0 : List ℕ} {p0 : ℕ} (k : ℕ) → e ≡ Refused k → 10 ≤ k → ws ≡ ascii "job " → Puts m 0 ws m0 p0 → Puts m0 p0 (refusedLine k) m1 p1 → Puts m 0 (endLine e) m1 p1
+  unfolding endLine
+  end-job k h l f p q = named (sym (pass _ (le-ltb k 10 l) refl) ∙ ap endLine (sym h)) (puts-then (named f p) q)
+
+pub end-ended : (m : List ℕ) (e : End) → e ≡ Ended → Puts m 0 (endLine e) m 0
+unfolding endLine
+end-ended m e h = named (ap endLine (sym h)) (puts-first m 0)

@@ -1,0 +1,103 @@
+// The lines of a run, put into lent bytes from position `at` on. Each function gives the position behind what it wrote, and
+// says how far behind that is at most.
+ghost use mathlib.Core.Path.{_≡_};
+ghost use Prim.Native.Nat.{_+_, _^_, _<_, _≤_};
+ghost use Rattle.text.specs.Text.{decimal};
+ghost use Rattle.text.specs.Puts.{Puts};
+ghost use Rattle.run_text.specs.Lines.{answerText, valueText, spaced, ended, line, leftLine, refusedLine, endLine};
+use serial::End;
+
+// A number and a space behind it.
+fn spaced_number(out: &mut [u8], at: usize, n: u32) -> usize
+    requires { ⌜ at < 2 ^ 39 ⌝ }
+    ensures { λ r. ⌜ Puts (now (out .entry)) at (spaced (decimal n)) (now (out .exit)) r × (r ≤ at + 11) ⌝ }
+{
+    let b = text::number(out, at, n);
+    text::put(out, b, b" ")
+}
+
+// A number that ends a line.
+fn ended_number(out: &mut [u8], at: usize, n: u32) -> usize
+    requires { ⌜ at < 2 ^ 39 ⌝ }
+    ensures { λ r. ⌜ Puts (now (out .entry)) at (ended (decimal n)) (now (out .exit)) r × (r ≤ at + 11) ⌝ }
+{
+    let b = text::number(out, at, n);
+    text::put(out, b, b"\n")
+}
+
+// The word of an answer, by the number that stands for it, and a space.
+fn answer(out: &mut [u8], at: usize, k: u32) -> usize
+    requires { ⌜ at < 2 ^ 39 ⌝ }
+    ensures { λ r. ⌜ Puts (now (out .entry)) at (spaced (answerText k)) (now (out .exit)) r ⌝ }
+{
+    match k {
+        0 => text::put(out, at, b"spawned "),
+        1 => text::put(out, at, b"pushed "),
+        2 => text::put(out, at, b"took "),
+        3 => text::put(out, at, b"moved "),
+        4 => text::put(out, at, b"finished "),
+        5 => text::put(out, at, b"empty "),
+        6 => text::put(out, at, b"not "),
+        7 => text::put(out, at, b"waits "),
+        _ => text::put(out, at, b"refused "),
+    }
+}
+
+// The value of an answer, or "-" where it has none, at the end of the line.
+fn value(out: &mut [u8], at: usize, k: u32, v: u32) -> usize
+    requires { ⌜ at < 2 ^ 39 ⌝ }
+    ensures { λ r. ⌜ Puts (now (out .entry)) at (ended (valueText k v)) (now (out .exit)) r × (r ≤ at + 11) ⌝ }
+{
+    match k {
+        0..=2 => ended_number(out, at, v),
+        3..=7 => text::put(out, at, b"-\n"),
+        _ => ended_number(out, at, v),
+    }
+}
+
+// The line of call n, counted from 1: task t was answered k with value v.
+pub fn line(out: &mut [u8], at: usize, n: u32, t: u32, k: u32, v: u32) -> usize
+    requires { ⌜ at < 2 ^ 38 ⌝ }
+    ensures { λ r. ⌜ Puts (now (out .entry)) at (line n t k v) (now (out .exit)) r × (r ≤ at + 42) ⌝ }
+{
+    let a = spaced_number(out, at, n);
+    let b = spaced_number(out, a, t);
+    let c = answer(out, b, k);
+    value(out, c, k, v)
+}
+
+// The line of a value v left in queue q.
+pub fn left_line(out: &mut [u8], at: usize, q: u32, v: u32) -> usize
+    requires { ⌜ at < 2 ^ 38 ⌝ }
+    ensures { λ r. ⌜ Puts (now (out .entry)) at (leftLine q v) (now (out .exit)) r × (r ≤ at + 27) ⌝ }
+{
+    let a = text::put(out, at, b"left ");
+    let b = spaced_number(out, a, q);
+    ended_number(out, b, v)
+}
+
+// "refused" and the number k.
+fn refused_line(out: &mut [u8], at: usize, k: u32) -> usize
+    requires { ⌜ at < 2 ^ 38 ⌝ }
+    ensures { λ r. ⌜ Puts (now (out .entry)) at (refusedLine k) (now (out .exit)) r × (r ≤ at + 19) ⌝ }
+{
+    let a = text::put(out, at, b"refused ");
+    ended_number(out, a, k)
+}
+
+// The line of a run that a bound stopped or that was turned down.
+pub fn end_line(out: &mut [u8], e: End) -> usize
+    ensures { λ r. ⌜ Puts (now (out .entry)) 0 (endLine e) (now (out .exit)) r × (r ≤ 23) ⌝ }
+{
+    match e {
+        End::Ended => 0,
+        End::Spent => text::put(out, 0, b"spent\n"),
+        End::Refused(k) => {
+            if k < 10 {
+                return refused_line(out, 0, k);
+            }
+            let a = text::put(out, 0, b"job ");
+            refused_line(out, a, k)
+        }
+    }
+}

@@ -1,0 +1,158 @@
+// Runs the job in the file that the first argument names, without overlap, and prints the run in document 01's lines. Where
+// the file cannot be read it says why on standard error and prints nothing.
+ghost use mathlib.Core.Path.{_≡_};
+ghost use Prim.Native.Nat.{_+_, _^_, _<_, _≤_};
+ghost use Rattle.serial_program.specs.Inside.{Inside};
+use libc::STDERR_FILENO;
+use libc::STDOUT_FILENO;
+use serial::End;
+
+// How many of n lines stand in the block that begins with line `first`: at most 1,024, and one at least.
+fn part(n: u32, first: u32) -> u32
+    requires { ⌜ first < n ⌝ }
+    ensures { λ r. ⌜ (r ≤ 1024) × (0 < r) × (first + r ≤ n) ⌝ }
+{
+    let rest = n - first;
+    if rest < 1024 { rest } else { 1024 }
+}
+
+// Prints the lines of n steps from step `first` on.
+fn print_step_block(a: &[u32], first: u32, n: u32) -> bool
+    requires { ⌜ (first + n < 2 ^ 32) × (n ≤ 1024) ⌝ }
+{
+    let mut out = io::large_buffer();
+    let r = serial_text::step_lines(&mut out, a, first, n);
+    io::write_all(STDOUT_FILENO, &out[..r])
+}
+
+// Prints a line for each step.
+fn print_steps(a: &[u32], steps: u32) -> bool {
+    let mut first: u32 = 0;
+    while first < steps {
+        let n = part(steps, first);
+        if !print_step_block(a, first, n) {
+            return false;
+        }
+        first += n;
+    }
+    true
+}
+
+// Prints the lines of n values of queue q from value `first` on.
+fn print_value_block(w: &[u32], q: u32, first: u32, n: u32) -> bool
+    requires { ⌜ (first + n < 2 ^ 32) × (n ≤ 1024) ⌝ }
+{
+    let mut out = io::large_buffer();
+    let r = serial_text::value_lines(&mut out, w, q, first, n);
+    io::write_all(STDOUT_FILENO, &out[..r])
+}
+
+// Prints a line for each value left in queue q.
+fn print_queue(w: &[u32], q: u32) -> bool {
+    let values = serial_queues::count(w, q);
+    let mut first: u32 = 0;
+    while first < values {
+        let n = part(values, first);
+        if !print_value_block(w, q, first, n) {
+            return false;
+        }
+        first += n;
+    }
+    true
+}
+
+// Prints a line for each value left, queues in order.
+fn print_left(w: &[u32]) -> bool {
+    for q in 0..4 {
+        if !print_queue(w, q) {
+            return false;
+        }
+    }
+    true
+}
+
+// Prints the line of a run that did not end.
+fn print_end(e: End) -> bool {
+    let mut out = io::large_buffer();
+    let r = serial_text::end_line(&mut out, e);
+    io::write_all(STDOUT_FILENO, &out[..r])
+}
+
+// Prints the steps, and then the values left or why the run stopped.
+fn print_run(w: &[u32], a: &[u32], e: End, steps: u32) -> bool {
+    if !print_steps(a, steps) {
+        return false;
+    }
+    match e {
+        End::Ended => print_left(w),
+        _ => print_end(e),
+    }
+}
+
+// Runs a job and prints the run.
+fn run(job: &[u8]) {
+    let mut w = [0u32; 16392];
+    let mut a = [0u32; 196605];
+    let s = serial_runner::run_serially(job, &mut w, &mut a);
+    let e = s.end;
+    let steps = s.steps;
+    if !print_run(&w, &a, e, steps) {
+        os::fail(b"standard output");
+    }
+}
+
+// How many bytes were read.
+enum Bytes {
+    Read(usize),
+    Unread,
+}
+
+// Reads once, at most as many bytes as are lent; none at the end of the file.
+fn read_some(fd: i32, bytes: &mut [u8]) -> Bytes
+    ensures { λ r. ⌜ Inside r (now (bytes .exit)) ⌝ }
+{
+    let got = libc::read(fd, bytes);
+    if got < 0 {
+        return Bytes::Unread;
+    }
+    Bytes::Read(io::count(got, bytes))
+}
+
+// Reads the start of a file, as far as the lent bytes go.
+fn read_start(fd: i32, bytes: &mut [u8]) -> Bytes
+    ensures { λ r. ⌜ Inside r (now (bytes .exit)) ⌝ }
+{
+    let mut n: usize = 0;
+    while n < bytes.len() {
+        let some = read_some(fd, &mut bytes[n..]);
+        let Bytes::Read(k) = some else {
+            return Bytes::Unread;
+        };
+        if k == 0 {
+            return Bytes::Read(n);
+        }
+        n += k;
+    }
+    Bytes::Read(n)
+}
+
+fn main() {
+    let mut path = io::buffer();
+    let length = os::arg(1, &mut path);
+    if os::errno() != 0 {
+        io::write_all(STDERR_FILENO, b"usage: serial_program FILE\n");
+        return;
+    }
+    let fd = os::open_read(&path[..length]);
+    if fd < 0 {
+        os::fail(&path[..length]);
+        return;
+    }
+    // The largest job has 49,540 bytes. A longer file is none, and is refused by its first 49,541 bytes as by all of them.
+    let mut file = [0u8; 49541];
+    match read_start(fd, &mut file) {
+        Bytes::Read(n) => run(&file[..n]),
+        Bytes::Unread => os::fail(&path[..length]),
+    }
+    libc::close(fd);
+}

@@ -1,0 +1,25 @@
+use lib.Seq.{set-out}
+use mathlib.Core.Path.{refl, sym}
+use Rattle.words.specs.Words.{store}
+use borrow.Author.Needs.{needs}
+use Rattle.text.proofs.put_byte.Statement.{statement}
+use Rattle.text.proofs.put_byte.Tie as tie
+use Rattle.text.proofs.put_byte.Reads as reads
+use Rattle.text.proofs.put_byte.Lts as lts
+
+slice-write-out : tie.Need-slice-write-out
+slice-write-out c = search needs
+
+same-length : tie.Need-same-length
+same-length c = search needs
+
+returns : tie.Need-returns
+unfolding store
+returns c = refl
+
+returns-2 : tie.Need-returns-2
+unfolding store
+returns-2 c = sym (set-out _ _ _ (c .if1 .left))
+
+pub put-byte-spec : {M : Type 1} → statement M
+put-byte-spec = tie.close (tie.spec slice-write-out same-length returns returns-2)

@@ -1,0 +1,43 @@
+//! Words lent to the library between two guards that it may not touch.
+
+/// Words before and behind those lent.
+const GUARD: usize = 64;
+const GUARD_WORD: u32 = 3;
+
+#[derive(Default)]
+pub struct Guarded(Vec<u32>);
+
+impl Guarded {
+    pub fn new(words: &[u32]) -> Guarded {
+        let mut guarded = Guarded::default();
+        guarded.set(words);
+        guarded
+    }
+
+    /// Other words to lend, as many as there are.
+    pub fn set(&mut self, words: &[u32]) {
+        self.0.clear();
+        self.0.resize(GUARD, GUARD_WORD);
+        self.0.extend_from_slice(words);
+        self.0.resize(words.len() + 2 * GUARD, GUARD_WORD);
+    }
+
+    fn end(&self) -> usize {
+        self.0.len() - GUARD
+    }
+
+    pub fn words(&self) -> &[u32] {
+        &self.0[GUARD..self.end()]
+    }
+
+    pub fn lend(&mut self) -> &mut [u32] {
+        let end = self.end();
+        &mut self.0[GUARD..end]
+    }
+
+    /// Whether a word outside those lent has changed.
+    pub fn overrun(&self) -> bool {
+        let (before, behind) = (&self.0[..GUARD], &self.0[self.end()..]);
+        before.iter().chain(behind).any(|word| *word != GUARD_WORD)
+    }
+}
