@@ -1,19 +1,16 @@
 -- THE FOUR QUEUES OVER ONE STORE: a call on one of them leaves the others laid out as they were.
-use mathlib.Core.Path.{_≡_, refl, ap, sym, _∙_, subst}
-use mathlib.Core.Bool.{Bool, true, false}
+use mathlib.Core.Path.{_≡_, refl, sym, subst}
 use mathlib.Core.List.{List, [], _∷_, _++_}
-use mathlib.Core.Logic.{_⊎_, inl, inr, ⊎-elim}
+use mathlib.Core.Logic.{_⊎_, ⊎-elim}
 use Prim.Native.Nat.{ℕ, zero, suc, _+_, _<_, _≤_}
 use native.Mathlib.Omega.{arith}
 use Rattle.words.specs.Words.{pick}
 use Rattle.lists.specs.Counting.{occurrences, equal?, occurs-here, occurs-past, occurs-append}
-use Rattle.order_queue.specs.Points.{Point}
 use Rattle.gaps.specs.Maps.{All, put, put-same, put-other}
-use Rattle.gaps.specs.Line.{Extent, Line, segments}
+use Rattle.gaps.specs.Line.{Line, segments}
 use Rattle.gaps.specs.Store.{Store, Memory, Laid, Segments, timeline}
 use Rattle.gaps.specs.Stores.{Kept}
-use Rattle.gaps.specs.After.{After}
-use Rattle.gaps.specs.Pool.{Pool, mine, laid-mine, mine-single, pool-row, other-queue, withHeads, before-apart, behind-apart}
+use Rattle.gaps.specs.Pool.{Pool, mine, laid-mine, pool-row, other-queue, withHeads}
 
 -- m with the segments of st, and its own queue heads
 unfoldable pub sharing : Store → Memory → Memory

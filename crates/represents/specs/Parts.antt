@@ -1,9 +1,8 @@
 -- The invariant queue by queue, with the four queues over one store: to it and back.
-use mathlib.Core.Path.{_≡_, refl, ap, sym, _∙_, subst, fun-ext}
+use mathlib.Core.Path.{_≡_, refl, ap, fun-ext}
 use mathlib.Core.Bool.{Bool, true, false, not}
 use mathlib.Core.Option.{some}
-use mathlib.Core.List.{List, [], _∷_}
-use mathlib.Core.Logic.{_⊎_, inl, inr, ⊎-elim}
+use mathlib.Core.List.{List}
 use Prim.Native.Nat.{ℕ, _<_, _≤_}
 use native.Mathlib.Omega.{arith}
 use lib.Dec.{ltb, eqb}
@@ -19,14 +18,14 @@ use Rattle.order_waits.specs.Popper.{firstPopper}
 use Rattle.order_queue.specs.Points.{Timeline}
 use Rattle.gaps.specs.Maps.{All}
 use Rattle.gaps.specs.Line.{vacant, Line, marks, Fits}
-use Rattle.gaps.specs.Store.{Store, Memory, Laid, timeline}
-use Rattle.gaps.specs.Pool.{Pool, mine}
+use Rattle.gaps.specs.Store.{Laid, timeline}
+use Rattle.gaps.specs.Pool.{mine}
 use Rattle.links.specs.Linked.{Linked}
-use Rattle.meaning.specs.Meaning.{nextIn, contentsIn, storeIn, memoryIn, Sized}
+use Rattle.meaning.specs.Meaning.{nextIn, contentsIn, storeIn, Sized}
 use Rattle.meaning.specs.Kept.{Kept}
-use Rattle.represents.specs.Represents.{alive, ofTasks, queueMemory, usesIn, Queue, opened, Represents}
+use Rattle.represents.specs.Represents.{alive, ofTasks, queueMemory, usesIn, opened, Represents}
 use Rattle.represents.specs.Nexts.{Nexts, nexts-words}
-use Rattle.represents.specs.Laids.{sharing, four, Laids, by-queue}
+use Rattle.represents.specs.Laids.{sharing, Laids, by-queue}
 
 -- one number for each queue
 unfoldable pub choose : ℕ → ℕ → ℕ → ℕ → ℕ → ℕ

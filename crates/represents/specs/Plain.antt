@@ -1,20 +1,17 @@
 -- A STEP THAT IS NEITHER SPAWN NOR FINISH keeps the tree; what it does to one queue leaves the others alone.
-use mathlib.Core.Path.{_≡_, refl, ap, sym, _∙_, subst, fun-ext}
+use mathlib.Core.Path.{_≡_, ap, sym, _∙_, subst, fun-ext}
 use mathlib.Core.Bool.{Bool, true, false}
-use mathlib.Core.Option.{some}
 use mathlib.Core.List.{List, [], _∷_, _++_}
 use mathlib.Core.Logic.{_⊎_, inl, inr, ⊎-elim}
 use Prim.Native.Nat.{ℕ, _+_, _<_, _≤_}
 use native.Mathlib.Omega.{arith}
-use Rattle.words.specs.Words.{size}
 use Rattle.lists.specs.Counting.{equal?}
 use Rattle.layout.specs.Layout.{numberWord, read}
-use Rattle.order.specs.Steps.{Task, Item, step, spot, Act, nameOf, numberOf, rightsOf, made, advance}
+use Rattle.order.specs.Steps.{Task, Item, step, spot, Act, nameOf, numberOf, made, advance}
 use Rattle.order_laws.specs.Items.{In, in-parts}
 use Rattle.order_laws.specs.Count.{count, spotNumbered}
 use Rattle.order_laws.specs.Courses.{plain}
 use Rattle.order_laws.specs.Numbers.{advance-at}
-use Rattle.order_laws.specs.Reached.{Reached}
 use Rattle.order_laws.specs.Laws.{one-spot}
 use Rattle.order_waits.specs.Played.{Played, played-reached}
 use Rattle.order_waits.specs.Changes.{in-left, in-right}
@@ -23,17 +20,17 @@ use Rattle.order_waits.specs.Heirs.{plain-popper}
 use Rattle.order_queue.specs.Points.{Point, added, takes, Timeline}
 use Rattle.order_queue.specs.Laws.{plain-line}
 use Rattle.gaps.specs.Maps.{All, put, put-same, put-other}
-use Rattle.gaps.specs.Line.{Extent, vacant, Line, marks, Fits}
+use Rattle.gaps.specs.Line.{vacant, Line, marks, Fits}
 use Rattle.gaps.specs.Store.{Store, Memory, Laid, timeline}
 use Rattle.gaps.specs.After.{After, after-marks, after-fits}
 use Rattle.gaps.specs.Pool.{mine}
 use Rattle.links.specs.Linked.{numbersBack, back-append, Linked}
 use Rattle.links.specs.Frame.{SameLinks, keeps-linked}
-use Rattle.meaning.specs.Meaning.{nextIn, contentsIn, storeIn, memoryIn, Sized}
+use Rattle.meaning.specs.Meaning.{nextIn, contentsIn, storeIn, Sized}
 use Rattle.meaning.specs.Kept.{Kept}
-use Rattle.represents.specs.Represents.{alive, ofTasks, queueMemory, usesIn, opened, Represents}
+use Rattle.represents.specs.Represents.{ofTasks, queueMemory, usesIn, opened, Represents}
 use Rattle.represents.specs.Nexts.{Nexts}
-use Rattle.represents.specs.Laids.{sharing, four, Laids, laids-row, other-timeline}
+use Rattle.represents.specs.Laids.{sharing, Laids, laids-row, other-timeline}
 use Rattle.represents.specs.Parts.{Parts, holders, parts-of, of-parts, opened-single, same-uses, same-opened}
 
 -- links are kept

@@ -1,48 +1,43 @@
 -- POP AND TEST: what the words find is what program order finds, and a pop keeps the invariant.
 use mathlib.Core.Path.{_≡_, refl, ap, ap₂, sym, _∙_, subst}
 use mathlib.Core.Bool.{Bool, true, false, false≢true}
-use mathlib.Core.Option.{Option, none, some}
-use mathlib.Core.List.{List, [], _∷_, _++_, append-assoc, append-nil}
-use mathlib.Core.Logic.{_⊎_, inl, inr, ⊎-elim}
-use Prim.Native.Nat.{ℕ, suc, _+_, _<_, _≤_}
+use mathlib.Core.Option.{none, some}
+use mathlib.Core.List.{List, [], _∷_, _++_}
+use mathlib.Core.Logic.{inl, inr}
+use Prim.Native.Nat.{ℕ, suc, _+_, _<_}
 use native.Mathlib.Omega.{arith}
-use lib.ListN.{length}
 use borrow.Author.Tests.{ne-eqb}
-use Rattle.words.specs.Words.{pick, halt, pass as skip, either}
-use Rattle.lists.specs.Counting.{occurrences}
+use Rattle.words.specs.Words.{pick, halt, pass as skip}
 use Rattle.layout.specs.Layout.{numberWord, queueHead, read}
-use Rattle.tree.specs.Rights.{uses, pushes as mayPush, pops as mayPop}
-use Rattle.answers.specs.declared.Finding.{Finding}
+use Rattle.tree.specs.Rights.{pops as mayPop}
 use Rattle.answers.specs.declared.Finding.the-variants.{Value as Found, Empty as Nothing, Waits as Later}
-use Rattle.calls.specs.Waits.{blocked as blockedIn, childPops as childPopsIn, pusherBefore}
+use Rattle.calls.specs.Waits.{pusherBefore}
 use Rattle.calls.specs.Segments.{valueAt}
-use Rattle.calls.specs.Find.{hasValue, finding as findingIn, popped}
-use Rattle.order.specs.Steps.{Task, Item, step, spot, task, Act, pops, nameOf, numberOf, rightsOf, made, advance}
-use Rattle.order.specs.Waits.{someSpot, blocked, childPops}
-use Rattle.order.specs.Finding.{run, runs, before, found, finding}
+use Rattle.calls.specs.Find.{hasValue, popped}
+use Rattle.order.specs.Steps.{Task, Item, step, spot, task, pops, nameOf, numberOf, rightsOf, made, advance}
+use Rattle.order.specs.Waits.{blocked, childPops}
+use Rattle.order.specs.Finding.{run, runs, before, found}
 use Rattle.order_laws.specs.Items.{In}
 use Rattle.order_laws.specs.Courses.{plain}
 use Rattle.order_waits.specs.Played.{Played, played-reached}
 use Rattle.order_waits.specs.Popper.{firstPopper}
 use Rattle.order_waits.specs.Poppers.{free-first, first-says}
 use Rattle.order_queue.specs.Points.{Point, value, user, values, added, takes, NoPopper, Timeline}
-use Rattle.order_queue.specs.Users.{pops-uses}
 use Rattle.order_queue.specs.Found.{firstOf}
 use Rattle.order_queue.specs.Laws.{pop-line}
 use Rattle.order_queue.specs.Finds.{finds, NoValueFirst, finds-none}
-use Rattle.gaps.specs.Maps.{All, put-same, all-behind}
-use Rattle.gaps.specs.Line.{Extent, vacant, Line, base, left, met, pass, segments, firstChain}
-use Rattle.gaps.specs.Store.{Memory, Chain, Start, sole, full, Filled, headOf, Laid, valuesIn, timeline}
-use Rattle.gaps.specs.Lines.{NoBase, first-behind, count-segments}
+use Rattle.gaps.specs.Maps.{put-same, all-behind}
+use Rattle.gaps.specs.Line.{vacant, Line, base, left, met, pass, firstChain}
+use Rattle.gaps.specs.Store.{Memory, Chain, Start, sole, full, headOf, Laid, valuesIn, timeline}
+use Rattle.gaps.specs.Lines.{NoBase, first-behind}
 use Rattle.gaps.specs.Frames.{bottomed, no-base}
 use Rattle.gaps.specs.Timelines.{timeline-append}
 use Rattle.gaps.specs.Moves.{poppedTo, popped as memoryPopped}
 use Rattle.gaps.specs.After.{After}
 use Rattle.gaps.specs.PopRow.{pop-row}
 use Rattle.gaps.specs.Pool.{mine}
-use Rattle.links.specs.Waits.{same-blocked, same-childPops}
 use Rattle.links.specs.Searches.{same-pusher}
-use Rattle.meaning.specs.Meaning.{Meaning, meaningOf, memoryOf, memoryIn, contentsIn, nextIn, headsIn, storeIn}
+use Rattle.meaning.specs.Meaning.{meaningOf, memoryOf, memoryIn, contentsIn, nextIn, headsIn, storeIn}
 use Rattle.meaning.specs.Update.{memory-shared}
 use Rattle.meaning.specs.Kept.{Becomes}
 use Rattle.meaning.specs.Pop.{poppedIn, memory-popped, value-popped}
@@ -55,7 +50,7 @@ use Rattle.represents.specs.Live.{live-popping}
 use Rattle.represents.specs.Plain.{queue-represents}
 use Rattle.represents.specs.FirstNamed.{one-mine, segment-below, first-in}
 use Rattle.represents.specs.Room.{room}
-use Rattle.represents.specs.At.{mine-spot, task-unfinished, task-alive, single-spot, where-it-stands}
+use Rattle.represents.specs.At.{task-unfinished, task-alive, single-spot, where-it-stands}
 use Rattle.represents.specs.Push.{queue-memory, masked-share}
 
 made-pop : (s : Task) (q : ℕ) → made s (pops q) ≡ step (nameOf s) (pops q) ∷ spot s ∷ []

@@ -1,16 +1,14 @@
 -- A PUSH keeps the invariant: into the tail segment, or into a new segment.
 use mathlib.Core.Path.{_≡_, refl, ap, sym, _∙_, subst}
-use mathlib.Core.Option.{Option, none, some}
 use mathlib.Core.List.{List, [], _∷_, _++_}
-use Prim.Native.Nat.{ℕ, _+_, _<_, _≤_}
+use Prim.Native.Nat.{ℕ, _+_, _<_}
 use native.Mathlib.Omega.{arith}
-use lib.Dec.{eqb}
 use borrow.Author.Tests.{ne-eqb}
-use Rattle.words.specs.Words.{pick, halt, pass as skip}
-use Rattle.layout.specs.Layout.{NL, USER, lengthWord, numberWord, count, next, tail, read, write}
+use Rattle.words.specs.Words.{halt, pass as skip}
+use Rattle.layout.specs.Layout.{USER, lengthWord, numberWord, count, next, tail, read, write}
 use Rattle.tree.specs.Rights.{uses, pushes as mayPush}
 use Rattle.calls.specs.Segments.{stored, taken}
-use Rattle.order.specs.Steps.{Task, Item, step, spot, task, Act, pushes, nameOf, numberOf, rightsOf, made, advance}
+use Rattle.order.specs.Steps.{Task, Item, step, spot, task, pushes, nameOf, numberOf, rightsOf, made, advance}
 use Rattle.order_laws.specs.Courses.{plain}
 use Rattle.order_waits.specs.Played.{Played}
 use Rattle.order_queue.specs.Points.{Point, value, user, added, takes, Timeline}
@@ -18,20 +16,19 @@ use Rattle.order_queue.specs.Users.{pushes-uses}
 use Rattle.order_queue.specs.Laws.{push-line}
 use Rattle.gaps.specs.Maps.{put}
 use Rattle.gaps.specs.Line.{End, local, Extent, vacant, extent, Line, met}
-use Rattle.gaps.specs.Store.{Store, Memory, timeline}
+use Rattle.gaps.specs.Store.{Memory, timeline}
 use Rattle.gaps.specs.Moves.{pushedInto, taken as taken-store}
 use Rattle.gaps.specs.After.{After}
 use Rattle.gaps.specs.PushRows.{into-row}
 use Rattle.gaps.specs.Pool.{mine}
-use Rattle.meaning.specs.Meaning.{Meaning, meaningOf, memoryOf, memoryIn, contentsIn, Sized}
+use Rattle.meaning.specs.Meaning.{Meaning, meaningOf, memoryOf, memoryIn, contentsIn}
 use Rattle.meaning.specs.Update.{withContents}
-use Rattle.meaning.specs.Kept.{Kept, Becomes}
+use Rattle.meaning.specs.Kept.{Becomes}
 use Rattle.meaning.specs.Values.{value-stored}
 use Rattle.represents.specs.Represents.{alive, ofTasks, queueMemory, usesIn, Represents}
 use Rattle.represents.specs.Nexts.{Nexts, nexts-taken, nexts-linked, words-nexts}
 use Rattle.represents.specs.Laids.{sharing}
 use Rattle.represents.specs.Parts.{holders, parts-of, same-alive}
-use Rattle.represents.specs.Live.{live-into}
 use Rattle.represents.specs.Plain.{queue-represents}
 use Rattle.represents.specs.FirstNamed.{one-mine}
 use Rattle.represents.specs.At.{At, at, Behind, laid-at, time-at, single-spot}

@@ -1,27 +1,21 @@
 -- The views of a task of the tour, by the words and by the line of a queue.
-use mathlib.Core.Path.{_≡_, refl, ap, sym, _∙_, subst}
-use mathlib.Core.Bool.{Bool, true, false, not, false≢true}
-use mathlib.Core.Option.{Option, none, some}
-use mathlib.Core.List.{List, [], _∷_, _++_}
-use mathlib.Core.Logic.{_⊎_, inl, inr, ⊎-elim}
-use Prim.Native.Nat.{ℕ, zero, suc, _+_, _-_, _*_, _<_, _≤_}
-use native.Mathlib.Nat.{eq-zero-or-pos}
+use mathlib.Core.Path.{_≡_, ap, sym, _∙_, subst}
+use mathlib.Core.Bool.{Bool, true, not, false≢true}
+use mathlib.Core.List.{List, [], _∷_}
+use mathlib.Core.Logic.{_⊎_, ⊎-elim}
+use Prim.Native.Nat.{ℕ, zero, suc, _+_, _-_, _<_}
 use native.Mathlib.Omega.{arith}
-use lib.Dec.{ltb, eqb}
 use borrow.Author.Tests.{lt-ltb, ltb-true, ne-eqb}
 use Rattle.words.specs.Words.{true-both, both-true}
 use Rattle.lists.specs.Counting.{occurrences, occurs-nil, occurs-here, occurs-past, equal?}
-use Rattle.layout.specs.Layout.{FREE, UNFINISHED, STATUS, task, read}
-use Rattle.rules.specs.Contents.{decode, word}
+use Rattle.layout.specs.Layout.{FREE, STATUS, task, read}
+use Rattle.rules.specs.Contents.{decode}
 use Rattle.rules.specs.Rules.{Unfinished}
-use Rattle.order.specs.Steps.{Task, Item, spot, numberOf}
-use Rattle.order_laws.specs.Items.{In}
 use Rattle.gaps.specs.Maps.{All}
-use Rattle.gaps.specs.Line.{Mark, base, left, met, pass, Line, marks, lefts, mets, Fits}
+use Rattle.gaps.specs.Line.{base, left, met, pass, Line, marks, lefts, mets, Fits}
 use Rattle.gaps.specs.Search.{taskAt, task-met, task-left}
 use Rattle.links.specs.Linked.{word-is}
-use Rattle.links.specs.Marks.{mark-held}
-use Rattle.represents.specs.Represents.{alive, usesIn, Represents}
+use Rattle.represents.specs.Represents.{alive, usesIn}
 
 -- a property of all members of a list, at one of them
 pub all-at : (P : ℕ → Type 0) (l : List ℕ) (x : ℕ) → All P l → 0 < occurrences x l → P x

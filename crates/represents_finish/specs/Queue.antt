@@ -39,9 +39,11 @@ module _ (m : List ℕ) (xs : List Item) (r : Represents m xs) (n : List ℕ) (h
   way-linked = keeps-linked m n (same-links m n (r .sized) (way .kept)) (r .tour) xs xs (r .linked) refl (λ s i. i)
 
   -- an unfinished task is in use
+  pub unfinished-live : (u : ℕ) → Unfinished (decode m) u → alive n u ≡ true
+  unfinished-live u k = ap (λ (f : ℕ → Bool). f u) (same-alive m n (way .kept)) ∙ unfinished-alive m u k
+
   pub spot-alive : (o : Task) → In (spot o) xs → alive n (numberOf o) ≡ true
-  spot-alive o i =
-      ap (λ (f : ℕ → Bool). f (numberOf o)) (same-alive m n (way .kept)) ∙ unfinished-alive m (numberOf o) (spot-unfinished m (r .tour) xs (r .linked) o i)
+  spot-alive o i = unfinished-live (numberOf o) (spot-unfinished m (r .tour) xs (r .linked) o i)
 
   -- and the tour meets it
   pub unfinished-there : (u : ℕ) → Unfinished (decode m) u → 0 < occurrences u (r .tour)

@@ -22,8 +22,9 @@ use Rattle.gaps.specs.Line.{segments}
 use Rattle.gaps.specs.Store.{Chain}
 use Rattle.meaning.specs.Meaning.{nextIn, contentsIn}
 use Rattle.represents.specs.Represents.{Represents, opened, queueMemory, ofTasks}
+use Rattle.represents.specs.Parts.{opened-single}
 use Rattle.represents_rules.specs.Lists.{all-at, by-four}
-use Rattle.represents_rules.specs.Segments.{held, opened-below, opened-once, opened-says, pool-total, held-opened, line-opened}
+use Rattle.represents_rules.specs.Segments.{held, opened-below, opened-says, pool-total, held-opened, line-opened}
 use Rattle.represents_rules.specs.Ends.{firsts, lasts, same-length}
 use Rattle.represents_rules.specs.Named.{heads-total, tails-total}
 use Rattle.represents_rules.specs.Chains.{InTable, EndOrFilled, next-none, filled-word, line-ends, line-filled, line-chains, firsts-held, lasts-held}
@@ -82,7 +83,7 @@ module _ (m : List ℕ) (xs : List Item) (r : Represents m xs) where
     once : (s : ℕ) → held m xs r s q ≤ 1
     once s =
         let a = pool-total m xs r s in
-        let b = opened-once m s in
+        let b = opened-single m s in
         let d = total-term 4 (held m xs r s) q small in
         omega (arith, a, b, d)
 
@@ -121,13 +122,13 @@ module _ (m : List ℕ) (xs : List Item) (r : Represents m xs) where
   parts : Distinct n (c .free ++ chains c hs)
   parts =
       distinct-append n (c .free) (chains c hs) free-below (λ s p. opened-says m s (let a = parts-total s in omega (arith, a, p)))
-      (λ s l. let a = parts-total s in let b = opened-once m s in omega (arith, a, b))
+      (λ s l. let a = parts-total s in let b = opened-single m s in omega (arith, a, b))
 
   ends : Distinct n (c .free ++ es)
   ends =
       distinct-append n (c .free) es free-below
       (λ s p. opened-says m s (let a = parts-total s in let b = chain-count s in let d = end-count s in omega (arith, a, b, d, p)))
-      (λ s l. let a = parts-total s in let b = chain-count s in let d = end-count s in let e = opened-once m s in omega (arith, a, b, d, e))
+      (λ s l. let a = parts-total s in let b = chain-count s in let d = end-count s in let e = opened-single m s in omega (arith, a, b, d, e))
 
   sum : length (c .free) + length (chains c hs) ≡ n
   sum =

@@ -32,10 +32,6 @@ opened-above : (m : List ℕ) (s : ℕ) → read m numberWord ≤ s → opened m
 unfolding opened one
 opened-above m s l = pass _ (le-ltb s (read m numberWord) l) refl
 
-pub opened-once : (m : List ℕ) (s : ℕ) → opened m s ≤ 1
-opened-once m s =
-    ⊎-elim (λ l. let a = opened-below m s l in omega (arith, a)) (λ l. let a = opened-above m s l in omega (arith, a)) (below? s (read m numberWord))
-
 pub opened-says : (m : List ℕ) (s : ℕ) → 0 < opened m s → s < read m numberWord
 opened-says m s p =
     ⊎-elim (λ l. l) (λ l. let a = opened-above m s l in let z : ⊥ = omega (arith, a, p) in absurd z) (below? s (read m numberWord))
