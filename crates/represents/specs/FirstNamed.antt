@@ -18,7 +18,7 @@ use Rattle.rules_tasks.specs.Holders.{below?, met-count}
 use Rattle.calls.specs.Views.{viewOf, isEmpty}
 use Rattle.order.specs.Steps.{Item, numberOf}
 use Rattle.order_waits.specs.Poppers.{popper-says}
-use Rattle.gaps.specs.Maps.{All, put-other}
+use Rattle.gaps.specs.Maps.{All, put-other, all-at}
 use Rattle.gaps.specs.Line.{End, nonlocal, local, Extent, vacant, extent, base, left, met, pass, Line, lefts, mets, segments, firstChain}
 use Rattle.gaps.specs.Store.{headOf}
 use Rattle.gaps.specs.Names.{OnlyHead, only-head, Unnamed, unnamed}
@@ -33,7 +33,7 @@ use Rattle.meaning.specs.Extents.{end-local, filled-extent}
 use Rattle.represents.specs.Represents.{alive, ofTasks, queueMemory, usesIn, opened, Represents}
 use Rattle.represents.specs.Laids.{apart, held-opened, mine-one}
 use Rattle.represents.specs.Parts.{Parts, holders, parts-of, opened-single}
-use Rattle.represents.specs.Views.{all-at, met-in, left-in, unfinished-alive, uses-small}
+use Rattle.represents.specs.Views.{met-in, left-in, unfinished-alive, uses-small}
 use Rattle.represents.specs.Named.{OnlyNamed}
 use Rattle.represents.specs.Room.{opened-below}
 

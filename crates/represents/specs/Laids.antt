@@ -5,12 +5,13 @@ use mathlib.Core.Logic.{_⊎_, ⊎-elim}
 use Prim.Native.Nat.{ℕ, zero, suc, _+_, _<_, _≤_}
 use native.Mathlib.Omega.{arith}
 use Rattle.words.specs.Words.{pick}
-use Rattle.lists.specs.Counting.{occurrences, equal?, occurs-here, occurs-past, occurs-append}
-use Rattle.gaps.specs.Maps.{All, put, put-same, put-other}
+use Rattle.lists.specs.Counting.{occurrences, equal?, occurs-append}
+use Rattle.gaps.specs.Maps.{All, put, put-same, put-other, all-in}
 use Rattle.gaps.specs.Line.{Line, segments}
 use Rattle.gaps.specs.Store.{Store, Memory, Laid, Segments, timeline}
 use Rattle.gaps.specs.Stores.{Kept}
 use Rattle.gaps.specs.Pool.{Pool, mine, laid-mine, pool-row, other-queue, withHeads}
+use Rattle.meaning.specs.Records.{by-four}
 
 -- m with the segments of st, and its own queue heads
 unfoldable pub sharing : Store → Memory → Memory
@@ -25,22 +26,6 @@ pub record Laids (own : ℕ → ℕ) (st : Store) (memory : ℕ → Memory) (hol
   pub laid : (q : ℕ) → q < 4 → Laid (mine (memory q .store) (line q)) (memory q) (holder q) (line q)
   pub shares : (q : ℕ) → q < 4 → memory q ≡ sharing st (memory q)
   pub pool : Pool own st (four line)
-
--- one of the four
-pub by-queue : (P : ℕ → Type 0) → P 0 → P 1 → P 2 → P 3 → (q : ℕ) → q < 4 → P q
-by-queue P a b c d zero l = a
-by-queue P a b c d (suc zero) l = b
-by-queue P a b c d (suc (suc zero)) l = c
-by-queue P a b c d (suc (suc (suc zero))) l = d
-by-queue P a b c d (suc (suc (suc (suc q)))) l = let z : ⊥ = omega (arith, l) in absurd z
-
--- a property of every number that stands in a list
-pub all-in : (P : ℕ → Type 0) (c : List ℕ) → ((x : ℕ) → 0 < occurrences x c → P x) → All P c
-all-in P [] f = tt
-all-in P (y ∷ c) f = (
-  f y (let e = occurs-here y y c refl in omega (arith, e)),
-  all-in P c (λ x p. f x (⊎-elim (λ e. let g = occurs-here y x c e in omega (arith, g)) (λ e. let g = occurs-past y x c e in omega (arith, g, p)) (equal? y x))),
-)
 
 module _ (own : ℕ → ℕ) (single : (x : ℕ) → own x ≤ 1) (st : Store) (line : ℕ → Line) (pool : Pool own st (four line)) where
   abbrev held : ℕ → ℕ → ℕ
@@ -58,11 +43,11 @@ module _ (own : ℕ → ℕ) (single : (x : ℕ) → own x ≤ 1) (st : Store) (
   -- a segment of one queue is neither another's nor free
   pub apart : (p q : ℕ) → p < 4 → q < 4 → (p ≡ q → ⊥) → (x : ℕ) → held x p + (held x q + occurrences x (st .free)) ≤ 1
   apart p q i j n x =
-      by-queue (λ p. (p ≡ q → ⊥) → held x p + (held x q + occurrences x (st .free)) ≤ 1)
-      (λ n. by-queue (λ q. (0 ≡ q → ⊥) → held x 0 + (held x q + occurrences x (st .free)) ≤ 1) (λ n. absurd (n refl)) (λ n. omega (arith, sum)) (λ n. omega (arith, sum)) (λ n. omega (arith, sum)) q j n)
-      (λ n. by-queue (λ q. (1 ≡ q → ⊥) → held x 1 + (held x q + occurrences x (st .free)) ≤ 1) (λ n. omega (arith, sum)) (λ n. absurd (n refl)) (λ n. omega (arith, sum)) (λ n. omega (arith, sum)) q j n)
-      (λ n. by-queue (λ q. (2 ≡ q → ⊥) → held x 2 + (held x q + occurrences x (st .free)) ≤ 1) (λ n. omega (arith, sum)) (λ n. omega (arith, sum)) (λ n. absurd (n refl)) (λ n. omega (arith, sum)) q j n)
-      (λ n. by-queue (λ q. (3 ≡ q → ⊥) → held x 3 + (held x q + occurrences x (st .free)) ≤ 1) (λ n. omega (arith, sum)) (λ n. omega (arith, sum)) (λ n. omega (arith, sum)) (λ n. absurd (n refl)) q j n)
+      by-four (λ p. (p ≡ q → ⊥) → held x p + (held x q + occurrences x (st .free)) ≤ 1)
+      (λ n. by-four (λ q. (0 ≡ q → ⊥) → held x 0 + (held x q + occurrences x (st .free)) ≤ 1) (λ n. absurd (n refl)) (λ n. omega (arith, sum)) (λ n. omega (arith, sum)) (λ n. omega (arith, sum)) q j n)
+      (λ n. by-four (λ q. (1 ≡ q → ⊥) → held x 1 + (held x q + occurrences x (st .free)) ≤ 1) (λ n. omega (arith, sum)) (λ n. absurd (n refl)) (λ n. omega (arith, sum)) (λ n. omega (arith, sum)) q j n)
+      (λ n. by-four (λ q. (2 ≡ q → ⊥) → held x 2 + (held x q + occurrences x (st .free)) ≤ 1) (λ n. omega (arith, sum)) (λ n. omega (arith, sum)) (λ n. absurd (n refl)) (λ n. omega (arith, sum)) q j n)
+      (λ n. by-four (λ q. (3 ≡ q → ⊥) → held x 3 + (held x q + occurrences x (st .free)) ≤ 1) (λ n. omega (arith, sum)) (λ n. omega (arith, sum)) (λ n. omega (arith, sum)) (λ n. absurd (n refl)) q j n)
       p i n
     where
       sum : held x 0 + held x 1 + held x 2 + held x 3 + occurrences x (st .free) ≤ 1
@@ -71,7 +56,7 @@ module _ (own : ℕ → ℕ) (single : (x : ℕ) → own x ≤ 1) (st : Store) (
   -- a segment that a queue has, or that is free, is one of those opened, and stands there once
   pub held-opened : (q : ℕ) → q < 4 → (x : ℕ) → held x q + occurrences x (st .free) ≤ own x
   held-opened q i x =
-      by-queue (λ q. held x q + occurrences x (st .free) ≤ own x) (omega (arith, sum)) (omega (arith, sum)) (omega (arith, sum)) (omega (arith, sum)) q i
+      by-four (λ q. held x q + occurrences x (st .free) ≤ own x) (omega (arith, sum)) (omega (arith, sum)) (omega (arith, sum)) (omega (arith, sum)) q i
     where
       sum : held x 0 + held x 1 + held x 2 + held x 3 + occurrences x (st .free) ≤ own x
       sum = total x
@@ -87,7 +72,7 @@ module _ (own : ℕ → ℕ) (single : (x : ℕ) → own x ≤ 1) (st : Store) (
       → Segments (mine st (line q)) (st′ .next) (st′ .contents) (st′ .free) l′ → Pool own st′ (four (put line q l′))
   unfolding put pick
   pool-with q i st′ l′ k g =
-      by-queue
+      by-four
       (λ q. Kept (mine st (line q)) st st′ → Segments (mine st (line q)) (st′ .next) (st′ .contents) (st′ .free) l′ → Pool own st′ (four (put line q l′)))
       (λ k g. pool-row own single st [] (line 0) (line 1 ∷ line 2 ∷ line 3 ∷ []) pool st′ l′ k g)
       (λ k g. pool-row own single st (line 0 ∷ []) (line 1) (line 2 ∷ line 3 ∷ []) pool st′ l′ k g)

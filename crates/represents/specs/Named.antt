@@ -16,6 +16,7 @@ use Rattle.layout.specs.Frame.{record-word}
 use Rattle.tree.specs.Tour.{MARKS, tour}
 use Rattle.calls.specs.Segments.{indexOf, headIndex}
 use Rattle.gaps.specs.Search.{firstOf}
+use Rattle.gaps.specs.Maps.{occurs-later}
 use Rattle.links.specs.Places.{seek-first}
 use Rattle.meaning.specs.Links.{NamedBy}
 
@@ -52,15 +53,12 @@ unfolding firstOf
 first-only f [] h p e only = let a = occurs-nil h in let z : ⊥ = omega (arith, a, p) in absurd z
 first-only f (y ∷ l) h p e only = go (f y) refl (first-only f l h)
   where
-    inside : (x : ℕ) → 0 < occurrences x l → 0 < occurrences x (y ∷ l)
-    inside x i = ⊎-elim (λ d. let g = occurs-here y x l d in omega (arith, g)) (λ d. let g = occurs-past y x l d in omega (arith, g, i)) (equal? y x)
-
     go : (b : Bool) → f y ≡ b → (0 < occurrences h l → f h ≡ true → ((x : ℕ) → 0 < occurrences x l → f x ≡ true → x ≡ h) → firstOf f l ≡ h)
         → pick (f y) y (firstOf f l) ≡ h
     go true d rest = halt _ _ d ∙ only y (let g = occurs-here y y l refl in omega (arith, g)) d
     go false d rest =
         pass _ d
-        (rest (let g = occurs-past y h l (λ q. false≢true (sym d ∙ ap f q ∙ e)) in omega (arith, g, p)) e (λ x i. only x (inside x i)))
+        (rest (let g = occurs-past y h l (λ q. false≢true (sym d ∙ ap f q ∙ e)) in omega (arith, g, p)) e (λ x i. only x (occurs-later y x l i)))
 
 pub named-by : (m : List ℕ) (T : List ℕ) (g h q : ℕ) → tour MARKS (recordOf m) 0 ≡ T → OnlyNamed m T g h q → NamedBy m g h q
 unfolding headIndex load

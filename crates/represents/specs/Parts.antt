@@ -23,9 +23,10 @@ use Rattle.gaps.specs.Pool.{mine}
 use Rattle.links.specs.Linked.{Linked}
 use Rattle.meaning.specs.Meaning.{nextIn, contentsIn, storeIn, Sized}
 use Rattle.meaning.specs.Kept.{Kept}
+use Rattle.meaning.specs.Records.{by-four}
 use Rattle.represents.specs.Represents.{alive, ofTasks, queueMemory, usesIn, opened, Represents}
 use Rattle.represents.specs.Nexts.{Nexts, nexts-words}
-use Rattle.represents.specs.Laids.{sharing, Laids, by-queue}
+use Rattle.represents.specs.Laids.{sharing, Laids}
 
 -- one number for each queue
 unfoldable pub choose : ℕ → ℕ → ℕ → ℕ → ℕ → ℕ
@@ -57,12 +58,12 @@ module _ (m : List ℕ) (xs : List Item) (r : Represents m xs) where
   parts-of =
       record {
         laids = record {
-          laid = by-queue (λ q. Laid (mine (queueMemory m q .store) (r .line q)) (queueMemory m q) (holders q) (r .line q))
+          laid = by-four (λ q. Laid (mine (queueMemory m q .store) (r .line q)) (queueMemory m q) (holders q) (r .line q))
               (r .queue 0 (omega arith) .laid) (r .queue 1 (omega arith) .laid) (r .queue 2 (omega arith) .laid) (r .queue 3 (omega arith) .laid);
           shares = λ q i. refl;
           pool = r .pool;
         };
-        first = by-queue (λ q. firstPopper q xs ≡ some (holders q))
+        first = by-four (λ q. firstPopper q xs ≡ some (holders q))
             (r .queue 0 (omega arith) .first) (r .queue 1 (omega arith) .first) (r .queue 2 (omega arith) .first) (r .queue 3 (omega arith) .first);
         marked = λ q i. r .queue q i .marked;
         fits = λ q i. r .queue q i .fits;

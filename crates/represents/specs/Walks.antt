@@ -24,8 +24,8 @@ use Rattle.links.specs.Linked.{word-is}
 use Rattle.links.specs.Marks.{mark-held}
 use Rattle.meaning.specs.Meaning.{viewIn}
 use Rattle.meaning.specs.Find.{part-taken, view-stands}
+use Rattle.meaning.specs.Records.{by-four}
 use Rattle.represents.specs.Represents.{ofTasks, queueMemory, usesIn, Represents}
-use Rattle.represents.specs.Laids.{by-queue}
 use Rattle.represents.specs.Views.{unfinished-alive}
 
 -- two searches with tests that agree on the list
@@ -81,4 +81,4 @@ module _ (m : List ℕ) (xs : List Item) (r : Represents m xs) where
   top-uses q i =
       both-on (lt-ltb 0 128 (omega arith))
       ∙ ap (λ (x : ℕ). uses x q) (sym (word-is m 0 RIGHTS) ∙ top-says (decode m) (r .linked .top) .rights)
-      ∙ by-queue (λ q. uses 255 q ≡ true) refl refl refl refl q i
+      ∙ by-four (λ q. uses 255 q ≡ true) refl refl refl refl q i

@@ -9,7 +9,7 @@ use native.Mathlib.Omega.{arith}
 use Rattle.lists.specs.Counting.{occurrences, equal?}
 use Rattle.layout.specs.Layout.{CHILDREN, USER, RIGHT}
 use Rattle.order.specs.Steps.{Item}
-use Rattle.gaps.specs.Maps.{All, put-other}
+use Rattle.gaps.specs.Maps.{All, put-other, all-at}
 use Rattle.gaps.specs.Line.{End, nonlocal, local, extent, Line, lefts, mets, firstChain}
 use Rattle.gaps.specs.Store.{Memory, headOf}
 use Rattle.gaps.specs.Names.{OnlyHead, only-head, Unnamed, unnamed}
@@ -18,7 +18,6 @@ use Rattle.meaning.specs.Meaning.{meaningOf, headsIn, viewIn, storeIn}
 use Rattle.represents.specs.Represents.{alive, queueMemory, opened, Represents}
 use Rattle.represents.specs.Laids.{apart}
 use Rattle.represents.specs.Parts.{opened-single}
-use Rattle.represents.specs.Views.{all-at}
 use Rattle.represents.specs.FirstNamed.{first-in, not-vacant, task-there}
 use Rattle.represents_finish.specs.Way.{Vacant, Way}
 use Rattle.represents_finish.specs.Queue.{single, children-word, user-word, right-word, head-word, unfinished-live}

@@ -14,7 +14,7 @@ use Rattle.rules.specs.Views.{View}
 use Rattle.calls.specs.Waits.{hasChild}
 use Rattle.calls.specs.Views.{taskAt, kindAt, returnedTo}
 use Rattle.order.specs.Steps.{Task, Item, spot, numberOf}
-use Rattle.gaps.specs.Maps.{All, put-other, all-behind}
+use Rattle.gaps.specs.Maps.{All, put-other, all-behind, all-at}
 use Rattle.gaps.specs.Line.{nonlocal, local, Extent, vacant, extent, base, left, met, pass, Line, marks, lefts, mets, Fits, Mode, Views, leaving, meeting}
 use Rattle.gaps.specs.Store.{Memory, Laid}
 use Rattle.gaps.specs.Lines.{count-lefts, count-mets}
@@ -28,7 +28,7 @@ use Rattle.gaps.specs.Splits.{small-mets}
 use Rattle.meaning.specs.Meaning.{extentOf, viewIn}
 use Rattle.meaning.specs.FinishTest.{returned-nonlocal, returned-local}
 use Rattle.represents.specs.Represents.{alive, queueMemory, usesIn, Represents}
-use Rattle.represents.specs.Views.{all-at, uses-small}
+use Rattle.represents.specs.Views.{uses-small}
 use Rattle.represents.specs.Walks.{top-uses, marked}
 use Rattle.represents.specs.Live.{holdsAt}
 use Rattle.represents.specs.FirstNamed.{task-there}

@@ -17,11 +17,10 @@ use Rattle.rules.specs.Test.{segmentTest}
 use Rattle.rules_segments.specs.Tested.{Sound, sound-segments}
 use Rattle.rules_tasks.specs.Holders.{below?}
 use Rattle.order.specs.Steps.{Item}
-use Rattle.gaps.specs.Maps.{All}
+use Rattle.gaps.specs.Maps.{All, all-in}
 use Rattle.gaps.specs.Line.{segments}
 use Rattle.meaning.specs.Meaning.{freeIn}
 use Rattle.represents.specs.Represents.{Represents, opened}
-use Rattle.represents.specs.Laids.{all-in}
 
 -- a segment opened with or not
 pub opened-below : (m : List ℕ) (s : ℕ) → s < read m numberWord → opened m s ≡ 1

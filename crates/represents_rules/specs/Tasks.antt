@@ -9,7 +9,7 @@ use native.Mathlib.Omega.{arith}
 use lib.Dec.{ltb}
 use borrow.Author.Tests.{lt-ltb, ltb-true, le-ltb}
 use Rattle.words.specs.Words.{pick, both-true, both-on, pass, halt}
-use Rattle.lists.specs.Counting.{occurrences, occurs-cons, occurs-here}
+use Rattle.lists.specs.Counting.{occurrences}
 use Rattle.layout.specs.Layout.{RIGHTS, CHILDREN, USER, RIGHT}
 use Rattle.tree.specs.Rights.{uses}
 use Rattle.tree.specs.Tour.{met}
@@ -20,7 +20,7 @@ use Rattle.rules_same.specs.Passed.{toured}
 use Rattle.rules_same.specs.Same.{whole-tour}
 use Rattle.calls.specs.Waits.{rightsOf}
 use Rattle.order.specs.Steps.{Item}
-use Rattle.gaps.specs.Maps.{All}
+use Rattle.gaps.specs.Maps.{All, occurs-first, occurs-later}
 use Rattle.gaps.specs.Line.{Extent, Mark, base, left, pass as past, Line, marks, Fits}
 use Rattle.gaps.specs.Line.Mark.{met as meeting}
 use Rattle.links.specs.Linked.{tree, tour-is, word-is, holder-unfinished}
@@ -32,11 +32,8 @@ use Rattle.represents.specs.Views.{unfinished-alive}
 use Rattle.represents_rules.specs.Words.{ViewWords, kind-words}
 
 -- members of a list with y in front
-first : (y : ℕ) (l : List ℕ) → 0 < occurrences y (y ∷ l)
-first y l = let a = occurs-here y y l refl in omega (arith, a)
-
 later : {P : ℕ → Type 0} (y : ℕ) (l : List ℕ) → ((x : ℕ) → 0 < occurrences x (y ∷ l) → P x) → (x : ℕ) → 0 < occurrences x l → P x
-later y l f x p = f x (let a = occurs-cons y x l in omega (arith, a, p))
+later y l f x p = f x (occurs-later y x l p)
 
 module _ (m : List ℕ) (xs : List Item) (r : Represents m xs) where
   abbrev c : Contents
@@ -116,9 +113,9 @@ module _ (m : List ℕ) (xs : List Item) (r : Represents m xs) where
     line-marked : (l : Line) → All (Fits (usesIn m q)) l → ((x : ℕ) → 0 < occurrences x (marks l) → Busy x) → All Marked l
     line-marked [] h f = tt
     line-marked (base d ∷ l) h f = (tt, line-marked l (h .1) f)
-    line-marked (left t ∷ l) h f = (left-mark t (h .0) (f (128 + t) (first (128 + t) (marks l))), line-marked l (h .1) (later (128 + t) (marks l) f))
-    line-marked (meeting t d ∷ l) h f = (met-mark t (h .0) (f t (first t (marks l))), line-marked l (h .1) (later t (marks l) f))
-    line-marked (past x ∷ l) h f = (past-mark x (h .0) (f x (first x (marks l))), line-marked l (h .1) (later x (marks l) f))
+    line-marked (left t ∷ l) h f = (left-mark t (h .0) (f (128 + t) (occurs-first (128 + t) (marks l))), line-marked l (h .1) (later (128 + t) (marks l) f))
+    line-marked (meeting t d ∷ l) h f = (met-mark t (h .0) (f t (occurs-first t (marks l))), line-marked l (h .1) (later t (marks l) f))
+    line-marked (past x ∷ l) h f = (past-mark x (h .0) (f x (occurs-first x (marks l))), line-marked l (h .1) (later x (marks l) f))
 
     pub marked : All Marked (r .line q)
     marked =
