@@ -10,12 +10,9 @@ use Rattle.gaps.specs.Maps.{All, put, put-same, put-other, all-in}
 use Rattle.gaps.specs.Line.{Line, segments}
 use Rattle.gaps.specs.Store.{Store, Memory, Laid, Segments, timeline}
 use Rattle.gaps.specs.Stores.{Kept}
-use Rattle.gaps.specs.Pool.{Pool, mine, laid-mine, pool-row, other-queue, withHeads}
+use Rattle.gaps.specs.Pool.{Pool, mine, laid-mine, pool-row, other-queue}
 use Rattle.meaning.specs.Records.{by-four}
-
--- m with the segments of st, and its own queue heads
-unfoldable pub sharing : Store → Memory → Memory
-sharing st m = record { children = m .children; user = m .user; right = m .right; store = withHeads (m .store .heads) st }
+use Rattle.meaning.specs.Update.{shared}
 
 -- the four lines
 abbrev pub four : (ℕ → Line) → List Line
@@ -24,7 +21,7 @@ four line = line 0 ∷ line 1 ∷ line 2 ∷ line 3 ∷ []
 -- All four queues are laid out, and share the segments of st.
 pub record Laids (own : ℕ → ℕ) (st : Store) (memory : ℕ → Memory) (holder : ℕ → ℕ) (line : ℕ → Line) : Type 0 where
   pub laid : (q : ℕ) → q < 4 → Laid (mine (memory q .store) (line q)) (memory q) (holder q) (line q)
-  pub shares : (q : ℕ) → q < 4 → memory q ≡ sharing st (memory q)
+  pub shares : (q : ℕ) → q < 4 → memory q ≡ shared st (memory q)
   pub pool : Pool own st (four line)
 
 module _ (own : ℕ → ℕ) (single : (x : ℕ) → own x ≤ 1) (st : Store) (line : ℕ → Line) (pool : Pool own st (four line)) where
@@ -85,19 +82,16 @@ module _ (own : ℕ → ℕ) (single : (x : ℕ) → own x ≤ 1) (st : Store) (
     (q : ℕ) (small : q < 4) (M : Memory) (h : ℕ) (l : Line) (kept : Kept (mine (memory q .store) (line q)) (memory q .store) (M .store))
     (row : Laid (mine (memory q .store) (line q)) M h l) where
   abbrev Then : ℕ → Memory
-  Then = put (λ p. sharing (M .store) (memory p)) q M
+  Then = put (λ p. shared (M .store) (memory p)) q M
 
   -- in terms of the shared segments
   kept-shared : Kept (mine st (line q)) st (M .store)
-  unfolding sharing
   kept-shared = subst (λ (m : Memory). Kept (mine (m .store) (line q)) (m .store) (M .store)) (all .shares q small) kept
 
   row-shared : Laid (mine st (line q)) M h l
-  unfolding sharing
   row-shared = subst (λ (m : Memory). Laid (mine (m .store) (line q)) M h l) (all .shares q small) row
 
-  other : (p : ℕ) → p < 4 → (p ≡ q → ⊥) → Laid (mine (sharing (M .store) (memory p) .store) (line p)) (sharing (M .store) (memory p)) (holder p) (line p)
-  unfolding sharing
+  other : (p : ℕ) → p < 4 → (p ≡ q → ⊥) → Laid (mine (shared (M .store) (memory p) .store) (line p)) (shared (M .store) (memory p)) (holder p) (line p)
   other p i n =
       let m = memory p in
       other-queue (mine st (line q)) (mine (m .store) (line p)) (mine (M .store) (line p)) (m .children) (m .user) (m .right) (m .store .heads) st (M .store) (holder p) (line p)
@@ -105,26 +99,24 @@ module _ (own : ℕ → ℕ) (single : (x : ℕ) → own x ≤ 1) (st : Store) (
       (subst (λ (w : Memory). Laid (mine (m .store) (line p)) w (holder p) (line p)) (all .shares p i) (all .laid p i)) .0
 
   pub laids-row : Laids own (M .store) Then (put holder q h) (put line q l)
-  unfolding sharing
   laids-row =
       record {
         laid = λ p i.
             ⊎-elim
             (λ e. subst (λ (x : ℕ). Laid (mine (Then x .store) (put line q l x)) (Then x) (put holder q h x) (put line q l x)) (sym e)
-            (rw (put-same (λ p. sharing (M .store) (memory p)) q M, put-same holder q h, put-same line q l) (laid-mine row-shared)))
-            (λ n. rw (put-other (λ p. sharing (M .store) (memory p)) q M p n, put-other holder q h p n, put-other line q l p n) (other p i n))
+            (rw (put-same (λ p. shared (M .store) (memory p)) q M, put-same holder q h, put-same line q l) (laid-mine row-shared)))
+            (λ n. rw (put-other (λ p. shared (M .store) (memory p)) q M p n, put-other holder q h p n, put-other line q l p n) (other p i n))
             (equal? p q);
         shares = λ p i.
             ⊎-elim
-            (λ e. subst (λ (x : ℕ). Then x ≡ sharing (M .store) (Then x)) (sym e) (rw (put-same (λ p. sharing (M .store) (memory p)) q M) refl))
-            (λ n. rw (put-other (λ p. sharing (M .store) (memory p)) q M p n) refl)
+            (λ e. subst (λ (x : ℕ). Then x ≡ shared (M .store) (Then x)) (sym e) (rw (put-same (λ p. shared (M .store) (memory p)) q M) refl))
+            (λ n. rw (put-other (λ p. shared (M .store) (memory p)) q M p n) refl)
             (equal? p q);
         pool = pool-with own single st line (all .pool) q small (M .store) l kept-shared (row-shared .held .chains);
       }
 
   -- the timelines of the others are as they were
   pub other-timeline : (p : ℕ) → p < 4 → (p ≡ q → ⊥) → timeline (M .store .contents) (line p) ≡ timeline (st .contents) (line p)
-  unfolding sharing
   other-timeline p i n =
       let m = memory p in
       other-queue (mine st (line q)) (mine (m .store) (line p)) (mine (M .store) (line p)) (m .children) (m .user) (m .right) (m .store .heads) st (M .store) (holder p) (line p)

@@ -26,7 +26,7 @@ use Rattle.meaning.specs.Kept.{Kept}
 use Rattle.meaning.specs.Records.{by-four}
 use Rattle.represents.specs.Represents.{alive, ofTasks, queueMemory, usesIn, opened, Represents}
 use Rattle.represents.specs.Nexts.{Nexts, nexts-words}
-use Rattle.represents.specs.Laids.{sharing, Laids}
+use Rattle.represents.specs.Laids.{Laids}
 
 -- one number for each queue
 unfoldable pub choose : ℕ → ℕ → ℕ → ℕ → ℕ → ℕ
@@ -54,7 +54,7 @@ module _ (m : List ℕ) (xs : List Item) (r : Represents m xs) where
   holders = choose (r .queue 0 (omega arith) .holder) (r .queue 1 (omega arith) .holder) (r .queue 2 (omega arith) .holder) (r .queue 3 (omega arith) .holder)
 
   pub parts-of : Parts m (r .tour) xs (r .line) holders
-  unfolding choose pick queueMemory ofTasks sharing
+  unfolding choose pick queueMemory ofTasks
   parts-of =
       record {
         laids = record {

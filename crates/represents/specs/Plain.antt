@@ -28,9 +28,10 @@ use Rattle.links.specs.Linked.{numbersBack, back-append, Linked}
 use Rattle.links.specs.Frame.{SameLinks, keeps-linked}
 use Rattle.meaning.specs.Meaning.{nextIn, contentsIn, storeIn, Sized}
 use Rattle.meaning.specs.Kept.{Kept}
+use Rattle.meaning.specs.Update.{shared}
 use Rattle.represents.specs.Represents.{ofTasks, queueMemory, usesIn, opened, Represents}
 use Rattle.represents.specs.Nexts.{Nexts}
-use Rattle.represents.specs.Laids.{sharing, Laids, laids-row, other-timeline}
+use Rattle.represents.specs.Laids.{Laids, laids-row, other-timeline}
 use Rattle.represents.specs.Parts.{Parts, holders, parts-of, of-parts, opened-single, same-uses, same-opened}
 
 -- links are kept
@@ -44,7 +45,7 @@ pub laids-as : (own : ℕ → ℕ) (st : Store) (memory memory′ : ℕ → Memo
 laids-as own st memory memory′ holder line e h =
     record {
       laid = λ q i. subst (λ (m : Memory). Laid (mine (m .store) (line q)) m (holder q) (line q)) (sym (e q i)) (h .laid q i);
-      shares = λ q i. subst (λ (m : Memory). m ≡ sharing st m) (sym (e q i)) (h .shares q i);
+      shares = λ q i. subst (λ (m : Memory). m ≡ shared st m) (sym (e q i)) (h .shares q i);
       pool = h .pool;
     }
 
@@ -103,7 +104,7 @@ module _ (m : List ℕ) (ys zs : List Item) (s : Task) (r : Represents m (ys ++ 
     -- ONE QUEUE CHANGES
     module _ (q : ℕ) (small : q < 4) (ps : List Point) (nexts : Nexts (read m numberWord) (nextIn n))
         (row : After (mine (queueMemory m q .store) (r .line q)) (queueMemory m q .store) (queueMemory n q) (holder q) (r .line q) ps)
-        (others : (p : ℕ) → p < 4 → (p ≡ q → ⊥) → queueMemory n p ≡ sharing (queueMemory n q .store) (queueMemory m p))
+        (others : (p : ℕ) → p < 4 → (p ≡ q → ⊥) → queueMemory n p ≡ shared (queueMemory n q .store) (queueMemory m p))
         (bare : (t : ℕ) → usesIn m q t ≡ false → (queueMemory n q .children t ≡ vacant) × (queueMemory n q .user t ≡ vacant) × (queueMemory n q .right t ≡ vacant))
         (time : Timeline q New ps) (quiet : (p : ℕ) → p < 4 → (p ≡ q → ⊥) → (added p a ≡ []) × (takes p a ≡ 0)) where
       old : Parts m (r .tour) Old (r .line) holder
@@ -112,17 +113,17 @@ module _ (m : List ℕ) (ys zs : List Item) (s : Task) (r : Represents m (ys ++ 
       abbrev line : ℕ → Line
       line = put (r .line) q (row .line)
 
-      rows : Laids (opened m) (queueMemory n q .store) (put (λ p. sharing (queueMemory n q .store) (queueMemory m p)) q (queueMemory n q)) (put holder q (holder q)) line
+      rows : Laids (opened m) (queueMemory n q .store) (put (λ p. shared (queueMemory n q .store) (queueMemory m p)) q (queueMemory n q)) (put holder q (holder q)) line
       rows =
           laids-row (opened m) (opened-single m) (storeIn m 0) (queueMemory m) holder (r .line) (old .laids) q small (queueMemory n q) (holder q) (row .line) (row .kept) (row .laid)
 
       holder-same : put holder q (holder q) ≡ holder
       holder-same = fun-ext λ p. ⊎-elim (λ e. ap (put holder q (holder q)) e ∙ put-same holder q (holder q) ∙ ap holder (sym e)) (λ k. put-other holder q (holder q) p k) (equal? p q)
 
-      memory-same : (p : ℕ) → p < 4 → queueMemory n p ≡ put (λ p. sharing (queueMemory n q .store) (queueMemory m p)) q (queueMemory n q) p
+      memory-same : (p : ℕ) → p < 4 → queueMemory n p ≡ put (λ p. shared (queueMemory n q .store) (queueMemory m p)) q (queueMemory n q) p
       memory-same p i =
           ⊎-elim
-          (λ e. subst (λ (x : ℕ). queueMemory n x ≡ put (λ p. sharing (queueMemory n q .store) (queueMemory m p)) q (queueMemory n q) x) (sym e) (sym (put-same _ q _)))
+          (λ e. subst (λ (x : ℕ). queueMemory n x ≡ put (λ p. shared (queueMemory n q .store) (queueMemory m p)) q (queueMemory n q) x) (sym e) (sym (put-same _ q _)))
           (λ k. others p i k ∙ sym (put-other _ q _ p k))
           (equal? p q)
 
@@ -133,7 +134,7 @@ module _ (m : List ℕ) (ys zs : List Item) (s : Task) (r : Represents m (ys ++ 
           (laids-as (opened m) (queueMemory n q .store) _ (queueMemory n) _ line memory-same rows))
 
       laids : Laids (opened n) (storeIn n 0) (queueMemory n) holder line
-      unfolding queueMemory ofTasks sharing
+      unfolding queueMemory ofTasks
       laids =
           record {
             laid = over-new .laid;
@@ -150,7 +151,7 @@ module _ (m : List ℕ) (ys zs : List Item) (s : Task) (r : Represents m (ys ++ 
           (equal? p q)
 
       pub queue-represents : Represents n New
-      unfolding queueMemory ofTasks sharing
+      unfolding queueMemory ofTasks
       queue-represents =
           plain-represents line nexts laids
           (by (λ p l. marks l ≡ r .tour) (after-marks row ∙ old .marked q small) (λ p i k. old .marked p i))

@@ -38,13 +38,12 @@ use Rattle.gaps.specs.PopRow.{pop-row}
 use Rattle.gaps.specs.Pool.{mine}
 use Rattle.links.specs.Searches.{same-pusher}
 use Rattle.meaning.specs.Meaning.{meaningOf, memoryOf, memoryIn, contentsIn, nextIn, headsIn, storeIn}
-use Rattle.meaning.specs.Update.{memory-shared}
+use Rattle.meaning.specs.Update.{memory-shared, shared}
 use Rattle.meaning.specs.Kept.{Becomes}
 use Rattle.meaning.specs.Pop.{poppedIn, memory-popped, value-popped}
 use Rattle.meaning.specs.Find.{value-there, no-value}
 use Rattle.represents.specs.Represents.{alive, ofTasks, queueMemory, usesIn, Represents}
 use Rattle.represents.specs.Nexts.{Nexts, nexts-popped, words-nexts}
-use Rattle.represents.specs.Laids.{sharing}
 use Rattle.represents.specs.Parts.{holders, parts-of}
 use Rattle.represents.specs.Live.{live-popping}
 use Rattle.represents.specs.Plain.{queue-represents}
@@ -211,7 +210,7 @@ module _ (m : List ℕ) (ys zs : List Item) (s : Task) (r : Represents m (ys ++ 
         ∙ ap (λ (x : ℕ). memoryPopped x g ws (queueMemory m q)) (sym holder-is)
 
     pub pop-represents : Played New → Represents (popped m t q) New
-    unfolding queueMemory ofTasks sharing
+    unfolding queueMemory ofTasks
     pop-represents play =
         queue-represents m ys zs s r (pops q) (plain-pop q) (made-pop s q) (popped m t q) (becomes .kept) (becomes .sized) play q small Rest nexts
         (subst (λ (x : Memory). After (mine (queueMemory m q .store) (r .line q)) (queueMemory m q .store) x (holders m Old r q) (r .line q) Rest) (sym same)
@@ -224,12 +223,12 @@ module _ (m : List ℕ) (ys zs : List Item) (s : Task) (r : Represents m (ys ++ 
             (unfold memoryPopped in
             nexts-popped (read m numberWord) (let l = r .sized .number-range .0 in omega (arith, l)) ws (nextIn m g) (holders m Old r q) g (queueMemory m q .store) (words-nexts m (r .sized) (r .nexts)))
 
-        others : (p : ℕ) → p < 4 → (p ≡ q → ⊥) → queueMemory (popped m t q) p ≡ sharing (queueMemory (popped m t q) q .store) (queueMemory m p)
+        others : (p : ℕ) → p < 4 → (p ≡ q → ⊥) → queueMemory (popped m t q) p ≡ shared (queueMemory (popped m t q) q .store) (queueMemory m p)
         others p i k =
             queue-memory p becomes
             ∙ ap (ofTasks (alive m)) (memory-shared (meaningOf m) q (poppedTo ws (nextIn m g) t g (storeIn m q)) p k)
             ∙ masked-share (alive m) (memoryOf (poppedIn (meaningOf m) q t g ws) q) (memoryIn m p)
-            ∙ ap (λ (x : Memory). sharing (x .store) (queueMemory m p)) (sym (queue-memory q becomes))
+            ∙ ap (λ (x : Memory). shared (x .store) (queueMemory m p)) (sym (queue-memory q becomes))
 
         bare : (x : ℕ) → usesIn m q x ≡ false
             → (queueMemory (popped m t q) q .children x ≡ vacant) × (queueMemory (popped m t q) q .user x ≡ vacant) × (queueMemory (popped m t q) q .right x ≡ vacant)

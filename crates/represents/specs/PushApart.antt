@@ -44,9 +44,9 @@ use Rattle.meaning.specs.Reduce.{Links}
 use Rattle.meaning.specs.Push.{takenIn, apartIn, pushed-apart}
 use Rattle.meaning.specs.PushMemory.{memory-apart, apart-elsewhere}
 use Rattle.meaning.specs.Finish.{kind-below}
+use Rattle.meaning.specs.Update.{shared}
 use Rattle.represents.specs.Represents.{alive, ofTasks, queueMemory, usesIn, Represents}
 use Rattle.represents.specs.Nexts.{nexts-taken, nexts-joined}
-use Rattle.represents.specs.Laids.{sharing}
 use Rattle.represents.specs.Parts.{holders, parts-of}
 use Rattle.represents.specs.Plain.{same-links}
 use Rattle.represents.specs.Live.{live-apart}
@@ -265,7 +265,7 @@ module _ (m : List ℕ) (ys zs : List Item) (s : Task) (r : Represents m (ys ++ 
   live = live-apart (alive m) (holders m Old r q) t (placeAt y) g rest v (memoryIn m q) (holder-alive m ys zs s r q v small may) (task-alive m ys zs s r) (placed .holds)
 
   pub push-apart : Played New → Represents (setView (joined (taken m v) q (taskAt x) (kindAt x) (view (nextFree m) NL)) q t USER (view NL (nextFree m))) New
-  unfolding queueMemory ofTasks sharing pushedApart
+  unfolding queueMemory ofTasks pushedApart
   push-apart play =
       subst (λ (z : ℕ). Represents (setView (joined (taken m v) q (taskAt z) (kindAt z) (view (nextFree m) NL)) q t USER (view NL (nextFree m))) New) (sym search-is)
       (pushed m ys zs s r q v small may _ (apartIn (meaningOf m) q (holders m Old r q) t (kindAt y) (taskAt y) g rest v) after
@@ -279,11 +279,11 @@ module _ (m : List ℕ) (ys zs : List Item) (s : Task) (r : Represents m (ys ++ 
       same : ofTasks (alive m) (memoryOf (apartIn (meaningOf m) q (holders m Old r q) t (kindAt y) (taskAt y) g rest v) q) ≡ after
       same = ap (ofTasks (alive m)) (memory-apart (meaningOf m) q (holders m Old r q) t g rest v y) ∙ live
 
-      others : (p : ℕ) → p < 4 → (p ≡ q → ⊥) → ofTasks (alive m) (memoryOf (apartIn (meaningOf m) q (holders m Old r q) t (kindAt y) (taskAt y) g rest v) p) ≡ sharing (after .store) (queueMemory m p)
+      others : (p : ℕ) → p < 4 → (p ≡ q → ⊥) → ofTasks (alive m) (memoryOf (apartIn (meaningOf m) q (holders m Old r q) t (kindAt y) (taskAt y) g rest v) p) ≡ shared (after .store) (queueMemory m p)
       others p i k =
           ap (ofTasks (alive m)) (apart-elsewhere (meaningOf m) q (holders m Old r q) t g rest v (kindAt y) (taskAt y) p k)
           ∙ masked-share (alive m) (memoryOf (apartIn (meaningOf m) q (holders m Old r q) t (kindAt y) (taskAt y) g rest v) q) (memoryIn m p)
-          ∙ ap (λ (w : Memory). sharing (w .store) (queueMemory m p)) same
+          ∙ ap (λ (w : Memory). shared (w .store) (queueMemory m p)) same
 
       bare : (u : ℕ) → usesIn m q u ≡ false → (after .children u ≡ vacant) × (after .user u ≡ vacant) × (after .right u ≡ vacant)
       bare u e =
