@@ -7,12 +7,13 @@ use Prim.Native.Nat.{ℕ, _+_, _<_, _≤_}
 use native.Mathlib.Omega.{arith}
 use Rattle.lists.specs.Counting.{equal?}
 use Rattle.layout.specs.Layout.{numberWord, read}
-use Rattle.order.specs.Steps.{Task, Item, step, spot, Act, nameOf, numberOf, made, advance}
+use Rattle.order.specs.Steps.{Task, Item, step, spot, Act, nameOf, numberOf, advance}
 use Rattle.order_laws.specs.Items.{In, in-parts}
 use Rattle.order_laws.specs.Count.{count, spotNumbered}
 use Rattle.order_laws.specs.Courses.{plain}
 use Rattle.order_laws.specs.Numbers.{advance-at}
 use Rattle.order_laws.specs.Laws.{one-spot}
+use Rattle.order_laws.specs.Moves.{made-plain}
 use Rattle.order_waits.specs.Played.{Played, played-reached}
 use Rattle.order_waits.specs.Changes.{in-left, in-right}
 use Rattle.order_waits.specs.Popper.{firstPopper}
@@ -49,8 +50,7 @@ laids-as own st memory memory′ holder line e h =
       pool = h .pool;
     }
 
-module _ (m : List ℕ) (ys zs : List Item) (s : Task) (r : Represents m (ys ++ spot s ∷ zs)) (a : Act) (is : plain a ≡ true)
-    (same : made s a ≡ step (nameOf s) a ∷ spot s ∷ []) where
+module _ (m : List ℕ) (ys zs : List Item) (s : Task) (r : Represents m (ys ++ spot s ∷ zs)) (a : Act) (is : plain a ≡ true) where
   abbrev Old : List Item
   Old = ys ++ spot s ∷ zs
 
@@ -61,7 +61,7 @@ module _ (m : List ℕ) (ys zs : List Item) (s : Task) (r : Represents m (ys ++ 
   single = one-spot Old (played-reached (r .played)) .1 (numberOf s)
 
   new-is : New ≡ ys ++ (step (nameOf s) a ∷ spot s ∷ zs)
-  new-is = advance-at ys zs s a single ∙ ap (λ (l : List Item). ys ++ (l ++ zs)) same
+  new-is = advance-at ys zs s a single ∙ ap (λ (l : List Item). ys ++ (l ++ zs)) (made-plain s a is)
 
   same-back : numbersBack New ≡ numbersBack Old
   unfolding numbersBack
@@ -167,4 +167,4 @@ module _ (m : List ℕ) (ys zs : List Item) (s : Task) (r : Represents m (ys ++ 
           other-time p i k =
               subst (Timeline p New)
               (sym (other-timeline (opened m) (opened-single m) (storeIn m 0) (queueMemory m) holder (r .line) (old .laids) q small (queueMemory n q) (holder q) (row .line) (row .kept) (row .laid) p i k))
-              (plain-line p ys zs s single a same (quiet p i k .0) (quiet p i k .1) (old .time p i))
+              (plain-line p ys zs s single a is (quiet p i k .0) (quiet p i k .1) (old .time p i))

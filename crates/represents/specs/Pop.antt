@@ -14,11 +14,11 @@ use Rattle.answers.specs.declared.Finding.the-variants.{Value as Found, Empty a
 use Rattle.calls.specs.Waits.{pusherBefore}
 use Rattle.calls.specs.Segments.{valueAt}
 use Rattle.calls.specs.Find.{hasValue, popped}
-use Rattle.order.specs.Steps.{Task, Item, step, spot, task, pops, nameOf, numberOf, rightsOf, made, advance}
+use Rattle.order.specs.Steps.{Task, Item, step, spot, pops, numberOf, rightsOf, advance}
 use Rattle.order.specs.Waits.{blocked, childPops}
 use Rattle.order.specs.Finding.{run, runs, before, found}
 use Rattle.order_laws.specs.Items.{In}
-use Rattle.order_laws.specs.Courses.{plain}
+use Rattle.order_laws.specs.Moves.{plain-pop}
 use Rattle.order_waits.specs.Played.{Played, played-reached}
 use Rattle.order_waits.specs.Popper.{firstPopper}
 use Rattle.order_waits.specs.Poppers.{free-first, first-says}
@@ -51,14 +51,6 @@ use Rattle.represents.specs.FirstNamed.{one-mine, segment-below, first-i
 use Rattle.represents.specs.Room.{room}
 use Rattle.represents.specs.At.{task-unfinished, task-alive, single-spot, where-it-stands}
 use Rattle.represents.specs.Push.{queue-memory, masked-share}
-
-made-pop : (s : Task) (q : ℕ) → made s (pops q) ≡ step (nameOf s) (pops q) ∷ spot s ∷ []
-unfolding made nameOf
-made-pop (task p n r k) q = refl
-
-plain-pop : (q : ℕ) → plain (pops q) ≡ true
-unfolding plain
-plain-pop q = refl
 
 quiet : (q p : ℕ) → (p ≡ q → ⊥) → (added p (pops q) ≡ []) × (takes p (pops q) ≡ 0)
 unfolding added takes
@@ -212,7 +204,7 @@ module _ (m : List ℕ) (ys zs : List Item) (s : Task) (r : Represents m (ys ++ 
     pub pop-represents : Played New → Represents (popped m t q) New
     unfolding queueMemory ofTasks
     pop-represents play =
-        queue-represents m ys zs s r (pops q) (plain-pop q) (made-pop s q) (popped m t q) (becomes .kept) (becomes .sized) play q small Rest nexts
+        queue-represents m ys zs s r (pops q) (plain-pop q) (popped m t q) (becomes .kept) (becomes .sized) play q small Rest nexts
         (subst (λ (x : Memory). After (mine (queueMemory m q .store) (r .line q)) (queueMemory m q .store) x (holders m Old r q) (r .line q) Rest) (sym same)
         (subst (λ (l : Line). After (mine (queueMemory m q .store) (r .line q)) (queueMemory m q .store) after (holders m Old r q) l Rest) (sym (bottom .3)) (row .1)))
         others bare new-time (λ p i k. quiet q p k)

@@ -8,8 +8,8 @@ use Rattle.words.specs.Words.{halt, pass as skip}
 use Rattle.layout.specs.Layout.{USER, lengthWord, numberWord, count, next, tail, read, write}
 use Rattle.tree.specs.Rights.{uses, pushes as mayPush}
 use Rattle.calls.specs.Segments.{stored, taken, nextFree}
-use Rattle.order.specs.Steps.{Task, Item, step, spot, task, pushes, nameOf, numberOf, rightsOf, made, advance}
-use Rattle.order_laws.specs.Courses.{plain}
+use Rattle.order.specs.Steps.{Task, Item, spot, pushes, numberOf, rightsOf, advance}
+use Rattle.order_laws.specs.Moves.{plain-push}
 use Rattle.order_waits.specs.Played.{Played}
 use Rattle.order_queue.specs.Points.{Point, value, user, added, takes, Timeline}
 use Rattle.order_queue.specs.Users.{pushes-uses}
@@ -49,14 +49,6 @@ pub masked-share : (a : ℕ → Bool) (w : Memory) (v : Memory) → ofTasks a (s
 unfolding ofTasks
 masked-share a w v = refl
 
-made-push : (s : Task) (q v : ℕ) → made s (pushes q v) ≡ step (nameOf s) (pushes q v) ∷ spot s ∷ []
-unfolding made nameOf
-made-push (task p n r k) q v = refl
-
-plain-push : (q v : ℕ) → plain (pushes q v) ≡ true
-unfolding plain
-plain-push q v = refl
-
 -- a push is of one queue
 quiet : (q v p : ℕ) → (p ≡ q → ⊥) → (added p (pushes q v) ≡ []) × (takes p (pushes q v) ≡ 0)
 unfolding added takes
@@ -92,7 +84,7 @@ module _ (m : List ℕ) (ys zs : List Item) (s : Task) (r : Represents m (ys ++ 
       → Represents n New
   unfolding queueMemory ofTasks
   pushed n M W b play f e others bare row =
-      queue-represents m ys zs s r (pushes q v) (plain-push q v) (made-push s q v) n (b .kept) (b .sized) play q small Pushed (subst (λ (w : Memory). Nexts (read m numberWord) (w .store .next)) (sym is) f)
+      queue-represents m ys zs s r (pushes q v) (plain-push q v) n (b .kept) (b .sized) play q small Pushed (subst (λ (w : Memory). Nexts (read m numberWord) (w .store .next)) (sym is) f)
       (subst (λ (w : Memory). After (mine (queueMemory m q .store) (r .line q)) (queueMemory m q .store) w (holders m Old r q) (r .line q) Pushed) (sym is)
       (subst (λ (l : Line). After (mine (queueMemory m q .store) (r .line q)) (queueMemory m q .store) W (holders m Old r q) l Pushed) (sym (stands .parts)) row))
       (λ p i k. queue-memory p b ∙ others p i k ∙ ap (λ (w : Memory). shared (w .store) (queueMemory m p)) (sym is))
