@@ -20,7 +20,7 @@ use Rattle.order.specs.Steps.{Item}
 use Rattle.links.specs.Row.{Leads, childless, child, oldest, older, Row}
 use Rattle.links.specs.Linked.{Linked, word-is, rules, tree}
 use Rattle.links.specs.Idle.{idle-height, idle-length, idle-last, same-stack}
-use Rattle.links.specs.Marks.{mark-once, mark-held}
+use Rattle.links.specs.Marks.{mark-once, unfinished-met, unfinished-left}
 use Rattle.gaps.specs.Maps.{occurs-first, occurs-later}
 
 -- n is m without task t, which leaves the list of its siblings, and whose record is free
@@ -66,7 +66,7 @@ module _ (m n : List ℕ) (T : List ℕ) (xs : List Item) (h : Linked m T xs) (t
   mine = let e = counted t in let f = occurs-here t t ((128 + t) ∷ a) refl in omega (arith, e, f)
 
   task-there : Unfinished c t
-  task-there = ⊎-elim (λ v. v .1) (λ v. let l = v .0 in let z : ⊥ = omega (arith, l, small) in absurd z) (mark-held m T xs h t mine)
+  task-there = unfinished-met m T xs h t small mine
 
   as-child : Child c p t
   as-child = ((λ e. omega (arith, e, above)), (task-there, word-is m t PARENT))
@@ -123,13 +123,6 @@ module _ (m n : List ℕ) (T : List ℕ) (xs : List Item) (h : Linked m T xs) (t
       stays z OLDER l (omega arith) nz (λ e. let f : ⊥ = omega (arith, e) in absurd f) (λ e. let f : ⊥ = omega (arith, e) in absurd f)
       (λ e g. ⊎-elim (λ v. let q = v .0 in omega (arith, g, q, l)) (λ v. ns (ap (λ (x : ℕ). word c x OLDER) g ∙ v .1)) younger-is)
 
-  unfinished-left : (x : ℕ) → 0 < occurrences (128 + x) T → Unfinished c x
-  unfinished-left x q =
-      ⊎-elim
-      (λ v. let k = v .0 in let z : ⊥ = omega (arith, k) in absurd z)
-      (λ v. subst (Unfinished c) (let z : 128 + x - 128 ≡ x = omega arith in z) (v .2))
-      (mark-held m T xs h (128 + x) q)
-
   -- MARKS THAT LEAD ON: x is no mark of t, and does not lead to t
   leads-stay : (x z : ℕ) → 0 < occurrences x T → (x ≡ t → ⊥) → (x ≡ 128 + t → ⊥) → (z ≡ t → ⊥) → Leads c x z → Leads d x z
   leads-stay x z q n1 n2 n3 (childless {t = v} l e) = childless l (youngest-stays v l n1 (λ f. omega (arith, e, f, small)) ∙ e)
@@ -150,7 +143,7 @@ module _ (m n : List ℕ) (T : List ℕ) (xs : List Item) (h : Linked m T xs) (t
       let nv : v ≡ t → ⊥ = λ s. n2 (ap (λ (x : ℕ). 128 + x) s) in
       older g l (fixed v PARENT l (omega arith) nv ∙ e) i (older-stays v l nv (λ s. n3 (sym f ∙ s)) ∙ f)
       (kin-with z r v v n3 i
-      (λ s. barren v ((λ j. omega (arith, j, g)), (unfinished-left v q, e ∙ s)))
+      (λ s. barren v ((λ j. omega (arith, j, g)), (unfinished-left m T xs h v q, e ∙ s)))
       (younger-stays z (k .below) n3 (not-older nv) ∙ k .younger) k)
     where
       not-older : (v ≡ t → ⊥) → z ≡ o → ⊥

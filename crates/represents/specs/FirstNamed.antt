@@ -25,7 +25,7 @@ use Rattle.gaps.specs.Names.{OnlyHead, only-head, Unnamed, unnamed}
 use Rattle.gaps.specs.Pool.{mine}
 use Rattle.gaps.specs.Splits.{small-mets}
 use Rattle.links.specs.Linked.{says-back, spot-unfinished}
-use Rattle.links.specs.Marks.{mark-held, mark-left}
+use Rattle.links.specs.Marks.{mark-left, unfinished-met}
 use Rattle.meaning.specs.Meaning.{optional, endOf, viewIn, storeIn}
 use Rattle.meaning.specs.Reads.{head-at, view-at}
 use Rattle.meaning.specs.Free.{optional-some, link-word}
@@ -73,7 +73,7 @@ module _ (m : List ℕ) (xs : List Item) (r : Represents m xs) where
 
   -- the task of a mark of the tour
   pub task-there : (x : ℕ) → x < 128 → 0 < occurrences x (r .tour) → Unfinished (decode m) x
-  task-there x l p = ⊎-elim (λ v. v .1) (λ v. let k = v .0 in let z : ⊥ = omega (arith, k, l) in absurd z) (mark-held m (r .tour) xs (r .linked) x p)
+  task-there = unfinished-met m (r .tour) xs (r .linked)
 
   pub here : (x : ℕ) → x < 128 → 0 < occurrences x (r .tour) → alive m x ≡ true
   here x l p = unfinished-alive m x (task-there x l p)
