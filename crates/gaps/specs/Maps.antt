@@ -1,12 +1,13 @@
 -- Maps on numbers that are written at one place, properties of all members of a list, and the last of a list.
-use mathlib.Core.Path.{_≡_, refl, _∙_}
+use mathlib.Core.Path.{_≡_, refl, _∙_, subst}
 use mathlib.Core.List.{List, [], _∷_, _++_}
-use Prim.Native.Nat.{ℕ, _≤_}
+use mathlib.Core.Logic.{⊎-elim}
+use Prim.Native.Nat.{ℕ, _<_, _≤_}
 use native.Mathlib.Omega.{arith}
 use lib.Dec.{eqb}
 use borrow.Author.Tests.{eq-eqb, ne-eqb}
 use Rattle.words.specs.Words.{pick, pass, halt}
-use Rattle.lists.specs.Counting.{one-yes, occurrences}
+use Rattle.lists.specs.Counting.{one-yes, occurrences, equal?, occurs-nil, occurs-cons, occurs-here, occurs-past}
 
 abbrev pub All : {A : Type 0} → (A → Type 0) → List A → Type 0
 All P [] = Unit {0}
@@ -67,6 +68,27 @@ module _ {A : Type 0} where
   pub agree-put : (f : ℕ → A) (k : ℕ) (x : A) (l : List ℕ) → Off k l → Agree f (put f k x) l
   agree-put f k x [] h = tt
   agree-put f k x (y ∷ l) h = (put-other f k x y (h .0), agree-put f k x l (h .1))
+
+-- the members of y ∷ l
+pub occurs-first : (y : ℕ) (l : List ℕ) → 0 < occurrences y (y ∷ l)
+occurs-first y l = let a = occurs-here y y l refl in omega (arith, a)
+
+pub occurs-later : (y x : ℕ) (l : List ℕ) → 0 < occurrences x l → 0 < occurrences x (y ∷ l)
+occurs-later y x l p = let a = occurs-cons y x l in omega (arith, a, p)
+
+-- what holds of all numbers of a list holds of each that occurs in it, and the other way round
+module _ (P : ℕ → Type 0) where
+  pub all-at : (l : List ℕ) (x : ℕ) → All P l → 0 < occurrences x l → P x
+  all-at [] x h p = let e = occurs-nil x in let z : ⊥ = omega (arith, e, p) in absurd z
+  all-at (y ∷ l) x h p =
+      ⊎-elim
+      (λ e. subst P e (h .0))
+      (λ n. let e = occurs-past y x l n in all-at l x (h .1) (omega (arith, e, p)))
+      (equal? y x)
+
+  pub all-in : (l : List ℕ) → ((x : ℕ) → 0 < occurrences x l → P x) → All P l
+  all-in [] f = tt
+  all-in (y ∷ l) f = (f y (occurs-first y l), all-in l (λ x p. f x (occurs-later y x l p)))
 
 -- what does not occur in a list does not stand there
 pub off : (x : ℕ) (l : List ℕ) → occurrences x l ≡ 0 → Off x l

@@ -18,7 +18,6 @@ use Rattle.links.specs.Waits.{same-childPops}
 use Rattle.represents.specs.Represents.{Represents}
 use Rattle.represents.specs.At.{mine-spot}
 use Rattle.represents.specs.Pop.{finds-same}
-use Rattle.in_order.specs.Does.{waits}
 use Rattle.in_order.specs.Ladder.{neither-true, blocked-same}
 
 module _ (m : List ℕ) (ys zs : List Item) (s : Task) (r : Represents m (ys ++ spot s ∷ zs)) (q : ℕ) (small : q < 4) (may : mayPop (rightsOf s) q ≡ true) where

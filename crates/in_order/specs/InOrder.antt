@@ -21,7 +21,7 @@ use Rattle.calls.specs.Spawn.{spawnTested, spawnOutcome}
 use Rattle.calls.specs.Push.{pushTested, pushOutcome}
 use Rattle.calls.specs.Find.{popAllowed, popTested, testTested, popOutcome, testOutcome}
 use Rattle.calls.specs.Sync.{whenReduced, syncTested, syncOutcome}
-use Rattle.calls.specs.Finish.{finished, finishTested, finishOutcome}
+use Rattle.calls.specs.Finish.{finishTested, finishOutcome}
 use Rattle.calls.specs.Left.{leftTested, leftOutcome}
 use Rattle.calls.specs.Outcomes.{outcomeOf, wordsAfter}
 use Rattle.order.specs.Steps.{Item, begin, noted}

@@ -14,12 +14,13 @@ use Rattle.tree.specs.Tour.{met}
 use Rattle.calls.specs.Waits.{rightsOf as rightsIn, hasChild as hasChildIn}
 use Rattle.calls.specs.Sync.{synced}
 use Rattle.calls.specs.Finish.{topFinished}
-use Rattle.order.specs.Steps.{Task, Item, step, spot, task as named, syncs as syncStep, finishes, nameOf, numberOf, rightsOf, made, advance}
+use Rattle.order.specs.Steps.{Task, Item, step, spot, syncs as syncStep, finishes, nameOf, numberOf, rightsOf, advance}
 use Rattle.order.specs.Waits.{someSpot, unfinished, blocked, hasChild}
 use Rattle.order.specs.Finding.{leftOver}
 use Rattle.order.specs.Ordered.{spots}
 use Rattle.order_laws.specs.Numbers.{advance-at}
-use Rattle.order_queue.specs.Points.{Point, user, Timeline, added, takes}
+use Rattle.order_laws.specs.Moves.{made-finish, plain-sync}
+use Rattle.order_queue.specs.Points.{Point, user, Timeline}
 use Rattle.order_queue.specs.Laws.{finish-line, plain-line}
 use Rattle.order_queue.specs.Finds.{leaves}
 use Rattle.gaps.specs.Store.{timeline}
@@ -28,7 +29,7 @@ use Rattle.meaning.specs.Meaning.{contentsIn}
 use Rattle.represents.specs.Represents.{Represents, usesIn}
 use Rattle.represents.specs.At.{At, at, Behind, time-at, single-spot}
 use Rattle.represents.specs.Walks.{top-uses}
-use Rattle.represents_finish.specs.Sync.{all-synced}
+use Rattle.represents_finish.specs.Sync.{all-synced, quiet}
 use Rattle.in_order.specs.Chains.{nth-user}
 use Rattle.in_order.specs.Alone.{tour-alone}
 use Rattle.in_order.specs.Ladder.{rights-same, rights-are}
@@ -47,18 +48,6 @@ unfolding spots unfinished someSpot
 spotless [] e t = refl
 spotless (step p a ∷ xs) e t = spotless xs e t
 spotless (spot s ∷ xs) e t = let z : ⊥ = omega (arith, e) in absurd z
-
-made-finish : (s : Task) → made s finishes ≡ step (nameOf s) finishes ∷ []
-unfolding made nameOf
-made-finish (named p n r k) = refl
-
-made-sync : (s : Task) → made s syncStep ≡ step (nameOf s) syncStep ∷ spot s ∷ []
-unfolding made nameOf
-made-sync (named p n r k) = refl
-
-quiet : (q : ℕ) → (added q syncStep ≡ []) × (takes q syncStep ≡ 0)
-unfolding added takes
-quiet q = (refl, refl)
 
 module _ (m : List ℕ) (ys zs : List Item) (s : Task) (r : Represents m (ys ++ spot s ∷ zs)) (top : numberOf s ≡ 0)
     (free : blocked (numberOf s) (ys ++ spot s ∷ zs) ≡ false) (barren : hasChild (numberOf s) (ys ++ spot s ∷ zs) ≡ false) where
@@ -101,7 +90,7 @@ module _ (m : List ℕ) (ys zs : List Item) (s : Task) (r : Represents m (ys ++ 
   same-left q i small =
       leaves q i (advance t finishes Old) _ (finish-line q ys zs s (single-spot m ys zs s r) Front Back (uses-all q small) there)
       ∙ sym (nth-user i t Front Back)
-      ∙ sym (leaves q i (advance t syncStep Old) _ (plain-line q ys zs s (single-spot m ys zs s r) syncStep (made-sync s) (quiet q .0) (quiet q .1) there))
+      ∙ sym (leaves q i (advance t syncStep Old) _ (plain-line q ys zs s (single-spot m ys zs s r) syncStep plain-sync (quiet q .0) (quiet q .1) there))
     where
       here : At m ys zs s r q
       here = at m ys zs s r q small (uses-all q small)

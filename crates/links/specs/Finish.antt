@@ -20,7 +20,8 @@ use Rattle.order.specs.Steps.{Item}
 use Rattle.links.specs.Row.{Leads, childless, child, oldest, older, Row}
 use Rattle.links.specs.Linked.{Linked, word-is, rules, tree}
 use Rattle.links.specs.Idle.{idle-height, idle-length, idle-last, same-stack}
-use Rattle.links.specs.Marks.{mark-once, mark-held}
+use Rattle.links.specs.Marks.{mark-once, unfinished-met, unfinished-left}
+use Rattle.gaps.specs.Maps.{occurs-first, occurs-later}
 
 -- n is m without task t, which leaves the list of its siblings, and whose record is free
 pub record Finished (m n : List ℕ) (t : ℕ) : Type 0 where
@@ -65,7 +66,7 @@ module _ (m n : List ℕ) (T : List ℕ) (xs : List Item) (h : Linked m T xs) (t
   mine = let e = counted t in let f = occurs-here t t ((128 + t) ∷ a) refl in omega (arith, e, f)
 
   task-there : Unfinished c t
-  task-there = ⊎-elim (λ v. v .1) (λ v. let l = v .0 in let z : ⊥ = omega (arith, l, small) in absurd z) (mark-held m T xs h t mine)
+  task-there = unfinished-met m T xs h t small mine
 
   as-child : Child c p t
   as-child = ((λ e. omega (arith, e, above)), (task-there, word-is m t PARENT))
@@ -122,13 +123,6 @@ module _ (m n : List ℕ) (T : List ℕ) (xs : List Item) (h : Linked m T xs) (t
       stays z OLDER l (omega arith) nz (λ e. let f : ⊥ = omega (arith, e) in absurd f) (λ e. let f : ⊥ = omega (arith, e) in absurd f)
       (λ e g. ⊎-elim (λ v. let q = v .0 in omega (arith, g, q, l)) (λ v. ns (ap (λ (x : ℕ). word c x OLDER) g ∙ v .1)) younger-is)
 
-  unfinished-left : (x : ℕ) → 0 < occurrences (128 + x) T → Unfinished c x
-  unfinished-left x q =
-      ⊎-elim
-      (λ v. let k = v .0 in let z : ⊥ = omega (arith, k) in absurd z)
-      (λ v. subst (Unfinished c) (let z : 128 + x - 128 ≡ x = omega arith in z) (v .2))
-      (mark-held m T xs h (128 + x) q)
-
   -- MARKS THAT LEAD ON: x is no mark of t, and does not lead to t
   leads-stay : (x z : ℕ) → 0 < occurrences x T → (x ≡ t → ⊥) → (x ≡ 128 + t → ⊥) → (z ≡ t → ⊥) → Leads c x z → Leads d x z
   leads-stay x z q n1 n2 n3 (childless {t = v} l e) = childless l (youngest-stays v l n1 (λ f. omega (arith, e, f, small)) ∙ e)
@@ -149,7 +143,7 @@ module _ (m n : List ℕ) (T : List ℕ) (xs : List Item) (h : Linked m T xs) (t
       let nv : v ≡ t → ⊥ = λ s. n2 (ap (λ (x : ℕ). 128 + x) s) in
       older g l (fixed v PARENT l (omega arith) nv ∙ e) i (older-stays v l nv (λ s. n3 (sym f ∙ s)) ∙ f)
       (kin-with z r v v n3 i
-      (λ s. barren v ((λ j. omega (arith, j, g)), (unfinished-left v q, e ∙ s)))
+      (λ s. barren v ((λ j. omega (arith, j, g)), (unfinished-left m T xs h v q, e ∙ s)))
       (younger-stays z (k .below) n3 (not-older nv) ∙ k .younger) k)
     where
       not-older : (v ≡ t → ⊥) → z ≡ o → ⊥
@@ -276,37 +270,31 @@ module _ (m n : List ℕ) (T : List ℕ) (xs : List Item) (h : Linked m T xs) (t
         (λ s. let r = f .2 s in omega (arith, e, g, r, q)),
       )
 
-  head-in : (x : ℕ) (l : List ℕ) → 0 < occurrences x (x ∷ l)
-  head-in x l = let e = occurs-here x x l refl in omega (arith, e)
-
-  tail-in : (x z : ℕ) (l : List ℕ) → 0 < occurrences z l → 0 < occurrences z (x ∷ l)
-  tail-in x z l q = ⊎-elim (λ e. let f = occurs-here x z l e in omega (arith, f)) (λ e. let f = occurs-past x z l e in omega (arith, f, q)) (equal? x z)
-
   -- what stands behind keeps its row
   rest-row : (l : List ℕ) → ((x : ℕ) → 0 < occurrences x l → 0 < occurrences x a) → Row c l → Row d l
   rest-row [] f k = absurd k
   rest-row (x ∷ []) f k = k
   rest-row (x ∷ z ∷ l) f k =
-      let e = each-behind x (f x (head-in x (z ∷ l))) in
-      let g = each-behind z (f z (tail-in x z (z ∷ l) (head-in z l))) in
-      (leads-stay x z (e .0) (e .1) (e .2) (g .1) (k .0), rest-row (z ∷ l) (λ u q. f u (tail-in x u (z ∷ l) q)) (k .1))
+      let e = each-behind x (f x (occurs-first x (z ∷ l))) in
+      let g = each-behind z (f z (occurs-later x z (z ∷ l) (occurs-first z l))) in
+      (leads-stay x z (e .0) (e .1) (e .2) (g .1) (k .0), rest-row (z ∷ l) (λ u q. f u (occurs-later x u (z ∷ l) q)) (k .1))
 
   last-part : (x : ℕ) (a' : List ℕ) → a ≡ a' → (0 < occurrences x T) × (x ≡ t → ⊥) × (x ≡ 128 + t → ⊥) → Leads c x t → Row c ((128 + t) ∷ a') → Row d (x ∷ a')
   last-part x [] s e k r = let z : ⊥ = omega (arith, r, above) in absurd z
   last-part x (z ∷ l) s e k r =
       let inside : (u : ℕ) → 0 < occurrences u (z ∷ l) → 0 < occurrences u a = λ u q. subst (λ (i : List ℕ). 0 < occurrences u i) (sym s) q in
-      let there = inside z (head-in z l) in (
+      let there = inside z (occurs-first z l) in (
         joins x t z refl (e .2) (λ q f. other-older z there (q ∙ f)) k (after-left (128 + t) z refl (r .0)),
         rest-row (z ∷ l) inside (r .1),
       )
 
   cut : (l : List ℕ) → ((x : ℕ) → 0 < occurrences x l → 0 < occurrences x b) → (l ≡ [] → ⊥) → Row c (l ++ t ∷ (128 + t) ∷ a) → Row d (l ++ a)
   cut [] f ne k = absurd (ne refl)
-  cut (x ∷ []) f ne k = last-part x a refl (each x (f x (head-in x []))) (k .0) (k .1 .1)
+  cut (x ∷ []) f ne k = last-part x a refl (each x (f x (occurs-first x []))) (k .0) (k .1 .1)
   cut (x ∷ z ∷ l) f ne k =
-      let e = each x (f x (head-in x (z ∷ l))) in
-      let g = each z (f z (tail-in x z (z ∷ l) (head-in z l))) in
-      (leads-stay x z (e .0) (e .1) (e .2) (g .1) (k .0), cut (z ∷ l) (λ u q. f u (tail-in x u (z ∷ l) q)) no-nil (k .1))
+      let e = each x (f x (occurs-first x (z ∷ l))) in
+      let g = each z (f z (occurs-later x z (z ∷ l) (occurs-first z l))) in
+      (leads-stay x z (e .0) (e .1) (e .2) (g .1) (k .0), cut (z ∷ l) (λ u q. f u (occurs-later x u (z ∷ l) q)) no-nil (k .1))
     where
       no-nil : z ∷ l ≡ [] → ⊥
       no-nil q = let s : _≡_ {A = ℕ} 0 1 = cc in omega (arith, s)

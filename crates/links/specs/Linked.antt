@@ -19,7 +19,7 @@ use Rattle.rules_tasks.specs.Tested.{top-says}
 use Rattle.rules_tasks.specs.Holders.{holder-once, holders-hold}
 use Rattle.rules_tasks.specs.Tasks.{tasks-say, tour-whole, met-holders}
 use Rattle.order.specs.Steps.{Task, Item, step, spot, nameOf, numberOf, rightsOf}
-use Rattle.order.specs.Waits.{isOlder, unfinished}
+use Rattle.order.specs.Waits.{isOlder}
 use Rattle.order_laws.specs.Items.{In}
 use Rattle.links.specs.Row.{Row, row-tree, row-tour}
 

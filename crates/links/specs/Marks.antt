@@ -34,15 +34,22 @@ module _ (m : List ℕ) (T : List ℕ) (xs : List Item) (h : Linked m T xs) wher
       (λ w. inr (w .0, w .1, holder-unfinished m T xs h (x - 128) (w .2)))
       (marks-held c (h .top) (h .idle) (tree m T xs h) x (subst (λ (l : List ℕ). 0 < occurrences x l) whole p))
 
+  -- the task that a mark meets, and the one that a mark leaves
+  pub unfinished-met : (x : ℕ) → x < 128 → 0 < occurrences x T → Unfinished c x
+  unfinished-met x l p = ⊎-elim (λ v. v .1) (λ v. let k = v .0 in let z : ⊥ = omega (arith, k, l) in absurd z) (mark-held x p)
+
+  pub unfinished-left : (x : ℕ) → 0 < occurrences (128 + x) T → Unfinished c x
+  unfinished-left x p =
+      ⊎-elim
+      (λ v. let k = v .0 in let z : ⊥ = omega (arith, k) in absurd z)
+      (λ v. subst (Unfinished c) (let z : 128 + x - 128 ≡ x = omega arith in z) (v .2))
+      (mark-held (128 + x) p)
+
   -- a free record has no mark
   pub free-unmarked : (t : ℕ) → t < 128 → word c t STATUS ≡ FREE → (occurrences t T ≡ 0) × (occurrences (128 + t) T ≡ 0)
   free-unmarked t small e = (
-    ⊎-elim (λ z. z) (λ p. absurd (⊎-elim (λ w. busy (w .1)) (λ w. let l = w .0 in omega (arith, l, small)) (mark-held t p))) (eq-zero-or-pos (occurrences t T)),
-    ⊎-elim (λ z. z)
-        (λ p.
-        absurd (⊎-elim (λ w. let l = w .0 in omega (arith, l))
-        (λ w. busy (subst (Unfinished c) (let z : 128 + t - 128 ≡ t = omega arith in z) (w .2))) (mark-held (128 + t) p)))
-        (eq-zero-or-pos (occurrences (128 + t) T)),
+    ⊎-elim (λ z. z) (λ p. absurd (busy (unfinished-met t small p))) (eq-zero-or-pos (occurrences t T)),
+    ⊎-elim (λ z. z) (λ p. absurd (busy (unfinished-left t p))) (eq-zero-or-pos (occurrences (128 + t) T)),
   )
     where
       busy : Unfinished c t → ⊥

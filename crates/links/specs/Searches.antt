@@ -12,10 +12,11 @@ use Rattle.lists.specs.Counting.{occurrences, occurs-nil, occurs-here, occurs-p
 use Rattle.layout.specs.Layout.{PARENT, OLDER, YOUNGEST, task, read, recordOf}
 use Rattle.layout.specs.Frame.{record-word}
 use Rattle.tree.specs.Rights.{pushes, pops, subset}
-use Rattle.tree.specs.Tour.{END, MARKS, oldest}
+use Rattle.tree.specs.Tour.{END, oldest}
 use Rattle.rules.specs.Rules.{walk}
 use Rattle.rules_tasks.specs.Holders.{met-count}
 use Rattle.gaps.specs.Search.{firstOf}
+use Rattle.gaps.specs.Maps.{occurs-later}
 use Rattle.calls.specs.Waits.{rightsOf as rightsIn, pusherBefore}
 use Rattle.calls.specs.Finish.{heir}
 use Rattle.order.specs.Steps.{Name, Task, Item, spot, nameOf, numberOf, rightsOf}
@@ -41,10 +42,7 @@ first-says f (y ∷ l) n = go (f y) refl (first-says f l)
     go true e rest = (y, (let a = occurs-here y y l refl in omega (arith, a)), e)
     go false e rest =
         let w = rest (λ d. n (pass _ e d)) in
-        (w .0, more (w .0) (w .1), w .2)
-      where
-        more : (x : ℕ) → 0 < occurrences x l → 0 < occurrences x (y ∷ l)
-        more x p = ⊎-elim (λ d. let a = occurs-here y x l d in omega (arith, a)) (λ d. let a = occurs-past y x l d in omega (arith, a, p)) (equal? y x)
+        (w .0, occurs-later y (w .0) l (w .1), w .2)
 
 says-first : (f : ℕ → Bool) (l : List ℕ) (x : ℕ) → ((y : ℕ) → f y ≡ true → y < END) → 0 < occurrences x l → f x ≡ true → firstOf f l ≡ END → ⊥
 unfolding firstOf

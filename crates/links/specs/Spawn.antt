@@ -11,7 +11,6 @@ use Rattle.words.specs.Words.{size}
 use Rattle.lists.specs.Counting.{occurrences, equal?, occurs-here, occurs-past, occurs-append}
 use Rattle.layout.specs.Layout.{WORDS, NONE, FREE, UNFINISHED, STATUS, RIGHTS, PARENT, OLDER, YOUNGER, YOUNGEST, task, freeTasks, freeTask, read}
 use Rattle.tree.specs.Rights.{subset}
-use Rattle.tree.specs.Tour.{met}
 use Rattle.rules.specs.Contents.{Contents, decode, word}
 use Rattle.rules.specs.Rules.{Unfinished}
 use Rattle.rules.specs.Test.{topTest, idleTest}
@@ -21,7 +20,7 @@ use Rattle.order.specs.Steps.{Item}
 use Rattle.links.specs.Row.{Leads, childless, child, oldest, older, Row, Each, row-keep, row-front, row-behind}
 use Rattle.links.specs.Linked.{Linked, word-is, rules}
 use Rattle.links.specs.Idle.{idle-height, idle-last, same-stack}
-use Rattle.links.specs.Marks.{mark-once, mark-held, free-unmarked}
+use Rattle.links.specs.Marks.{mark-once, free-unmarked, unfinished-met, unfinished-left}
 
 -- n is m with child u of t, which has rights r and is the youngest child from now on
 pub record Spawned (m n : List ℕ) (t r u : ℕ) : Type 0 where
@@ -96,7 +95,7 @@ module _ (m n : List ℕ) (T : List ℕ) (xs : List Item) (h : Linked m T xs) (t
   mine = let e = ap (occurrences t) here in let f = occurs-append t b (t ∷ a) in let g = occurs-here t t a refl in omega (arith, e, f, g)
 
   spawner : Unfinished c t
-  spawner = ⊎-elim (λ v. v .1) (λ v. let l = v .0 in let z : ⊥ = omega (arith, l, small) in absurd z) (mark-held m T xs h t mine)
+  spawner = unfinished-met m T xs h t small mine
 
   -- what the spawner's mark led to
   led : Row c (t ∷ a)
@@ -141,16 +140,6 @@ module _ (m n : List ℕ) (T : List ℕ) (xs : List Item) (h : Linked m T xs) (t
             (stays p RIGHTS v (omega arith) (λ q. let z : ⊥ = omega (arith, q) in absurd z) (λ q. let z : ⊥ = omega (arith, q) in absurd z)) ∙ k .rights;
       }
 
-  unfinished-met : (x : ℕ) → x < 128 → 0 < occurrences x T → Unfinished c x
-  unfinished-met x l p = ⊎-elim (λ v. v .1) (λ v. let k = v .0 in let z : ⊥ = omega (arith, k, l) in absurd z) (mark-held m T xs h x p)
-
-  unfinished-left : (x : ℕ) → 0 < occurrences (128 + x) T → Unfinished c x
-  unfinished-left x p =
-      ⊎-elim
-      (λ v. let k = v .0 in let z : ⊥ = omega (arith, k) in absurd z)
-      (λ v. subst (Unfinished c) (let z : 128 + x - 128 ≡ x = omega arith in z) (v .2))
-      (mark-held m T xs h (128 + x) p)
-
   -- the youngest child of before has no other parent, and no younger sibling
   not-child : (y v : ℕ) → (v ≡ t → ⊥) → Kin c y v NONE → y ≡ o → ⊥
   not-child y v n k e =
@@ -168,17 +157,17 @@ module _ (m n : List ℕ) (T : List ℕ) (xs : List Item) (h : Linked m T xs) (t
 
   leads-stay : (x y : ℕ) → 0 < occurrences x T → (x ≡ t → ⊥) → Leads c x y → Leads d x y
   leads-stay x y p n (childless {t = v} l e) =
-      childless l (stays v YOUNGEST (unfinished-met v l p) (omega arith) (λ q. n) (λ q. let z : ⊥ = omega (arith, q) in absurd z) ∙ e)
+      childless l (stays v YOUNGEST (unfinished-met m T xs h v l p) (omega arith) (λ q. n) (λ q. let z : ⊥ = omega (arith, q) in absurd z) ∙ e)
   leads-stay x y p n (child {t = v} {y = z} l e k) =
-      child l (stays v YOUNGEST (unfinished-met v l p) (omega arith) (λ q. n) (λ q. let f : ⊥ = omega (arith, q) in absurd f) ∙ e)
-      (kin-stays z v NONE (unfinished-met v l p) (not-child z v n k) k)
+      child l (stays v YOUNGEST (unfinished-met m T xs h v l p) (omega arith) (λ q. n) (λ q. let f : ⊥ = omega (arith, q) in absurd f) ∙ e)
+      (kin-stays z v NONE (unfinished-met m T xs h v l p) (not-child z v n k) k)
   leads-stay x y p n (oldest {t = v} {p = q} g l e i f) =
-      oldest g l (stays v PARENT (unfinished-left v p) (omega arith) (λ s. let z : ⊥ = omega (arith, s) in absurd z) (λ s. let z : ⊥ = omega (arith, s) in absurd z) ∙ e) i
-      (stays v OLDER (unfinished-left v p) (omega arith) (λ s. let z : ⊥ = omega (arith, s) in absurd z) (λ s. let z : ⊥ = omega (arith, s) in absurd z) ∙ f)
+      oldest g l (stays v PARENT (unfinished-left m T xs h v p) (omega arith) (λ s. let z : ⊥ = omega (arith, s) in absurd z) (λ s. let z : ⊥ = omega (arith, s) in absurd z) ∙ e) i
+      (stays v OLDER (unfinished-left m T xs h v p) (omega arith) (λ s. let z : ⊥ = omega (arith, s) in absurd z) (λ s. let z : ⊥ = omega (arith, s) in absurd z) ∙ f)
   leads-stay x y p n (older {t = v} {y = z} {p = q} g l e i f k) =
-      let up = rules m T xs h .parents v q ((λ s. omega (arith, s, g)), (unfinished-left v p, e)) in
-      older g l (stays v PARENT (unfinished-left v p) (omega arith) (λ s. let z : ⊥ = omega (arith, s) in absurd z) (λ s. let z : ⊥ = omega (arith, s) in absurd z) ∙ e) i
-      (stays v OLDER (unfinished-left v p) (omega arith) (λ s. let z : ⊥ = omega (arith, s) in absurd z) (λ s. let z : ⊥ = omega (arith, s) in absurd z) ∙ f)
+      let up = rules m T xs h .parents v q ((λ s. omega (arith, s, g)), (unfinished-left m T xs h v p, e)) in
+      older g l (stays v PARENT (unfinished-left m T xs h v p) (omega arith) (λ s. let z : ⊥ = omega (arith, s) in absurd z) (λ s. let z : ⊥ = omega (arith, s) in absurd z) ∙ e) i
+      (stays v OLDER (unfinished-left m T xs h v p) (omega arith) (λ s. let z : ⊥ = omega (arith, s) in absurd z) (λ s. let z : ⊥ = omega (arith, s) in absurd z) ∙ f)
       (kin-stays z q v up (not-older z q v l k) k)
 
   each-stays : (l : List ℕ) → ((x : ℕ) → 0 < occurrences x l → (0 < occurrences x T) × (x ≡ t → ⊥)) → Each c d l

@@ -28,7 +28,7 @@ down-at (suc n) x zero h = let z : x ≡ x - 0 = omega arith in z
 down-at (suc n) x (suc i) h = down-at n (x - 1) i (omega (arith, h)) ∙ (let z : x - 1 - i ≡ x - suc i = omega arith in z)
 
 -- A WORD before or behind the words stored
-before : (m : List ℕ) (a : ℕ) (ws : List ℕ) (b : ℕ) → b < a → load (storeAll m a ws) b ≡ load m b
+pub before : (m : List ℕ) (a : ℕ) (ws : List ℕ) (b : ℕ) → b < a → load (storeAll m a ws) b ≡ load m b
 before m a ws b h = block-other ws m a b (λ j l e. omega (arith, e, h))
 
 behind : (m : List ℕ) (a : ℕ) (ws : List ℕ) (b : ℕ) → a + length ws ≤ b → load (storeAll m a ws) b ≡ load m b

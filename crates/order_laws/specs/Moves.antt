@@ -1,11 +1,13 @@
 -- What a step puts in place of a spot, and the steps of each task after it.
 use mathlib.Core.Path.{_≡_, refl, ap, sym, _∙_}
+use mathlib.Core.Bool.{true, false≢true}
 use mathlib.Core.List.{List, [], _∷_, _++_, map, append-nil}
-use Prim.Native.Nat.{_+_, _≤_}
+use Prim.Native.Nat.{ℕ, _+_, _≤_}
 use Rattle.order.specs.Steps.{Name, Task, Item, step, spot, task, Act, spawns, pushes, pops, tests, syncs, finishes, nameOf, numberOf, made, advance}
 use Rattle.order_laws.specs.Items.{stepsOf, Free, steps-here, steps-past, steps-append, steps-none}
 use Rattle.order_laws.specs.Count.{count, spotNumbered}
 use Rattle.order_laws.specs.Numbers.{advance-at}
+use Rattle.order_laws.specs.Courses.{plain}
 
 -- the step, then spots
 pub made-step : (s : Task) (a : Act) → (ts : List Task) × (made s a ≡ step (nameOf s) a ∷ map spot ts)
@@ -16,6 +18,38 @@ made-step (task p t r k) (pops q) = (task p t r k ∷ [], refl)
 made-step (task p t r k) (tests q) = (task p t r k ∷ [], refl)
 made-step (task p t r k) syncs = (task p t r k ∷ [], refl)
 made-step (task p t r k) finishes = ([], refl)
+
+-- a plain step, and the spot again
+pub made-plain : (s : Task) (a : Act) → plain a ≡ true → made s a ≡ step (nameOf s) a ∷ spot s ∷ []
+unfolding made nameOf plain
+made-plain (task p t r k) (spawns c s) e = absurd (false≢true e)
+made-plain (task p t r k) (pushes q v) e = refl
+made-plain (task p t r k) (pops q) e = refl
+made-plain (task p t r k) (tests q) e = refl
+made-plain (task p t r k) syncs e = refl
+made-plain (task p t r k) finishes e = absurd (false≢true e)
+
+-- a finish, and no spot
+pub made-finish : (s : Task) → made s finishes ≡ step (nameOf s) finishes ∷ []
+unfolding made nameOf
+made-finish (task p t r k) = refl
+
+-- the acts of a task that are plain
+pub plain-push : (q v : ℕ) → plain (pushes q v) ≡ true
+unfolding plain
+plain-push q v = refl
+
+pub plain-pop : (q : ℕ) → plain (pops q) ≡ true
+unfolding plain
+plain-pop q = refl
+
+pub plain-test : (q : ℕ) → plain (tests q) ≡ true
+unfolding plain
+plain-test q = refl
+
+pub plain-sync : plain syncs ≡ true
+unfolding plain
+plain-sync = refl
 
 spots-stepless : (q : Name) (ts : List Task) → stepsOf q (map spot ts) ≡ []
 unfolding stepsOf

@@ -12,9 +12,8 @@ use borrow.Author.Tests.{eq-eqb, ne-eqb}
 use Rattle.words.specs.Words.{pick, pass, halt, either, either-true, true-left}
 use Rattle.lists.specs.Counting.{one-yes}
 use Rattle.tree.specs.Rights.{pushes as mayPush, pops as mayPop, uses}
-use Rattle.answers.specs.declared.Finding.{Finding}
 use Rattle.answers.specs.declared.Finding.the-variants.{Empty, Waits}
-use Rattle.order.specs.Steps.{Task, Item, step, spot, task, numberOf, rightsOf}
+use Rattle.order.specs.Steps.{Task, Item, step, spot, numberOf, rightsOf}
 use Rattle.order.specs.Waits.{someSpot}
 use Rattle.order.specs.Finding.{before, Pending, pending, Run, run, runs, found, valueNumber, pendingOf, leftOver}
 use Rattle.order_laws.specs.Count.{count, spotNumbered, one-true, count-append}

@@ -10,13 +10,13 @@ use borrow.Author.Tests.{eq-eqb}
 use Rattle.words.specs.Words.{pass, halt}
 use Rattle.tree.specs.Rights.{pops as mayPop, uses}
 use Rattle.order.specs.Steps.{Name, Task, Item, step, spot, task, Act, spawns, pushes, pops, finishes, nameOf, numberOf, rightsOf, begin, made, advance}
-use Rattle.order.specs.Finding.{before}
 use Rattle.order_laws.specs.Count.{count, spotNumbered}
 use Rattle.order_laws.specs.Numbers.{advance-at}
+use Rattle.order_laws.specs.Moves.{made-plain, made-finish, plain-push, plain-pop}
+use Rattle.order_laws.specs.Courses.{plain}
 use Rattle.order_queue.specs.Points.{Point, value, user, values, added, along, takes, popCount, NoPopper, Timeline}
 use Rattle.order_queue.specs.Balance.{along-append, pops-append, balance-is, valueCount, count-values, all-values, covers-append, covers-front, covers-still, late-behind, late-free}
 use Rattle.order_queue.specs.Users.{pops-uses, useless-pops}
-use Rattle.order_queue.specs.Found.{front}
 use Rattle.order_queue.specs.Steps.{located, inserted, unchanged}
 
 -- At the beginning only the top stands there.
@@ -35,18 +35,6 @@ value-first v ps [] b t e = let z : _≡_ {A = ℕ} 0 1 = cc in absurd (omega (a
 value-first v ps (value w ∷ a) b t e = omega arith
 value-first v ps (user u ∷ a) b t e = let z : _≡_ {A = ℕ} 0 1 = cc in absurd (omega (arith, z))
 
-made-push : (s : Task) (q v : ℕ) → made s (pushes q v) ≡ step (nameOf s) (pushes q v) ∷ spot s ∷ []
-unfolding made nameOf
-made-push (task p n r k) q v = refl
-
-made-pop : (s : Task) (q : ℕ) → made s (pops q) ≡ step (nameOf s) (pops q) ∷ spot s ∷ []
-unfolding made nameOf
-made-pop (task p n r k) q = refl
-
-made-finish : (s : Task) → made s finishes ≡ step (nameOf s) finishes ∷ []
-unfolding made nameOf
-made-finish (task p n r k) = refl
-
 module _ (q : ℕ) (ys zs : List Item) (s : Task) (single : count (spotNumbered (numberOf s)) (ys ++ spot s ∷ zs) ≤ 1) where
   abbrev t : ℕ
   t = numberOf s
@@ -61,12 +49,12 @@ module _ (q : ℕ) (ys zs : List Item) (s : Task) (single : count (spotNumbered 
   moved {ps} a h = subst (λ (l : List Item). Timeline q l ps) (sym (advance-at ys zs s a single)) h
 
   -- Steps that are neither pushes to the queue nor pops from it, neither spawns nor finishes: the timeline stays.
-  pub plain-line : {ps : List Point} (a : Act) → made s a ≡ step (nameOf s) a ∷ spot s ∷ [] → added q a ≡ [] → takes q a ≡ 0 → Timeline q Before ps
+  pub plain-line : {ps : List Point} (a : Act) → plain a ≡ true → added q a ≡ [] → takes q a ≡ 0 → Timeline q Before ps
       → Timeline q (After a) ps
   unfolding along popCount
-  plain-line {ps} a m e f h =
+  plain-line {ps} a k e f h =
       moved a
-      (subst (λ (l : List Item). Timeline q (ys ++ (l ++ zs)) ps) (sym m)
+      (subst (λ (l : List Item). Timeline q (ys ++ (l ++ zs)) ps) (sym (made-plain s a k))
       (unchanged q ys zs s (step (nameOf s) a ∷ spot s ∷ []) (ap (λ (l : List Point). l ++ along q (spot s ∷ [])) e) h (omega (arith, f)) (λ l. l)))
 
   -- A push to the queue puts the value just before the pusher's spot.
@@ -78,7 +66,7 @@ module _ (q : ℕ) (ys zs : List Item) (s : Task) (single : count (spotNumbered 
       let e : along q ms ++ b ≡ value v ∷ user t ∷ b =
       ap (λ (l : List Point). (l ++ along q (spot s ∷ [])) ++ b) (halt _ _ (eq-eqb q q refl)) ∙ ap (λ (l : List Point). value v ∷ (l ++ b)) (halt _ _ u) in
       moved (pushes q v)
-      (subst (λ (l : List Item). Timeline q (ys ++ (l ++ zs)) (a ++ value v ∷ user t ∷ b)) (sym (made-push s q v))
+      (subst (λ (l : List Item). Timeline q (ys ++ (l ++ zs)) (a ++ value v ∷ user t ∷ b)) (sym (made-plain s (pushes q v) (plain-push q v)))
       (subst (λ (l : List Point). Timeline q (ys ++ (ms ++ zs)) (a ++ l)) e (inserted q ys zs s a b ms single u h refl (λ l. l))))
 
   -- A pop takes the value at the front, where no popper stands before the task.
@@ -97,7 +85,7 @@ module _ (q : ℕ) (ys zs : List Item) (s : Task) (single : count (spotNumbered 
       let g = all-values (h .popped) in
       let i = value-first v ps (w .0) (along q zs) t (w .2) in
       moved (pops q)
-      (subst (λ (l : List Item). Timeline q (ys ++ (l ++ zs)) ps) (sym (made-pop s q))
+      (subst (λ (l : List Item). Timeline q (ys ++ (l ++ zs)) ps) (sym (made-plain s (pops q) (plain-pop q)))
       (record {
         popped = h .popped ++ (v ∷ []);
         parts =

@@ -4,9 +4,10 @@ use mathlib.Core.List.{List, [], _∷_, _++_}
 use mathlib.Core.Logic.{_⊎_, inl, inr, ⊎-elim}
 use Prim.Native.Nat.{ℕ, _+_}
 use native.Mathlib.Omega.{arith}
-use Rattle.order.specs.Steps.{Task, Item, step, spot, task, Act, spawns, pushes, pops, tests, syncs, finishes, nameOf, numberOf, rightsOf, made}
+use Rattle.order.specs.Steps.{Task, Item, spot, task, Act, spawns, pushes, pops, tests, syncs, finishes, nameOf, numberOf, rightsOf, made}
 use Rattle.order_laws.specs.Items.{In, in-parts}
 use Rattle.order_waits.specs.Played.{kidsOf, Like, like-self, Spawns, made-spots}
+use Rattle.order_waits.specs.Spots.{same-spot}
 
 pub in-left : (x : Item) (xs ys : List Item) → In x xs → In x (xs ++ ys)
 in-left x [] ys i = absurd i
@@ -18,7 +19,7 @@ in-right x [] ys i = i
 in-right x (z ∷ xs) ys i = inr (in-right x xs ys i)
 
 -- a finish leaves no spot of the task's own
-no-spot : (s o : Task) → In (spot o) (made s finishes) → ⊥
+pub no-spot : (s o : Task) → In (spot o) (made s finishes) → ⊥
 unfolding made
 no-spot (task p t r k) o (inl e) = let z : _≡_ {A = ℕ} 0 1 = cc in omega (arith, z)
 no-spot (task p t r k) o (inr i) = absurd i
@@ -40,9 +41,6 @@ finish? (pushes q v) = inr (λ e. let z : _≡_ {A = ℕ} 0 1 = cc in omega (ari
 finish? (pops q) = inr (λ e. let z : _≡_ {A = ℕ} 0 1 = cc in omega (arith, z))
 finish? (tests q) = inr (λ e. let z : _≡_ {A = ℕ} 0 1 = cc in omega (arith, z))
 finish? syncs = inr (λ e. let z : _≡_ {A = ℕ} 0 1 = cc in omega (arith, z))
-
-pub same-spot : {o s : Task} → spot o ≡ spot s → o ≡ s
-same-spot e = cc
 
 module _ (ys zs : List Item) (s : Task) (a : Act) where
   abbrev Old : List Item

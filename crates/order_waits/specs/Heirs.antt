@@ -11,11 +11,12 @@ use lib.Dec.{ltb}
 use borrow.Author.Tests.{ltb-true, ltb-false}
 use Rattle.words.specs.Words.{pick, pass, halt}
 use Rattle.tree.specs.Rights.{pops as mayPop}
-use Rattle.order.specs.Steps.{Name, Task, Item, step, spot, task, Act, spawns, pushes, pops, tests, syncs, finishes, nameOf, numberOf, rightsOf, made}
+use Rattle.order.specs.Steps.{Name, Task, Item, spot, task, Act, spawns, finishes, nameOf, numberOf, rightsOf, made}
 use Rattle.order.specs.Waits.{isOlder, blocked}
 use Rattle.order_laws.specs.Items.{In, in-split}
 use Rattle.order_laws.specs.Courses.{plain}
 use Rattle.order_laws.specs.Reached.{Reached}
+use Rattle.order_laws.specs.Moves.{made-plain, made-finish}
 use Rattle.order_waits.specs.Spots.{older-says, says-older}
 use Rattle.order_waits.specs.Played.{Played, played-reached, Like}
 use Rattle.order_waits.specs.Changes.{in-right, back}
@@ -23,22 +24,17 @@ use Rattle.order_waits.specs.Kinship.{kinship, says-blocked}
 use Rattle.order_waits.specs.Popper.{firstPopper, both-share, no-earlier}
 use Rattle.order_waits.specs.Poppers.{orElse, new-is, kept-when, other-first, popper-none, none-before, first-is}
 
-made-plain : (q : ℕ) (s : Task) (a : Act) → plain a ≡ true → firstPopper q (made s a) ≡ firstPopper q (spot s ∷ [])
-unfolding made plain firstPopper
-made-plain q (task p t r k) (pushes c v) e = refl
-made-plain q (task p t r k) (pops c) e = refl
-made-plain q (task p t r k) (tests c) e = refl
-made-plain q (task p t r k) syncs e = refl
-made-plain q (task p t r k) (spawns c u) e = absurd (false≢true e)
-made-plain q (task p t r k) finishes e = absurd (false≢true e)
+popper-plain : (q : ℕ) (s : Task) (a : Act) → plain a ≡ true → firstPopper q (made s a) ≡ firstPopper q (spot s ∷ [])
+unfolding firstPopper
+popper-plain q s a e = ap (firstPopper q) (made-plain s a e)
 
-made-finish : (q : ℕ) (s : Task) → firstPopper q (made s finishes) ≡ none
-unfolding made firstPopper
-made-finish q (task p t r k) = refl
+popper-finish : (q : ℕ) (s : Task) → firstPopper q (made s finishes) ≡ none
+unfolding firstPopper
+popper-finish q s = ap (firstPopper q) (made-finish s)
 
-made-spawn : (q : ℕ) (s : Task) (c r : ℕ) → firstPopper q (made s (spawns c r)) ≡ pick (mayPop r q) (some c) (firstPopper q (spot s ∷ []))
+popper-spawn : (q : ℕ) (s : Task) (c r : ℕ) → firstPopper q (made s (spawns c r)) ≡ pick (mayPop r q) (some c) (firstPopper q (spot s ∷ []))
 unfolding made firstPopper numberOf rightsOf
-made-spawn q (task p t u k) c r = refl
+popper-spawn q (task p t u k) c r = refl
 
 module _ (ys zs : List Item) (s : Task) (q : ℕ) where
   abbrev Old : List Item
@@ -48,30 +44,30 @@ module _ (ys zs : List Item) (s : Task) (q : ℕ) where
   New a = ys ++ (made s a ++ zs)
 
   pub plain-popper : (a : Act) → plain a ≡ true → firstPopper q (New a) ≡ firstPopper q Old
-  plain-popper a e = kept-when ys zs s q a (made-plain q s a e)
+  plain-popper a e = kept-when ys zs s q a (popper-plain q s a e)
 
   -- a child that does not pop changes nothing
   pub spawn-kept : (c r : ℕ) → mayPop r q ≡ false → firstPopper q (New (spawns c r)) ≡ firstPopper q Old
-  spawn-kept c r e = kept-when ys zs s q (spawns c r) (made-spawn q s c r ∙ pass _ e refl)
+  spawn-kept c r e = kept-when ys zs s q (spawns c r) (popper-spawn q s c r ∙ pass _ e refl)
 
   -- "the queue view for each that it pops": the child of the first popper is the first
   pub spawn-first : (c r : ℕ) → Reached Old → mayPop r q ≡ true → firstPopper q Old ≡ some (numberOf s) → firstPopper q (New (spawns c r)) ≡ some c
   unfolding orElse
   spawn-first c r h e f =
       new-is ys zs s q (spawns c r)
-      ∙ ap₂ (λ (x y : Option ℕ). orElse x (orElse y (firstPopper q zs))) (none-before ys zs s q h f) (made-spawn q s c r ∙ halt _ _ e)
+      ∙ ap₂ (λ (x y : Option ℕ). orElse x (orElse y (firstPopper q zs))) (none-before ys zs s q h f) (popper-spawn q s c r ∙ halt _ _ e)
 
   pub spawn-other : (c r h : ℕ) → (mayPop r q ≡ true → mayPop (rightsOf s) q ≡ true) → firstPopper q Old ≡ some h → (h ≡ numberOf s → ⊥)
       → firstPopper q (New (spawns c r)) ≡ some h
   unfolding firstPopper
-  spawn-other c r h sub e n = other-first ys zs s q (spawns c r) h e n (λ f. made-spawn q s c r ∙ pass _ (not-child f (mayPop r q) refl) (pass _ f refl))
+  spawn-other c r h sub e n = other-first ys zs s q (spawns c r) h e n (λ f. popper-spawn q s c r ∙ pass _ (not-child f (mayPop r q) refl) (pass _ f refl))
     where
       not-child : mayPop (rightsOf s) q ≡ false → (b : Bool) → mayPop r q ≡ b → mayPop r q ≡ false
       not-child f true d = absurd (false≢true (sym f ∙ sub d))
       not-child f false d = d
 
   pub finish-other : (h : ℕ) → firstPopper q Old ≡ some h → (h ≡ numberOf s → ⊥) → firstPopper q (New finishes) ≡ some h
-  finish-other h e n = other-first ys zs s q finishes h e n (λ f. made-finish q s)
+  finish-other h e n = other-first ys zs s q finishes h e n (λ f. popper-finish q s)
 
   -- "a returned queue view goes to the oldest unfinished sibling with that pop right, else to the parent"
   module _ (small : q < 4) (old : Played Old) (new : Played (New finishes)) (k : ℕ) (p : Name) (mine : nameOf s ≡ k ∷ p)

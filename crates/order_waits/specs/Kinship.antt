@@ -8,13 +8,13 @@ use native.Mathlib.Omega.{arith}
 use lib.ListN.{length}
 use Rattle.words.specs.Words.{both-true, true-both}
 use Rattle.tree.specs.Rights.{subset, sharesPop}
-use Rattle.order.specs.Steps.{Name, Task, Item, step, spot, task, Act, spawns, finishes, nameOf, numberOf, rightsOf, begin, made, advance}
+use Rattle.order.specs.Steps.{Name, Task, Item, spot, Act, spawns, finishes, nameOf, numberOf, rightsOf, begin, made, advance}
 use Rattle.order.specs.Waits.{isOlder, isChild, unfinished, blocked, hasChild}
 use Rattle.order_laws.specs.Items.{In}
 use Rattle.order_laws.specs.Reached.{Reached}
-use Rattle.order_waits.specs.Spots.{some-says, says-some, same-name, pair-is, rights-at, says-child, older-says}
+use Rattle.order_waits.specs.Spots.{some-says, says-some, same-name, pair-is, rights-at, says-child, older-says, same-spot}
 use Rattle.order_waits.specs.Played.{Asked, Played, opens, plays, played-reached, At, stands-at, advance-is, kidsOf, Like, childOf, Spawns}
-use Rattle.order_waits.specs.Changes.{in-right, back, forth, spawner, same-spot}
+use Rattle.order_waits.specs.Changes.{in-right, back, forth, spawner}
 
 module _ (xs : List Item) where
   -- s is an unfinished task

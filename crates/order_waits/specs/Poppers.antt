@@ -8,15 +8,15 @@ use Prim.Native.Nat.{ℕ, _+_, _<_}
 use native.Mathlib.Omega.{arith}
 use Rattle.words.specs.Words.{pick, pass, halt, true-both}
 use Rattle.tree.specs.Rights.{pops as mayPop}
-use Rattle.order.specs.Steps.{Name, Task, Item, step, spot, task, Act, pops, nameOf, numberOf, rightsOf, made}
+use Rattle.order.specs.Steps.{Name, Task, Item, step, spot, Act, nameOf, numberOf, rightsOf, made}
 use Rattle.order.specs.Waits.{isChild, blocked, childPops}
 use Rattle.order_laws.specs.Items.{In}
 use Rattle.order_laws.specs.Count.{count, spotNumbered, count-append, count-in}
 use Rattle.order_laws.specs.Reached.{Reached}
 use Rattle.order_laws.specs.Laws.{one-spot}
-use Rattle.order_waits.specs.Spots.{says-some, pair-is, says-child, numbered}
+use Rattle.order_waits.specs.Spots.{says-some, pair-is, says-child, numbered, same-spot}
 use Rattle.order_waits.specs.Played.{Played, played-reached}
-use Rattle.order_waits.specs.Changes.{in-right, same-spot}
+use Rattle.order_waits.specs.Changes.{in-right}
 use Rattle.order_waits.specs.Kinship.{kinship, says-blocked}
 use Rattle.order_waits.specs.Popper.{firstPopper, both-share, no-earlier}
 

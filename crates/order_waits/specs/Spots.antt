@@ -8,7 +8,6 @@ use native.Mathlib.Omega.{arith}
 use lib.Dec.{eqb}
 use borrow.Author.Tests.{eqb-true, eq-eqb, ltb-true, lt-ltb}
 use Rattle.words.specs.Words.{pick, pass, halt, either, both-true, true-both, same-test, either-true, true-left, true-right}
-use Rattle.lists.specs.Counting.{one}
 use Rattle.order.specs.Steps.{Name, Task, Item, step, spot, nameOf, numberOf, rightsOf}
 use Rattle.order.specs.Waits.{isChild, isOlder, someSpot, unfinished, somePair}
 use Rattle.order.specs.Ordered.{rightsAt}
@@ -25,8 +24,8 @@ some-says f (step p a ∷ xs) e = let w = some-says f xs e in (w .0, inr (w .1),
 some-says f (spot s ∷ xs) e =
     ⊎-elim (λ d. (s, inl refl, d)) (λ d. let w = some-says f xs d in (w .0, inr (w .1), w .2)) (either-true _ _ e)
 
-spot-same : {s o : Task} → spot s ≡ spot o → s ≡ o
-spot-same e = cc
+pub same-spot : {s o : Task} → spot s ≡ spot o → s ≡ o
+same-spot e = cc
 
 no-step : {s : Task} {p : Name} {a : Rattle.order.specs.Steps.Act} → spot s ≡ step p a → ⊥
 no-step e = let z : _≡_ {A = ℕ} 0 1 = cc in omega (arith, z)
@@ -36,7 +35,7 @@ unfolding someSpot
 says-some f [] s i e = absurd i
 says-some f (step p a ∷ xs) s (inl d) e = absurd (no-step d)
 says-some f (step p a ∷ xs) s (inr i) e = says-some f xs s i e
-says-some f (spot o ∷ xs) s (inl d) e = true-left _ (ap f (sym (spot-same d)) ∙ e)
+says-some f (spot o ∷ xs) s (inl d) e = true-left _ (ap f (sym (same-spot d)) ∙ e)
 says-some f (spot o ∷ xs) s (inr i) e = true-right (f o) (says-some f xs s i e)
 
 -- items that pass a test that one item passes at most
@@ -58,12 +57,12 @@ module _ (xs : List Item) (h : Reached xs) where
   -- no two spots have one number, none one name
   pub same-number : (s o : Task) → In (spot s) xs → In (spot o) xs → numberOf s ≡ numberOf o → s ≡ o
   same-number s o i j e =
-      spot-same
+      same-spot
       (one-passes (spotNumbered (numberOf o)) xs (spot s) (spot o) (one-spot xs h .1 (numberOf o)) i j (numbered s (numberOf o) e) (numbered o (numberOf o) refl))
 
   pub same-name : (s o : Task) → In (spot s) xs → In (spot o) xs → nameOf s ≡ nameOf o → s ≡ o
   same-name s o i j e =
-      spot-same
+      same-spot
       (one-passes (spotNamed (nameOf o)) xs (spot s) (spot o) (one-spot xs h .0 (nameOf o)) i j (named-yes (nameOf o) s e) (named-yes (nameOf o) o refl))
 
   -- a pair with the task s

@@ -1,17 +1,14 @@
 -- A TASK AND A QUEUE that it has a right to: where it stands in the queue's line, and in its timeline.
-use mathlib.Core.Path.{_≡_, refl, ap, sym, _∙_, subst}
-use mathlib.Core.Bool.{Bool, true, false}
-use mathlib.Core.Option.{Option, none, some}
-use mathlib.Core.List.{List, [], _∷_, _++_}
+use mathlib.Core.Path.{_≡_, refl, ap, _∙_, subst}
+use mathlib.Core.Bool.{true}
+use mathlib.Core.List.{List, _∷_, _++_}
 use mathlib.Core.Logic.{inl}
 use Prim.Native.Nat.{ℕ, _+_, _<_, _≤_}
-use native.Mathlib.Omega.{arith}
 use borrow.Author.Tests.{lt-ltb}
 use Rattle.words.specs.Words.{true-both}
 use Rattle.tree.specs.Rights.{uses}
 use Rattle.rules.specs.Contents.{decode}
 use Rattle.rules.specs.Rules.{Unfinished}
-use Rattle.calls.specs.Waits.{rightsOf as rightsIn}
 use Rattle.order.specs.Steps.{Task, Item, spot, numberOf, rightsOf}
 use Rattle.order_laws.specs.Items.{In}
 use Rattle.order_laws.specs.Count.{count, spotNumbered}
@@ -20,8 +17,8 @@ use Rattle.order_waits.specs.Played.{played-reached}
 use Rattle.order_waits.specs.Changes.{in-right}
 use Rattle.order_queue.specs.Points.{Point, user, Timeline}
 use Rattle.gaps.specs.Maps.{All}
-use Rattle.gaps.specs.Line.{Line, met, marks, mets, Fits}
-use Rattle.gaps.specs.Store.{Memory, Laid, valuesIn, timeline}
+use Rattle.gaps.specs.Line.{Line, met, marks}
+use Rattle.gaps.specs.Store.{Laid, valuesIn, timeline}
 use Rattle.gaps.specs.Timelines.{timeline-at}
 use Rattle.gaps.specs.Pool.{mine}
 use Rattle.gaps.specs.Splits.{Proper, all-proper, small-mets, met-part}
@@ -30,7 +27,7 @@ use Rattle.links.specs.Places.{Place, place}
 use Rattle.links.specs.Waits.{same-rights}
 use Rattle.meaning.specs.Meaning.{contentsIn}
 use Rattle.represents.specs.Represents.{alive, queueMemory, usesIn, Represents}
-use Rattle.represents.specs.Parts.{Parts, holders, parts-of}
+use Rattle.represents.specs.Parts.{holders, parts-of}
 use Rattle.represents.specs.Views.{unfinished-alive, uses-small}
 
 module _ (m : List ℕ) (ys zs : List Item) (s : Task) (r : Represents m (ys ++ spot s ∷ zs)) where

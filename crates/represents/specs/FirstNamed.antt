@@ -1,41 +1,41 @@
 -- In memory that represents program order, the first segment of a queue is named by its queue view's head only.
 use mathlib.Core.Path.{_≡_, refl, ap, sym, _∙_, subst}
-use mathlib.Core.Bool.{Bool, true, false, false≢true}
-use mathlib.Core.Option.{Option, none, some}
-use mathlib.Core.List.{List, [], _∷_, _++_}
-use mathlib.Core.Logic.{_⊎_, inl, inr, ⊎-elim}
+use mathlib.Core.Bool.{Bool, true, false}
+use mathlib.Core.Option.{none, some}
+use mathlib.Core.List.{List, [], _∷_}
+use mathlib.Core.Logic.{_⊎_, ⊎-elim}
 use Prim.Native.Nat.{ℕ, zero, suc, _+_, _-_, _*_, _/_, _%_, _<_, _≤_}
-use native.Mathlib.Nat.{eq-zero-or-pos}
 use native.Mathlib.Omega.{arith}
-use lib.Dec.{ltb, eqb}
-use borrow.Author.Tests.{le-ltb, ne-eqb}
-use Rattle.words.specs.Words.{pick, halt, pass as skip, both-off}
-use Rattle.lists.specs.Counting.{one, occurrences, occurs-here, occurs-append, equal?}
-use Rattle.layout.specs.Layout.{NONE, NL, CHILDREN, USER, RIGHT, numberWord, task, head, tail, queueHead, read, recordOf}
+use lib.Dec.{eqb}
+use borrow.Author.Tests.{ne-eqb}
+use Rattle.words.specs.Words.{halt, both-off}
+use Rattle.lists.specs.Counting.{occurrences, occurs-here, occurs-append, equal?}
+use Rattle.layout.specs.Layout.{NONE, NL, numberWord, task, head, tail, queueHead, read}
 use Rattle.rules.specs.Contents.{decode}
 use Rattle.rules.specs.Rules.{Unfinished}
-use Rattle.rules.specs.Views.{View, view}
+use Rattle.rules.specs.Views.{view}
 use Rattle.rules_tasks.specs.Holders.{below?, met-count}
 use Rattle.calls.specs.Views.{viewOf, isEmpty}
 use Rattle.order.specs.Steps.{Item, numberOf}
 use Rattle.order_waits.specs.Poppers.{popper-says}
-use Rattle.gaps.specs.Maps.{All, put, put-same, put-other}
-use Rattle.gaps.specs.Line.{End, nonlocal, local, Extent, vacant, extent, base, left, met, pass, Line, marks, lefts, mets, segments, firstChain, Fits}
-use Rattle.gaps.specs.Store.{Store, Memory, Laid, headOf}
+use Rattle.gaps.specs.Maps.{All, put-other, all-at}
+use Rattle.gaps.specs.Line.{End, nonlocal, local, Extent, vacant, extent, base, left, met, pass, Line, lefts, mets, segments, firstChain}
+use Rattle.gaps.specs.Store.{headOf}
 use Rattle.gaps.specs.Names.{OnlyHead, only-head, Unnamed, unnamed}
 use Rattle.gaps.specs.Pool.{mine}
 use Rattle.gaps.specs.Splits.{small-mets}
-use Rattle.links.specs.Linked.{Linked, says-back, spot-unfinished}
-use Rattle.links.specs.Marks.{mark-held, mark-left}
-use Rattle.meaning.specs.Meaning.{optional, endOf, extentOf, headsIn, viewIn, storeIn, Sized}
+use Rattle.links.specs.Linked.{says-back, spot-unfinished}
+use Rattle.links.specs.Marks.{mark-left, unfinished-met}
+use Rattle.meaning.specs.Meaning.{optional, endOf, viewIn, storeIn}
 use Rattle.meaning.specs.Reads.{head-at, view-at}
-use Rattle.meaning.specs.Free.{optional-some}
-use Rattle.meaning.specs.Extents.{end-local, tailed-extent, filled-extent}
-use Rattle.represents.specs.Represents.{alive, ofTasks, queueMemory, usesIn, opened, Queue, Represents}
-use Rattle.represents.specs.Laids.{Laids, apart, held-opened, mine-one}
+use Rattle.meaning.specs.Free.{optional-some, link-word}
+use Rattle.meaning.specs.Extents.{end-local, filled-extent}
+use Rattle.represents.specs.Represents.{alive, ofTasks, queueMemory, usesIn, opened, Represents}
+use Rattle.represents.specs.Laids.{apart, held-opened, mine-one}
 use Rattle.represents.specs.Parts.{Parts, holders, parts-of, opened-single}
-use Rattle.represents.specs.Views.{all-at, met-in, left-in, unfinished-alive, uses-small}
+use Rattle.represents.specs.Views.{met-in, left-in, unfinished-alive, uses-small}
 use Rattle.represents.specs.Named.{OnlyNamed}
+use Rattle.represents.specs.Room.{opened-below}
 
 -- the first segment of a line stands among its segments
 pub first-in : (l : Line) (g : ℕ) (c : List ℕ) → firstChain l ≡ g ∷ c → 0 < occurrences g (segments l)
@@ -48,16 +48,12 @@ first-in l g c e = let a = go l in let b = ap (occurrences g) e in let d = occur
     go (met t d ∷ l) = let f = occurs-append g d (segments l) in let k = go l in omega (arith, f, k)
     go (pass x ∷ l) = go l
 
-optional-says : (w s : ℕ) → optional w ≡ some s → w ≡ s
-unfolding optional
-optional-says w s e = go (eqb w NONE) e
-  where
-    go : (b : Bool) → pick b none (some w) ≡ some s → w ≡ s
-    go true d = unfold pick in let z : _≡_ {A = ℕ} 0 1 = cc in absurd (omega (arith, z))
-    go false d = unfold pick in cc
+-- an extent with ends is not the empty one
+pub not-vacant : {b y : End} (v : Extent) → v ≡ extent b y → v ≡ vacant → ⊥
+not-vacant v e f = let z : _≡_ {A = ℕ} 0 1 = cc in omega (arith, z)
 
 -- a view with a head is not empty
-not-empty-head : (h e : ℕ) → (h ≡ NONE → ⊥) → isEmpty (view h e) ≡ false
+pub not-empty-head : (h e : ℕ) → (h ≡ NONE → ⊥) → isEmpty (view h e) ≡ false
 unfolding isEmpty
 not-empty-head h e n = both-off (eqb e NONE) (ne-eqb h NONE n)
 
@@ -67,23 +63,17 @@ module _ (m : List ℕ) (xs : List Item) (r : Represents m xs) where
 
   -- a segment that stands in a line is one of those opened
   pub segment-below : (q s : ℕ) → q < 4 → 0 < occurrences s (segments (r .line q)) → s < read m numberWord
-  unfolding opened one
   segment-below q s i p =
-      ⊎-elim
-      (λ l. l)
-      (λ l.
       let e = held-opened (opened m) (opened-single m) (storeIn m 0) (r .line) (old .laids .pool) q i s in
-      let f : opened m s ≡ 0 = skip 1 (le-ltb s (read m numberWord) l) refl in
-      let z : ⊥ = omega (arith, e, f, p) in
-      absurd z)
-      (below? s (read m numberWord))
+      opened-below m xs r s (omega (arith, e, p))
 
   -- the words of a segment's number are no marks
   pub segment-local : (q s : ℕ) → q < 4 → 0 < occurrences s (segments (r .line q)) → s < NL
   segment-local q s i p = let l = segment-below q s i p in let n = r .sized .number-range .1 in omega (arith, l, n)
 
-  task-there : (x : ℕ) → x < 128 → 0 < occurrences x (r .tour) → Unfinished (decode m) x
-  task-there x l p = ⊎-elim (λ v. v .1) (λ v. let k = v .0 in let z : ⊥ = omega (arith, k, l) in absurd z) (mark-held m (r .tour) xs (r .linked) x p)
+  -- the task of a mark of the tour
+  pub task-there : (x : ℕ) → x < 128 → 0 < occurrences x (r .tour) → Unfinished (decode m) x
+  task-there = unfinished-met m (r .tour) xs (r .linked)
 
   pub here : (x : ℕ) → x < 128 → 0 < occurrences x (r .tour) → alive m x ≡ true
   here x l p = unfinished-alive m x (task-there x l p)
@@ -92,7 +82,7 @@ module _ (m : List ℕ) (xs : List Item) (r : Represents m xs) where
   unfolding queueMemory ofTasks
   one-mine q i = mine-one (opened m) (opened-single m) (storeIn m 0) (r .line) (old .laids .pool) q i
 
-  task-left : (x : ℕ) → x < 128 → 0 < occurrences x (r .tour) → 0 < occurrences (128 + x) (r .tour)
+  pub task-left : (x : ℕ) → x < 128 → 0 < occurrences x (r .tour) → 0 < occurrences (128 + x) (r .tour)
   task-left x l p = mark-left m (r .tour) xs (r .linked) x (task-there x l p)
 
   -- the holder of a queue view is an unfinished task
@@ -159,9 +149,6 @@ module _ (m : List ℕ) (xs : List Item) (r : Represents m xs) where
     apart-ends : local g ≡ nonlocal → ⊥
     apart-ends e = let z : _≡_ {A = ℕ} 0 1 = cc in omega (arith, z)
 
-    not-vacant : {b y : End} (v : Extent) → v ≡ extent b y → v ≡ vacant → ⊥
-    not-vacant v e f = let z : _≡_ {A = ℕ} 0 1 = cc in omega (arith, z)
-
     -- a view's head
     by-view : (x k p : ℕ) → x < 128 → 0 < occurrences x (r .tour) → 0 < occurrences (128 + x) (r .tour) → k < 3 → p < 4 → read m (head k x p) ≡ g → ⊥
     unfolding queueMemory ofTasks viewOf
@@ -213,6 +200,6 @@ module _ (m : List ℕ) (xs : List Item) (r : Represents m xs) where
           task-range = l;
           queue-range = small;
           there = w .1;
-          names = optional-says (read m (queueHead h q)) g (sym (head-at m q h small l) ∙ sym (halt _ _ (here h l (w .1))) ∙ only-q .head-names);
+          names = link-word (read m (queueHead h q)) g (sym (head-at m q h small l) ∙ sym (halt _ _ (here h l (w .1))) ∙ only-q .head-names);
           only = λ x i k t j e. by-word x i k t (task-left x k t) j e;
         }

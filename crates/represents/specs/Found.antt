@@ -1,19 +1,16 @@
 -- THE PLACE THAT A WALK BACK FINDS: a mark of the tour, of a task in use, and the view there by the words and along the line.
 use mathlib.Core.Path.{_≡_, refl, ap, sym, _∙_, subst}
 use mathlib.Core.Bool.{Bool, true, false, false≢true}
-use mathlib.Core.List.{List, [], _∷_, _++_}
-use mathlib.Core.Logic.{_⊎_, inl, inr, ⊎-elim}
-use Prim.Native.Nat.{ℕ, zero, suc, _+_, _-_, _<_, _≤_}
+use mathlib.Core.List.{List, [], _∷_}
+use mathlib.Core.Logic.{_⊎_, ⊎-elim}
+use Prim.Native.Nat.{ℕ, zero, suc, _-_, _<_, _≤_}
 use native.Mathlib.Omega.{arith}
-use lib.Dec.{ltb, eqb}
-use borrow.Author.Tests.{lt-ltb, le-ltb, ltb-true, ltb-false}
+use borrow.Author.Tests.{lt-ltb, le-ltb}
 use Rattle.words.specs.Words.{pick, halt, pass as skip}
 use Rattle.lists.specs.Counting.{occurrences, occurs-nil, occurs-here, occurs-past, equal?}
-use Rattle.layout.specs.Layout.{CHILDREN, RIGHT}
 use Rattle.tree.specs.Tour.{END}
 use Rattle.rules.specs.Contents.{decode}
 use Rattle.rules.specs.Rules.{Unfinished}
-use Rattle.rules_tasks.specs.Holders.{below?}
 use Rattle.calls.specs.Views.{taskAt, kindAt}
 use Rattle.order.specs.Steps.{Item}
 use Rattle.gaps.specs.Maps.{All, put-other}
@@ -25,7 +22,7 @@ use Rattle.links.specs.Marks.{mark-held}
 use Rattle.meaning.specs.Meaning.{viewIn}
 use Rattle.represents.specs.Represents.{alive, ofTasks, queueMemory, usesIn, Represents}
 use Rattle.represents.specs.Live.{holdsAt}
-use Rattle.represents.specs.Views.{all-at, unfinished-alive, uses-small}
+use Rattle.represents.specs.Views.{unfinished-alive, uses-small}
 
 -- what a search finds is a member
 first-member : (f : ℕ → Bool) (l : List ℕ) → (firstOf f l ≡ END → ⊥) → 0 < occurrences (firstOf f l) l

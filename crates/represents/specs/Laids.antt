@@ -1,23 +1,18 @@
 -- THE FOUR QUEUES OVER ONE STORE: a call on one of them leaves the others laid out as they were.
-use mathlib.Core.Path.{_≡_, refl, ap, sym, _∙_, subst}
-use mathlib.Core.Bool.{Bool, true, false}
+use mathlib.Core.Path.{_≡_, refl, sym, subst}
 use mathlib.Core.List.{List, [], _∷_, _++_}
-use mathlib.Core.Logic.{_⊎_, inl, inr, ⊎-elim}
+use mathlib.Core.Logic.{_⊎_, ⊎-elim}
 use Prim.Native.Nat.{ℕ, zero, suc, _+_, _<_, _≤_}
 use native.Mathlib.Omega.{arith}
 use Rattle.words.specs.Words.{pick}
-use Rattle.lists.specs.Counting.{occurrences, equal?, occurs-here, occurs-past, occurs-append}
-use Rattle.order_queue.specs.Points.{Point}
-use Rattle.gaps.specs.Maps.{All, put, put-same, put-other}
-use Rattle.gaps.specs.Line.{Extent, Line, segments}
+use Rattle.lists.specs.Counting.{occurrences, equal?, occurs-append}
+use Rattle.gaps.specs.Maps.{All, put, put-same, put-other, all-in}
+use Rattle.gaps.specs.Line.{Line, segments}
 use Rattle.gaps.specs.Store.{Store, Memory, Laid, Segments, timeline}
 use Rattle.gaps.specs.Stores.{Kept}
-use Rattle.gaps.specs.After.{After}
-use Rattle.gaps.specs.Pool.{Pool, mine, laid-mine, mine-single, pool-row, other-queue, withHeads, before-apart, behind-apart}
-
--- m with the segments of st, and its own queue heads
-unfoldable pub sharing : Store → Memory → Memory
-sharing st m = record { children = m .children; user = m .user; right = m .right; store = withHeads (m .store .heads) st }
+use Rattle.gaps.specs.Pool.{Pool, mine, laid-mine, pool-row, other-queue}
+use Rattle.meaning.specs.Records.{by-four}
+use Rattle.meaning.specs.Update.{shared}
 
 -- the four lines
 abbrev pub four : (ℕ → Line) → List Line
@@ -26,24 +21,8 @@ four line = line 0 ∷ line 1 ∷ line 2 ∷ line 3 ∷ []
 -- All four queues are laid out, and share the segments of st.
 pub record Laids (own : ℕ → ℕ) (st : Store) (memory : ℕ → Memory) (holder : ℕ → ℕ) (line : ℕ → Line) : Type 0 where
   pub laid : (q : ℕ) → q < 4 → Laid (mine (memory q .store) (line q)) (memory q) (holder q) (line q)
-  pub shares : (q : ℕ) → q < 4 → memory q ≡ sharing st (memory q)
+  pub shares : (q : ℕ) → q < 4 → memory q ≡ shared st (memory q)
   pub pool : Pool own st (four line)
-
--- one of the four
-pub by-queue : (P : ℕ → Type 0) → P 0 → P 1 → P 2 → P 3 → (q : ℕ) → q < 4 → P q
-by-queue P a b c d zero l = a
-by-queue P a b c d (suc zero) l = b
-by-queue P a b c d (suc (suc zero)) l = c
-by-queue P a b c d (suc (suc (suc zero))) l = d
-by-queue P a b c d (suc (suc (suc (suc q)))) l = let z : ⊥ = omega (arith, l) in absurd z
-
--- a property of every number that stands in a list
-pub all-in : (P : ℕ → Type 0) (c : List ℕ) → ((x : ℕ) → 0 < occurrences x c → P x) → All P c
-all-in P [] f = tt
-all-in P (y ∷ c) f = (
-  f y (let e = occurs-here y y c refl in omega (arith, e)),
-  all-in P c (λ x p. f x (⊎-elim (λ e. let g = occurs-here y x c e in omega (arith, g)) (λ e. let g = occurs-past y x c e in omega (arith, g, p)) (equal? y x))),
-)
 
 module _ (own : ℕ → ℕ) (single : (x : ℕ) → own x ≤ 1) (st : Store) (line : ℕ → Line) (pool : Pool own st (four line)) where
   abbrev held : ℕ → ℕ → ℕ
@@ -61,11 +40,11 @@ module _ (own : ℕ → ℕ) (single : (x : ℕ) → own x ≤ 1) (st : Store) (
   -- a segment of one queue is neither another's nor free
   pub apart : (p q : ℕ) → p < 4 → q < 4 → (p ≡ q → ⊥) → (x : ℕ) → held x p + (held x q + occurrences x (st .free)) ≤ 1
   apart p q i j n x =
-      by-queue (λ p. (p ≡ q → ⊥) → held x p + (held x q + occurrences x (st .free)) ≤ 1)
-      (λ n. by-queue (λ q. (0 ≡ q → ⊥) → held x 0 + (held x q + occurrences x (st .free)) ≤ 1) (λ n. absurd (n refl)) (λ n. omega (arith, sum)) (λ n. omega (arith, sum)) (λ n. omega (arith, sum)) q j n)
-      (λ n. by-queue (λ q. (1 ≡ q → ⊥) → held x 1 + (held x q + occurrences x (st .free)) ≤ 1) (λ n. omega (arith, sum)) (λ n. absurd (n refl)) (λ n. omega (arith, sum)) (λ n. omega (arith, sum)) q j n)
-      (λ n. by-queue (λ q. (2 ≡ q → ⊥) → held x 2 + (held x q + occurrences x (st .free)) ≤ 1) (λ n. omega (arith, sum)) (λ n. omega (arith, sum)) (λ n. absurd (n refl)) (λ n. omega (arith, sum)) q j n)
-      (λ n. by-queue (λ q. (3 ≡ q → ⊥) → held x 3 + (held x q + occurrences x (st .free)) ≤ 1) (λ n. omega (arith, sum)) (λ n. omega (arith, sum)) (λ n. omega (arith, sum)) (λ n. absurd (n refl)) q j n)
+      by-four (λ p. (p ≡ q → ⊥) → held x p + (held x q + occurrences x (st .free)) ≤ 1)
+      (λ n. by-four (λ q. (0 ≡ q → ⊥) → held x 0 + (held x q + occurrences x (st .free)) ≤ 1) (λ n. absurd (n refl)) (λ n. omega (arith, sum)) (λ n. omega (arith, sum)) (λ n. omega (arith, sum)) q j n)
+      (λ n. by-four (λ q. (1 ≡ q → ⊥) → held x 1 + (held x q + occurrences x (st .free)) ≤ 1) (λ n. omega (arith, sum)) (λ n. absurd (n refl)) (λ n. omega (arith, sum)) (λ n. omega (arith, sum)) q j n)
+      (λ n. by-four (λ q. (2 ≡ q → ⊥) → held x 2 + (held x q + occurrences x (st .free)) ≤ 1) (λ n. omega (arith, sum)) (λ n. omega (arith, sum)) (λ n. absurd (n refl)) (λ n. omega (arith, sum)) q j n)
+      (λ n. by-four (λ q. (3 ≡ q → ⊥) → held x 3 + (held x q + occurrences x (st .free)) ≤ 1) (λ n. omega (arith, sum)) (λ n. omega (arith, sum)) (λ n. omega (arith, sum)) (λ n. absurd (n refl)) q j n)
       p i n
     where
       sum : held x 0 + held x 1 + held x 2 + held x 3 + occurrences x (st .free) ≤ 1
@@ -74,7 +53,7 @@ module _ (own : ℕ → ℕ) (single : (x : ℕ) → own x ≤ 1) (st : Store) (
   -- a segment that a queue has, or that is free, is one of those opened, and stands there once
   pub held-opened : (q : ℕ) → q < 4 → (x : ℕ) → held x q + occurrences x (st .free) ≤ own x
   held-opened q i x =
-      by-queue (λ q. held x q + occurrences x (st .free) ≤ own x) (omega (arith, sum)) (omega (arith, sum)) (omega (arith, sum)) (omega (arith, sum)) q i
+      by-four (λ q. held x q + occurrences x (st .free) ≤ own x) (omega (arith, sum)) (omega (arith, sum)) (omega (arith, sum)) (omega (arith, sum)) q i
     where
       sum : held x 0 + held x 1 + held x 2 + held x 3 + occurrences x (st .free) ≤ own x
       sum = total x
@@ -90,7 +69,7 @@ module _ (own : ℕ → ℕ) (single : (x : ℕ) → own x ≤ 1) (st : Store) (
       → Segments (mine st (line q)) (st′ .next) (st′ .contents) (st′ .free) l′ → Pool own st′ (four (put line q l′))
   unfolding put pick
   pool-with q i st′ l′ k g =
-      by-queue
+      by-four
       (λ q. Kept (mine st (line q)) st st′ → Segments (mine st (line q)) (st′ .next) (st′ .contents) (st′ .free) l′ → Pool own st′ (four (put line q l′)))
       (λ k g. pool-row own single st [] (line 0) (line 1 ∷ line 2 ∷ line 3 ∷ []) pool st′ l′ k g)
       (λ k g. pool-row own single st (line 0 ∷ []) (line 1) (line 2 ∷ line 3 ∷ []) pool st′ l′ k g)
@@ -103,19 +82,16 @@ module _ (own : ℕ → ℕ) (single : (x : ℕ) → own x ≤ 1) (st : Store) (
     (q : ℕ) (small : q < 4) (M : Memory) (h : ℕ) (l : Line) (kept : Kept (mine (memory q .store) (line q)) (memory q .store) (M .store))
     (row : Laid (mine (memory q .store) (line q)) M h l) where
   abbrev Then : ℕ → Memory
-  Then = put (λ p. sharing (M .store) (memory p)) q M
+  Then = put (λ p. shared (M .store) (memory p)) q M
 
   -- in terms of the shared segments
   kept-shared : Kept (mine st (line q)) st (M .store)
-  unfolding sharing
   kept-shared = subst (λ (m : Memory). Kept (mine (m .store) (line q)) (m .store) (M .store)) (all .shares q small) kept
 
   row-shared : Laid (mine st (line q)) M h l
-  unfolding sharing
   row-shared = subst (λ (m : Memory). Laid (mine (m .store) (line q)) M h l) (all .shares q small) row
 
-  other : (p : ℕ) → p < 4 → (p ≡ q → ⊥) → Laid (mine (sharing (M .store) (memory p) .store) (line p)) (sharing (M .store) (memory p)) (holder p) (line p)
-  unfolding sharing
+  other : (p : ℕ) → p < 4 → (p ≡ q → ⊥) → Laid (mine (shared (M .store) (memory p) .store) (line p)) (shared (M .store) (memory p)) (holder p) (line p)
   other p i n =
       let m = memory p in
       other-queue (mine st (line q)) (mine (m .store) (line p)) (mine (M .store) (line p)) (m .children) (m .user) (m .right) (m .store .heads) st (M .store) (holder p) (line p)
@@ -123,26 +99,24 @@ module _ (own : ℕ → ℕ) (single : (x : ℕ) → own x ≤ 1) (st : Store) (
       (subst (λ (w : Memory). Laid (mine (m .store) (line p)) w (holder p) (line p)) (all .shares p i) (all .laid p i)) .0
 
   pub laids-row : Laids own (M .store) Then (put holder q h) (put line q l)
-  unfolding sharing
   laids-row =
       record {
         laid = λ p i.
             ⊎-elim
             (λ e. subst (λ (x : ℕ). Laid (mine (Then x .store) (put line q l x)) (Then x) (put holder q h x) (put line q l x)) (sym e)
-            (rw (put-same (λ p. sharing (M .store) (memory p)) q M, put-same holder q h, put-same line q l) (laid-mine row-shared)))
-            (λ n. rw (put-other (λ p. sharing (M .store) (memory p)) q M p n, put-other holder q h p n, put-other line q l p n) (other p i n))
+            (rw (put-same (λ p. shared (M .store) (memory p)) q M, put-same holder q h, put-same line q l) (laid-mine row-shared)))
+            (λ n. rw (put-other (λ p. shared (M .store) (memory p)) q M p n, put-other holder q h p n, put-other line q l p n) (other p i n))
             (equal? p q);
         shares = λ p i.
             ⊎-elim
-            (λ e. subst (λ (x : ℕ). Then x ≡ sharing (M .store) (Then x)) (sym e) (rw (put-same (λ p. sharing (M .store) (memory p)) q M) refl))
-            (λ n. rw (put-other (λ p. sharing (M .store) (memory p)) q M p n) refl)
+            (λ e. subst (λ (x : ℕ). Then x ≡ shared (M .store) (Then x)) (sym e) (rw (put-same (λ p. shared (M .store) (memory p)) q M) refl))
+            (λ n. rw (put-other (λ p. shared (M .store) (memory p)) q M p n) refl)
             (equal? p q);
         pool = pool-with own single st line (all .pool) q small (M .store) l kept-shared (row-shared .held .chains);
       }
 
   -- the timelines of the others are as they were
   pub other-timeline : (p : ℕ) → p < 4 → (p ≡ q → ⊥) → timeline (M .store .contents) (line p) ≡ timeline (st .contents) (line p)
-  unfolding sharing
   other-timeline p i n =
       let m = memory p in
       other-queue (mine st (line q)) (mine (m .store) (line p)) (mine (M .store) (line p)) (m .children) (m .user) (m .right) (m .store .heads) st (M .store) (holder p) (line p)

@@ -1,16 +1,16 @@
 -- What a call does to the memory of a queue it does to the part that is of tasks in use.
 use mathlib.Core.Path.{_≡_, refl, ap, ap₂, sym, _∙_, subst, fun-ext}
-use mathlib.Core.Bool.{Bool, true, false}
+use mathlib.Core.Bool.{Bool, true}
 use mathlib.Core.Option.{Option, none, some}
 use mathlib.Core.List.{List, [], _∷_}
-use mathlib.Core.Logic.{_⊎_, inl, inr, ⊎-elim}
+use mathlib.Core.Logic.{_⊎_, ⊎-elim}
 use Prim.Native.Nat.{ℕ}
-use Rattle.words.specs.Words.{pick, pass, halt}
+use Rattle.words.specs.Words.{pick, halt}
 use Rattle.lists.specs.Counting.{equal?}
 use Rattle.gaps.specs.Maps.{put, put-same, put-other}
 use Rattle.gaps.specs.Line.{End, nonlocal, local, Extent, vacant, extent}
 use Rattle.gaps.specs.Store.{Store, Memory}
-use Rattle.gaps.specs.Moves.{Place, childrenOf, rightOf, viewAt, reduced, childrenWith, rightsWith, taken, released, holding, linkedHolding, linked, joined, poppedTo, spawned, queuePassed, pushedInto, pushedBehind, pushedApart, popped, synced, finishedWith, finished}
+use Rattle.gaps.specs.Moves.{Place, childrenOf, rightOf, viewAt, reduced, childrenWith, rightsWith, taken, linkedHolding, joined, poppedTo, pushedInto, pushedBehind, pushedApart, popped, synced}
 use Rattle.represents.specs.Represents.{ofTasks}
 
 -- a map written at a place where the test holds

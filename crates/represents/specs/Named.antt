@@ -1,25 +1,24 @@
 -- WHAT NAMES THE FIRST SEGMENT of a queue: the head of its queue view, and nothing else.
-use mathlib.Core.Path.{_≡_, refl, ap, sym, _∙_, subst}
+use mathlib.Core.Path.{_≡_, refl, ap, sym, _∙_}
 use mathlib.Core.Bool.{Bool, true, false, false≢true}
-use mathlib.Core.Option.{Option, none, some}
-use mathlib.Core.List.{List, [], _∷_, _++_}
-use mathlib.Core.Logic.{_⊎_, inl, inr, ⊎-elim}
-use Prim.Native.Nat.{ℕ, zero, suc, _+_, _-_, _*_, _<_, _≤_}
-use native.Mathlib.Nat.{eq-zero-or-pos}
+use mathlib.Core.List.{List, [], _∷_}
+use mathlib.Core.Logic.{_⊎_, ⊎-elim}
+use Prim.Native.Nat.{ℕ, zero, suc, _+_, _-_, _<_}
 use native.Mathlib.Omega.{arith}
-use lib.Dec.{ltb, eqb}
+use lib.Dec.{ltb}
 use lib.ListN.{drop}
-use lib.Seq.{getD-drop, drop-drop}
-use borrow.Author.Tests.{lt-ltb, ltb-true, le-ltb, eq-eqb, ne-eqb, eqb-true}
-use Rattle.words.specs.Words.{load, pick, halt, pass, both, true-both, both-true, both-off}
+use lib.Seq.{getD-drop}
+use borrow.Author.Tests.{lt-ltb, ltb-true, eq-eqb, ne-eqb}
+use Rattle.words.specs.Words.{load, pick, halt, pass, both, true-both, both-true}
 use Rattle.lists.specs.Counting.{occurrences, occurs-nil, occurs-here, occurs-past, equal?}
 use Rattle.layout.specs.Layout.{task, queueHead, read, recordOf}
 use Rattle.layout.specs.Frame.{record-word}
-use Rattle.tree.specs.Tour.{END, MARKS, tour, seek}
+use Rattle.tree.specs.Tour.{MARKS, tour}
 use Rattle.calls.specs.Segments.{indexOf, headIndex}
 use Rattle.gaps.specs.Search.{firstOf}
+use Rattle.gaps.specs.Maps.{occurs-later}
 use Rattle.links.specs.Places.{seek-first}
-use Rattle.meaning.specs.Links.{headTask, NamedBy}
+use Rattle.meaning.specs.Links.{NamedBy}
 
 -- in the words m, with the tour T: of all heads of views of the tasks of the tour only the head of queue view q of h is g
 pub record OnlyNamed (m : List ℕ) (T : List ℕ) (g h q : ℕ) : Type 0 where
@@ -54,15 +53,12 @@ unfolding firstOf
 first-only f [] h p e only = let a = occurs-nil h in let z : ⊥ = omega (arith, a, p) in absurd z
 first-only f (y ∷ l) h p e only = go (f y) refl (first-only f l h)
   where
-    inside : (x : ℕ) → 0 < occurrences x l → 0 < occurrences x (y ∷ l)
-    inside x i = ⊎-elim (λ d. let g = occurs-here y x l d in omega (arith, g)) (λ d. let g = occurs-past y x l d in omega (arith, g, i)) (equal? y x)
-
     go : (b : Bool) → f y ≡ b → (0 < occurrences h l → f h ≡ true → ((x : ℕ) → 0 < occurrences x l → f x ≡ true → x ≡ h) → firstOf f l ≡ h)
         → pick (f y) y (firstOf f l) ≡ h
     go true d rest = halt _ _ d ∙ only y (let g = occurs-here y y l refl in omega (arith, g)) d
     go false d rest =
         pass _ d
-        (rest (let g = occurs-past y h l (λ q. false≢true (sym d ∙ ap f q ∙ e)) in omega (arith, g, p)) e (λ x i. only x (inside x i)))
+        (rest (let g = occurs-past y h l (λ q. false≢true (sym d ∙ ap f q ∙ e)) in omega (arith, g, p)) e (λ x i. only x (occurs-later y x l i)))
 
 pub named-by : (m : List ℕ) (T : List ℕ) (g h q : ℕ) → tour MARKS (recordOf m) 0 ≡ T → OnlyNamed m T g h q → NamedBy m g h q
 unfolding headIndex load

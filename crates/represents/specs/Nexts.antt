@@ -1,14 +1,14 @@
 -- THE NEXT OF EVERY SEGMENT, held or free, is a segment opened with or none: the operations on segments keep that.
-use mathlib.Core.Path.{_≡_, refl, ap, sym, _∙_, subst}
+use mathlib.Core.Path.{_≡_, ap, sym, _∙_, subst}
 use mathlib.Core.Option.{Option, none, some}
 use mathlib.Core.List.{List, [], _∷_}
 use mathlib.Core.Logic.{_⊎_, inl, inr, ⊎-elim}
-use Prim.Native.Nat.{ℕ, _<_, _≤_}
+use Prim.Native.Nat.{ℕ, _<_}
 use native.Mathlib.Omega.{arith}
 use Rattle.lists.specs.Counting.{equal?}
 use Rattle.layout.specs.Layout.{NONE, numberWord, next, read}
 use Rattle.gaps.specs.Maps.{put, put-same, put-other}
-use Rattle.gaps.specs.Line.{End, nonlocal, local, Extent, vacant, extent}
+use Rattle.gaps.specs.Line.{nonlocal, local, Extent, vacant, extent}
 use Rattle.gaps.specs.Store.{Store}
 use Rattle.gaps.specs.Moves.{taken, linkedHolding, joined, poppedTo}
 use Rattle.meaning.specs.Meaning.{optional, nextIn, Sized}

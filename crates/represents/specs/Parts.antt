@@ -1,9 +1,8 @@
 -- The invariant queue by queue, with the four queues over one store: to it and back.
-use mathlib.Core.Path.{_≡_, refl, ap, sym, _∙_, subst, fun-ext}
+use mathlib.Core.Path.{_≡_, refl, ap, fun-ext}
 use mathlib.Core.Bool.{Bool, true, false, not}
 use mathlib.Core.Option.{some}
-use mathlib.Core.List.{List, [], _∷_}
-use mathlib.Core.Logic.{_⊎_, inl, inr, ⊎-elim}
+use mathlib.Core.List.{List}
 use Prim.Native.Nat.{ℕ, _<_, _≤_}
 use native.Mathlib.Omega.{arith}
 use lib.Dec.{ltb, eqb}
@@ -19,14 +18,15 @@ use Rattle.order_waits.specs.Popper.{firstPopper}
 use Rattle.order_queue.specs.Points.{Timeline}
 use Rattle.gaps.specs.Maps.{All}
 use Rattle.gaps.specs.Line.{vacant, Line, marks, Fits}
-use Rattle.gaps.specs.Store.{Store, Memory, Laid, timeline}
-use Rattle.gaps.specs.Pool.{Pool, mine}
+use Rattle.gaps.specs.Store.{Laid, timeline}
+use Rattle.gaps.specs.Pool.{mine}
 use Rattle.links.specs.Linked.{Linked}
-use Rattle.meaning.specs.Meaning.{nextIn, contentsIn, storeIn, memoryIn, Sized}
+use Rattle.meaning.specs.Meaning.{nextIn, contentsIn, storeIn, Sized}
 use Rattle.meaning.specs.Kept.{Kept}
-use Rattle.represents.specs.Represents.{alive, ofTasks, queueMemory, usesIn, Queue, opened, Represents}
+use Rattle.meaning.specs.Records.{by-four}
+use Rattle.represents.specs.Represents.{alive, ofTasks, queueMemory, usesIn, opened, Represents}
 use Rattle.represents.specs.Nexts.{Nexts, nexts-words}
-use Rattle.represents.specs.Laids.{sharing, four, Laids, by-queue}
+use Rattle.represents.specs.Laids.{Laids}
 
 -- one number for each queue
 unfoldable pub choose : ℕ → ℕ → ℕ → ℕ → ℕ → ℕ
@@ -54,16 +54,16 @@ module _ (m : List ℕ) (xs : List Item) (r : Represents m xs) where
   holders = choose (r .queue 0 (omega arith) .holder) (r .queue 1 (omega arith) .holder) (r .queue 2 (omega arith) .holder) (r .queue 3 (omega arith) .holder)
 
   pub parts-of : Parts m (r .tour) xs (r .line) holders
-  unfolding choose pick queueMemory ofTasks sharing
+  unfolding choose pick queueMemory ofTasks
   parts-of =
       record {
         laids = record {
-          laid = by-queue (λ q. Laid (mine (queueMemory m q .store) (r .line q)) (queueMemory m q) (holders q) (r .line q))
+          laid = by-four (λ q. Laid (mine (queueMemory m q .store) (r .line q)) (queueMemory m q) (holders q) (r .line q))
               (r .queue 0 (omega arith) .laid) (r .queue 1 (omega arith) .laid) (r .queue 2 (omega arith) .laid) (r .queue 3 (omega arith) .laid);
           shares = λ q i. refl;
           pool = r .pool;
         };
-        first = by-queue (λ q. firstPopper q xs ≡ some (holders q))
+        first = by-four (λ q. firstPopper q xs ≡ some (holders q))
             (r .queue 0 (omega arith) .first) (r .queue 1 (omega arith) .first) (r .queue 2 (omega arith) .first) (r .queue 3 (omega arith) .first);
         marked = λ q i. r .queue q i .marked;
         fits = λ q i. r .queue q i .fits;

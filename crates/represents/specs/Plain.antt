@@ -1,21 +1,19 @@
 -- A STEP THAT IS NEITHER SPAWN NOR FINISH keeps the tree; what it does to one queue leaves the others alone.
-use mathlib.Core.Path.{_≡_, refl, ap, sym, _∙_, subst, fun-ext}
+use mathlib.Core.Path.{_≡_, ap, sym, _∙_, subst, fun-ext}
 use mathlib.Core.Bool.{Bool, true, false}
-use mathlib.Core.Option.{some}
 use mathlib.Core.List.{List, [], _∷_, _++_}
 use mathlib.Core.Logic.{_⊎_, inl, inr, ⊎-elim}
 use Prim.Native.Nat.{ℕ, _+_, _<_, _≤_}
 use native.Mathlib.Omega.{arith}
-use Rattle.words.specs.Words.{size}
 use Rattle.lists.specs.Counting.{equal?}
 use Rattle.layout.specs.Layout.{numberWord, read}
-use Rattle.order.specs.Steps.{Task, Item, step, spot, Act, nameOf, numberOf, rightsOf, made, advance}
+use Rattle.order.specs.Steps.{Task, Item, step, spot, Act, nameOf, numberOf, advance}
 use Rattle.order_laws.specs.Items.{In, in-parts}
 use Rattle.order_laws.specs.Count.{count, spotNumbered}
 use Rattle.order_laws.specs.Courses.{plain}
 use Rattle.order_laws.specs.Numbers.{advance-at}
-use Rattle.order_laws.specs.Reached.{Reached}
 use Rattle.order_laws.specs.Laws.{one-spot}
+use Rattle.order_laws.specs.Moves.{made-plain}
 use Rattle.order_waits.specs.Played.{Played, played-reached}
 use Rattle.order_waits.specs.Changes.{in-left, in-right}
 use Rattle.order_waits.specs.Popper.{firstPopper}
@@ -23,17 +21,18 @@ use Rattle.order_waits.specs.Heirs.{plain-popper}
 use Rattle.order_queue.specs.Points.{Point, added, takes, Timeline}
 use Rattle.order_queue.specs.Laws.{plain-line}
 use Rattle.gaps.specs.Maps.{All, put, put-same, put-other}
-use Rattle.gaps.specs.Line.{Extent, vacant, Line, marks, Fits}
+use Rattle.gaps.specs.Line.{vacant, Line, marks, Fits}
 use Rattle.gaps.specs.Store.{Store, Memory, Laid, timeline}
 use Rattle.gaps.specs.After.{After, after-marks, after-fits}
 use Rattle.gaps.specs.Pool.{mine}
 use Rattle.links.specs.Linked.{numbersBack, back-append, Linked}
 use Rattle.links.specs.Frame.{SameLinks, keeps-linked}
-use Rattle.meaning.specs.Meaning.{nextIn, contentsIn, storeIn, memoryIn, Sized}
+use Rattle.meaning.specs.Meaning.{nextIn, contentsIn, storeIn, Sized}
 use Rattle.meaning.specs.Kept.{Kept}
-use Rattle.represents.specs.Represents.{alive, ofTasks, queueMemory, usesIn, opened, Represents}
+use Rattle.meaning.specs.Update.{shared}
+use Rattle.represents.specs.Represents.{ofTasks, queueMemory, usesIn, opened, Represents}
 use Rattle.represents.specs.Nexts.{Nexts}
-use Rattle.represents.specs.Laids.{sharing, four, Laids, laids-row, other-timeline}
+use Rattle.represents.specs.Laids.{Laids, laids-row, other-timeline}
 use Rattle.represents.specs.Parts.{Parts, holders, parts-of, of-parts, opened-single, same-uses, same-opened}
 
 -- links are kept
@@ -47,12 +46,11 @@ pub laids-as : (own : ℕ → ℕ) (st : Store) (memory memory′ : ℕ → Memo
 laids-as own st memory memory′ holder line e h =
     record {
       laid = λ q i. subst (λ (m : Memory). Laid (mine (m .store) (line q)) m (holder q) (line q)) (sym (e q i)) (h .laid q i);
-      shares = λ q i. subst (λ (m : Memory). m ≡ sharing st m) (sym (e q i)) (h .shares q i);
+      shares = λ q i. subst (λ (m : Memory). m ≡ shared st m) (sym (e q i)) (h .shares q i);
       pool = h .pool;
     }
 
-module _ (m : List ℕ) (ys zs : List Item) (s : Task) (r : Represents m (ys ++ spot s ∷ zs)) (a : Act) (is : plain a ≡ true)
-    (same : made s a ≡ step (nameOf s) a ∷ spot s ∷ []) where
+module _ (m : List ℕ) (ys zs : List Item) (s : Task) (r : Represents m (ys ++ spot s ∷ zs)) (a : Act) (is : plain a ≡ true) where
   abbrev Old : List Item
   Old = ys ++ spot s ∷ zs
 
@@ -63,7 +61,7 @@ module _ (m : List ℕ) (ys zs : List Item) (s : Task) (r : Represents m (ys ++ 
   single = one-spot Old (played-reached (r .played)) .1 (numberOf s)
 
   new-is : New ≡ ys ++ (step (nameOf s) a ∷ spot s ∷ zs)
-  new-is = advance-at ys zs s a single ∙ ap (λ (l : List Item). ys ++ (l ++ zs)) same
+  new-is = advance-at ys zs s a single ∙ ap (λ (l : List Item). ys ++ (l ++ zs)) (made-plain s a is)
 
   same-back : numbersBack New ≡ numbersBack Old
   unfolding numbersBack
@@ -106,7 +104,7 @@ module _ (m : List ℕ) (ys zs : List Item) (s : Task) (r : Represents m (ys ++ 
     -- ONE QUEUE CHANGES
     module _ (q : ℕ) (small : q < 4) (ps : List Point) (nexts : Nexts (read m numberWord) (nextIn n))
         (row : After (mine (queueMemory m q .store) (r .line q)) (queueMemory m q .store) (queueMemory n q) (holder q) (r .line q) ps)
-        (others : (p : ℕ) → p < 4 → (p ≡ q → ⊥) → queueMemory n p ≡ sharing (queueMemory n q .store) (queueMemory m p))
+        (others : (p : ℕ) → p < 4 → (p ≡ q → ⊥) → queueMemory n p ≡ shared (queueMemory n q .store) (queueMemory m p))
         (bare : (t : ℕ) → usesIn m q t ≡ false → (queueMemory n q .children t ≡ vacant) × (queueMemory n q .user t ≡ vacant) × (queueMemory n q .right t ≡ vacant))
         (time : Timeline q New ps) (quiet : (p : ℕ) → p < 4 → (p ≡ q → ⊥) → (added p a ≡ []) × (takes p a ≡ 0)) where
       old : Parts m (r .tour) Old (r .line) holder
@@ -115,17 +113,17 @@ module _ (m : List ℕ) (ys zs : List Item) (s : Task) (r : Represents m (ys ++ 
       abbrev line : ℕ → Line
       line = put (r .line) q (row .line)
 
-      rows : Laids (opened m) (queueMemory n q .store) (put (λ p. sharing (queueMemory n q .store) (queueMemory m p)) q (queueMemory n q)) (put holder q (holder q)) line
+      rows : Laids (opened m) (queueMemory n q .store) (put (λ p. shared (queueMemory n q .store) (queueMemory m p)) q (queueMemory n q)) (put holder q (holder q)) line
       rows =
           laids-row (opened m) (opened-single m) (storeIn m 0) (queueMemory m) holder (r .line) (old .laids) q small (queueMemory n q) (holder q) (row .line) (row .kept) (row .laid)
 
       holder-same : put holder q (holder q) ≡ holder
       holder-same = fun-ext λ p. ⊎-elim (λ e. ap (put holder q (holder q)) e ∙ put-same holder q (holder q) ∙ ap holder (sym e)) (λ k. put-other holder q (holder q) p k) (equal? p q)
 
-      memory-same : (p : ℕ) → p < 4 → queueMemory n p ≡ put (λ p. sharing (queueMemory n q .store) (queueMemory m p)) q (queueMemory n q) p
+      memory-same : (p : ℕ) → p < 4 → queueMemory n p ≡ put (λ p. shared (queueMemory n q .store) (queueMemory m p)) q (queueMemory n q) p
       memory-same p i =
           ⊎-elim
-          (λ e. subst (λ (x : ℕ). queueMemory n x ≡ put (λ p. sharing (queueMemory n q .store) (queueMemory m p)) q (queueMemory n q) x) (sym e) (sym (put-same _ q _)))
+          (λ e. subst (λ (x : ℕ). queueMemory n x ≡ put (λ p. shared (queueMemory n q .store) (queueMemory m p)) q (queueMemory n q) x) (sym e) (sym (put-same _ q _)))
           (λ k. others p i k ∙ sym (put-other _ q _ p k))
           (equal? p q)
 
@@ -136,7 +134,7 @@ module _ (m : List ℕ) (ys zs : List Item) (s : Task) (r : Represents m (ys ++ 
           (laids-as (opened m) (queueMemory n q .store) _ (queueMemory n) _ line memory-same rows))
 
       laids : Laids (opened n) (storeIn n 0) (queueMemory n) holder line
-      unfolding queueMemory ofTasks sharing
+      unfolding queueMemory ofTasks
       laids =
           record {
             laid = over-new .laid;
@@ -153,7 +151,7 @@ module _ (m : List ℕ) (ys zs : List Item) (s : Task) (r : Represents m (ys ++ 
           (equal? p q)
 
       pub queue-represents : Represents n New
-      unfolding queueMemory ofTasks sharing
+      unfolding queueMemory ofTasks
       queue-represents =
           plain-represents line nexts laids
           (by (λ p l. marks l ≡ r .tour) (after-marks row ∙ old .marked q small) (λ p i k. old .marked p i))
@@ -169,4 +167,4 @@ module _ (m : List ℕ) (ys zs : List Item) (s : Task) (r : Represents m (ys ++ 
           other-time p i k =
               subst (Timeline p New)
               (sym (other-timeline (opened m) (opened-single m) (storeIn m 0) (queueMemory m) holder (r .line) (old .laids) q small (queueMemory n q) (holder q) (row .line) (row .kept) (row .laid) p i k))
-              (plain-line p ys zs s single a same (quiet p i k .0) (quiet p i k .1) (old .time p i))
+              (plain-line p ys zs s single a is (quiet p i k .0) (quiet p i k .1) (old .time p i))

@@ -1,70 +1,56 @@
 -- POP AND TEST: what the words find is what program order finds, and a pop keeps the invariant.
 use mathlib.Core.Path.{_≡_, refl, ap, ap₂, sym, _∙_, subst}
 use mathlib.Core.Bool.{Bool, true, false, false≢true}
-use mathlib.Core.Option.{Option, none, some}
-use mathlib.Core.List.{List, [], _∷_, _++_, append-assoc, append-nil}
-use mathlib.Core.Logic.{_⊎_, inl, inr, ⊎-elim}
-use Prim.Native.Nat.{ℕ, suc, _+_, _<_, _≤_}
+use mathlib.Core.Option.{none, some}
+use mathlib.Core.List.{List, [], _∷_, _++_}
+use mathlib.Core.Logic.{inl, inr}
+use Prim.Native.Nat.{ℕ, suc, _+_, _<_}
 use native.Mathlib.Omega.{arith}
-use lib.ListN.{length}
 use borrow.Author.Tests.{ne-eqb}
-use Rattle.words.specs.Words.{pick, halt, pass as skip, either}
-use Rattle.lists.specs.Counting.{occurrences}
+use Rattle.words.specs.Words.{pick, halt, pass as skip}
 use Rattle.layout.specs.Layout.{numberWord, queueHead, read}
-use Rattle.tree.specs.Rights.{uses, pushes as mayPush, pops as mayPop}
-use Rattle.answers.specs.declared.Finding.{Finding}
+use Rattle.tree.specs.Rights.{pops as mayPop}
 use Rattle.answers.specs.declared.Finding.the-variants.{Value as Found, Empty as Nothing, Waits as Later}
-use Rattle.calls.specs.Waits.{blocked as blockedIn, childPops as childPopsIn, pusherBefore}
+use Rattle.calls.specs.Waits.{pusherBefore}
 use Rattle.calls.specs.Segments.{valueAt}
-use Rattle.calls.specs.Find.{hasValue, finding as findingIn, popped}
-use Rattle.order.specs.Steps.{Task, Item, step, spot, task, Act, pops, nameOf, numberOf, rightsOf, made, advance}
-use Rattle.order.specs.Waits.{someSpot, blocked, childPops}
-use Rattle.order.specs.Finding.{run, runs, before, found, finding}
+use Rattle.calls.specs.Find.{hasValue, popped}
+use Rattle.order.specs.Steps.{Task, Item, step, spot, pops, numberOf, rightsOf, advance}
+use Rattle.order.specs.Waits.{blocked, childPops}
+use Rattle.order.specs.Finding.{run, runs, before, found}
 use Rattle.order_laws.specs.Items.{In}
-use Rattle.order_laws.specs.Courses.{plain}
+use Rattle.order_laws.specs.Moves.{plain-pop}
 use Rattle.order_waits.specs.Played.{Played, played-reached}
 use Rattle.order_waits.specs.Popper.{firstPopper}
 use Rattle.order_waits.specs.Poppers.{free-first, first-says}
 use Rattle.order_queue.specs.Points.{Point, value, user, values, added, takes, NoPopper, Timeline}
-use Rattle.order_queue.specs.Users.{pops-uses}
 use Rattle.order_queue.specs.Found.{firstOf}
 use Rattle.order_queue.specs.Laws.{pop-line}
 use Rattle.order_queue.specs.Finds.{finds, NoValueFirst, finds-none}
-use Rattle.gaps.specs.Maps.{All, put-same, all-behind}
-use Rattle.gaps.specs.Line.{Extent, vacant, Line, base, left, met, pass, segments, firstChain}
-use Rattle.gaps.specs.Store.{Memory, Chain, Start, sole, full, Filled, headOf, Laid, valuesIn, timeline}
-use Rattle.gaps.specs.Lines.{NoBase, first-behind, count-segments}
+use Rattle.gaps.specs.Maps.{put-same, all-behind}
+use Rattle.gaps.specs.Line.{vacant, Line, base, left, met, pass, firstChain}
+use Rattle.gaps.specs.Store.{Memory, Chain, Start, sole, full, headOf, Laid, valuesIn, timeline}
+use Rattle.gaps.specs.Lines.{NoBase, first-behind}
 use Rattle.gaps.specs.Frames.{bottomed, no-base}
 use Rattle.gaps.specs.Timelines.{timeline-append}
 use Rattle.gaps.specs.Moves.{poppedTo, popped as memoryPopped}
 use Rattle.gaps.specs.After.{After}
 use Rattle.gaps.specs.PopRow.{pop-row}
 use Rattle.gaps.specs.Pool.{mine}
-use Rattle.links.specs.Waits.{same-blocked, same-childPops}
 use Rattle.links.specs.Searches.{same-pusher}
-use Rattle.meaning.specs.Meaning.{Meaning, meaningOf, memoryOf, memoryIn, contentsIn, nextIn, headsIn, storeIn}
-use Rattle.meaning.specs.Update.{memory-shared}
+use Rattle.meaning.specs.Meaning.{meaningOf, memoryOf, memoryIn, contentsIn, nextIn, headsIn, storeIn}
+use Rattle.meaning.specs.Update.{memory-shared, shared}
 use Rattle.meaning.specs.Kept.{Becomes}
 use Rattle.meaning.specs.Pop.{poppedIn, memory-popped, value-popped}
 use Rattle.meaning.specs.Find.{value-there, no-value}
 use Rattle.represents.specs.Represents.{alive, ofTasks, queueMemory, usesIn, Represents}
 use Rattle.represents.specs.Nexts.{Nexts, nexts-popped, words-nexts}
-use Rattle.represents.specs.Laids.{sharing}
 use Rattle.represents.specs.Parts.{holders, parts-of}
 use Rattle.represents.specs.Live.{live-popping}
 use Rattle.represents.specs.Plain.{queue-represents}
 use Rattle.represents.specs.FirstNamed.{one-mine, segment-below, first-in}
 use Rattle.represents.specs.Room.{room}
-use Rattle.represents.specs.At.{mine-spot, task-unfinished, task-alive, single-spot, where-it-stands}
+use Rattle.represents.specs.At.{task-unfinished, task-alive, single-spot, where-it-stands}
 use Rattle.represents.specs.Push.{queue-memory, masked-share}
-
-made-pop : (s : Task) (q : ℕ) → made s (pops q) ≡ step (nameOf s) (pops q) ∷ spot s ∷ []
-unfolding made nameOf
-made-pop (task p n r k) q = refl
-
-plain-pop : (q : ℕ) → plain (pops q) ≡ true
-unfolding plain
-plain-pop q = refl
 
 quiet : (q p : ℕ) → (p ≡ q → ⊥) → (added p (pops q) ≡ []) × (takes p (pops q) ≡ 0)
 unfolding added takes
@@ -216,9 +202,9 @@ module _ (m : List ℕ) (ys zs : List Item) (s : Task) (r : Represents m (ys ++ 
         ∙ ap (λ (x : ℕ). memoryPopped x g ws (queueMemory m q)) (sym holder-is)
 
     pub pop-represents : Played New → Represents (popped m t q) New
-    unfolding queueMemory ofTasks sharing
+    unfolding queueMemory ofTasks
     pop-represents play =
-        queue-represents m ys zs s r (pops q) (plain-pop q) (made-pop s q) (popped m t q) (becomes .kept) (becomes .sized) play q small Rest nexts
+        queue-represents m ys zs s r (pops q) (plain-pop q) (popped m t q) (becomes .kept) (becomes .sized) play q small Rest nexts
         (subst (λ (x : Memory). After (mine (queueMemory m q .store) (r .line q)) (queueMemory m q .store) x (holders m Old r q) (r .line q) Rest) (sym same)
         (subst (λ (l : Line). After (mine (queueMemory m q .store) (r .line q)) (queueMemory m q .store) after (holders m Old r q) l Rest) (sym (bottom .3)) (row .1)))
         others bare new-time (λ p i k. quiet q p k)
@@ -229,12 +215,12 @@ module _ (m : List ℕ) (ys zs : List Item) (s : Task) (r : Represents m (ys ++ 
             (unfold memoryPopped in
             nexts-popped (read m numberWord) (let l = r .sized .number-range .0 in omega (arith, l)) ws (nextIn m g) (holders m Old r q) g (queueMemory m q .store) (words-nexts m (r .sized) (r .nexts)))
 
-        others : (p : ℕ) → p < 4 → (p ≡ q → ⊥) → queueMemory (popped m t q) p ≡ sharing (queueMemory (popped m t q) q .store) (queueMemory m p)
+        others : (p : ℕ) → p < 4 → (p ≡ q → ⊥) → queueMemory (popped m t q) p ≡ shared (queueMemory (popped m t q) q .store) (queueMemory m p)
         others p i k =
             queue-memory p becomes
             ∙ ap (ofTasks (alive m)) (memory-shared (meaningOf m) q (poppedTo ws (nextIn m g) t g (storeIn m q)) p k)
             ∙ masked-share (alive m) (memoryOf (poppedIn (meaningOf m) q t g ws) q) (memoryIn m p)
-            ∙ ap (λ (x : Memory). sharing (x .store) (queueMemory m p)) (sym (queue-memory q becomes))
+            ∙ ap (λ (x : Memory). shared (x .store) (queueMemory m p)) (sym (queue-memory q becomes))
 
         bare : (x : ℕ) → usesIn m q x ≡ false
             → (queueMemory (popped m t q) q .children x ≡ vacant) × (queueMemory (popped m t q) q .user x ≡ vacant) × (queueMemory (popped m t q) q .right x ≡ vacant)

@@ -1,54 +1,42 @@
 -- A PUSH keeps the invariant: into the tail segment, or into a new segment.
 use mathlib.Core.Path.{_≡_, refl, ap, sym, _∙_, subst}
-use mathlib.Core.Option.{Option, none, some}
 use mathlib.Core.List.{List, [], _∷_, _++_}
-use Prim.Native.Nat.{ℕ, _+_, _<_, _≤_}
+use Prim.Native.Nat.{ℕ, _+_, _<_}
 use native.Mathlib.Omega.{arith}
-use lib.Dec.{eqb}
 use borrow.Author.Tests.{ne-eqb}
-use Rattle.words.specs.Words.{pick, halt, pass as skip}
-use Rattle.layout.specs.Layout.{NL, USER, lengthWord, numberWord, count, next, tail, read, write}
+use Rattle.words.specs.Words.{halt, pass as skip}
+use Rattle.layout.specs.Layout.{USER, lengthWord, numberWord, count, next, tail, read, write}
 use Rattle.tree.specs.Rights.{uses, pushes as mayPush}
-use Rattle.calls.specs.Segments.{stored, taken}
-use Rattle.order.specs.Steps.{Task, Item, step, spot, task, Act, pushes, nameOf, numberOf, rightsOf, made, advance}
-use Rattle.order_laws.specs.Courses.{plain}
+use Rattle.calls.specs.Segments.{stored, taken, nextFree}
+use Rattle.order.specs.Steps.{Task, Item, spot, pushes, numberOf, rightsOf, advance}
+use Rattle.order_laws.specs.Moves.{plain-push}
 use Rattle.order_waits.specs.Played.{Played}
 use Rattle.order_queue.specs.Points.{Point, value, user, added, takes, Timeline}
 use Rattle.order_queue.specs.Users.{pushes-uses}
 use Rattle.order_queue.specs.Laws.{push-line}
-use Rattle.gaps.specs.Maps.{put}
+use Rattle.gaps.specs.Maps.{put, put-other}
 use Rattle.gaps.specs.Line.{End, local, Extent, vacant, extent, Line, met}
-use Rattle.gaps.specs.Store.{Store, Memory, timeline}
-use Rattle.gaps.specs.Moves.{pushedInto, taken as taken-store}
+use Rattle.gaps.specs.Store.{Memory, timeline}
+use Rattle.gaps.specs.Moves.{pushedInto, taken as taken-store, pushedBehind}
 use Rattle.gaps.specs.After.{After}
-use Rattle.gaps.specs.PushRows.{into-row}
+use Rattle.gaps.specs.PushRows.{into-row, behind-row}
 use Rattle.gaps.specs.Pool.{mine}
-use Rattle.meaning.specs.Meaning.{Meaning, meaningOf, memoryOf, memoryIn, contentsIn, Sized}
-use Rattle.meaning.specs.Update.{withContents}
-use Rattle.meaning.specs.Kept.{Kept, Becomes}
+use Rattle.meaning.specs.Meaning.{Meaning, meaningOf, memoryOf, memoryIn, contentsIn, freeIn, viewIn}
+use Rattle.meaning.specs.Update.{withContents, shared}
+use Rattle.meaning.specs.Kept.{Becomes}
 use Rattle.meaning.specs.Values.{value-stored}
 use Rattle.represents.specs.Represents.{alive, ofTasks, queueMemory, usesIn, Represents}
 use Rattle.represents.specs.Nexts.{Nexts, nexts-taken, nexts-linked, words-nexts}
-use Rattle.represents.specs.Laids.{sharing}
 use Rattle.represents.specs.Parts.{holders, parts-of, same-alive}
-use Rattle.represents.specs.Live.{live-into}
 use Rattle.represents.specs.Plain.{queue-represents}
-use Rattle.represents.specs.FirstNamed.{one-mine}
-use Rattle.represents.specs.At.{At, at, Behind, laid-at, time-at, single-spot}
+use Rattle.represents.specs.FirstNamed.{one-mine, here, holder-unfinished}
+use Rattle.represents.specs.At.{At, at, Behind, laid-at, time-at, single-spot, uses-here, task-alive, task-unfinished}
 use mathlib.Core.Bool.{Bool, true, false, false≢true}
 use Rattle.lists.specs.Counting.{occurrences, occurs-here}
-use Rattle.calls.specs.Segments.{nextFree}
-use Rattle.gaps.specs.Maps.{put-other}
-use Rattle.gaps.specs.PushRows.{behind-row}
-use Rattle.gaps.specs.Moves.{pushedBehind}
-use Rattle.meaning.specs.Meaning.{freeIn, viewIn}
-use Rattle.meaning.specs.Update.{shared}
 use Rattle.meaning.specs.Push.{behindIn, pushed-behind}
 use Rattle.meaning.specs.PushMemory.{memory-behind, behind-elsewhere}
 use Rattle.represents.specs.Live.{live-behind}
 use Rattle.represents.specs.Room.{free-below}
-use Rattle.represents.specs.FirstNamed.{here, holder-unfinished}
-use Rattle.represents.specs.At.{uses-here, task-alive, task-unfinished}
 
 -- the memory of a queue by what the words have come to mean
 pub queue-memory : {m n : List ℕ} {M : Meaning} (q : ℕ) → Becomes m n M → queueMemory n q ≡ ofTasks (alive m) (memoryOf M q)
@@ -57,17 +45,9 @@ queue-memory {m} {n} {M} q b =
     ap (λ (a : ℕ → Bool). ofTasks a (memoryIn n q)) (same-alive m n (b .kept)) ∙ ap (λ (w : Meaning). ofTasks (alive m) (memoryOf w q)) (b .means)
 
 -- what others share is the same of all records and of those in use
-pub masked-share : (a : ℕ → Bool) (w : Memory) (v : Memory) → ofTasks a (shared (w .store) v) ≡ sharing (ofTasks a w .store) (ofTasks a v)
-unfolding ofTasks sharing
+pub masked-share : (a : ℕ → Bool) (w : Memory) (v : Memory) → ofTasks a (shared (w .store) v) ≡ shared (ofTasks a w .store) (ofTasks a v)
+unfolding ofTasks
 masked-share a w v = refl
-
-made-push : (s : Task) (q v : ℕ) → made s (pushes q v) ≡ step (nameOf s) (pushes q v) ∷ spot s ∷ []
-unfolding made nameOf
-made-push (task p n r k) q v = refl
-
-plain-push : (q v : ℕ) → plain (pushes q v) ≡ true
-unfolding plain
-plain-push q v = refl
 
 -- a push is of one queue
 quiet : (q v p : ℕ) → (p ≡ q → ⊥) → (added p (pushes q v) ≡ []) × (takes p (pushes q v) ≡ 0)
@@ -98,16 +78,16 @@ module _ (m : List ℕ) (ys zs : List Item) (s : Task) (r : Represents m (ys ++ 
 
   -- from a row of the queue's line, and what the words have come to mean
   pub pushed : (n : List ℕ) (M : Meaning) (W : Memory) → Becomes m n M → Played New → Nexts (read m numberWord) (W .store .next) → ofTasks (alive m) (memoryOf M q) ≡ W
-      → ((p : ℕ) → p < 4 → (p ≡ q → ⊥) → ofTasks (alive m) (memoryOf M p) ≡ sharing (W .store) (queueMemory m p))
+      → ((p : ℕ) → p < 4 → (p ≡ q → ⊥) → ofTasks (alive m) (memoryOf M p) ≡ shared (W .store) (queueMemory m p))
       → ((x : ℕ) → usesIn m q x ≡ false → (W .children x ≡ vacant) × (W .user x ≡ vacant) × (W .right x ≡ vacant))
       → After (mine (queueMemory m q .store) (r .line q)) (queueMemory m q .store) W (holders m Old r q) (stands .later ++ (met t (stands .chain) ∷ stands .earlier)) Pushed
       → Represents n New
   unfolding queueMemory ofTasks
   pushed n M W b play f e others bare row =
-      queue-represents m ys zs s r (pushes q v) (plain-push q v) (made-push s q v) n (b .kept) (b .sized) play q small Pushed (subst (λ (w : Memory). Nexts (read m numberWord) (w .store .next)) (sym is) f)
+      queue-represents m ys zs s r (pushes q v) (plain-push q v) n (b .kept) (b .sized) play q small Pushed (subst (λ (w : Memory). Nexts (read m numberWord) (w .store .next)) (sym is) f)
       (subst (λ (w : Memory). After (mine (queueMemory m q .store) (r .line q)) (queueMemory m q .store) w (holders m Old r q) (r .line q) Pushed) (sym is)
       (subst (λ (l : Line). After (mine (queueMemory m q .store) (r .line q)) (queueMemory m q .store) W (holders m Old r q) l Pushed) (sym (stands .parts)) row))
-      (λ p i k. queue-memory p b ∙ others p i k ∙ ap (λ (w : Memory). sharing (w .store) (queueMemory m p)) (sym is))
+      (λ p i k. queue-memory p b ∙ others p i k ∙ ap (λ (w : Memory). shared (w .store) (queueMemory m p)) (sym is))
       (λ x u. subst (λ (w : Memory). (w .children x ≡ vacant) × (w .user x ≡ vacant) × (w .right x ≡ vacant)) (sym is) (bare x u))
       new-time (λ p i k. quiet q v p k)
     where
@@ -124,7 +104,7 @@ module _ (m : List ℕ) (ys zs : List Item) (s : Task) (r : Represents m (ys ++ 
   -- THE TAIL SEGMENT HAS ROOM.
   pub push-into : (h : End) (z : ℕ) → queueMemory m q .user t ≡ extent h (local z) → z < read m numberWord → read m (count z) < read m lengthWord → Played New
       → Represents (stored m z v) New
-  unfolding queueMemory ofTasks sharing pushedInto
+  unfolding queueMemory ofTasks pushedInto
   push-into h z u low room play =
       pushed (stored m z v) (withContents (meaningOf m) z (contentsIn m z ++ v ∷ [])) (pushedInto z v (queueMemory m q)) (value-stored m z v (r .sized) low room) play old-nexts refl
       (λ p i k. refl) (λ x e. parts-of m Old r .bare q small x e)
@@ -150,7 +130,7 @@ module _ (m : List ℕ) (ys zs : List Item) (s : Task) (r : Represents m (ys ++ 
   pub push-behind : (h : End) (z g : ℕ) (rest : List ℕ) (w : ℕ) (ws : List ℕ) → queueMemory m q .user t ≡ extent h (local z) → z < read m numberWord
       → freeIn m ≡ g ∷ rest → contentsIn m z ≡ w ∷ ws → (z ≡ g → ⊥) → Played New
       → Represents (write (write (taken m v) (next z) (nextFree m)) (tail USER t q) (nextFree m)) New
-  unfolding queueMemory ofTasks sharing pushedBehind
+  unfolding queueMemory ofTasks pushedBehind
   push-behind h z g rest w ws u low ef filled ne play =
       pushed _ (behindIn (meaningOf m) q t h z g rest v) (pushedBehind holder t h z g rest v (queueMemory m q))
       (pushed-behind m t q v g rest (r .sized) (task-unfinished m ys zs s r .0) small ef g-below z h (local z) low (user-word u)) play
@@ -171,11 +151,11 @@ module _ (m : List ℕ) (ys zs : List Item) (s : Task) (r : Represents m (ys ++ 
       same : ofTasks (alive m) (memoryOf (behindIn (meaningOf m) q t h z g rest v) q) ≡ pushedBehind holder t h z g rest v (queueMemory m q)
       same = ap (ofTasks (alive m)) (memory-behind (meaningOf m) q holder t h z g rest v w ws ne filled) ∙ live
 
-      others : (p : ℕ) → p < 4 → (p ≡ q → ⊥) → ofTasks (alive m) (memoryOf (behindIn (meaningOf m) q t h z g rest v) p) ≡ sharing (pushedBehind holder t h z g rest v (queueMemory m q) .store) (queueMemory m p)
+      others : (p : ℕ) → p < 4 → (p ≡ q → ⊥) → ofTasks (alive m) (memoryOf (behindIn (meaningOf m) q t h z g rest v) p) ≡ shared (pushedBehind holder t h z g rest v (queueMemory m q) .store) (queueMemory m p)
       others p i k =
           ap (ofTasks (alive m)) (behind-elsewhere (meaningOf m) q holder t h z g rest v w ws ne filled p k)
           ∙ masked-share (alive m) (pushedBehind holder t h z g rest v (memoryIn m q)) (memoryIn m p)
-          ∙ ap (λ (x : Memory). sharing (x .store) (queueMemory m p)) live
+          ∙ ap (λ (x : Memory). shared (x .store) (queueMemory m p)) live
 
       bare : (x : ℕ) → usesIn m q x ≡ false → (pushedBehind holder t h z g rest v (queueMemory m q) .children x ≡ vacant) × (pushedBehind holder t h z g rest v (queueMemory m q) .user x ≡ vacant) × (pushedBehind holder t h z g rest v (queueMemory m q) .right x ≡ vacant)
       bare x e = let b = parts-of m Old r .bare q small x e in unfold pushedBehind in (b .0, other-user x (extent h (local g)) e ∙ b .1, b .2)

@@ -1,32 +1,30 @@
 -- A PUSH WITH AN EMPTY USER VIEW keeps the invariant: the head of the new segment goes to the view just before.
-use mathlib.Core.Path.{_≡_, refl, ap, ap₂, sym, _∙_, subst, subst₂}
-use mathlib.Core.Bool.{Bool, true, false, not, false≢true}
-use mathlib.Core.Option.{Option, none, some}
+use mathlib.Core.Path.{_≡_, refl, ap, ap₂, sym, _∙_, subst}
+use mathlib.Core.Bool.{Bool, true, false, not}
 use mathlib.Core.List.{List, [], _∷_, _++_}
-use mathlib.Core.Logic.{_⊎_, inl, inr, ⊎-elim}
-use Prim.Native.Nat.{ℕ, suc, _+_, _*_, _<_, _≤_}
+use mathlib.Core.Logic.{_⊎_, ⊎-elim}
+use Prim.Native.Nat.{ℕ, suc, _+_, _*_, _<_}
 use native.Mathlib.Omega.{arith}
-use lib.Dec.{eqb}
 use lib.ListN.{length}
 use borrow.Author.Tests.{ne-eqb}
-use Rattle.words.specs.Words.{load, store, halt, load-other}
-use Rattle.words.specs.Blocks.{storeAll, block-other}
+use Rattle.words.specs.Words.{load, store, load-other}
+use Rattle.words.specs.Blocks.{block-other}
 use Rattle.lists.specs.Counting.{occurrences, occurs-append, occurs-here, occurs-past, equal?}
-use Rattle.layout.specs.Layout.{NONE, NL, USER, CHILDREN, numberWord, lengthWord, freeSegments, segment, value, task, queueHead, address, read, write, recordOf}
-use Rattle.tree.specs.Rights.{uses, pushes as mayPush}
+use Rattle.layout.specs.Layout.{NONE, NL, USER, numberWord, task, address, read, write, recordOf}
+use Rattle.tree.specs.Rights.{pushes as mayPush}
 use Rattle.tree.specs.Tour.{MARKS, tour}
-use Rattle.rules.specs.Views.{View, view}
+use Rattle.rules.specs.Views.{view}
 use Rattle.calls.specs.Segments.{taken, nextFree}
 use Rattle.calls.specs.Views.{viewOf, taskAt, kindAt, reducible, setView, joined, standsAt, justBefore}
 use Rattle.order.specs.Steps.{Task, Item, spot, pushes, numberOf, rightsOf, advance}
 use Rattle.order_waits.specs.Played.{Played}
-use Rattle.gaps.specs.Maps.{All, put, put-other, lastOf, last-in, all-behind}
-use Rattle.gaps.specs.Line.{End, nonlocal, local, Extent, vacant, extent, Line, met, base, left, pass, marks, lefts, mets, segments, firstChain, Fits, settled, Views}
+use Rattle.gaps.specs.Maps.{All, put-other, lastOf, last-in, all-behind}
+use Rattle.gaps.specs.Line.{nonlocal, local, Extent, vacant, extent, Line, met, base, left, pass, segments, firstChain, Fits, settled, Views}
 use Rattle.gaps.specs.Store.{Memory, Chain, Laid}
 use Rattle.gaps.specs.Chains.{Gap, Sole, count-gap}
 use Rattle.gaps.specs.Joins.{is-sole}
 use Rattle.gaps.specs.Lines.{count-segments, first-behind}
-use Rattle.gaps.specs.Moves.{Place, viewAt, taken as taken-store, pushedApart}
+use Rattle.gaps.specs.Moves.{viewAt, taken as taken-store, pushedApart}
 use Rattle.gaps.specs.Places.{Target, target-in}
 use Rattle.gaps.specs.Search.{firstOf, placeAt, standsAt as viewStands, Ends, ends-behind, target-found}
 use Rattle.gaps.specs.Find.{Found, nothing, find, user-settled}
@@ -36,8 +34,7 @@ use Rattle.gaps.specs.Pool.{mine}
 use Rattle.gaps.specs.Splits.{small-mets}
 use Rattle.links.specs.Linked.{tour-is}
 use Rattle.links.specs.Frame.{keeps-linked}
-use Rattle.links.specs.Places.{Place as Spot}
-use Rattle.meaning.specs.Meaning.{Meaning, endOf, extentOf, meaningOf, memoryOf, memoryIn, contentsIn, freeIn, viewIn, Sized}
+use Rattle.meaning.specs.Meaning.{Meaning, extentOf, meaningOf, memoryOf, memoryIn, contentsIn, freeIn, viewIn}
 use Rattle.meaning.specs.Reads.{view-at}
 use Rattle.meaning.specs.Extents.{reduces, reducible-extents, tailed-extent, end-local, end-nonlocal}
 use Rattle.meaning.specs.Free.{height-length, next-free, segment-taken}
@@ -47,17 +44,17 @@ use Rattle.meaning.specs.Reduce.{Links}
 use Rattle.meaning.specs.Push.{takenIn, apartIn, pushed-apart}
 use Rattle.meaning.specs.PushMemory.{memory-apart, apart-elsewhere}
 use Rattle.meaning.specs.Finish.{kind-below}
+use Rattle.meaning.specs.Update.{shared}
 use Rattle.represents.specs.Represents.{alive, ofTasks, queueMemory, usesIn, Represents}
 use Rattle.represents.specs.Nexts.{nexts-taken, nexts-joined}
-use Rattle.represents.specs.Laids.{sharing}
 use Rattle.represents.specs.Parts.{holders, parts-of}
 use Rattle.represents.specs.Plain.{same-links}
-use Rattle.represents.specs.Live.{live-apart, holdsAt}
-use Rattle.represents.specs.Named.{OnlyNamed, named-by}
+use Rattle.represents.specs.Live.{live-apart}
+use Rattle.represents.specs.Named.{named-by}
 use Rattle.represents.specs.FirstNamed.{first-named, one-mine, segment-below}
 use Rattle.represents.specs.Room.{free-below, held-free}
-use Rattle.represents.specs.At.{At, where-it-stands, laid-at, task-unfinished, task-alive, uses-here}
-use Rattle.represents.specs.Push.{stands, has-right, holder-alive, other-user, pushed, masked-share, some-opened, old-nexts}
+use Rattle.represents.specs.At.{At, where-it-stands, laid-at, task-unfinished, task-alive}
+use Rattle.represents.specs.Push.{stands, holder-alive, other-user, pushed, masked-share, some-opened, old-nexts}
 use Rattle.represents.specs.Walks.{first-path, tour-ends, same-stand, top-uses}
 use Rattle.represents.specs.Found.{Placed, found-placed, children-elsewhere, rights-elsewhere}
 use Rattle.represents.specs.Views.{uses-small}
@@ -268,7 +265,7 @@ module _ (m : List ℕ) (ys zs : List Item) (s : Task) (r : Represents m (ys ++ 
   live = live-apart (alive m) (holders m Old r q) t (placeAt y) g rest v (memoryIn m q) (holder-alive m ys zs s r q v small may) (task-alive m ys zs s r) (placed .holds)
 
   pub push-apart : Played New → Represents (setView (joined (taken m v) q (taskAt x) (kindAt x) (view (nextFree m) NL)) q t USER (view NL (nextFree m))) New
-  unfolding queueMemory ofTasks sharing pushedApart
+  unfolding queueMemory ofTasks pushedApart
   push-apart play =
       subst (λ (z : ℕ). Represents (setView (joined (taken m v) q (taskAt z) (kindAt z) (view (nextFree m) NL)) q t USER (view NL (nextFree m))) New) (sym search-is)
       (pushed m ys zs s r q v small may _ (apartIn (meaningOf m) q (holders m Old r q) t (kindAt y) (taskAt y) g rest v) after
@@ -282,11 +279,11 @@ module _ (m : List ℕ) (ys zs : List Item) (s : Task) (r : Represents m (ys ++ 
       same : ofTasks (alive m) (memoryOf (apartIn (meaningOf m) q (holders m Old r q) t (kindAt y) (taskAt y) g rest v) q) ≡ after
       same = ap (ofTasks (alive m)) (memory-apart (meaningOf m) q (holders m Old r q) t g rest v y) ∙ live
 
-      others : (p : ℕ) → p < 4 → (p ≡ q → ⊥) → ofTasks (alive m) (memoryOf (apartIn (meaningOf m) q (holders m Old r q) t (kindAt y) (taskAt y) g rest v) p) ≡ sharing (after .store) (queueMemory m p)
+      others : (p : ℕ) → p < 4 → (p ≡ q → ⊥) → ofTasks (alive m) (memoryOf (apartIn (meaningOf m) q (holders m Old r q) t (kindAt y) (taskAt y) g rest v) p) ≡ shared (after .store) (queueMemory m p)
       others p i k =
           ap (ofTasks (alive m)) (apart-elsewhere (meaningOf m) q (holders m Old r q) t g rest v (kindAt y) (taskAt y) p k)
           ∙ masked-share (alive m) (memoryOf (apartIn (meaningOf m) q (holders m Old r q) t (kindAt y) (taskAt y) g rest v) q) (memoryIn m p)
-          ∙ ap (λ (w : Memory). sharing (w .store) (queueMemory m p)) same
+          ∙ ap (λ (w : Memory). shared (w .store) (queueMemory m p)) same
 
       bare : (u : ℕ) → usesIn m q u ≡ false → (after .children u ≡ vacant) × (after .user u ≡ vacant) × (after .right u ≡ vacant)
       bare u e =

@@ -1,7 +1,7 @@
 -- THE INVARIANT: the words m represent the steps made so far, xs.
 use mathlib.Core.Path.{_≡_}
-use mathlib.Core.Bool.{Bool, true, false, not}
-use mathlib.Core.Option.{Option, none, some}
+use mathlib.Core.Bool.{Bool, false, not}
+use mathlib.Core.Option.{none, some}
 use mathlib.Core.List.{List, [], _∷_}
 use mathlib.Core.Logic.{_⊎_}
 use Prim.Native.Nat.{ℕ, _<_}
@@ -16,8 +16,8 @@ use Rattle.order_waits.specs.Played.{Played}
 use Rattle.order_waits.specs.Popper.{firstPopper}
 use Rattle.order_queue.specs.Points.{Timeline}
 use Rattle.gaps.specs.Maps.{All}
-use Rattle.gaps.specs.Line.{Extent, vacant, Line, marks, Fits}
-use Rattle.gaps.specs.Store.{Store, Memory, Laid, timeline}
+use Rattle.gaps.specs.Line.{vacant, Line, marks, Fits}
+use Rattle.gaps.specs.Store.{Memory, Laid, timeline}
 use Rattle.gaps.specs.Pool.{Pool, mine}
 use Rattle.links.specs.Linked.{Linked}
 use Rattle.meaning.specs.Meaning.{contentsIn, storeIn, memoryIn, Sized}

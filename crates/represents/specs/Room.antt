@@ -1,10 +1,9 @@
 -- Where a queue has a segment, not all segments are free; and the free ones are among those opened.
-use mathlib.Core.Path.{_≡_, refl, ap, sym, _∙_, subst}
-use mathlib.Core.List.{List, [], _∷_}
-use mathlib.Core.Logic.{inl, inr, ⊎-elim}
+use mathlib.Core.Path.{_≡_, refl, ap, subst}
+use mathlib.Core.List.{List, _∷_}
+use mathlib.Core.Logic.{⊎-elim}
 use Prim.Native.Nat.{ℕ, suc, _+_, _<_, _≤_}
 use native.Mathlib.Omega.{arith}
-use lib.Dec.{ltb}
 use lib.ListN.{length}
 use borrow.Author.Tests.{le-ltb}
 use Rattle.words.specs.Words.{pass}
@@ -18,6 +17,31 @@ use Rattle.meaning.specs.Meaning.{freeIn, storeIn}
 use Rattle.represents.specs.Represents.{opened, Represents}
 use Rattle.represents.specs.Laids.{held-opened}
 use Rattle.represents.specs.Parts.{parts-of, opened-single}
+
+-- Two lists of numbers below k, together without a number twice: where the one has a number, the other is shorter than k.
+module _ (k : ℕ) (taken free : List ℕ) (once : (x : ℕ) → occurrences x taken + occurrences x free ≤ 1)
+    (below : (x : ℕ) → 0 < occurrences x taken + occurrences x free → x < k) where
+  pub shorter : (s : ℕ) → 0 < occurrences s taken → length free < k
+  shorter s p =
+      let a = length-total k (s ∷ free) inside in
+      let b = total-le k (λ y. occurrences y (s ∷ free)) (λ y. 1) (λ y l. single y) in
+      let d = total-ones k (λ y. 1) (λ y l. refl) in
+      omega (arith, a, b, d)
+    where
+      inside : (x : ℕ) → 0 < occurrences x (s ∷ free) → x < k
+      inside x l =
+          ⊎-elim
+          (λ e. subst (λ (y : ℕ). y < k) e (below s (omega (arith, p))))
+          (λ e. let f = occurs-past s x free e in below x (omega (arith, f, l)))
+          (equal? s x)
+
+      single : (x : ℕ) → occurrences x (s ∷ free) ≤ 1
+      single x =
+          let a = once x in
+          ⊎-elim
+          (λ e. let f = occurs-here s x free e in let h = ap (λ (y : ℕ). occurrences y taken) e in omega (arith, f, h, a, p))
+          (λ e. let f = occurs-past s x free e in omega (arith, f, a))
+          (equal? s x)
 
 module _ (m : List ℕ) (xs : List Item) (r : Represents m xs) where
   pub opened-below : (s : ℕ) → 0 < opened m s → s < read m numberWord
@@ -39,34 +63,7 @@ module _ (m : List ℕ) (xs : List Item) (r : Represents m xs) where
   held-free q i s p = let a = held q i s in let b = opened-single m s in omega (arith, a, b, p)
 
   pub room : (q : ℕ) → q < 4 → (s : ℕ) → 0 < occurrences s (segments (r .line q)) → length (freeIn m) < read m numberWord
-  room q i s p =
-      let n = read m numberWord in
-      let a = length-total n (s ∷ freeIn m) below in
-      let b = total-le n (λ y. occurrences y (s ∷ freeIn m)) (λ y. 1) (λ y l. once y) in
-      let d = total-ones n (λ y. 1) (λ y l. refl) in
-      omega (arith, a, b, d)
-    where
-      mine-opened : 0 < opened m s
-      mine-opened = let a = held q i s in omega (arith, a, p)
-
-      below : (x : ℕ) → 0 < occurrences x (s ∷ freeIn m) → x < read m numberWord
-      below x k =
-          ⊎-elim
-          (λ e. subst (λ (y : ℕ). y < read m numberWord) e (opened-below s mine-opened))
-          (λ e. let f = occurs-past s x (freeIn m) e in free-below x (omega (arith, f, k)))
-          (equal? s x)
-
-      once : (x : ℕ) → occurrences x (s ∷ freeIn m) ≤ 1
-      once x =
-          ⊎-elim
-          (λ e.
-          let f = occurs-here s x (freeIn m) e in
-          let g = held-free q i s p in
-          let h = ap (λ (y : ℕ). occurrences y (freeIn m)) e in
-          omega (arith, f, g, h))
-          (λ e.
-          let f = occurs-past s x (freeIn m) e in
-          let a = held 0 (omega arith) x in
-          let b = opened-single m x in
-          omega (arith, f, a, b))
-          (equal? s x)
+  room q i =
+      shorter (read m numberWord) (segments (r .line q)) (freeIn m)
+      (λ x. let a = held q i x in let b = opened-single m x in omega (arith, a, b))
+      (λ x l. let a = held q i x in opened-below x (omega (arith, a, l)))

@@ -1,10 +1,9 @@
 -- A TEST keeps the invariant: it changes no word.
 use mathlib.Core.Path.{_≡_, refl}
-use mathlib.Core.Bool.{true}
 use mathlib.Core.List.{List, [], _∷_, _++_}
 use Prim.Native.Nat.{ℕ}
-use Rattle.order.specs.Steps.{Task, Item, step, spot, task, tests, nameOf, numberOf, made, advance}
-use Rattle.order_laws.specs.Courses.{plain}
+use Rattle.order.specs.Steps.{Task, Item, spot, tests, numberOf, advance}
+use Rattle.order_laws.specs.Moves.{plain-test}
 use Rattle.order_waits.specs.Played.{Played}
 use Rattle.order_queue.specs.Points.{added, takes}
 use Rattle.order_queue.specs.Laws.{plain-line}
@@ -15,14 +14,6 @@ use Rattle.represents.specs.Parts.{parts-of}
 use Rattle.represents.specs.Plain.{plain-represents}
 use Rattle.represents.specs.At.{single-spot}
 
-made-test : (s : Task) (q : ℕ) → made s (tests q) ≡ step (nameOf s) (tests q) ∷ spot s ∷ []
-unfolding made nameOf
-made-test (task p n r k) q = refl
-
-plain-test : (q : ℕ) → plain (tests q) ≡ true
-unfolding plain
-plain-test q = refl
-
 quiet : (q p : ℕ) → (added p (tests q) ≡ []) × (takes p (tests q) ≡ 0)
 unfolding added takes
 quiet q p = (refl, refl)
@@ -31,5 +22,5 @@ pub test-represents : (m : List ℕ) (ys zs : List Item) (s : Task) (r : Represe
     → Played (advance (numberOf s) (tests q) (ys ++ spot s ∷ zs)) → Represents m (advance (numberOf s) (tests q) (ys ++ spot s ∷ zs))
 test-represents m ys zs s r q play =
     let old = parts-of m (ys ++ spot s ∷ zs) r in
-    plain-represents m ys zs s r (tests q) (plain-test q) (made-test s q) m (kept-all m) (r .sized) play (r .line) (words-nexts m (r .sized) (r .nexts)) (old .laids) (old .marked) (old .fits)
-    (λ p i. plain-line p ys zs s (single-spot m ys zs s r) (tests q) (made-test s q) (quiet q p .0) (quiet q p .1) (old .time p i)) (old .bare)
+    plain-represents m ys zs s r (tests q) (plain-test q) m (kept-all m) (r .sized) play (r .line) (words-nexts m (r .sized) (r .nexts)) (old .laids) (old .marked) (old .fits)
+    (λ p i. plain-line p ys zs s (single-spot m ys zs s r) (tests q) (plain-test q) (quiet q p .0) (quiet q p .1) (old .time p i)) (old .bare)

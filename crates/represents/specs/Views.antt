@@ -1,39 +1,21 @@
 -- The views of a task of the tour, by the words and by the line of a queue.
-use mathlib.Core.Path.{_≡_, refl, ap, sym, _∙_, subst}
-use mathlib.Core.Bool.{Bool, true, false, not, false≢true}
-use mathlib.Core.Option.{Option, none, some}
-use mathlib.Core.List.{List, [], _∷_, _++_}
-use mathlib.Core.Logic.{_⊎_, inl, inr, ⊎-elim}
-use Prim.Native.Nat.{ℕ, zero, suc, _+_, _-_, _*_, _<_, _≤_}
-use native.Mathlib.Nat.{eq-zero-or-pos}
+use mathlib.Core.Path.{_≡_, ap, sym, _∙_}
+use mathlib.Core.Bool.{Bool, true, not, false≢true}
+use mathlib.Core.List.{List, [], _∷_}
+use mathlib.Core.Logic.{_⊎_, ⊎-elim}
+use Prim.Native.Nat.{ℕ, zero, suc, _+_, _-_, _<_}
 use native.Mathlib.Omega.{arith}
-use lib.Dec.{ltb, eqb}
 use borrow.Author.Tests.{lt-ltb, ltb-true, ne-eqb}
 use Rattle.words.specs.Words.{true-both, both-true}
 use Rattle.lists.specs.Counting.{occurrences, occurs-nil, occurs-here, occurs-past, equal?}
-use Rattle.layout.specs.Layout.{FREE, UNFINISHED, STATUS, task, read}
-use Rattle.rules.specs.Contents.{decode, word}
+use Rattle.layout.specs.Layout.{FREE, STATUS, task, read}
+use Rattle.rules.specs.Contents.{decode}
 use Rattle.rules.specs.Rules.{Unfinished}
-use Rattle.order.specs.Steps.{Task, Item, spot, numberOf}
-use Rattle.order_laws.specs.Items.{In}
-use Rattle.gaps.specs.Maps.{All}
-use Rattle.gaps.specs.Line.{Mark, base, left, met, pass, Line, marks, lefts, mets, Fits}
+use Rattle.gaps.specs.Maps.{All, occurs-later}
+use Rattle.gaps.specs.Line.{base, left, met, pass, Line, marks, lefts, mets, Fits}
 use Rattle.gaps.specs.Search.{taskAt, task-met, task-left}
 use Rattle.links.specs.Linked.{word-is}
-use Rattle.links.specs.Marks.{mark-held}
-use Rattle.represents.specs.Represents.{alive, usesIn, Represents}
-
--- a property of all members of a list, at one of them
-pub all-at : (P : ℕ → Type 0) (l : List ℕ) (x : ℕ) → All P l → 0 < occurrences x l → P x
-all-at P [] x h p = let e = occurs-nil x in let z : ⊥ = omega (arith, e, p) in absurd z
-all-at P (y ∷ l) x h p =
-    ⊎-elim
-    (λ e. subst P e (h .0))
-    (λ n. let e = occurs-past y x l n in all-at P l x (h .1) (omega (arith, e, p)))
-    (equal? y x)
-
-more : (y x : ℕ) (l : List ℕ) → 0 < occurrences x l → 0 < occurrences x (y ∷ l)
-more y x l p = ⊎-elim (λ e. let g = occurs-here y x l e in omega (arith, g)) (λ e. let g = occurs-past y x l e in omega (arith, g, p)) (equal? y x)
+use Rattle.represents.specs.Represents.{alive, usesIn}
 
 -- a task with a right is met, and left, in the line where the tour meets and leaves it
 module _ (uses : ℕ → Bool) where
@@ -46,7 +28,7 @@ module _ (uses : ℕ → Bool) where
   met-in (met t c ∷ l) f x s u p =
       ⊎-elim
       (λ e. let g = occurs-here t x (mets l) e in omega (arith, g))
-      (λ n. let e = occurs-past t x (marks l) n in more t x (mets l) (met-in l (f .1) x s u (omega (arith, e, p))))
+      (λ n. let e = occurs-past t x (marks l) n in occurs-later t x (mets l) (met-in l (f .1) x s u (omega (arith, e, p))))
       (equal? t x)
   met-in (pass y ∷ l) f x s u p =
       ⊎-elim
@@ -61,7 +43,7 @@ module _ (uses : ℕ → Bool) where
   left-in (left t ∷ l) f s x u p =
       ⊎-elim
       (λ e. let g = occurs-here t x (lefts l) e in omega (arith, g))
-      (λ n. let e = occurs-past (128 + t) (128 + x) (marks l) (λ q. n (omega (arith, q))) in more t x (lefts l) (left-in l (f .1) s x u (omega (arith, e, p))))
+      (λ n. let e = occurs-past (128 + t) (128 + x) (marks l) (λ q. n (omega (arith, q))) in occurs-later t x (lefts l) (left-in l (f .1) s x u (omega (arith, e, p))))
       (equal? t x)
   left-in (met t c ∷ l) f s x u p =
       let b = s .0 in

@@ -1,15 +1,15 @@
 -- THE WALKS BACK over the tour, by the words and along the line of a queue.
 use mathlib.Core.Path.{_≡_, refl, ap, ap₂, sym, _∙_, subst}
-use mathlib.Core.Bool.{Bool, true, false, not}
-use mathlib.Core.List.{List, [], _∷_, _++_}
-use mathlib.Core.Logic.{_⊎_, inl, inr, ⊎-elim}
-use Prim.Native.Nat.{ℕ, zero, suc, _+_, _-_, _<_, _≤_}
+use mathlib.Core.Bool.{Bool, true, false}
+use mathlib.Core.List.{List, [], _∷_}
+use mathlib.Core.Logic.{_⊎_, ⊎-elim}
+use Prim.Native.Nat.{ℕ, zero, suc, _-_, _<_}
 use native.Mathlib.Omega.{arith}
 use lib.Dec.{ltb, eqb}
 use borrow.Author.Tests.{lt-ltb, le-ltb}
 use Rattle.words.specs.Words.{pick, halt, pass as skip, both, either, both-on}
-use Rattle.lists.specs.Counting.{occurrences, occurs-nil, occurs-here, occurs-past, equal?}
-use Rattle.layout.specs.Layout.{CHILDREN, RIGHTS, task, read}
+use Rattle.lists.specs.Counting.{occurrences, occurs-here, occurs-past, equal?}
+use Rattle.layout.specs.Layout.{CHILDREN, RIGHTS}
 use Rattle.tree.specs.Rights.{uses, bits}
 use Rattle.rules.specs.Contents.{Contents, decode}
 use Rattle.rules.specs.Rules.{Unfinished}
@@ -20,12 +20,12 @@ use Rattle.order.specs.Steps.{Item}
 use Rattle.gaps.specs.Line.{Extent, vacant}
 use Rattle.gaps.specs.Search.{firstOf, taskAt, occupied, takesPart as partTaken, standsAt as viewStands, Ends}
 use Rattle.links.specs.Row.{Row, leads-on}
-use Rattle.links.specs.Linked.{Linked, word-is}
+use Rattle.links.specs.Linked.{word-is}
 use Rattle.links.specs.Marks.{mark-held}
 use Rattle.meaning.specs.Meaning.{viewIn}
 use Rattle.meaning.specs.Find.{part-taken, view-stands}
-use Rattle.represents.specs.Represents.{alive, ofTasks, queueMemory, usesIn, Represents}
-use Rattle.represents.specs.Laids.{by-queue}
+use Rattle.meaning.specs.Records.{by-four}
+use Rattle.represents.specs.Represents.{ofTasks, queueMemory, usesIn, Represents}
 use Rattle.represents.specs.Views.{unfinished-alive}
 
 -- two searches with tests that agree on the list
@@ -81,4 +81,4 @@ module _ (m : List ℕ) (xs : List Item) (r : Represents m xs) where
   top-uses q i =
       both-on (lt-ltb 0 128 (omega arith))
       ∙ ap (λ (x : ℕ). uses x q) (sym (word-is m 0 RIGHTS) ∙ top-says (decode m) (r .linked .top) .rights)
-      ∙ by-queue (λ q. uses 255 q ≡ true) refl refl refl refl q i
+      ∙ by-four (λ q. uses 255 q ≡ true) refl refl refl refl q i

@@ -21,13 +21,11 @@ use Rattle.gaps.specs.Search.{firstOf, taskAt, occupied, takesPart as partTaken
 use Rattle.links.specs.Places.{search-behind}
 use Rattle.meaning.specs.Meaning.{viewIn}
 use Rattle.meaning.specs.Find.{part-taken, view-stands}
-use Rattle.represents.specs.Represents.{alive, queueMemory, usesIn, Represents}
-use Rattle.represents.specs.Parts.{same-alive}
-use Rattle.represents.specs.Views.{unfinished-alive}
+use Rattle.represents.specs.Represents.{queueMemory, usesIn, Represents}
 use Rattle.represents.specs.Walks.{first-path, tour-ends, marked}
 use Rattle.represents_finish.specs.Leaf.{Leaf, leaf}
 use Rattle.represents_finish.specs.Way.{Way}
-use Rattle.represents_finish.specs.Queue.{way-linked, children-word}
+use Rattle.represents_finish.specs.Queue.{way-linked, children-word, unfinished-live}
 
 module _ (m : List ℕ) (ys zs : List Item) (s : Task) (r : Represents m (ys ++ spot s ∷ zs)) (barren : hasChild m (numberOf s) ≡ false) (above : 0 < numberOf s) where
   abbrev t : ℕ
@@ -60,9 +58,6 @@ module _ (m : List ℕ) (ys zs : List Item) (s : Task) (r : Represents m (ys ++ 
         let l = marked m Old r x p .1 .0 in
         part-taken n q x ∙ ap (λ (k : ℕ). uses k q) (way .kept .links (taskAt x) RIGHTS l (omega arith)) ∙ sym (both-on (lt-ltb (taskAt x) 128 l))
 
-    in-use : (x : ℕ) → Unfinished (decode m) x → alive n x ≡ true
-    in-use x u = ap (λ (f : ℕ → Bool). f x) (same-alive m n (way .kept)) ∙ unfinished-alive m x u
-
     same-stand : (x : ℕ) → 0 < occurrences x (r .tour) → standsAt n q x ≡ viewStands (usesIn m q) (queueMemory n q .children) x
     unfolding viewStands taskAt
     same-stand x p =
@@ -74,7 +69,7 @@ module _ (m : List ℕ) (ys zs : List Item) (s : Task) (r : Represents m (ys ++ 
         go true e = unfold either in halt _ _ e ∙ sym (halt _ _ e)
         go false e =
             ap (λ (v : Extent). either (ltb x 128) (either (eqb (x - 128) 0) (occupied v)))
-            (children-word m Old r n holder line way q (x - 128) (in-use (x - 128) (subst (Unfinished (decode m)) (skip x e refl) (marked m Old r x p .1))))
+            (children-word m Old r n holder line way q (x - 128) (unfinished-live m Old r n holder line way (x - 128) (subst (Unfinished (decode m)) (skip x e refl) (marked m Old r x p .1))))
 
     -- a search from behind t
     search : (f : ℕ → Bool) → seek MARKS f (recordOf n) (after (recordOf n) (t + 128)) ≡ firstOf f (here .earlier)

@@ -25,9 +25,10 @@ use Rattle.links.specs.Marks.{mark-once}
 use Rattle.links.specs.Finish.{Finished}
 use Rattle.meaning.specs.Meaning.{storeIn}
 use Rattle.meaning.specs.Tree.{LinksOnly}
+use Rattle.meaning.specs.Records.{by-four}
 use Rattle.represents.specs.Represents.{queueMemory, usesIn, opened, Represents}
 use Rattle.represents.specs.Nexts.{Nexts}
-use Rattle.represents.specs.Laids.{Laids, by-queue}
+use Rattle.represents.specs.Laids.{Laids}
 use Rattle.represents.specs.Parts.{of-parts}
 use Rattle.represents.specs.Plain.{laids-as}
 use Rattle.represents.specs.At.{task-unfinished, single-spot}
@@ -89,7 +90,7 @@ module _ (m : List ℕ) (ys zs : List Item) (s : Task) (r : Represents m (ys ++ 
 
     done : (q : ℕ) → q < 4 → Standing n New T q (holder q) (line q) × Vacant (queueMemory n q) t
     unfolding put pick
-    done = by-queue (λ q. Standing n New T q (holder q) (line q) × Vacant (queueMemory n q) t)
+    done = by-four (λ q. Standing n New T q (holder q) (line q) × Vacant (queueMemory n q) t)
         (all-turned .stands 0 (omega arith)) (all-turned .stands 1 (omega arith)) (all-turned .stands 2 (omega arith)) (all-turned .stands 3 (omega arith))
 
     -- the queue view of no queue is with t

@@ -28,7 +28,6 @@ use Rattle.meaning.specs.Merges.{clearedIn, inner, whole, store2}
 use Rattle.meaning.specs.Finish.{words1, Reduces, none-returned}
 use Rattle.meaning.specs.Return.{queue-kept}
 use Rattle.represents.specs.Represents.{alive, ofTasks, queueMemory, usesIn, Represents}
-use Rattle.represents.specs.Laids.{sharing}
 use Rattle.represents.specs.At.{mine-spot, task-unfinished, single-spot}
 use Rattle.represents_finish.specs.Leaf.{leaf, without-right}
 use Rattle.represents_finish.specs.Way.{Vacant, Way, Standing}
@@ -145,7 +144,7 @@ module _ (m : List ℕ) (ys zs : List Item) (s : Task) (r : Represents m (ys ++ 
         (all-behind (Fits (usesIn m q)) b (pass t ∷ (pass (128 + t) ∷ a)) f .1 .1)
 
     turned : Turned m n t q (line q) New Rest
-    unfolding queueMemory ofTasks sharing
+    unfolding queueMemory ofTasks
     turned =
         record {
           heir = h;

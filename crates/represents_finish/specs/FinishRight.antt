@@ -23,9 +23,9 @@ use Rattle.gaps.specs.Frames.{split}
 use Rattle.gaps.specs.Timelines.{timeline-at}
 use Rattle.gaps.specs.Pool.{mine}
 use Rattle.meaning.specs.Meaning.{memoryOf, memoryIn, contentsIn}
+use Rattle.meaning.specs.Update.{shared}
 use Rattle.represents.specs.Represents.{alive, ofTasks, queueMemory, usesIn, Represents}
 use Rattle.represents.specs.Nexts.{Nexts, HeadBelow, nexts-joined}
-use Rattle.represents.specs.Laids.{sharing}
 use Rattle.represents.specs.Push.{masked-share}
 use Rattle.represents.specs.At.{single-spot}
 use Rattle.represents_finish.specs.Leaf.{leaf, with-right}
@@ -84,12 +84,12 @@ module _ (m : List ℕ) (ys zs : List Item) (s : Task) (r : Represents m (ys ++ 
     here : ofTasks (alive n) (memoryOf (back .meaning) q) ≡ W
     here = ap (ofTasks (alive n)) (back .here) ∙ live
 
-    others : (p : ℕ) → (p ≡ q → ⊥) → ofTasks (alive n) (memoryOf (back .meaning) p) ≡ sharing (W .store) (queueMemory n p)
+    others : (p : ℕ) → (p ≡ q → ⊥) → ofTasks (alive n) (memoryOf (back .meaning) p) ≡ shared (W .store) (queueMemory n p)
     unfolding queueMemory
     others p k =
         ap (ofTasks (alive n)) (back .others p k)
         ∙ masked-share (alive n) (finished h t (back .place) (memoryIn n q)) (memoryIn n p)
-        ∙ ap (λ (w : Memory). sharing (w .store) (queueMemory n p)) live
+        ∙ ap (λ (w : Memory). shared (w .store) (queueMemory n p)) live
 
     abbrev Points : List Point
     Points = timeline (contentsIn n) a ++ (valuesIn (contentsIn n) c ++ timeline (contentsIn n) (y ∷ b))

@@ -9,8 +9,6 @@ use borrow.Author.Tests.{lt-ltb}
 use Rattle.words.specs.Words.{both-on}
 use Rattle.lists.specs.Counting.{occurrences, occurs-append, occurs-past, equal?}
 use Rattle.tree.specs.Rights.{uses}
-use Rattle.rules.specs.Contents.{decode}
-use Rattle.rules.specs.Rules.{Unfinished}
 use Rattle.calls.specs.Waits.{hasChild}
 use Rattle.calls.specs.Finish.{finishes as allows, finishedQueue}
 use Rattle.order.specs.Steps.{Task, Item, spot, finishes, numberOf, rightsOf, advance}
@@ -18,14 +16,13 @@ use Rattle.order.specs.Waits.{blocked}
 use Rattle.order_waits.specs.Played.{Played}
 use Rattle.gaps.specs.Maps.{All, put, put-same, put-other}
 use Rattle.gaps.specs.Line.{Line, marks, lefts, mets, Fits}
-use Rattle.gaps.specs.Search.{task-met}
 use Rattle.gaps.specs.Splits.{small-mets}
-use Rattle.links.specs.Marks.{mark-left}
 use Rattle.links.specs.Waits.{same-rights}
 use Rattle.represents.specs.Represents.{queueMemory, usesIn, Represents}
 use Rattle.represents.specs.Views.{met-in, left-in, uses-small}
 use Rattle.represents.specs.Walks.{marked}
 use Rattle.represents.specs.At.{mine-spot, task-unfinished}
+use Rattle.represents.specs.FirstNamed.{task-left}
 use Rattle.represents_finish.specs.Leaf.{Leaf, leaf, with-right}
 use Rattle.represents_finish.specs.Way.{Vacant, Way, Standing, AllStand, at-queue, Turn, turn, turn-other, turn-here, turn-gone, turn-vacant}
 use Rattle.represents_finish.specs.FirstNames.{Covered}
@@ -72,9 +69,6 @@ module _ (m : List ℕ) (ys zs : List Item) (s : Task) (r : Represents m (ys ++ 
       let k = occurs-append x (here .later) (here .earlier) in
       omega (arith, e, f, g, k, p)
 
-  is-left : (x : ℕ) → x < 128 → 0 < occurrences x (r .tour) → 0 < occurrences (128 + x) (r .tour)
-  is-left x l p = mark-left m (r .tour) Old (r .linked) x (subst (Unfinished (decode m)) (task-met x l) (marked m Old r x p .1))
-
   -- by the marks T of the line
   by-marks : (n : List ℕ) (holder : ℕ → ℕ) (line : ℕ → Line) → Way m n holder line → (p : ℕ) → p < 4 → (T : List ℕ) → marks (line p) ≡ T → (x : ℕ) → x < 128
       → 0 < occurrences x T → 0 < occurrences (128 + x) T → ((0 < occurrences x (mets (line p))) × (0 < occurrences x (lefts (line p)))) ⊎ Vacant (queueMemory n p) x
@@ -95,7 +89,7 @@ module _ (m : List ℕ) (ys zs : List Item) (s : Task) (r : Represents m (ys ++ 
   covered n yet A p i x l k = go (yet p) (A .stands p i)
     where
       go : (c : Bool) → Now n c p (A .holder p) (A .line p) → ((0 < occurrences x (mets (A .line p))) × (0 < occurrences x (lefts (A .line p)))) ⊎ Vacant (queueMemory n p) x
-      go true w = by-marks n (A .holder) (A .line) (A .way) p i (r .tour) (w .marked) x l k (is-left x l k)
+      go true w = by-marks n (A .holder) (A .line) (A .way) p i (r .tour) (w .marked) x l k (task-left m Old r x l k)
       go false w =
           ⊎-elim
           (λ e. inr (subst (Vacant (queueMemory n p)) (sym e) (w .1)))
@@ -103,7 +97,7 @@ module _ (m : List ℕ) (ys zs : List Item) (s : Task) (r : Represents m (ys ++ 
           let b = below in
           by-marks n (A .holder) (A .line) (A .way) p i Rest (w .0 .marked) x l
           (in-rest x e (λ d. omega (arith, d, l)) k)
-          (in-rest (128 + x) (λ d. omega (arith, d, b)) (λ d. e (omega (arith, d))) (is-left x l k)))
+          (in-rest (128 + x) (λ d. omega (arith, d, b)) (λ d. e (omega (arith, d))) (task-left m Old r x l k)))
           (equal? x t)
 
   pub uses-is : (q : ℕ) → usesIn m q t ≡ uses (rightsOf s) q

@@ -1,45 +1,30 @@
 -- BETWEEN TWO TURNS the first segment of a queue is named by its queue view's head only.
-use mathlib.Core.Path.{_≡_, refl, ap, sym, _∙_, subst}
-use mathlib.Core.Bool.{Bool, true}
+use mathlib.Core.Path.{_≡_, sym, _∙_, subst}
+use mathlib.Core.Bool.{true}
 use mathlib.Core.Option.{none, some}
-use mathlib.Core.List.{List, [], _∷_}
+use mathlib.Core.List.{List, _∷_}
 use mathlib.Core.Logic.{_⊎_, inl, inr, ⊎-elim}
-use Prim.Native.Nat.{ℕ, zero, suc, _<_, _≤_}
+use Prim.Native.Nat.{ℕ, zero, suc, _<_}
 use native.Mathlib.Omega.{arith}
-use Rattle.lists.specs.Counting.{occurrences, occurs-here, occurs-append, equal?}
+use Rattle.lists.specs.Counting.{occurrences, equal?}
 use Rattle.layout.specs.Layout.{CHILDREN, USER, RIGHT}
 use Rattle.order.specs.Steps.{Item}
-use Rattle.gaps.specs.Maps.{All, put-other}
-use Rattle.gaps.specs.Line.{End, nonlocal, local, Extent, vacant, extent, base, left, met, pass, Line, lefts, mets, segments, firstChain}
+use Rattle.gaps.specs.Maps.{All, put-other, all-at}
+use Rattle.gaps.specs.Line.{End, nonlocal, local, extent, Line, lefts, mets, firstChain}
 use Rattle.gaps.specs.Store.{Memory, headOf}
 use Rattle.gaps.specs.Names.{OnlyHead, only-head, Unnamed, unnamed}
 use Rattle.gaps.specs.Pool.{mine}
 use Rattle.meaning.specs.Meaning.{meaningOf, headsIn, viewIn, storeIn}
 use Rattle.represents.specs.Represents.{alive, queueMemory, opened, Represents}
 use Rattle.represents.specs.Laids.{apart}
-use Rattle.represents.specs.Parts.{opened-single, same-alive}
-use Rattle.represents.specs.Views.{all-at}
-use Rattle.represents.specs.FirstNamed.{here}
+use Rattle.represents.specs.Parts.{opened-single}
+use Rattle.represents.specs.FirstNamed.{first-in, not-vacant, task-there}
 use Rattle.represents_finish.specs.Way.{Vacant, Way}
-use Rattle.represents_finish.specs.Queue.{single, children-word, user-word, right-word, head-word}
+use Rattle.represents_finish.specs.Queue.{single, children-word, user-word, right-word, head-word, unfinished-live}
 use Rattle.represents_finish.specs.Naming.{Names}
-
--- the first segment of a line stands among its segments
-pub first-held : (l : Line) (g : ℕ) (c : List ℕ) → firstChain l ≡ g ∷ c → 0 < occurrences g (segments l)
-first-held l g c e = let a = go l in let b = ap (occurrences g) e in let d = occurs-here g g c refl in omega (arith, a, b, d)
-  where
-    go : (l : Line) → occurrences g (firstChain l) ≤ occurrences g (segments l)
-    go [] = omega arith
-    go (base d ∷ l) = let f = occurs-append g d (segments l) in omega (arith, f)
-    go (left t ∷ l) = go l
-    go (met t d ∷ l) = let f = occurs-append g d (segments l) in let k = go l in omega (arith, f, k)
-    go (pass x ∷ l) = go l
 
 not-nonlocal : {g : ℕ} → local g ≡ nonlocal → ⊥
 not-nonlocal e = let z : _≡_ {A = ℕ} 0 1 = cc in omega (arith, z)
-
-not-vacant : {b y : End} (v : Extent) → v ≡ extent b y → v ≡ vacant → ⊥
-not-vacant v e f = let z : _≡_ {A = ℕ} 0 1 = cc in omega (arith, z)
 
 -- each task of the tour T has all its views in the line l, or has none
 abbrev pub Covered : Memory → List ℕ → Line → Type 0
@@ -52,7 +37,7 @@ module _ (m : List ℕ) (xs : List Item) (r : Represents m xs) (n : List ℕ) (h
   h = holder q
 
   in-use : (x : ℕ) → x < 128 → 0 < occurrences x (r .tour) → alive n x ≡ true
-  in-use x l p = ap (λ (f : ℕ → Bool). f x) (same-alive m n (way .kept)) ∙ here m xs r x l p
+  in-use x l p = unfinished-live m xs r n holder line way x (task-there m xs r x l p)
 
   only-q : OnlyHead (queueMemory n q) h (line q) g
   only-q =
@@ -62,7 +47,7 @@ module _ (m : List ℕ) (xs : List Item) (r : Represents m xs) (n : List ℕ) (h
   none-p p i k =
       unnamed (mine (queueMemory n p .store) (line p)) (queueMemory n p) (holder p) (line p) g (way .laids .laid p i)
       (let a = apart (opened m) (opened-single m) (storeIn n 0) line (way .laids .pool) p q i small k g in
-      let b = first-held (line q) g c first in
+      let b = first-in (line q) g c first in
       omega (arith, a, b))
 
   -- a queue head

@@ -9,14 +9,14 @@ use native.Mathlib.Omega.{arith}
 use lib.ListN.{length}
 use Rattle.tree.specs.Rights.{pops as mayPop}
 use Rattle.calls.specs.Finish.{heir}
-use Rattle.order.specs.Steps.{Name, Task, Item, spot, task, finishes, nameOf, numberOf, rightsOf, made}
+use Rattle.order.specs.Steps.{Name, Task, Item, spot, finishes, nameOf, numberOf, rightsOf, made}
 use Rattle.order.specs.Waits.{blocked}
 use Rattle.order_laws.specs.Items.{In, in-parts}
 use Rattle.order_laws.specs.Count.{count, spotNumbered, count-append, count-in}
 use Rattle.order_laws.specs.Laws.{one-spot}
-use Rattle.order_waits.specs.Spots.{same-number, same-name, numbered}
+use Rattle.order_waits.specs.Spots.{same-number, same-name, numbered, same-spot}
 use Rattle.order_waits.specs.Played.{Played, played-reached}
-use Rattle.order_waits.specs.Changes.{in-left, in-right, same-spot}
+use Rattle.order_waits.specs.Changes.{in-left, in-right, no-spot}
 use Rattle.order_waits.specs.Kinship.{kinship}
 use Rattle.order_waits.specs.Popper.{firstPopper, subset-pops}
 use Rattle.order_waits.specs.Poppers.{popper-says}
@@ -24,11 +24,6 @@ use Rattle.order_waits.specs.Heirs.{sibling-next, parent-next}
 use Rattle.links.specs.Linked.{Linked}
 use Rattle.links.specs.Family.{name-top}
 use Rattle.links.specs.Searches.{ParentHeir, SiblingHeir, heir-is}
-
-no-spot : (s o : Task) → In (spot o) (made s finishes) → ⊥
-unfolding made
-no-spot (task p t r k) o (inl e) = let z : _≡_ {A = ℕ} 0 1 = cc in omega (arith, z)
-no-spot (task p t r k) o (inr i) = i
 
 -- THE SPOTS after a finish of s are those before it, but its own.
 module _ (ys zs : List Item) (s : Task) (play : Played (ys ++ spot s ∷ zs)) where

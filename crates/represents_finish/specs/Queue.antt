@@ -2,14 +2,12 @@
 use mathlib.Core.Path.{_≡_, refl, ap, sym, _∙_, subst}
 use mathlib.Core.Bool.{Bool, true, false, false≢true}
 use mathlib.Core.Option.{some}
-use mathlib.Core.List.{List, _∷_}
-use mathlib.Core.Logic.{⊎-elim}
+use mathlib.Core.List.{List}
 use Prim.Native.Nat.{ℕ, _+_, _<_, _≤_}
 use native.Mathlib.Omega.{arith}
 use lib.ListN.{length}
 use Rattle.words.specs.Words.{halt}
-use Rattle.lists.specs.Counting.{occurrences, occurs-here, occurs-past, equal?, length-total, total-ones}
-use Rattle.lists.specs.Sums.{total-le}
+use Rattle.lists.specs.Counting.{occurrences}
 use Rattle.layout.specs.Layout.{NL, CHILDREN, USER, RIGHT, numberWord, read}
 use Rattle.tree.specs.Rights.{uses, pops as mayPop}
 use Rattle.rules.specs.Contents.{decode}
@@ -31,7 +29,7 @@ use Rattle.represents.specs.Represents.{alive, ofTasks, queueMemory, opened, Re
 use Rattle.represents.specs.Laids.{held-opened, mine-one}
 use Rattle.represents.specs.Parts.{opened-single, same-alive}
 use Rattle.represents.specs.Plain.{same-links}
-use Rattle.represents.specs.Room.{opened-below}
+use Rattle.represents.specs.Room.{shorter, opened-below}
 use Rattle.represents.specs.Views.{unfinished-alive}
 use Rattle.represents_finish.specs.Way.{Way}
 
@@ -41,9 +39,11 @@ module _ (m : List ℕ) (xs : List Item) (r : Represents m xs) (n : List ℕ) (h
   way-linked = keeps-linked m n (same-links m n (r .sized) (way .kept)) (r .tour) xs xs (r .linked) refl (λ s i. i)
 
   -- an unfinished task is in use
+  pub unfinished-live : (u : ℕ) → Unfinished (decode m) u → alive n u ≡ true
+  unfinished-live u k = ap (λ (f : ℕ → Bool). f u) (same-alive m n (way .kept)) ∙ unfinished-alive m u k
+
   pub spot-alive : (o : Task) → In (spot o) xs → alive n (numberOf o) ≡ true
-  spot-alive o i =
-      ap (λ (f : ℕ → Bool). f (numberOf o)) (same-alive m n (way .kept)) ∙ unfinished-alive m (numberOf o) (spot-unfinished m (r .tour) xs (r .linked) o i)
+  spot-alive o i = unfinished-live (numberOf o) (spot-unfinished m (r .tour) xs (r .linked) o i)
 
   -- and the tour meets it
   pub unfinished-there : (u : ℕ) → Unfinished (decode m) u → 0 < occurrences u (r .tour)
@@ -73,31 +73,10 @@ module _ (m : List ℕ) (xs : List Item) (r : Represents m xs) (n : List ℕ) (h
 
   -- where a queue has a segment, not all are free
   pub room : (q : ℕ) → q < 4 → (s : ℕ) → 0 < occurrences s (segments (line q)) → length (freeIn n) < read n numberWord
-  room q i s p =
-      let k = read n numberWord in
-      let a = length-total k (s ∷ freeIn n) inside in
-      let b = total-le k (λ y. occurrences y (s ∷ freeIn n)) (λ y. 1) (λ y l. once y) in
-      let d = total-ones k (λ y. 1) (λ y l. refl) in
-      omega (arith, a, b, d)
-    where
-      inside : (x : ℕ) → 0 < occurrences x (s ∷ freeIn n) → x < read n numberWord
-      inside x k =
-          ⊎-elim
-          (λ e. subst (λ (y : ℕ). y < read n numberWord) e (held-below q i s p))
-          (λ e. let f = occurs-past s x (freeIn n) e in let a = held q i x in below x (omega (arith, f, k, a)))
-          (equal? s x)
-
-      once : (x : ℕ) → occurrences x (s ∷ freeIn n) ≤ 1
-      once x =
-          let a = held q i x in
-          let b = opened-single m x in
-          ⊎-elim
-          (λ e.
-          let f = occurs-here s x (freeIn n) e in
-          let h = ap (λ (y : ℕ). occurrences y (segments (line q))) e in
-          omega (arith, f, h, a, b, p))
-          (λ e. let f = occurs-past s x (freeIn n) e in omega (arith, f, a, b))
-          (equal? s x)
+  room q i =
+      shorter (read n numberWord) (segments (line q)) (freeIn n)
+      (λ x. let a = held q i x in let b = opened-single m x in omega (arith, a, b))
+      (λ x l. let a = held q i x in below x (omega (arith, a, l)))
 
   -- VIEWS of a task in use
   module _ (q : ℕ) (x : ℕ) (live : alive n x ≡ true) where

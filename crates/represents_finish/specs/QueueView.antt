@@ -28,8 +28,8 @@ use Rattle.links.specs.Frame.{keeps-linked}
 use Rattle.meaning.specs.Meaning.{Meaning, memoryOf, headsIn}
 use Rattle.meaning.specs.Kept.{Becomes, becomes-then}
 use Rattle.meaning.specs.Return.{movedIn, memory-moved, queue-kept, queue-returned}
+use Rattle.meaning.specs.Update.{shared}
 use Rattle.represents.specs.Represents.{alive, ofTasks, queueMemory, usesIn, Represents}
-use Rattle.represents.specs.Laids.{sharing}
 use Rattle.represents.specs.Plain.{same-links}
 use Rattle.represents.specs.At.{mine-spot, task-unfinished, single-spot}
 use Rattle.represents_finish.specs.Way.{Way, Turn}
@@ -139,8 +139,8 @@ module _ (m : List ℕ) (ys zs : List Item) (s : Task) (r : Represents m (ys ++ 
         ∙ live-passed (alive n) t u live-t u-live (memoryOf (c .meaning) q)
         ∙ ap (queuePassed t u) (c .here)
 
-    others : (p : ℕ) → p < 4 → (p ≡ q → ⊥) → ofTasks (alive n) (memoryOf (movedIn (c .meaning) q t u) p) ≡ sharing (queuePassed t u W .store) (queueMemory n p)
-    unfolding queuePassed sharing
+    others : (p : ℕ) → p < 4 → (p ≡ q → ⊥) → ofTasks (alive n) (memoryOf (movedIn (c .meaning) q t u) p) ≡ shared (queuePassed t u W .store) (queueMemory n p)
+    unfolding queuePassed
     others p i k = ap (ofTasks (alive n)) (moved-elsewhere (c .meaning) q t u p k) ∙ c .others p i k
 
     row : After own (W .store) (queuePassed t u W) u (c .line) (timeline (W .store .contents) (c .line))

@@ -9,8 +9,8 @@ use Rattle.words.specs.Words.{true-both}
 use Rattle.tree.specs.Rights.{eachQueue}
 use Rattle.calls.specs.Waits.{hasChild}
 use Rattle.calls.specs.Sync.{syncs, syncedQueue, synced}
-use Rattle.order.specs.Steps.{Task, Item, step, spot, task, syncs as syncStep, nameOf, numberOf, made, advance}
-use Rattle.order_laws.specs.Courses.{plain}
+use Rattle.order.specs.Steps.{Task, Item, spot, syncs as syncStep, numberOf, advance}
+use Rattle.order_laws.specs.Moves.{plain-sync}
 use Rattle.order_waits.specs.Played.{Played}
 use Rattle.order_queue.specs.Points.{added, takes}
 use Rattle.order_queue.specs.Laws.{plain-line}
@@ -23,16 +23,8 @@ use Rattle.represents.specs.At.{single-spot}
 use Rattle.represents_finish.specs.Way.{Standing, AllStand, all-begin, holders-as}
 use Rattle.represents_finish.specs.SyncTurn.{sync-turn}
 
-made-sync : (s : Task) → made s syncStep ≡ step (nameOf s) syncStep ∷ spot s ∷ []
-unfolding made nameOf
-made-sync (task p n r k) = refl
-
-plain-sync : plain syncStep ≡ true
-unfolding plain
-plain-sync = refl
-
 -- a sync neither pushes nor pops
-quiet : (q : ℕ) → (added q syncStep ≡ []) × (takes q syncStep ≡ 0)
+pub quiet : (q : ℕ) → (added q syncStep ≡ []) × (takes q syncStep ≡ 0)
 unfolding added takes
 quiet q = (refl, refl)
 
@@ -71,11 +63,11 @@ module _ (m : List ℕ) (ys zs : List Item) (s : Task) (r : Represents m (ys ++ 
   sync-represents play =
       let A = all-synced in
       let k = A .way .kept in
-      plain-represents m ys zs s r syncStep plain-sync (made-sync s) (synced m t) k (A .way .sized) play (A .line) (A .way .nexts)
+      plain-represents m ys zs s r syncStep plain-sync (synced m t) k (A .way .sized) play (A .line) (A .way .nexts)
       (subst (λ (own : ℕ → ℕ). Laids own (storeIn (synced m t) 0) (queueMemory (synced m t)) (holders m Old r) (A .line)) (sym (same-opened m (synced m t) k))
       (holders-as (opened m) (synced m t) (A .holder) (holders m Old r) (A .line)
       (λ q i. Option·some-injective _ _ (sym (A .stands q i .first) ∙ parts-of m Old r .first q i)) (A .way .laids)))
       (λ q i. A .stands q i .marked)
       (A .way .fits)
-      (λ q i. plain-line q ys zs s (single-spot m ys zs s r) syncStep (made-sync s) (quiet q .0) (quiet q .1) (A .stands q i .time))
+      (λ q i. plain-line q ys zs s (single-spot m ys zs s r) syncStep plain-sync (quiet q .0) (quiet q .1) (A .stands q i .time))
       (A .way .bare)

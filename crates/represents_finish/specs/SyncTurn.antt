@@ -17,14 +17,13 @@ use Rattle.gaps.specs.After.{After, after-marks, after-fits}
 use Rattle.gaps.specs.SyncRow.{sync-row}
 use Rattle.gaps.specs.Pool.{mine}
 use Rattle.meaning.specs.Meaning.{Meaning, meaningOf, memoryOf, memoryIn, viewIn, contentsIn}
-use Rattle.meaning.specs.Update.{withStore, withView, store-self, view-self}
+use Rattle.meaning.specs.Update.{withStore, withView, store-self, view-self, shared}
 use Rattle.meaning.specs.Kept.{Becomes, becomes-as}
 use Rattle.meaning.specs.Extents.{reduces}
 use Rattle.meaning.specs.Reduce.{Links, Tailed}
 use Rattle.meaning.specs.Sync.{syncedIn, Syncs, sync-test, queue-synced, memory-synced, memory-synced-elsewhere}
 use Rattle.represents.specs.Represents.{alive, ofTasks, queueMemory, usesIn, Represents}
 use Rattle.represents.specs.Nexts.{Nexts, nexts-joined}
-use Rattle.represents.specs.Laids.{sharing}
 use Rattle.represents.specs.Live.{live-sync}
 use Rattle.represents.specs.Push.{masked-share}
 use Rattle.represents.specs.At.{mine-spot, task-unfinished}
@@ -103,12 +102,12 @@ module _ (m : List ℕ) (ys zs : List Item) (s : Task) (r : Represents m (ys ++ 
       here : ofTasks (alive n) (memoryOf (syncedIn (meaningOf n) q (holder q) t) q) ≡ synced (holder q) t Q
       here = ap (ofTasks (alive n)) (memory-synced (meaningOf n) q (holder q) t) ∙ live
 
-      others : (p : ℕ) → p < 4 → (p ≡ q → ⊥) → ofTasks (alive n) (memoryOf (syncedIn (meaningOf n) q (holder q) t) p) ≡ sharing (synced (holder q) t Q .store) (queueMemory n p)
+      others : (p : ℕ) → p < 4 → (p ≡ q → ⊥) → ofTasks (alive n) (memoryOf (syncedIn (meaningOf n) q (holder q) t) p) ≡ shared (synced (holder q) t Q .store) (queueMemory n p)
       unfolding queueMemory synced
       others p i k =
           ap (ofTasks (alive n)) (memory-synced-elsewhere (meaningOf n) q (holder q) t p k)
           ∙ masked-share (alive n) (synced (holder q) t (memoryIn n q)) (memoryIn n p)
-          ∙ ap (λ (w : Memory). sharing (w .store) (queueMemory n p)) live
+          ∙ ap (λ (w : Memory). shared (w .store) (queueMemory n p)) live
 
       row : After own (Q .store) (synced (holder q) t Q) (holder q) (line q) (timeline (contentsIn n) (line q))
       unfolding queueMemory ofTasks
@@ -170,7 +169,7 @@ module _ (m : List ℕ) (ys zs : List Item) (s : Task) (r : Represents m (ys ++ 
           (queue-synced n t q (holder q) (way .sized) (task-unfinished m ys zs s r .0) small vacant-syncable)
 
       vacant-turned : Turn m n (syncedQueue n t q) q (line q) (holder q)
-      unfolding queueMemory ofTasks sharing
+      unfolding queueMemory ofTasks
       vacant-turned =
           record {
             meaning = meaningOf n;

@@ -14,27 +14,27 @@ use Rattle.rules.specs.Views.{View}
 use Rattle.calls.specs.Waits.{hasChild}
 use Rattle.calls.specs.Views.{taskAt, kindAt, returnedTo}
 use Rattle.order.specs.Steps.{Task, Item, spot, numberOf}
-use Rattle.gaps.specs.Maps.{All, put-other, all-behind}
+use Rattle.gaps.specs.Maps.{All, put-other, all-behind, all-at}
 use Rattle.gaps.specs.Line.{nonlocal, local, Extent, vacant, extent, base, left, met, pass, Line, marks, lefts, mets, Fits, Mode, Views, leaving, meeting}
 use Rattle.gaps.specs.Store.{Memory, Laid}
 use Rattle.gaps.specs.Lines.{count-lefts, count-mets}
 use Rattle.gaps.specs.Frames.{split}
 use Rattle.gaps.specs.Moves.{Place, childrenOf, rightOf, viewAt, childrenWith, rightsWith}
 use Rattle.gaps.specs.Places.{Returns, In, latest-in, target-in}
-use Rattle.gaps.specs.Search.{firstOf, task-met, task-left, placeAt, takesPart as partTaken, standsAt as viewStands, Ends, latest-found, target-found}
+use Rattle.gaps.specs.Search.{firstOf, task-left, placeAt, takesPart as partTaken, standsAt as viewStands, Ends, latest-found, target-found}
 use Rattle.gaps.specs.Absent.{met-marks, left-marks}
 use Rattle.gaps.specs.Pool.{mine}
 use Rattle.gaps.specs.Splits.{small-mets}
 use Rattle.meaning.specs.Meaning.{extentOf, viewIn}
 use Rattle.meaning.specs.FinishTest.{returned-nonlocal, returned-local}
 use Rattle.represents.specs.Represents.{alive, queueMemory, usesIn, Represents}
-use Rattle.represents.specs.Parts.{same-alive}
-use Rattle.represents.specs.Views.{all-at, uses-small, unfinished-alive}
+use Rattle.represents.specs.Views.{uses-small}
 use Rattle.represents.specs.Walks.{top-uses, marked}
 use Rattle.represents.specs.Live.{holdsAt}
+use Rattle.represents.specs.FirstNamed.{task-there}
 use Rattle.represents_finish.specs.Leaf.{leaf}
 use Rattle.represents_finish.specs.Way.{Way}
-use Rattle.represents_finish.specs.Queue.{unfinished-there, children-word, right-word}
+use Rattle.represents_finish.specs.Queue.{unfinished-there, children-word, right-word, unfinished-live}
 use Rattle.represents_finish.specs.Back.{earlier-marks, earlier-ends, back-part, back-stand}
 
 -- the tasks of a line have a right to the queue
@@ -115,9 +115,6 @@ module _ (m : List ℕ) (ys zs : List Item) (s : Task) (r : Represents m (ys ++ 
     pub live : alive n u ≡ true
     pub there : 0 < occurrences u (r .tour)
 
-  unfinished-live : (u : ℕ) → Unfinished (decode m) u → alive n u ≡ true
-  unfinished-live u k = ap (λ (f : ℕ → Bool). f u) (same-alive m n (way .kept)) ∙ unfinished-alive m u k
-
   met-other : (u : ℕ) → 0 < occurrences u (mets a) → Other u
   met-other u p =
       let range = uses-small m q u (all-at (λ x. usesIn m q x ≡ true) (mets a) u (mets-use (usesIn m q) a fits) p) in
@@ -129,12 +126,9 @@ module _ (m : List ℕ) (ys zs : List Item) (s : Task) (r : Represents m (ys ++ 
             let f = count-mets u b (met t c ∷ (left t ∷ a)) in
             let g = occurs-here t u (mets a) (sym e) in
             omega (arith, d, f, g, p);
-        live = unfinished-live u (met-unfinished u range there);
+        live = unfinished-live m Old r n holder line way u (task-there m Old r u range there);
         there = there;
       }
-    where
-      met-unfinished : (u : ℕ) → u < 128 → 0 < occurrences u (r .tour) → Unfinished (decode m) u
-      met-unfinished u l k = subst (Unfinished (decode m)) (task-met u l) (marked m Old r u k .1)
 
   left-other : (u : ℕ) → 0 < occurrences u (lefts a) → Other u
   left-other u p =
@@ -146,7 +140,7 @@ module _ (m : List ℕ) (ys zs : List Item) (s : Task) (r : Represents m (ys ++ 
             let f = count-lefts u b (met t c ∷ (left t ∷ a)) in
             let g = occurs-here t u (lefts a) (sym e) in
             omega (arith, d, f, g, p);
-        live = unfinished-live u k;
+        live = unfinished-live m Old r n holder line way u k;
         there = unfinished-there m Old r n holder line way u k;
       }
 

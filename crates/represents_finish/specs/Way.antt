@@ -18,9 +18,10 @@ use Rattle.gaps.specs.Stores.{Kept as StoreKept}
 use Rattle.gaps.specs.Pool.{allSegments, mine}
 use Rattle.meaning.specs.Meaning.{Meaning, nextIn, contentsIn, freeIn, storeIn, memoryOf, Sized}
 use Rattle.meaning.specs.Kept.{Kept, kept-all, kept-then, Becomes}
+use Rattle.meaning.specs.Update.{shared}
 use Rattle.represents.specs.Represents.{alive, ofTasks, queueMemory, usesIn, opened, Represents}
 use Rattle.represents.specs.Nexts.{Nexts, words-nexts}
-use Rattle.represents.specs.Laids.{sharing, four, Laids, laids-row, other-timeline}
+use Rattle.represents.specs.Laids.{four, Laids, laids-row, other-timeline}
 use Rattle.represents.specs.Parts.{holders, parts-of, opened-single}
 use Rattle.represents.specs.Plain.{laids-as}
 use Rattle.represents.specs.Push.{queue-memory}
@@ -76,7 +77,7 @@ holders-as own n holder holder′ line e h =
 -- the four queues over the segments of the words w, which are those of the store st
 pub laids-over : (own : ℕ → ℕ) (st : Store) (w : List ℕ) (holder : ℕ → ℕ) (line : ℕ → Line) → nextIn w ≡ st .next → contentsIn w ≡ st .contents → freeIn w ≡ st .free
     → Laids own st (queueMemory w) holder line → Laids own (storeIn w 0) (queueMemory w) holder line
-unfolding queueMemory ofTasks sharing
+unfolding queueMemory ofTasks
 laids-over own st w holder line e f g h =
     record {
       laid = h .laid;
@@ -104,7 +105,7 @@ pub record Turn (m n n′ : List ℕ) (q : ℕ) (l : Line) (h : ℕ) : Type 0 wh
   pub line : Line
   pub becomes : Becomes n n′ meaning
   pub here : ofTasks (alive n) (memoryOf meaning q) ≡ memory
-  pub others : (p : ℕ) → p < 4 → (p ≡ q → ⊥) → ofTasks (alive n) (memoryOf meaning p) ≡ sharing (memory .store) (queueMemory n p)
+  pub others : (p : ℕ) → p < 4 → (p ≡ q → ⊥) → ofTasks (alive n) (memoryOf meaning p) ≡ shared (memory .store) (queueMemory n p)
   pub kept : StoreKept (mine (queueMemory n q .store) l) (queueMemory n q .store) (memory .store)
   pub laid : Laid (mine (queueMemory n q .store) l) memory h line
   pub fits : All (Fits (usesIn m q)) line
@@ -119,12 +120,12 @@ module _ (m n : List ℕ) (holder : ℕ → ℕ) (line : ℕ → Line) (way : Wa
   l = c .line
 
   abbrev Then : ℕ → Memory
-  Then = put (λ p. sharing (W .store) (queueMemory n p)) q W
+  Then = put (λ p. shared (W .store) (queueMemory n p)) q W
 
   is-here : queueMemory n′ q ≡ W
   is-here = queue-memory q (c .becomes) ∙ c .here
 
-  is-other : (p : ℕ) → p < 4 → (p ≡ q → ⊥) → queueMemory n′ p ≡ sharing (W .store) (queueMemory n p)
+  is-other : (p : ℕ) → p < 4 → (p ≡ q → ⊥) → queueMemory n′ p ≡ shared (W .store) (queueMemory n p)
   is-other p i k = queue-memory p (c .becomes) ∙ c .others p i k
 
   memory-is : (p : ℕ) → p < 4 → queueMemory n′ p ≡ Then p
@@ -150,7 +151,6 @@ module _ (m n : List ℕ) (holder : ℕ → ℕ) (line : ℕ → Line) (way : Wa
   turn-gone x v = subst (λ (w : Memory). Vacant w x) (sym is-here) v
 
   pub turn-vacant : (p : ℕ) → p < 4 → (p ≡ q → ⊥) → (x : ℕ) → Vacant (queueMemory n p) x → Vacant (queueMemory n′ p) x
-  unfolding sharing
   turn-vacant p i k x v = subst (λ (w : Memory). Vacant w x) (sym (is-other p i k)) v
 
   pub turn : Way m n′ (put holder q h) (put line q l)

@@ -17,13 +17,14 @@ use Rattle.rules.specs.Test.{chain, chains, heldTest}
 use Rattle.rules_segments.specs.Chains.{chains-nil, chains-parts}
 use Rattle.rules_segments.specs.Tested.{tested-held}
 use Rattle.order.specs.Steps.{Item}
-use Rattle.gaps.specs.Maps.{All, all-map}
+use Rattle.gaps.specs.Maps.{All, all-map, all-at}
 use Rattle.gaps.specs.Line.{segments}
 use Rattle.gaps.specs.Store.{Chain}
 use Rattle.meaning.specs.Meaning.{nextIn, contentsIn}
 use Rattle.represents.specs.Represents.{Represents, opened, queueMemory, ofTasks}
-use Rattle.represents_rules.specs.Lists.{all-at, by-four}
-use Rattle.represents_rules.specs.Segments.{held, opened-below, opened-once, opened-says, pool-total, held-opened, line-opened}
+use Rattle.represents.specs.Parts.{opened-single}
+use Rattle.represents_rules.specs.Lists.{over-four}
+use Rattle.represents_rules.specs.Segments.{held, opened-below, opened-says, pool-total, held-opened, line-opened}
 use Rattle.represents_rules.specs.Ends.{firsts, lasts, same-length}
 use Rattle.represents_rules.specs.Named.{heads-total, tails-total}
 use Rattle.represents_rules.specs.Chains.{InTable, EndOrFilled, next-none, filled-word, line-ends, line-filled, line-chains, firsts-held, lasts-held}
@@ -51,12 +52,12 @@ module _ (m : List ℕ) (xs : List Item) (r : Represents m xs) where
 
   over-heads : (g : ℕ → ℕ) → over hs g ≡ total 4 (λ q. over (firsts (r .line q)) g)
   over-heads =
-      by-four n hs (λ q. firsts (r .line q)) (heads-total m xs r)
+      over-four n hs (λ q. firsts (r .line q)) (heads-total m xs r)
       (λ q s l p. held-opened m xs r q s l (let a = firsts-held s (r .line q) in omega (arith, a, p)))
 
   over-tails : (g : ℕ → ℕ) → over es g ≡ total 4 (λ q. over (lasts (r .line q)) g)
   over-tails =
-      by-four n es (λ q. lasts (r .line q)) (tails-total m xs r)
+      over-four n es (λ q. lasts (r .line q)) (tails-total m xs r)
       (λ q s l p. held-opened m xs r q s l (let a = lasts-held s (r .line q) in omega (arith, a, p)))
 
   -- as many tails as heads
@@ -82,7 +83,7 @@ module _ (m : List ℕ) (xs : List Item) (r : Represents m xs) where
     once : (s : ℕ) → held m xs r s q ≤ 1
     once s =
         let a = pool-total m xs r s in
-        let b = opened-once m s in
+        let b = opened-single m s in
         let d = total-term 4 (held m xs r s) q small in
         omega (arith, a, b, d)
 
@@ -121,13 +122,13 @@ module _ (m : List ℕ) (xs : List Item) (r : Represents m xs) where
   parts : Distinct n (c .free ++ chains c hs)
   parts =
       distinct-append n (c .free) (chains c hs) free-below (λ s p. opened-says m s (let a = parts-total s in omega (arith, a, p)))
-      (λ s l. let a = parts-total s in let b = opened-once m s in omega (arith, a, b))
+      (λ s l. let a = parts-total s in let b = opened-single m s in omega (arith, a, b))
 
   ends : Distinct n (c .free ++ es)
   ends =
       distinct-append n (c .free) es free-below
       (λ s p. opened-says m s (let a = parts-total s in let b = chain-count s in let d = end-count s in omega (arith, a, b, d, p)))
-      (λ s l. let a = parts-total s in let b = chain-count s in let d = end-count s in let e = opened-once m s in omega (arith, a, b, d, e))
+      (λ s l. let a = parts-total s in let b = chain-count s in let d = end-count s in let e = opened-single m s in omega (arith, a, b, d, e))
 
   sum : length (c .free) + length (chains c hs) ≡ n
   sum =
@@ -142,7 +143,7 @@ module _ (m : List ℕ) (xs : List Item) (r : Represents m xs) where
       let a = chain-count s in
       let w = total-some 4 (held m xs r s) (omega (arith, a, p)) in
       let l = segments (r .line (w .0)) in
-      filled-word m s (all-at InTable l (in-table (w .0) (w .1)) s (w .2)) (all-at (EndOrFilled m) l (line-filled m (r .line (w .0)) (good (w .0) (w .1))) s (w .2))
+      filled-word m s (all-at InTable l s (in-table (w .0) (w .1)) (w .2)) (all-at (EndOrFilled m) l s (line-filled m (r .line (w .0)) (good (w .0) (w .1))) (w .2))
 
   last : (s : ℕ) → 0 < occurrences s es → part c s 2 ≡ NONE
   last s p =
@@ -150,8 +151,8 @@ module _ (m : List ℕ) (xs : List Item) (r : Represents m xs) where
       let w = total-some 4 (λ q. occurrences s (lasts (r .line q))) (omega (arith, a, p)) in
       let b = lasts-held s (r .line (w .0)) in
       let i = w .2 in
-      next-none m s (all-at InTable (segments (r .line (w .0))) (in-table (w .0) (w .1)) s (omega (arith, b, i)))
-      (all-at (λ x. nextIn m x ≡ none) (lasts (r .line (w .0))) (line-ends m (r .line (w .0)) (good (w .0) (w .1))) s (w .2))
+      next-none m s (all-at InTable (segments (r .line (w .0))) s (in-table (w .0) (w .1)) (omega (arith, b, i)))
+      (all-at (λ x. nextIn m x ≡ none) (lasts (r .line (w .0))) s (line-ends m (r .line (w .0)) (good (w .0) (w .1))) (w .2))
 
   -- HELD SEGMENTS
   pub held-right : heldTest c hs es ≡ true

@@ -1,18 +1,10 @@
--- A list with the numbers of four others: what holds of its numbers, and sums over it.
-use mathlib.Core.Path.{_≡_, refl, ap, sym, _∙_, subst}
-use mathlib.Core.Logic.{⊎-elim}
-use mathlib.Core.List.{List, [], _∷_, _++_}
+-- A list with the numbers of four others: sums over it.
+use mathlib.Core.Path.{_≡_, refl, ap, sym, _∙_}
+use mathlib.Core.List.{List, [], _++_}
 use Prim.Native.Nat.{ℕ, zero, suc, _+_, _<_}
 use native.Mathlib.Omega.{arith}
-use Rattle.lists.specs.Counting.{occurrences, over, total, equal?, occurs-nil, occurs-past, over-append, over-same, total-ext}
+use Rattle.lists.specs.Counting.{occurrences, over, total, over-append, over-same, total-ext}
 use Rattle.lists.specs.Sums.{total-some, occurs-over}
-use Rattle.gaps.specs.Maps.{All}
-
--- what holds of all numbers of a list holds of each
-pub all-at : (P : ℕ → Type 0) (l : List ℕ) → All P l → (x : ℕ) → 0 < occurrences x l → P x
-all-at P [] h x p = let a = occurs-nil x in let z : ⊥ = omega (arith, a, p) in absurd z
-all-at P (y ∷ l) h x p =
-    ⊎-elim (λ e. subst P e (h .0)) (λ n. all-at P l (h .1) x (let a = occurs-past y x l n in omega (arith, a, p))) (equal? y x)
 
 -- the lists f 0, .., f (n - 1) one behind the other
 unfoldable pub joined : (ℕ → List ℕ) → ℕ → List ℕ
@@ -28,9 +20,9 @@ count-joined : (f : ℕ → List ℕ) (n s : ℕ) → occurrences s (joined f n)
 count-joined f n s = occurs-over s (joined f n) ∙ over-joined f n _ ∙ total-ext n _ _ (λ q l. sym (occurs-over s (f q)))
 
 -- A list in which each number stands as often as in the four together has the sums of the four.
-pub by-four : (k : ℕ) (hs : List ℕ) (f : ℕ → List ℕ) → ((s : ℕ) → occurrences s hs ≡ total 4 (λ q. occurrences s (f q)))
+pub over-four : (k : ℕ) (hs : List ℕ) (f : ℕ → List ℕ) → ((s : ℕ) → occurrences s hs ≡ total 4 (λ q. occurrences s (f q)))
     → ((q s : ℕ) → q < 4 → 0 < occurrences s (f q) → s < k) → (g : ℕ → ℕ) → over hs g ≡ total 4 (λ q. over (f q) g)
-by-four k hs f e low g = over-same k hs (joined f 4) g (λ s. e s ∙ sym (count-joined f 4 s)) below ∙ over-joined f 4 g
+over-four k hs f e low g = over-same k hs (joined f 4) g (λ s. e s ∙ sym (count-joined f 4 s)) below ∙ over-joined f 4 g
   where
     below : (s : ℕ) → 0 < occurrences s (joined f 4) → s < k
     below s p =

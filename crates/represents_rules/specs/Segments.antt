@@ -17,11 +17,10 @@ use Rattle.rules.specs.Test.{segmentTest}
 use Rattle.rules_segments.specs.Tested.{Sound, sound-segments}
 use Rattle.rules_tasks.specs.Holders.{below?}
 use Rattle.order.specs.Steps.{Item}
-use Rattle.gaps.specs.Maps.{All}
+use Rattle.gaps.specs.Maps.{All, all-in}
 use Rattle.gaps.specs.Line.{segments}
 use Rattle.meaning.specs.Meaning.{freeIn}
 use Rattle.represents.specs.Represents.{Represents, opened}
-use Rattle.represents.specs.Laids.{all-in}
 
 -- a segment opened with or not
 pub opened-below : (m : List ℕ) (s : ℕ) → s < read m numberWord → opened m s ≡ 1
@@ -31,10 +30,6 @@ opened-below m s l = halt _ _ (lt-ltb s (read m numberWord) l)
 opened-above : (m : List ℕ) (s : ℕ) → read m numberWord ≤ s → opened m s ≡ 0
 unfolding opened one
 opened-above m s l = pass _ (le-ltb s (read m numberWord) l) refl
-
-pub opened-once : (m : List ℕ) (s : ℕ) → opened m s ≤ 1
-opened-once m s =
-    ⊎-elim (λ l. let a = opened-below m s l in omega (arith, a)) (λ l. let a = opened-above m s l in omega (arith, a)) (below? s (read m numberWord))
 
 pub opened-says : (m : List ℕ) (s : ℕ) → 0 < opened m s → s < read m numberWord
 opened-says m s p =

@@ -1,16 +1,16 @@
 -- Of memory that represents program order: the tasks of the tour, what the words of their views mean, and the marks of
 -- each queue's line.
 use mathlib.Core.Path.{_≡_, refl, ap, sym, _∙_, subst}
-use mathlib.Core.Bool.{true, false, not}
+use mathlib.Core.Bool.{true, false}
 use mathlib.Core.Logic.{_⊎_, inl, inr}
 use mathlib.Core.List.{List, [], _∷_}
 use Prim.Native.Nat.{ℕ, _+_, _-_, _<_, _≤_}
 use native.Mathlib.Omega.{arith}
 use lib.Dec.{ltb}
-use borrow.Author.Tests.{lt-ltb, ltb-true, le-ltb, ne-eqb}
-use Rattle.words.specs.Words.{pick, both-true, true-both, both-on, pass, halt}
-use Rattle.lists.specs.Counting.{occurrences, occurs-cons, occurs-here}
-use Rattle.layout.specs.Layout.{FREE, STATUS, RIGHTS, CHILDREN, USER, RIGHT, task, read}
+use borrow.Author.Tests.{lt-ltb, ltb-true, le-ltb}
+use Rattle.words.specs.Words.{pick, both-true, both-on, pass, halt}
+use Rattle.lists.specs.Counting.{occurrences}
+use Rattle.layout.specs.Layout.{RIGHTS, CHILDREN, USER, RIGHT}
 use Rattle.tree.specs.Rights.{uses}
 use Rattle.tree.specs.Tour.{met}
 use Rattle.rules.specs.Contents.{Contents, decode, word}
@@ -20,29 +20,20 @@ use Rattle.rules_same.specs.Passed.{toured}
 use Rattle.rules_same.specs.Same.{whole-tour}
 use Rattle.calls.specs.Waits.{rightsOf}
 use Rattle.order.specs.Steps.{Item}
-use Rattle.gaps.specs.Maps.{All}
+use Rattle.gaps.specs.Maps.{All, occurs-first, occurs-later}
 use Rattle.gaps.specs.Line.{Extent, Mark, base, left, pass as past, Line, marks, Fits}
 use Rattle.gaps.specs.Line.Mark.{met as meeting}
 use Rattle.links.specs.Linked.{tree, tour-is, word-is, holder-unfinished}
 use Rattle.links.specs.Marks.{mark-held}
 use Rattle.meaning.specs.Meaning.{optional}
 use Rattle.meaning.specs.Reads.{head-at}
-use Rattle.represents.specs.Represents.{Represents, alive, queueMemory, ofTasks, usesIn}
+use Rattle.represents.specs.Represents.{Represents, queueMemory, ofTasks, usesIn}
+use Rattle.represents.specs.Views.{unfinished-alive}
 use Rattle.represents_rules.specs.Words.{ViewWords, kind-words}
 
 -- members of a list with y in front
-first : (y : ℕ) (l : List ℕ) → 0 < occurrences y (y ∷ l)
-first y l = let a = occurs-here y y l refl in omega (arith, a)
-
 later : {P : ℕ → Type 0} (y : ℕ) (l : List ℕ) → ((x : ℕ) → 0 < occurrences x (y ∷ l) → P x) → (x : ℕ) → 0 < occurrences x l → P x
-later y l f x p = f x (let a = occurs-cons y x l in omega (arith, a, p))
-
--- a record in use
-alive-yes : (m : List ℕ) (t : ℕ) → Unfinished (decode m) t → alive m t ≡ true
-unfolding alive
-alive-yes m t u =
-    true-both (lt-ltb t 128 (u .0))
-    (ap not (ne-eqb (read m (task t STATUS)) FREE (λ e. let a = word-is m t STATUS in let b = u .1 in omega (arith, a, b, e))))
+later y l f x p = f x (occurs-later y x l p)
 
 module _ (m : List ℕ) (xs : List Item) (r : Represents m xs) where
   abbrev c : Contents
@@ -69,19 +60,19 @@ module _ (m : List ℕ) (xs : List Item) (r : Represents m xs) where
     module _ (t : ℕ) (u : Unfinished c t) where
       pub children-words : (v : Extent) → queueMemory m q .children t ≡ v → ViewWords v (word c t (20 + q)) (word c t (32 + q))
       unfolding queueMemory ofTasks
-      children-words v e = kind-words m q CHILDREN t v small (omega arith) (u .0) (sym (halt _ _ (alive-yes m t u)) ∙ e)
+      children-words v e = kind-words m q CHILDREN t v small (omega arith) (u .0) (sym (halt _ _ (unfinished-alive m t u)) ∙ e)
 
       pub user-words : (v : Extent) → queueMemory m q .user t ≡ v → ViewWords v (word c t (24 + q)) (word c t (36 + q))
       unfolding queueMemory ofTasks
-      user-words v e = kind-words m q USER t v small (omega arith) (u .0) (sym (halt _ _ (alive-yes m t u)) ∙ e)
+      user-words v e = kind-words m q USER t v small (omega arith) (u .0) (sym (halt _ _ (unfinished-alive m t u)) ∙ e)
 
       pub right-words : (v : Extent) → queueMemory m q .right t ≡ v → ViewWords v (word c t (28 + q)) (word c t (40 + q))
       unfolding queueMemory ofTasks
-      right-words v e = kind-words m q RIGHT t v small (omega arith) (u .0) (sym (halt _ _ (alive-yes m t u)) ∙ e)
+      right-words v e = kind-words m q RIGHT t v small (omega arith) (u .0) (sym (halt _ _ (unfinished-alive m t u)) ∙ e)
 
       pub head-word : queueMemory m q .store .heads t ≡ optional (word c t (16 + q))
       unfolding queueMemory ofTasks
-      head-word = halt _ _ (alive-yes m t u) ∙ head-at m q t small (u .0) ∙ ap optional (sym (word-is m t (16 + q)))
+      head-word = halt _ _ (unfinished-alive m t u) ∙ head-at m q t small (u .0) ∙ ap optional (sym (word-is m t (16 + q)))
 
       pub uses-word : usesIn m q t ≡ uses (word c t RIGHTS) q
       unfolding usesIn rightsOf
@@ -122,9 +113,9 @@ module _ (m : List ℕ) (xs : List Item) (r : Represents m xs) where
     line-marked : (l : Line) → All (Fits (usesIn m q)) l → ((x : ℕ) → 0 < occurrences x (marks l) → Busy x) → All Marked l
     line-marked [] h f = tt
     line-marked (base d ∷ l) h f = (tt, line-marked l (h .1) f)
-    line-marked (left t ∷ l) h f = (left-mark t (h .0) (f (128 + t) (first (128 + t) (marks l))), line-marked l (h .1) (later (128 + t) (marks l) f))
-    line-marked (meeting t d ∷ l) h f = (met-mark t (h .0) (f t (first t (marks l))), line-marked l (h .1) (later t (marks l) f))
-    line-marked (past x ∷ l) h f = (past-mark x (h .0) (f x (first x (marks l))), line-marked l (h .1) (later x (marks l) f))
+    line-marked (left t ∷ l) h f = (left-mark t (h .0) (f (128 + t) (occurs-first (128 + t) (marks l))), line-marked l (h .1) (later (128 + t) (marks l) f))
+    line-marked (meeting t d ∷ l) h f = (met-mark t (h .0) (f t (occurs-first t (marks l))), line-marked l (h .1) (later t (marks l) f))
+    line-marked (past x ∷ l) h f = (past-mark x (h .0) (f x (occurs-first x (marks l))), line-marked l (h .1) (later x (marks l) f))
 
     pub marked : All Marked (r .line q)
     marked =

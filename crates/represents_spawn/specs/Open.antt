@@ -30,9 +30,9 @@ use Rattle.links.specs.Linked.{word-is}
 use Rattle.meaning.specs.Meaning.{Meaning, listed, nextIn, freeIn, headsIn, viewIn}
 use Rattle.meaning.specs.Kept.{Means}
 use Rattle.meaning.specs.Open.{topView, openedIn, core-opened, opened-number}
+use Rattle.meaning.specs.Records.{by-four}
 use Rattle.represents.specs.Represents.{alive, ofTasks, queueMemory, usesIn, opened, Represents}
 use Rattle.represents.specs.Nexts.{Leads, Nexts}
-use Rattle.represents.specs.Laids.{by-queue}
 use Rattle.represents.specs.Views.{unfinished-alive}
 use Rattle.represents_spawn.specs.OpenLinks.{in-range, top-link, free-status, open-linked}
 use Rattle.represents_spawn.specs.Rows.{Row, of-rows}
@@ -68,7 +68,7 @@ count-listed (suc j) a f e x =
 one-of-four : (x : ℕ) → (x < 4 → one (eqb 0 x) + one (eqb 1 x) + one (eqb 2 x) + one (eqb 3 x) ≡ 1) × (4 ≤ x → one (eqb 0 x) + one (eqb 1 x) + one (eqb 2 x) + one (eqb 3 x) ≡ 0)
 unfolding one pick
 one-of-four x = (
-  by-queue (λ x. one (eqb 0 x) + one (eqb 1 x) + one (eqb 2 x) + one (eqb 3 x) ≡ 1) refl refl refl refl x,
+  by-four (λ x. one (eqb 0 x) + one (eqb 1 x) + one (eqb 2 x) + one (eqb 3 x) ≡ 1) refl refl refl refl x,
   λ h.
       let a = one-no 0 x (λ e. omega (arith, e, h)) in
       let b = one-no 1 x (λ e. omega (arith, e, h)) in
@@ -108,11 +108,11 @@ module _ (l n : ℕ) (range : inRange l n ≡ true) where
   -- it has every right
   all-uses : (q : ℕ) → q < 4 → uses 255 q ≡ true
   unfolding uses bits
-  all-uses = by-queue (λ q. uses 255 q ≡ true) refl refl refl refl
+  all-uses = by-four (λ q. uses 255 q ≡ true) refl refl refl refl
 
   all-pops : (q : ℕ) → q < 4 → pops 255 q ≡ true
   unfolding pops bits
-  all-pops = by-queue (λ q. pops 255 q ≡ true) refl refl refl refl
+  all-pops = by-four (λ q. pops 255 q ≡ true) refl refl refl refl
 
   top-uses : (q : ℕ) → q < 4 → usesIn m q 0 ≡ true
   unfolding usesIn rightsIn load

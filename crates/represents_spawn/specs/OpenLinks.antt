@@ -9,7 +9,7 @@ use native.Mathlib.Omega.{arith}
 use lib.ListN.{length, replicate, length-replicate, drop, take}
 use borrow.Author.Tests.{leb-true}
 use Rattle.words.specs.Words.{load, size, pick, both-true}
-use Rattle.words.specs.Blocks.{storeAll, block-other, size-storeAll}
+use Rattle.words.specs.Blocks.{storeAll, size-storeAll}
 use Rattle.lists.specs.Counting.{occurrences, occurs-nil, occurs-here, occurs-past, occurs-append, equal?}
 use Rattle.layout.specs.Layout.{WORDS, STATUS, RIGHTS, PARENT, OLDER, YOUNGER, YOUNGEST, freeTasks, freeTask, freeSegment, task, address, read}
 use Rattle.tree.specs.Tour.{met}
@@ -23,7 +23,7 @@ use Rattle.links.specs.Row.{childless}
 use Rattle.links.specs.Linked.{numbersBack, Linked, word-is}
 use Rattle.links.specs.Idle.{idle-length, idle-last}
 use Rattle.meaning.specs.Records.{block-same, record-same, record-other}
-use Rattle.meaning.specs.OpenWords.{down-length, down-at, opened-core, size-core, core-free}
+use Rattle.meaning.specs.OpenWords.{down-length, down-at, opened-core, size-core, core-free, before}
 
 -- the three parts of the range of an opening
 pub in-range : (l n : ℕ) → inRange l n ≡ true → (1 ≤ l) × (l ≤ 64) × (4 ≤ n) × (n ≤ 256) × (l * n ≤ 8192)
@@ -49,9 +49,6 @@ module _ (l n : ℕ) (hn : 4 ≤ n) (hn' : n ≤ 256) where
   opened-sized = ap size (opened-core l n hn hn') ∙ size-core l n hn hn'
 
   -- A WORD in front of the segments: of the header or of the stacks
-  before : (k : List ℕ) (a : ℕ) (ws : List ℕ) (b : ℕ) → b < a → load (storeAll k a ws) b ≡ load k b
-  before k a ws b h = block-other ws k a b (λ j i e. omega (arith, e, h))
-
   front : (b : ℕ) → b < 448 → load m b ≡ load (stacked n headed) b
   unfolding opened topped segmented address
   front b h =

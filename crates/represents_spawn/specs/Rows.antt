@@ -19,9 +19,9 @@ use Rattle.gaps.specs.Store.{Laid, timeline}
 use Rattle.gaps.specs.Pool.{laid-mine}
 use Rattle.links.specs.Linked.{Linked}
 use Rattle.meaning.specs.Meaning.{nextIn, contentsIn, freeIn, Sized}
+use Rattle.meaning.specs.Records.{by-four}
 use Rattle.represents.specs.Represents.{ofTasks, queueMemory, usesIn, Queue, opened, Represents}
 use Rattle.represents.specs.Nexts.{Nexts, nexts-words}
-use Rattle.represents.specs.Laids.{by-queue}
 
 -- One queue, with any measure of the segments that are its own: segment x stands there own x times.
 pub record Row (m : List ℕ) (T : List ℕ) (xs : List Item) (q : ℕ) (own : ℕ → ℕ) : Type 0 where
@@ -74,7 +74,7 @@ module _ (m : List ℕ) (T : List ℕ) (xs : List Item) (own : ℕ → ℕ → �
         played = p;
         sized = z;
         line = lines;
-        queue = by-queue (λ q. Queue m T xs q (lines q)) (queue-of 0 r0) (queue-of 1 r1) (queue-of 2 r2) (queue-of 3 r3);
+        queue = by-four (λ q. Queue m T xs q (lines q)) (queue-of 0 r0) (queue-of 1 r1) (queue-of 2 r2) (queue-of 3 r3);
         pool = record {
           chains = (r0 .laid .held .chains .good, (r1 .laid .held .chains .good, (r2 .laid .held .chains .good, (r3 .laid .held .chains .good, tt))));
           total = λ x.
