@@ -25,6 +25,10 @@ stands-first v c S = record { later = []; chain = c; earlier = S; here = refl }
 pub stands-more : (v : ViewName) (s : Slot) (S : List Slot) → Stands v S → Stands v (s ∷ S)
 stands-more v s S w = record { later = s ∷ w .later; chain = w .chain; earlier = w .earlier; here = ap (λ (e : List Slot). s ∷ e) (w .here) }
 
+-- what holds of all slots
+pub slot-at : (P : Slot → Type 0) (v : ViewName) (S : List Slot) → All P S → (w : Stands v S) → P (slot v (w .chain))
+slot-at P v S h w = all-behind P (w .later) (slot v (w .chain) ∷ w .earlier) (subst (All P) (w .here) h) .0
+
 -- the views of the tasks that a line meets and leaves
 none-in : (t : ℕ) {A : Type 0} → 0 < occurrences t [] → A
 none-in t p = let a = occurs-nil t in let z : ⊥ = omega (arith, a, p) in absurd z

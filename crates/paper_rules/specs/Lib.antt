@@ -1,3 +1,5 @@
 pub mod Order
 pub mod Slots
 pub mod Along
+pub mod Words
+pub mod Rules123

@@ -204,3 +204,17 @@ module _ (childrenOf userOf rightOf : ℕ → Extent) where
   each-head (leaving {t = t} v e i r) = (head-inside (children t) e i, each-head r)
   each-head (meeting {t = t} v w e i f b r) = (head-begins t f b, (head-inside (user t) e i, each-head r))
   each-head (passing r) = each-head r
+
+  -- A USER VIEW is empty, or has a non-local head and a local tail.
+  abbrev pub UserEnds : Slot → Type 0
+  UserEnds (slot (queue t) c) = Unit {0}
+  UserEnds (slot (children t) c) = Unit {0}
+  UserEnds (slot (user t) c) = (userOf t ≡ vacant) ⊎ ((z : ℕ) × (userOf t ≡ extent nonlocal (local z)))
+  UserEnds (slot (right t) c) = Unit {0}
+
+  pub each-user : {l : Line} {n : Mode} → Views childrenOf userOf rightOf l n → All UserEnds (slots l)
+  each-user (beginning i) = tt
+  each-user (leaving v e i r) = (tt, each-user r)
+  each-user (meeting v w e rest f b r) = (tt, (inl e, each-user r))
+  each-user (meeting v w e (close {z = z}) f b r) = (tt, (inr (z, e), each-user r))
+  each-user (passing r) = each-user r
