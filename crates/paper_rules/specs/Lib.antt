@@ -3,3 +3,4 @@ pub mod Slots
 pub mod Along
 pub mod Words
 pub mod Rules123
+pub mod Spans

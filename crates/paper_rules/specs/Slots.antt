@@ -7,7 +7,7 @@ use mathlib.Core.Option.{Option}
 use Prim.Native.Nat.{ℕ, _+_, _*_, _<_, _≤_}
 use native.Mathlib.Omega.{arith}
 use Rattle.lists.specs.Counting.{occurrences, occurs-append}
-use Rattle.gaps.specs.Maps.{All, lastOf}
+use Rattle.gaps.specs.Maps.{All, lastOf, last-in}
 use Rattle.gaps.specs.Line.{End, nonlocal, local, Extent, vacant, extent, base, left, met, pass, Line, firstChain, Mode, settled, awaiting, Inside, rest, mid, close, Begins, bare, whole, begun, Views, leaving, meeting, passing}
 use Rattle.gaps.specs.Line.Views.{queue as beginning}
 use Rattle.gaps.specs.Store.{Linked, Chain}
@@ -83,6 +83,23 @@ same-slot z (slot x g ∷ a) (slot y h ∷ b) e f v w c d i p q o =
     let m = k .0 in
     (cc, k .1, k .2)
 
+-- it is not a right view
+abbrev pub NoRight : ViewName → Type 0
+NoRight (queue t) = Unit {0}
+NoRight (children t) = Unit {0}
+NoRight (user t) = Unit {0}
+NoRight (right t) = ⊥
+
+-- a chain with the last segment z
+abbrev pub Ends : List ℕ → ℕ → Type 0
+Ends [] z = ⊥
+Ends (s ∷ d) z = lastOf s d ≡ z
+
+-- it is one of its segments
+pub ends-in : (c : List ℕ) (z : ℕ) → Ends c z → 0 < occurrences z c
+ends-in [] z e = absurd e
+ends-in (s ∷ d) z e = let a = last-in s d in let b = ap (λ (x : ℕ). occurrences x (s ∷ d)) e in omega (arith, a, b)
+
 -- HEADS AND TAILS
 module _ (childrenOf userOf rightOf : ℕ → Extent) where
   -- what a view has; the queue view has a head only, and is kept elsewhere
@@ -96,20 +113,9 @@ module _ (childrenOf userOf rightOf : ℕ → Extent) where
   abbrev pub Quiet : ViewName → Type 0
   Quiet v = (viewOf v ≡ vacant) ⊎ (viewOf v ≡ extent nonlocal nonlocal)
 
-  abbrev pub NoRight : ViewName → Type 0
-  NoRight (queue t) = Unit {0}
-  NoRight (children t) = Unit {0}
-  NoRight (user t) = Unit {0}
-  NoRight (right t) = ⊥
-
   -- such a view in a line; no chain begins at it
   abbrev pub Calm : Slot → Type 0
   Calm (slot v c) = Quiet v × NoRight v
-
-  -- a chain with the last segment z
-  abbrev pub Ends : List ℕ → ℕ → Type 0
-  Ends [] z = ⊥
-  Ends (s ∷ d) z = lastOf s d ≡ z
 
   -- A chain that ends in z and has had no tail yet: it is the first one, from the queue head, and only quiet views follow,
   -- or it begins at a view n and only quiet views follow n. The views e are the last first.
