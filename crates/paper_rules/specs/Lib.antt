@@ -4,3 +4,4 @@ pub mod Along
 pub mod Words
 pub mod Rules123
 pub mod Spans
+pub mod Rules789

@@ -6,9 +6,10 @@ use mathlib.Core.List.{List, [], _∷_, _++_}
 use mathlib.Core.Logic.{_⊎_, inl, inr, ⊎-elim}
 use Prim.Native.Nat.{ℕ, _+_, _<_, _≤_}
 use native.Mathlib.Omega.{arith}
-use Rattle.lists.specs.Counting.{occurrences, occurs-here}
+use Rattle.lists.specs.Counting.{occurrences, occurs-here, equal?}
 use Rattle.lists.specs.Sums.{total-term}
-use Rattle.tree.specs.Rights.{pops as mayPop}
+use Rattle.layout.specs.Layout.{RIGHTS}
+use Rattle.tree.specs.Rights.{uses, pops as mayPop}
 use Rattle.rules.specs.Contents.{decode}
 use Rattle.rules.specs.Rules.{Unfinished, Held}
 use Rattle.calls.specs.Waits.{rightsOf as rightsIn, blocked, childPops}
@@ -22,11 +23,11 @@ use Rattle.gaps.specs.Maps.{put, put-same, put-other}
 use Rattle.gaps.specs.Line.{End, nonlocal, local, Extent, vacant, extent, firstChain}
 use Rattle.gaps.specs.Store.{headOf}
 use Rattle.gaps.specs.Names.{count-parts}
-use Rattle.links.specs.Linked.{unfinished-spot}
+use Rattle.links.specs.Linked.{word-is, unfinished-spot}
 use Rattle.links.specs.Waits.{same-rights, same-blocked, same-childPops}
 use Rattle.meaning.specs.Meaning.{headsIn}
 use Rattle.represents.specs.Represents.{Represents}
-use Rattle.represents_rules.specs.Heads.{holder, holder-busy, firstSegment, first-is, first-opened}
+use Rattle.represents_rules.specs.Heads.{holder, holder-busy, holder-uses, firstSegment, first-is, first-opened}
 use Rattle.represents_rules.specs.Segments.{opened-once, held, pool-total}
 use Rattle.represents_rules.specs.Free.{free-count}
 use Rattle.paper_rules.specs.Order.{ViewName, queue, children, user, right}
@@ -50,6 +51,30 @@ module _ (m : List ℕ) (xs : List Item) (r : Represents m xs) (q : ℕ) (small 
       head-is (holder m xs r q small) (holder-busy m xs r q small)
       ∙ put-same (λ y. none) (holder m xs r q small) (headOf (firstChain (r .line q)))
       ∙ ap headOf (first-is m xs r q small .1)
+
+  -- a queue view with a head is that of the holder
+  pub queue-holder : (t : ℕ) → Unfinished (decode m) t → (s : ℕ) → headsIn m q t ≡ some s → t ≡ holder m xs r q small
+  queue-holder t u s e = ⊎-elim (λ i. i) (λ n. absurd (other n)) (equal? t (holder m xs r q small))
+    where
+      other : (t ≡ holder m xs r q small → ⊥) → ⊥
+      other n =
+          let a : none ≡ some s = sym (head-is t u ∙ put-other (λ y. none) (holder m xs r q small) (headOf (firstChain (r .line q))) t n) ∙ e in
+          let z : _≡_ {A = ℕ} 0 1 = cc in
+          omega (arith, z)
+
+  -- and its head the first segment of the first chain
+  pub queue-head : (t : ℕ) → Unfinished (decode m) t → (s : ℕ) → headsIn m q t ≡ some s → (d : List ℕ) × (firstChain (r .line q) ≡ s ∷ d)
+  queue-head t u s e =
+      let i = Option·some-injective _ _ (sym holder-has ∙ ap (headsIn m q) (sym (queue-holder t u s e)) ∙ e) in
+      let w = first-is m xs r q small in
+      (w .0, w .1 ∙ ap (λ (x : ℕ). x ∷ w .0) i)
+
+  pub holds-right : (t : ℕ) → Unfinished (decode m) t → (s : ℕ) × (headsIn m q t ≡ some s) → uses (rightsIn m t) q ≡ true
+  unfolding rightsIn
+  holds-right t u w =
+      ap (λ (x : ℕ). uses (rightsIn m x) q) (queue-holder t u (w .0) (w .1))
+      ∙ ap (λ (x : ℕ). uses x q) (sym (word-is m (holder m xs r q small) RIGHTS))
+      ∙ holder-uses m xs r q small
 
   -- RULE 1. "Every hyperqueue holds at least one segment. .. The last segment is not deleted when it is empty."
   -- The chain of the first gap is never empty, and its first segment, which the queue view names, is held.
