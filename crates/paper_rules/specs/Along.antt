@@ -1,15 +1,14 @@
 -- Places along a line: the later a view stands the greater its place.
 use mathlib.Core.Path.{_≡_, refl, ap, sym, _∙_, subst}
-use mathlib.Core.Bool.{Bool, true}
 use mathlib.Core.List.{List, [], _∷_, _++_, append-assoc}
 use mathlib.Core.Logic.{⊎-elim}
 use Prim.Native.Nat.{ℕ, _+_, _*_, _<_, _≤_}
 use native.Mathlib.Omega.{arith}
 use lib.ListN.{length}
 use Rattle.lists.specs.Counting.{occurrences, occurs-nil, occurs-past, equal?}
-use Rattle.gaps.specs.Maps.{All, all-map, all-behind}
+use Rattle.gaps.specs.Maps.{All, all-behind}
 use Rattle.gaps.specs.Line.{base, left, met, pass, Line, marks, lefts, mets}
-use Rattle.paper_rules.specs.Order.{ViewName, queue, children, user, right, behind, placeIn, behind-at}
+use Rattle.paper_rules.specs.Order.{ViewName, children, user, right, behind, placeIn, behind-at}
 use Rattle.paper_rules.specs.Slots.{Slot, slot, slots}
 
 -- a view stands among slots

@@ -4,4 +4,8 @@ pub mod Along
 pub mod Words
 pub mod Rules123
 pub mod Spans
-pub mod Rules789
+pub mod Rules79
+pub mod Rule8
+pub mod Rules456
+pub mod Tails
+pub mod Rule6

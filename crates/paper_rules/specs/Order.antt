@@ -1,6 +1,6 @@
 -- THE PAPER'S ORDER OF VIEWS (section 4.4), for one queue: a total order that reflects program order. Views are numbered
 -- along the tour of the task tree; Laws (i), (ii) and (iii) of the paper are proved of the numbers in OrderLaws.antt.
-use mathlib.Core.Path.{_≡_, refl, ap, _∙_}
+use mathlib.Core.Path.{_≡_, refl}
 use mathlib.Core.List.{List, [], _∷_, _++_}
 use mathlib.Core.Logic.{⊎-elim}
 use Prim.Native.Nat.{ℕ, _+_, _*_, _<_, _≤_}

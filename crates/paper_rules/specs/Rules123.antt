@@ -4,7 +4,7 @@ use mathlib.Core.Bool.{true, false}
 use mathlib.Core.Option.{Option, none, some, Option·some-injective}
 use mathlib.Core.List.{List, [], _∷_, _++_}
 use mathlib.Core.Logic.{_⊎_, inl, inr, ⊎-elim}
-use Prim.Native.Nat.{ℕ, _+_, _<_, _≤_}
+use Prim.Native.Nat.{ℕ, _<_}
 use native.Mathlib.Omega.{arith}
 use Rattle.lists.specs.Counting.{occurrences, occurs-here, equal?}
 use Rattle.lists.specs.Sums.{total-term}
@@ -20,7 +20,7 @@ use Rattle.order_waits.specs.Played.{Played}
 use Rattle.order_waits.specs.Popper.{firstPopper}
 use Rattle.order_waits.specs.Poppers.{popper-says, free-first}
 use Rattle.gaps.specs.Maps.{put, put-same, put-other}
-use Rattle.gaps.specs.Line.{End, nonlocal, local, Extent, vacant, extent, firstChain}
+use Rattle.gaps.specs.Line.{nonlocal, local, vacant, extent, firstChain}
 use Rattle.gaps.specs.Store.{headOf}
 use Rattle.gaps.specs.Names.{count-parts}
 use Rattle.links.specs.Linked.{word-is, unfinished-spot}
@@ -30,7 +30,7 @@ use Rattle.represents.specs.Represents.{Represents}
 use Rattle.represents_rules.specs.Heads.{holder, holder-busy, holder-uses, firstSegment, first-is, first-opened}
 use Rattle.represents_rules.specs.Segments.{opened-once, held, pool-total}
 use Rattle.represents_rules.specs.Free.{free-count}
-use Rattle.paper_rules.specs.Order.{ViewName, queue, children, user, right}
+use Rattle.paper_rules.specs.Order.{queue, user, right}
 use Rattle.paper_rules.specs.Slots.{slots, each-user}
 use Rattle.paper_rules.specs.Along.{Stands, slot-at}
 use Rattle.paper_rules.specs.Words.{viewAt, headOnly, same-head, same-view, empty-or-stands}

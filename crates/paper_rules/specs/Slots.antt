@@ -2,9 +2,9 @@
 -- what a local head or a local tail says about the views around it.
 use mathlib.Core.Path.{_≡_, refl, ap, sym, _∙_, subst}
 use mathlib.Core.List.{List, [], _∷_, _++_}
-use mathlib.Core.Logic.{_⊎_, inl, inr, ⊎-elim}
+use mathlib.Core.Logic.{_⊎_, inl, inr}
 use mathlib.Core.Option.{Option}
-use Prim.Native.Nat.{ℕ, _+_, _*_, _<_, _≤_}
+use Prim.Native.Nat.{ℕ, _<_, _≤_}
 use native.Mathlib.Omega.{arith}
 use Rattle.lists.specs.Counting.{occurrences, occurs-append}
 use Rattle.gaps.specs.Maps.{All, lastOf, last-in}
@@ -49,6 +49,11 @@ linked-slots next contents (base c ∷ l) h = linked-slots next contents l (h .1
 linked-slots next contents (left t ∷ l) h = (tt, linked-slots next contents l (h .1))
 linked-slots next contents (met t c ∷ l) h = (h .0 .0, (tt, linked-slots next contents l (h .1)))
 linked-slots next contents (pass x ∷ l) h = linked-slots next contents l (h .1)
+
+-- a segment of one slot is among those of all
+pub chain-in : (z : ℕ) (a : List Slot) (v : ViewName) (c : List ℕ) (e : List Slot) → 0 < occurrences z c → 0 < occurrences z (chains (a ++ slot v c ∷ e))
+chain-in z [] v c e p = let j = occurs-append z c (chains e) in omega (arith, j, p)
+chain-in z (slot u d ∷ a) v c e p = let j = occurs-append z d (chains (a ++ slot v c ∷ e)) in let k = chain-in z a v c e p in omega (arith, j, k)
 
 -- two slots that have a segment in common, where no segment stands twice, are one
 pub same-slot : (z : ℕ) (a b e f : List Slot) (v w : ViewName) (c d : List ℕ) → a ++ slot v c ∷ e ≡ b ++ slot w d ∷ f → 0 < occurrences z c

@@ -3,20 +3,20 @@ use mathlib.Core.Path.{_≡_, refl, ap, sym, _∙_, subst}
 use mathlib.Core.Option.{Option, none, some}
 use mathlib.Core.List.{List, [], _∷_, _++_, append-assoc}
 use mathlib.Core.Logic.{_⊎_, inl, inr, ⊎-elim}
-use Prim.Native.Nat.{ℕ, _+_, _<_, _≤_}
+use Prim.Native.Nat.{ℕ, _<_, _≤_}
 use native.Mathlib.Omega.{arith}
-use Rattle.lists.specs.Counting.{occurrences, occurs-append}
-use Rattle.gaps.specs.Maps.{All, lastOf, all-behind}
-use Rattle.gaps.specs.Line.{End, local, Extent, vacant, extent, firstChain}
-use Rattle.gaps.specs.Store.{LinkedFrom, Linked, Chain, Memory}
+use Rattle.lists.specs.Counting.{occurrences}
+use Rattle.gaps.specs.Maps.{All, lastOf}
+use Rattle.gaps.specs.Line.{End, local, extent, firstChain}
+use Rattle.gaps.specs.Store.{LinkedFrom, Linked, Memory}
 use Rattle.gaps.specs.Frames.{clash}
 use Rattle.order.specs.Steps.{Item}
 use Rattle.meaning.specs.Meaning.{nextIn, contentsIn}
 use Rattle.represents.specs.Represents.{queueMemory, ofTasks, Represents}
 use Rattle.paper_rules.specs.Order.{ViewName}
-use Rattle.paper_rules.specs.Slots.{Slot, slot, slots, chains, LinkedSlot, linked-slots, same-slot, NoRight, Ends, ends-in, Calm, Open, EachTail, each-tail, tail-at, each-head}
+use Rattle.paper_rules.specs.Slots.{Slot, slot, slots, chains, chain-in, LinkedSlot, linked-slots, same-slot, NoRight, Ends, ends-in, Calm, Open, EachTail, each-tail, tail-at, each-head}
 use Rattle.paper_rules.specs.Along.{Stands, slot-at}
-use Rattle.paper_rules.specs.Words.{viewAt, NotQueue, Current, viewHere, same-view, empty-or-stands, segments-once}
+use Rattle.paper_rules.specs.Words.{viewAt, NotQueue, Current, same-view, empty-or-stands, segments-once}
 
 -- a list of links is determined by where it begins
 pub linked-same : (next : ℕ → Option ℕ) (s : ℕ) (d e : List ℕ) → LinkedFrom next s d → LinkedFrom next s e → d ≡ e
@@ -28,11 +28,6 @@ linked-same next s (t ∷ d) (u ∷ e) h k =
     let b : u ≡ t = cc in
     let i = linked-same next t d e (h .1) (subst (λ (x : ℕ). LinkedFrom next x e) b (k .1)) in
     cc
-
--- a segment of one slot is among those of all
-pub chain-in : (z : ℕ) (a : List Slot) (v : ViewName) (c : List ℕ) (e : List Slot) → 0 < occurrences z c → 0 < occurrences z (chains (a ++ slot v c ∷ e))
-chain-in z [] v c e p = let j = occurs-append z c (chains e) in omega (arith, j, p)
-chain-in z (slot u d ∷ a) v c e p = let j = occurs-append z d (chains (a ++ slot v c ∷ e)) in let k = chain-in z a v c e p in omega (arith, j, k)
 
 module _ (m : List ℕ) (xs : List Item) (r : Represents m xs) (q : ℕ) (small : q < 4) where
   abbrev S : List Slot

@@ -2,32 +2,31 @@
 use mathlib.Core.Path.{_≡_, refl, ap, sym, _∙_, subst}
 use mathlib.Core.Bool.{Bool, true, false}
 use mathlib.Core.Option.{Option, none, some}
-use mathlib.Core.List.{List, [], _∷_, _++_}
+use mathlib.Core.List.{List}
 use mathlib.Core.Logic.{_⊎_, inl, inr}
 use Prim.Native.Nat.{ℕ, _+_, _<_, _≤_}
 use native.Mathlib.Omega.{arith}
 use Rattle.words.specs.Words.{halt}
-use Rattle.lists.specs.Counting.{occurrences, occurs-append}
-use Rattle.layout.specs.Layout.{CHILDREN, USER, RIGHT, recordOf}
-use Rattle.tree.specs.Tour.{MARKS, tour, met}
+use Rattle.lists.specs.Counting.{occurrences}
+use Rattle.layout.specs.Layout.{CHILDREN, USER, RIGHT}
+use Rattle.tree.specs.Tour.{tour, met}
 use Rattle.rules.specs.Contents.{decode}
 use Rattle.rules.specs.Rules.{Unfinished}
 use Rattle.rules_tasks.specs.Holders.{met-count}
 use Rattle.order.specs.Steps.{Item, numberOf}
-use Rattle.gaps.specs.Maps.{All}
-use Rattle.gaps.specs.Line.{End, nonlocal, local, Extent, vacant, extent, Line, lefts, mets, segments, firstChain}
+use Rattle.gaps.specs.Line.{nonlocal, local, Extent, vacant, extent, firstChain}
 use Rattle.gaps.specs.Store.{Memory}
-use Rattle.gaps.specs.Names.{laterSegments, count-parts}
+use Rattle.gaps.specs.Names.{count-parts}
 use Rattle.gaps.specs.Splits.{small-mets}
 use Rattle.links.specs.Linked.{unfinished-spot, says-back, tour-is}
 use Rattle.links.specs.Marks.{mark-once, mark-left}
 use Rattle.meaning.specs.Meaning.{headsIn, viewIn}
 use Rattle.represents.specs.Represents.{queueMemory, ofTasks, usesIn, Represents}
-use Rattle.represents.specs.Parts.{holders, parts-of}
+use Rattle.represents.specs.Parts.{parts-of}
 use Rattle.represents.specs.Views.{met-in, left-in, unfinished-alive, uses-small}
 use Rattle.represents.specs.FirstNamed.{one-mine}
 use Rattle.paper_rules.specs.Order.{ViewName, queue, children, user, right, placeIn, place}
-use Rattle.paper_rules.specs.Slots.{Slot, slot, slots, chains, chains-later, viewOf}
+use Rattle.paper_rules.specs.Slots.{slots, chains, chains-later, viewOf}
 use Rattle.paper_rules.specs.Along.{Stands, children-stands, met-stands, Falling, falling}
 
 -- A queue view has a head alone. Its tail is not stored, as the paper's rule 3 allows; it stands for a non-local one.
