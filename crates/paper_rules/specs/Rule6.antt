@@ -2,24 +2,27 @@
 -- share a segment.
 use mathlib.Core.Path.{_≡_, refl, ap, sym, _∙_, subst}
 use mathlib.Core.Option.{Option, none, some}
-use mathlib.Core.List.{List, [], _∷_, _++_}
-use mathlib.Core.Logic.{⊎-elim}
+use mathlib.Core.List.{List, [], _∷_, _++_, append-assoc}
+use mathlib.Core.Logic.{_⊎_, inl, inr, ⊎-elim}
 use Prim.Native.Nat.{ℕ, _<_}
 use native.Mathlib.Omega.{arith}
-use Rattle.lists.specs.Counting.{occurrences, occurs-here}
+use Rattle.lists.specs.Counting.{occurrences, occurs-here, equal?}
 use Rattle.rules_tasks.specs.Holders.{below?}
 use Rattle.order.specs.Steps.{Item}
 use Rattle.gaps.specs.Maps.{All, all-append}
-use Rattle.gaps.specs.Line.{End, local, extent, firstChain}
+use Rattle.gaps.specs.Line.{End, local, extent, firstChain, segments}
 use Rattle.gaps.specs.Store.{Memory}
-use Rattle.meaning.specs.Meaning.{headsIn}
-use Rattle.represents.specs.Represents.{queueMemory, Represents}
+use Rattle.meaning.specs.Meaning.{headsIn, storeIn}
+use Rattle.represents.specs.Represents.{queueMemory, opened, Represents}
+use Rattle.represents.specs.Parts.{parts-of, opened-single}
+use Rattle.represents.specs.Laids.{apart}
+use Rattle.gaps.specs.Names.{count-parts}
 use Rattle.paper_rules.specs.Order.{ViewName, queue, children, user, right, placeIn}
-use Rattle.paper_rules.specs.Slots.{Slot, slot, slots, chains, chain-in}
+use Rattle.paper_rules.specs.Slots.{Slot, slot, slots, chains, chain-in, chains-later, Ends, ends-in, Open}
 use Rattle.paper_rules.specs.Along.{Stands, slot-at, Falling, Below, Above, falling-before, falling-after}
 use Rattle.paper_rules.specs.Tails.{NoTail, EachOnly, each-only, only-at}
 use Rattle.paper_rules.specs.Words.{headOnly, viewAt, NotQueue, Current, viewHere, same-view, line-falls, segments-once}
-use Rattle.paper_rules.specs.Spans.{full-stands, head-chain, not-both, one-view}
+use Rattle.paper_rules.specs.Spans.{full-stands, head-chain, tail-chain, not-both, one-view}
 use Rattle.paper_rules.specs.Rules123.{queue-holder, queue-head}
 use Rattle.paper_rules.specs.Rules79.{tail-not-queue}
 
@@ -157,3 +160,61 @@ module _ (m : List ℕ) (xs : List Item) (r : Represents m xs) where
         (λ g. absurd (not-before w p v z x y o i j g))
         (λ g. ⊎-elim (λ h. absurd (not-before v o w z y x p j i h)) (λ h. same-there w p v o (omega (arith, g, h))) (below? (placeIn T w) (placeIn T v)))
         (below? (placeIn T v) (placeIn T w))
+
+    -- what a view names is a segment of the queue
+    of-queue : (s : ℕ) → (0 < occurrences s (firstChain (r .line q))) ⊎ (0 < occurrences s (chains S)) → 0 < occurrences s (segments (r .line q))
+    of-queue s p =
+        let a = count-parts s (r .queue q small .laid .views) in
+        let b = ap (occurrences s) (chains-later (r .line q)) in
+        ⊎-elim (λ i. omega (arith, a, i)) (λ i. omega (arith, a, b, i)) p
+
+    head-held : (v : ViewName) (s : ℕ) (x : End) → Current m v → viewAt m q v ≡ extent (local s) x → 0 < occurrences s (segments (r .line q))
+    head-held (queue t) s x c e = of-queue s (inl (first-has t s x c e))
+    head-held (children t) s x c e = of-queue s (inr (let w = chain-has (children t) s x tt c e in in-chains (children t) s (w .0) (w .1)))
+    head-held (user t) s x c e = of-queue s (inr (let w = chain-has (user t) s x tt c e in in-chains (user t) s (w .0) (w .1)))
+    head-held (right t) s x c e = of-queue s (inr (let w = chain-has (right t) s x tt c e in in-chains (right t) s (w .0) (w .1)))
+
+    tail-held : (v : ViewName) (z : ℕ) (x : End) → Current m v → viewAt m q v ≡ extent x (local z) → 0 < occurrences z (segments (r .line q))
+    tail-held v z x c e =
+        let k = tail-not-queue m xs r q small v x z e in
+        let p = full-stands m xs r q small v x (local z) k c e in
+        of-queue z (⊎-elim (λ o. opened-in p (o .1)) (λ i. inr (in-chains v z p (ends-in (p .chain) z i))) (tail-chain m xs r q small v x z k c e p))
+      where
+        opened-in : (p : Stands v S) → Open (M .children) (M .user) (M .right) (firstChain (r .line q)) (p .earlier) z
+            → (0 < occurrences z (firstChain (r .line q))) ⊎ (0 < occurrences z (chains S))
+        opened-in p (inl o) = inl (ends-in (firstChain (r .line q)) z (o .1))
+        opened-in p (inr o) =
+            inr
+            (subst (λ (l : List Slot). 0 < occurrences z (chains l))
+            (append-assoc (p .later) (slot v (p .chain) ∷ o .0) (slot (o .1) (o .2) ∷ o .3)
+            ∙ sym (p .here ∙ ap (λ (l : List Slot). p .later ++ slot v (p .chain) ∷ l) (o .4)))
+            (chain-in z (p .later ++ slot v (p .chain) ∷ o .0) (o .1) (o .2) (o .3) (ends-in (o .2) z (o .6))))
+
+  -- a segment is of one queue
+  one-queue : (q p s : ℕ) → q < 4 → p < 4 → 0 < occurrences s (segments (r .line q)) → 0 < occurrences s (segments (r .line p)) → q ≡ p
+  one-queue q p s i j a b =
+      ⊎-elim
+      (λ e. e)
+      (λ n.
+      let d = apart (opened m) (opened-single m) (storeIn m 0) (r .line) (parts-of m xs r .laids .pool) q p i j n s in
+      let z : ⊥ = omega (arith, a, b, d) in
+      absurd z)
+      (equal? q p)
+
+  -- RULE 6, AMENDED. "A consequence of invariants 4 and 5 is that any segment may be shared by at most two tasks, of which one
+  -- is a consumer and one is a producer, as a consumer requires access through the head pointer and a producer requires
+  -- access through the tail pointer." Two views with the same head are one view of one queue, and so are two views with the
+  -- same tail. So at most two tasks name a segment: the one through whose head it can be popped from, and the one through
+  -- whose tail it can be pushed into. But neither need be a consumer: a right view has the head of a list that no consumer
+  -- can reach yet.
+  pub rule-6-heads : (q p : ℕ) → q < 4 → p < 4 → (v w : ViewName) (s : ℕ) (x y : End) → Current m v → Current m w
+      → viewAt m q v ≡ extent (local s) x → viewAt m p w ≡ extent (local s) y → (q ≡ p) × (v ≡ w)
+  rule-6-heads q p i j v w s x y c d e f =
+      let k = one-queue q p s i j (head-held q i v s x c e) (head-held p j w s y d f) in
+      (k, same-heads q i v w s x y c d e (ap (λ (n : ℕ). viewAt m n w) k ∙ f))
+
+  pub rule-6-tails : (q p : ℕ) → q < 4 → p < 4 → (v w : ViewName) (s : ℕ) (x y : End) → Current m v → Current m w
+      → viewAt m q v ≡ extent x (local s) → viewAt m p w ≡ extent y (local s) → (q ≡ p) × (v ≡ w)
+  rule-6-tails q p i j v w s x y c d e f =
+      let k = one-queue q p s i j (tail-held q i v s x c e) (tail-held p j w s y d f) in
+      (k, same-tails q i v w s x y c d e (ap (λ (n : ℕ). viewAt m n w) k ∙ f))

@@ -23,10 +23,10 @@ use Rattle.represents.specs.Represents.{queueMemory, ofTasks, usesIn, Represent
 use Rattle.paper_rules.specs.Order.{ViewName, queue, children, user, right, placeIn, place}
 use Rattle.paper_rules.specs.Slots.{Slot, slot, slots, chains, chain-in, NoRight, Ends, ends-in}
 use Rattle.paper_rules.specs.Along.{Stands, slot-at, Falling, Above, falling-after}
-use Rattle.paper_rules.specs.Words.{headOnly, NotQueue, same-place, stands, line-falls}
+use Rattle.paper_rules.specs.Words.{LinkedList, headOnly, NotQueue, same-place, stands, line-falls}
 use Rattle.paper_rules.specs.Spans.{linked-same, CalmHere, full-stands, tail-chain, not-both}
 use Rattle.paper_rules.specs.Rules123.{queue-head, holds-right}
-use Rattle.paper_rules.specs.Rules79.{List-of, tail-not-queue}
+use Rattle.paper_rules.specs.Rules79.{tail-not-queue}
 
 -- The first chain of a line is linked.
 first-linked : (next : ℕ → Option ℕ) (contents : ℕ → List ℕ) (l : Line) → All (Chain next contents) l → Linked next (firstChain l)
@@ -44,7 +44,7 @@ module _ (m : List ℕ) (xs : List Item) (r : Represents m xs) (q : ℕ) (small 
   T = r .tour
 
   -- THE LIST FROM THE QUEUE HEAD ends before every right view of a task with a right to the queue.
-  module _ (t : ℕ) (w : ViewName) (l : List-of m xs r q small (queue t) w) where
+  module _ (t : ℕ) (w : ViewName) (l : LinkedList m q (queue t) w) where
     abbrev z : ℕ
     z = lastOf (l .start) (l .rest)
 
@@ -130,7 +130,7 @@ module _ (m : List ℕ) (xs : List Item) (r : Represents m xs) (q : ℕ) (small 
   -- right or both: a spawn hands the user view on with the queue view, so the tail may lie in the consumer's own user view,
   -- and the queue view stands before that. It holds of the user view of every task with a right to the queue: the first
   -- list ends before the first spot.
-  pub rule-8-amended : (t u : ℕ) (w : ViewName) → List-of m xs r q small (queue t) w → Unfinished (decode m) u → uses (rightsIn m u) q ≡ true → place m w ≤ place m (user u)
+  pub rule-8-amended : (t u : ℕ) (w : ViewName) → LinkedList m q (queue t) w → Unfinished (decode m) u → uses (rightsIn m u) q ≡ true → place m w ≤ place m (user u)
   unfolding placeIn usesIn
   rule-8-amended t u w l c b =
       let a = ends-early t w l u c (true-both (lt-ltb u 128 (c .0)) b) in
@@ -139,10 +139,10 @@ module _ (m : List ℕ) (xs : List Item) (r : Represents m xs) (q : ℕ) (small 
       omega (arith, a, d, e)
 
   -- of the consumer itself
-  pub rule-8-consumer : (t : ℕ) (w : ViewName) → List-of m xs r q small (queue t) w → place m w ≤ place m (user t)
+  pub rule-8-consumer : (t : ℕ) (w : ViewName) → LinkedList m q (queue t) w → place m w ≤ place m (user t)
   rule-8-consumer t w l = rule-8-amended t t w l (l .head-task) (holds-right m xs r q small t (l .head-task) (some-head l))
     where
-      some-head : List-of m xs r q small (queue t) w → (s : ℕ) × (headsIn m q t ≡ some s)
+      some-head : LinkedList m q (queue t) w → (s : ℕ) × (headsIn m q t ≡ some s)
       some-head l = go (headsIn m q t) refl (l .head-in)
         where
           go : (o : Option ℕ) → headsIn m q t ≡ o → headOnly o ≡ extent (local (l .start)) (l .tailEnd) → (s : ℕ) × (headsIn m q t ≡ some s)

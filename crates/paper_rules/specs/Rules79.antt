@@ -16,7 +16,7 @@ use Rattle.represents.specs.Represents.{Represents}
 use Rattle.paper_rules.specs.Order.{ViewName, queue, children, user, right, placeIn, place, Before}
 use Rattle.paper_rules.specs.Slots.{Slot, slot, slots}
 use Rattle.paper_rules.specs.Along.{Stands, slot-at, Falling, Below, Above, falling-before, falling-after}
-use Rattle.paper_rules.specs.Words.{headOnly, viewAt, NotQueue, Current, viewHere, same-place, same-view, stands, empty-or-stands, line-falls}
+use Rattle.paper_rules.specs.Words.{LinkedList, headOnly, viewAt, NotQueue, Current, viewHere, same-place, same-view, stands, empty-or-stands, line-falls}
 use Rattle.paper_rules.specs.Spans.{CalmHere, Between, span}
 
 module _ (m : List ℕ) (xs : List Item) (r : Represents m xs) (q : ℕ) (small : q < 4) where
@@ -33,18 +33,6 @@ module _ (m : List ℕ) (xs : List Item) (r : Represents m xs) (q : ℕ) (small 
   by-tour : (v w : ViewName) → Before m v w → placeIn T v < placeIn T w
   by-tour v w l = let a = same-place m xs r v in let b = same-place m xs r w in omega (arith, a, b, l)
 
-  -- A LINKED LIST: the segments s ∷ d, s the head of view v and the last of them the tail of view w, both of unfinished tasks.
-  pub record List-of (v w : ViewName) : Type 0 where
-    pub start : ℕ
-    pub rest : List ℕ
-    pub linked : LinkedFrom (nextIn m) start rest
-    pub headEnd : End
-    pub tailEnd : End
-    pub head-in : viewAt m q v ≡ extent (local start) tailEnd
-    pub tail-in : viewAt m q w ≡ extent headEnd (local (lastOf start rest))
-    pub head-task : Current m v
-    pub tail-task : Current m w
-
   -- a queue view has no local tail
   no-queue-tail : (t : ℕ) (x : End) (z : ℕ) → viewAt m q (queue t) ≡ extent x (local z) → ⊥
   no-queue-tail t x z = go (headsIn m q t)
@@ -59,7 +47,7 @@ module _ (m : List ℕ) (xs : List Item) (r : Represents m xs) (q : ℕ) (small 
   tail-not-queue (user t) x z e = tt
   tail-not-queue (right t) x z e = tt
 
-  spans : (v w : ViewName) → NotQueue v → List-of v w → (v ≡ w) ⊎ Between m xs r q small v w
+  spans : (v w : ViewName) → NotQueue v → LinkedList m q v w → (v ≡ w) ⊎ Between m xs r q small v w
   spans v w k l =
       span m xs r q small v w (l .start) (l .rest) (l .headEnd) (l .tailEnd) k (tail-not-queue w (l .headEnd) (lastOf (l .start) (l .rest)) (l .tail-in)) (l .head-task)
       (l .tail-task) (l .head-in) (l .linked) (l .tail-in)
@@ -68,7 +56,7 @@ module _ (m : List ℕ) (xs : List Item) (r : Represents m xs) (q : ℕ) (small 
   -- view T2.v2, then T1.v1 < T2.v2 provided that v1 is not a queue view." Head and tail may also be those of one view: once
   -- the younger sibling that pushed has finished, the right view of the older one has both. Else v1 stands before v2: a list
   -- begins at the right view of a task, and its tail comes to lie only in views that follow.
-  pub rule-7-amended : (v w : ViewName) → NotQueue v → List-of v w → (v ≡ w) ⊎ Before m v w
+  pub rule-7-amended : (v w : ViewName) → NotQueue v → LinkedList m q v w → (v ≡ w) ⊎ Before m v w
   rule-7-amended v w k l = ⊎-elim (λ e. inl e) (λ b. inr (by-words v w (follows b))) (spans v w k l)
     where
       follows : (b : Between m xs r q small v w) → placeIn T v < placeIn T w
@@ -123,7 +111,7 @@ module _ (m : List ℕ) (xs : List Item) (r : Represents m xs) (q : ℕ) (small 
   -- RULE 9. "For views T1.v1 and T2.v2 as in invariant 7, if v1 is not a queue view, then for any non-queue view v held by any
   -- task T, if T1.v1 < T.v < T2.v2, then v is a non-local view or ε." Between the head and the tail of a list every view
   -- that is not empty passes the pair of non-local ends on.
-  pub rule-9 : (v w u : ViewName) → NotQueue v → List-of v w → NotQueue u → Current m u → Before m v u → Before m u w
+  pub rule-9 : (v w u : ViewName) → NotQueue v → LinkedList m q v w → NotQueue u → Current m u → Before m v u → Before m u w
       → (viewAt m q u ≡ vacant) ⊎ (viewAt m q u ≡ extent nonlocal nonlocal)
   rule-9 v w u k l ku cu i j =
       ⊎-elim (λ e. inl e) (λ p. ⊎-elim (λ e. let a = ap (place m) e in let z : ⊥ = omega (arith, a, i, j) in absurd z) (λ b. found b p) (spans v w k l))

@@ -14,13 +14,14 @@ use Rattle.rules.specs.Contents.{decode}
 use Rattle.rules.specs.Rules.{Unfinished}
 use Rattle.rules_tasks.specs.Holders.{met-count}
 use Rattle.order.specs.Steps.{Item, numberOf}
-use Rattle.gaps.specs.Line.{nonlocal, local, Extent, vacant, extent, firstChain}
-use Rattle.gaps.specs.Store.{Memory}
+use Rattle.gaps.specs.Line.{End, nonlocal, local, Extent, vacant, extent, firstChain}
+use Rattle.gaps.specs.Maps.{lastOf}
+use Rattle.gaps.specs.Store.{LinkedFrom, Memory}
 use Rattle.gaps.specs.Names.{count-parts}
 use Rattle.gaps.specs.Splits.{small-mets}
 use Rattle.links.specs.Linked.{unfinished-spot, says-back, tour-is}
 use Rattle.links.specs.Marks.{mark-once, mark-left}
-use Rattle.meaning.specs.Meaning.{headsIn, viewIn}
+use Rattle.meaning.specs.Meaning.{nextIn, headsIn, viewIn}
 use Rattle.represents.specs.Represents.{queueMemory, ofTasks, usesIn, Represents}
 use Rattle.represents.specs.Parts.{parts-of}
 use Rattle.represents.specs.Views.{met-in, left-in, unfinished-alive, uses-small}
@@ -58,6 +59,19 @@ NotQueue (right t) = Unit {0}
 -- a view of an unfinished task
 abbrev pub Current : List ℕ → ViewName → Type 0
 Current m v = Unfinished (decode m) (taskOf v)
+
+-- A LINKED LIST of segments of queue q, from start on: its first segment is the head of view v and its last one the tail of
+-- view w, both of unfinished tasks.
+pub record LinkedList (m : List ℕ) (q : ℕ) (v w : ViewName) : Type 0 where
+  pub start : ℕ
+  pub rest : List ℕ
+  pub linked : LinkedFrom (nextIn m) start rest
+  pub headEnd : End
+  pub tailEnd : End
+  pub head-in : viewAt m q v ≡ extent (local start) tailEnd
+  pub tail-in : viewAt m q w ≡ extent headEnd (local (lastOf start rest))
+  pub head-task : Current m v
+  pub tail-task : Current m w
 
 module _ (m : List ℕ) (xs : List Item) (r : Represents m xs) where
   -- the tour of the words is that of the invariant
