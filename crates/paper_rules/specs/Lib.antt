@@ -9,3 +9,4 @@ pub mod Rule8
 pub mod Rules456
 pub mod Tails
 pub mod Rule6
+pub mod Counterexamples
