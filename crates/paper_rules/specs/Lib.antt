@@ -10,3 +10,4 @@ pub mod Rules456
 pub mod Tails
 pub mod Rule6
 pub mod Counterexamples
+pub mod OrderLaws

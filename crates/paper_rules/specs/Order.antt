@@ -1,5 +1,5 @@
 -- THE PAPER'S ORDER OF VIEWS (section 4.4), for one queue: a total order that reflects program order. Views are numbered
--- along the tour of the task tree; Laws (i), (ii) and (iii) of the paper are proved of the numbers in OrderLaws.antt.
+-- along the tour of the task tree; the paper's laws (i), (ii) and (iii) are proved of these numbers in OrderLaws.antt.
 use mathlib.Core.Path.{_≡_, refl}
 use mathlib.Core.List.{List, [], _∷_, _++_}
 use mathlib.Core.Logic.{⊎-elim}
@@ -37,7 +37,7 @@ placeIn T (right t) = 2 * behind t T + 1
 unfoldable pub place : List ℕ → ViewName → ℕ
 place m v = placeIn (tour MARKS (recordOf m) 0) v
 
--- "v < w" of the paper, and "v < w or v = w"
+-- "v < w" of the paper
 abbrev pub Before : List ℕ → ViewName → ViewName → Type 0
 Before m v w = place m v < place m w
 
