@@ -1,4 +1,4 @@
--- RULES 4, 5 AND 6 of the paper's section 4.4, of all memory that represents program order: who names a segment. A segment
+-- RULES 4 AND 5 of the paper's section 4.4, of all memory that represents program order: who names a segment. A segment
 -- is held where it is not on the stack of free ones; heads and tails are those of all views of all unfinished tasks.
 use mathlib.Core.Path.{_≡_, sym}
 use mathlib.Core.List.{List}
@@ -47,12 +47,16 @@ module _ (m : List ℕ) (xs : List Item) (r : Represents m xs) where
 
   -- RULE 5. "Every segment stored in a hyperqueue is pointed to by at most one view's tail pointer. Every segment stored in a
   -- hyperqueue is pointed to by exactly one view's tail pointer if and only if the segment's next-segment pointer is null."
-  -- A segment gets a next only where its tail is the one that a reduction drops.
+  -- A segment gets a next only where a push moves the tail on to a new segment, or where a reduction drops the tail.
   pub rule-5 : (s : ℕ) → Held c s → (occurrences s allTails ≤ 1) × ((part c s 2 ≡ NONE) ↔ (occurrences s allTails ≡ 1))
-  rule-5 s h = (⊎-elim (λ e. let a = segment-rules .ended s h e in omega (arith, a)) (λ n. let a = segment-rules .inner s h n in omega (arith, a)) next?, (λ e. segment-rules .ended s h e, back))
+  rule-5 s h = (at-most, ((λ e. segment-rules .ended s h e), back))
     where
       next? : (part c s 2 ≡ NONE) ⊎ (part c s 2 ≡ NONE → ⊥)
       next? = equal? (part c s 2) NONE
 
       back : occurrences s allTails ≡ 1 → part c s 2 ≡ NONE
       back o = ⊎-elim (λ e. e) (λ n. let a = segment-rules .inner s h n in let z : ⊥ = omega (arith, a, o) in absurd z) next?
+
+      at-most : occurrences s allTails ≤ 1
+      at-most =
+          ⊎-elim (λ e. let a = segment-rules .ended s h e in omega (arith, a)) (λ n. let a = segment-rules .inner s h n in omega (arith, a)) next?
