@@ -1,6 +1,6 @@
 -- RULES 6, 7 AND 8 AS WRITTEN ARE FALSE: for each a short list of calls, and what the words are after it, by computation.
 use mathlib.Core.Path.{_≡_, refl, ap, ap₂, sym, _∙_}
-use mathlib.Core.Bool.{Bool, true, false, false≢true}
+use mathlib.Core.Bool.{true, false, false≢true}
 use mathlib.Core.Option.{Option, none, some}
 use mathlib.Core.List.{List, [], _∷_}
 use Prim.Native.Nat.{ℕ, _<_}
@@ -18,11 +18,11 @@ use Rattle.cases.specs.Rows.{Case, row}
 use Rattle.calls.specs.Views.{viewOf, isEmpty}
 use Rattle.calls.specs.Waits.{rightsOf}
 use Rattle.calls.specs.Table.{lent, tried, isSome, computed, computes}
-use Rattle.gaps.specs.Line.{End, nonlocal, local, Extent, extent}
+use Rattle.gaps.specs.Line.{End, nonlocal, local, extent}
 use Rattle.links.specs.Linked.{word-is}
-use Rattle.meaning.specs.Meaning.{optional, endOf, extentOf, nextIn, headsIn, viewIn}
+use Rattle.meaning.specs.Meaning.{optional, endOf, extentOf, viewIn}
 use Rattle.meaning.specs.Reads.{next-at, head-at, view-at}
-use Rattle.paper_rules.specs.Order.{ViewName, queue, children, user, right, behind, placeIn, place, Before}
+use Rattle.paper_rules.specs.Order.{ViewName, queue, user, right, behind, placeIn, place, Before}
 use Rattle.paper_rules.specs.Words.{viewAt, headOnly, taskOf, NotQueue, Current, LinkedList}
 
 -- THE RULES AS WRITTEN, of queue q in the words m

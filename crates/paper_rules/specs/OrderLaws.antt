@@ -3,19 +3,18 @@
 use mathlib.Core.Path.{_≡_, refl, ap, sym, _∙_, subst}
 use mathlib.Core.Bool.{true}
 use mathlib.Core.List.{List, [], _∷_, _++_}
-use mathlib.Core.Logic.{inl, inr, ⊎-elim}
-use Prim.Native.Nat.{ℕ, zero, suc, _+_, _-_, _*_, _<_, _≤_}
+use mathlib.Core.Logic.{inr, ⊎-elim}
+use Prim.Native.Nat.{ℕ, zero, suc, _+_, _<_, _≤_}
 use native.Mathlib.Nat.{eq-zero-or-pos}
 use native.Mathlib.Omega.{arith}
-use lib.ListN.{length}
 use Rattle.words.specs.Words.{load}
 use Rattle.lists.specs.Counting.{occurrences, occurs-nil, occurs-past, equal?}
-use Rattle.layout.specs.Layout.{PARENT, OLDER, task, read, recordOf}
+use Rattle.layout.specs.Layout.{PARENT, OLDER, recordOf}
 use Rattle.tree.specs.Tour.{after}
 use Rattle.rules.specs.Contents.{Contents, decode, word}
-use Rattle.rules.specs.Rules.{Unfinished, Holder}
+use Rattle.rules.specs.Rules.{Unfinished}
 use Rattle.rules.specs.Test.{treeTest}
-use Rattle.rules_tasks.specs.Marks.{tree-rest, tree-none, after-younger}
+use Rattle.rules_tasks.specs.Marks.{tree-rest, after-younger}
 use Rattle.rules_tasks.specs.Tested.{Idle, idle-says}
 use Rattle.rules_tasks.specs.Tours.{tree-same}
 use Rattle.rules_tasks.specs.Reached.{reached-tree}
@@ -31,7 +30,7 @@ use Rattle.links.specs.Siblings.{On, here}
 use Rattle.links.specs.Siblings.On.{behind as further}
 use Rattle.links.specs.Family.{older-on, child-link}
 use Rattle.represents.specs.Represents.{Represents}
-use Rattle.paper_rules.specs.Order.{ViewName, queue, children, user, right, behind, behind-at, placeIn, place, Before}
+use Rattle.paper_rules.specs.Order.{queue, children, user, right, behind, behind-at, placeIn, place, Before}
 use Rattle.paper_rules.specs.Words.{same-place, task-met}
 
 -- a list parts at each number that stands in it

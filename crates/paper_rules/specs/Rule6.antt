@@ -18,7 +18,7 @@ use Rattle.represents.specs.Parts.{parts-of, opened-single}
 use Rattle.represents.specs.Laids.{apart}
 use Rattle.gaps.specs.Names.{count-parts}
 use Rattle.paper_rules.specs.Order.{ViewName, queue, children, user, right, placeIn}
-use Rattle.paper_rules.specs.Slots.{Slot, slot, slots, chains, chain-in, chains-later, Ends, ends-in, Open}
+use Rattle.paper_rules.specs.Slots.{Slot, slot, slots, chains, chain-in, chains-later, ends-in, Open}
 use Rattle.paper_rules.specs.Along.{Stands, slot-at, Falling, Below, Above, falling-before, falling-after}
 use Rattle.paper_rules.specs.Tails.{NoTail, EachOnly, each-only, only-at}
 use Rattle.paper_rules.specs.Words.{headOnly, viewAt, NotQueue, Current, viewHere, same-view, line-falls, segments-once}

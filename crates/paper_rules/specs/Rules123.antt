@@ -30,7 +30,7 @@ use Rattle.represents.specs.Represents.{Represents}
 use Rattle.represents_rules.specs.Heads.{holder, holder-busy, holder-uses, firstSegment, first-is, first-opened}
 use Rattle.represents_rules.specs.Segments.{opened-once, held, pool-total}
 use Rattle.represents_rules.specs.Free.{free-count}
-use Rattle.paper_rules.specs.Order.{queue, user, right}
+use Rattle.paper_rules.specs.Order.{queue, user}
 use Rattle.paper_rules.specs.Slots.{slots, each-user}
 use Rattle.paper_rules.specs.Along.{Stands, slot-at}
 use Rattle.paper_rules.specs.Words.{viewAt, headOnly, same-head, same-view, empty-or-stands}

@@ -10,13 +10,12 @@ use native.Mathlib.Omega.{arith}
 use Rattle.order.specs.Steps.{Item}
 use Rattle.gaps.specs.Maps.{All, lastOf, all-append}
 use Rattle.gaps.specs.Line.{End, nonlocal, local, vacant, extent}
-use Rattle.gaps.specs.Store.{LinkedFrom}
-use Rattle.meaning.specs.Meaning.{headsIn, nextIn}
+use Rattle.meaning.specs.Meaning.{headsIn}
 use Rattle.represents.specs.Represents.{Represents}
 use Rattle.paper_rules.specs.Order.{ViewName, queue, children, user, right, placeIn, place, Before}
 use Rattle.paper_rules.specs.Slots.{Slot, slot, slots}
 use Rattle.paper_rules.specs.Along.{Stands, slot-at, Falling, Below, Above, falling-before, falling-after}
-use Rattle.paper_rules.specs.Words.{LinkedList, headOnly, viewAt, NotQueue, Current, viewHere, same-place, same-view, stands, empty-or-stands, line-falls}
+use Rattle.paper_rules.specs.Words.{LinkedList, headOnly, viewAt, NotQueue, Current, viewHere, same-place, same-view, empty-or-stands, line-falls}
 use Rattle.paper_rules.specs.Spans.{CalmHere, Between, span}
 
 module _ (m : List ℕ) (xs : List Item) (r : Represents m xs) (q : ℕ) (small : q < 4) where
