@@ -90,11 +90,14 @@ module _ (T : List ℕ) where
     below-line a (base c ∷ l) i = below-line a l i
     below-line a (left t ∷ l) i =
         let b = behind-mark a (128 + t) (marks l) i in
-        (omega (arith, b), below-more (2 * length (marks l)) (2 * length (marks (left t ∷ l))) (slots l) (omega arith) (below-line (a ++ (128 + t) ∷ []) l (next-part a (128 + t) (marks l) i)))
-    below-line a (met t c ∷ l) i =
-        let b = behind-mark a t (marks l) i in (
+        let j = next-part a (128 + t) (marks l) i in (
           omega (arith, b),
-          (omega (arith, b), below-more (2 * length (marks l)) (2 * length (marks (met t c ∷ l))) (slots l) (omega arith) (below-line (a ++ t ∷ []) l (next-part a t (marks l) i))),
+          below-more (2 * length (marks l)) (2 * length (marks (left t ∷ l))) (slots l) (omega arith) (below-line (a ++ (128 + t) ∷ []) l j),
+        )
+    below-line a (met t c ∷ l) i =
+        let b = behind-mark a t (marks l) i in let j = next-part a t (marks l) i in (
+          omega (arith, b),
+          (omega (arith, b), below-more (2 * length (marks l)) (2 * length (marks (met t c ∷ l))) (slots l) (omega arith) (below-line (a ++ t ∷ []) l j)),
         )
     below-line a (pass x ∷ l) i =
         below-more (2 * length (marks l)) (2 * length (marks (pass x ∷ l))) (slots l) (omega arith) (below-line (a ++ x ∷ []) l (next-part a x (marks l) i))

@@ -101,8 +101,15 @@ module _ (m : List ℕ) (xs : List Item) (r : Represents m xs) where
             let k = tree-same c (suc (behind o T)) j o (mark-tree o (task-met m xs r o v)) (ap (treeTest c j) (sym h) ∙ g) in
             omega (arith, i, k)
           where
+            l : o < 128
+            l = v .0
+
             top-none : 128 + t ≡ 128 → ⊥
-            top-none z = let a : t ≡ 0 = omega (arith, z) in let b = ap (λ (x : ℕ). word c x OLDER) a in let d = rules m T xs (r .linked) .top-alone .1 .0 in let l = v .0 in omega (arith, b, d, e, l)
+            top-none z =
+                let a : t ≡ 0 = omega (arith, z) in
+                let b = ap (λ (x : ℕ). word c x OLDER) a in
+                let d = rules m T xs (r .linked) .top-alone .1 .0 in
+                omega (arith, b, d, e, l)
 
     -- met after it is left, in program order
     pub left-met : behind (128 + t) T < behind t T

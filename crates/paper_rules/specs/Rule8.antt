@@ -80,9 +80,14 @@ module _ (m : List ℕ) (xs : List Item) (r : Represents m xs) (q : ℕ) (small 
     quiet-first =
         ⊎-elim
         (λ p. (p .0, ⊎-elim (λ o. o .0) (λ o. absurd (not-later (later-has o))) (p .1)))
-        (λ e. absurd (not-later (subst (λ (k : List Slot). 0 < occurrences z (chains k)) (sym (at-w .here)) (chain-in z (at-w .later) w (at-w .chain) (at-w .earlier) (ends-in (at-w .chain) z e)))))
+        (λ e. absurd (not-later (own-has e)))
         (tail-chain m xs r q small w (l .headEnd) z not-queue (l .tail-task) (l .tail-in) at-w)
       where
+        own-has : Ends (at-w .chain) z → 0 < occurrences z (chains S)
+        own-has e =
+            subst (λ (k : List Slot). 0 < occurrences z (chains k)) (sym (at-w .here))
+            (chain-in z (at-w .later) w (at-w .chain) (at-w .earlier) (ends-in (at-w .chain) z e))
+
         later-has : (b : List Slot) × (n : ViewName) × (c : List ℕ) × (f : List Slot) × (at-w .earlier ≡ b ++ slot n c ∷ f) × All (CalmHere m xs r q small) b × Ends c z
             → 0 < occurrences z (chains S)
         later-has o =

@@ -24,7 +24,10 @@ module _ (childrenOf userOf rightOf : ℕ → Extent) where
   no-tail : (z : ℕ) (first : List ℕ) (S : List Slot) → EachTail childrenOf userOf rightOf first S → occurrences z first ≡ 0 → occurrences z (chains S) ≡ 0
       → All (NoTail z) S
   no-tail z first [] h f n = tt
-  no-tail z first (slot v c ∷ e) h f n = (λ y i. ⊎-elim (λ o. unended (o .1)) (λ k. let a = ends-in c z k in let p = parts in omega (arith, a, p, n)) (h .0 y z i), no-tail z first e (h .1) f (let p = parts in omega (arith, p, n)))
+  no-tail z first (slot v c ∷ e) h f n = (
+    λ y i. ⊎-elim (λ o. unended (o .1)) (λ k. let a = ends-in c z k in let p = parts in omega (arith, a, p, n)) (h .0 y z i),
+    no-tail z first e (h .1) f (let p = parts in omega (arith, p, n)),
+  )
     where
       parts : occurrences z (chains (slot v c ∷ e)) ≡ occurrences z c + occurrences z (chains e)
       parts = occurs-append z c (chains e)
