@@ -10,4 +10,5 @@ pub mod Rules45
 pub mod Rules79
 pub mod Rule6
 pub mod Rule8
+pub mod Finished
 pub mod Counterexamples
