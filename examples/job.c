@@ -1,0 +1,39 @@
+/* A written job, tested and run without overlap: the top pushes 7 and 9, and a
+ * child takes the first of them. */
+#include "hyperqueue.h"
+
+#include <stdio.h>
+
+/* Two procedures, segments of 4 values. */
+static const uint8_t job[] = {
+    2, 0, 4, 0,
+    /* contents: where a body begins, its instructions, rights, zero */
+    16, 0, 4, 0, 255, 0, /* the top: all rights */
+    40, 0, 2, 0, 2, 0,   /* the child: may pop from queue 0 */
+    /* the top: push 7, push 9, spawn procedure 1, return */
+    1, 0, 7, 0, 0, 0, 1, 0, 9, 0, 0, 0, 8, 1, 0, 0, 0, 0, 0, 0, 0, 0, 0, 0,
+    /* the child: pop, return */
+    3, 0, 0, 0, 0, 0, 0, 0, 0, 0, 0, 0};
+
+static uint32_t working[HQ_WORKING_WORDS];
+static uint32_t answers[HQ_ANSWER_WORDS];
+
+int main(void) {
+    static const char *const words[] = {"spawned", "pushed", "took", "moved",
+                                        "finished", "empty", "not"};
+    uint64_t run;
+    uint32_t step, index;
+
+    printf("test: %u, of 3 bytes: %u\n", HQ_STATUS(hq_job_test(job, sizeof job)),
+           HQ_STATUS(hq_job_test(job, 3)));
+    run = hq_run_serially(job, sizeof job, working, HQ_WORKING_WORDS, answers,
+                          HQ_ANSWER_WORDS);
+    printf("status %u after %u steps\n", HQ_STATUS(run), HQ_VALUE(run));
+    for (step = 0; step < HQ_VALUE(run); step++) {
+        const uint32_t *answer = answers + 3 * step;
+        printf("task %u %s %u\n", answer[0], words[answer[1]], answer[2]);
+    }
+    for (index = 0; index < HQ_QUEUED(working, 0); index++)
+        printf("left in queue 0: %u\n", HQ_QUEUED_VALUE(working, 0, index));
+    return 0;
+}
