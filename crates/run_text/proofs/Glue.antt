@@ -1,13 +1,12 @@
 -- Answers and values as text, by their numbers.
 use mathlib.Core.Path.{_≡_, refl, ap, sym, _∙_}
-use mathlib.Core.Bool.{true, false}
-use mathlib.Core.List.{List, [], _∷_, _++_}
+use mathlib.Core.List.{List}
 use Prim.Native.Nat.{ℕ, _+_, _^_, _<_, _≤_}
 use native.Mathlib.Omega.{arith}
 use lib.Dec.{ltb, leb}
 use lib.ListN.{length, getD, List·getD-eq-default}
 use borrow.Author.Tests.{lt-ltb, le-ltb, le-leb, lt-leb}
-use Rattle.words.specs.Words.{pick, either, halt, pass}
+use Rattle.words.specs.Words.{either, halt, pass}
 use Rattle.text.specs.Text.{ascii, decimal}
 use Rattle.text.specs.Puts.{Puts, puts-then, puts-first}
 use Rattle.run_text.specs.Few.{number-ends}

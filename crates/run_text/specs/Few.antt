@@ -20,7 +20,7 @@ answer-few (suc (suc (suc (suc (suc (suc zero)))))) = omega arith
 answer-few (suc (suc (suc (suc (suc (suc (suc zero))))))) = omega arith
 answer-few (suc (suc (suc (suc (suc (suc (suc (suc k)))))))) = omega arith
 
--- the position behind a text of at most b bytes, and one byte behind that
+-- the position behind a text of at most b bytes
 pub behind : {m ws m1 : List ℕ} {a r : ℕ} (b : ℕ) → length ws ≤ b → Puts m a ws m1 r → r ≤ a + b
 behind b h p = let e = p .end in omega (arith, e, h)
 

@@ -1,5 +1,5 @@
 -- Bytes read into a part of the lent bytes.
-use mathlib.Core.Path.{_≡_, refl, sym, _∙_}
+use mathlib.Core.Path.{_≡_, sym, _∙_}
 use mathlib.Core.List.{List}
 use Prim.Native.Nat.{ℕ, _+_, _-_, _≤_}
 use native.Mathlib.Omega.{arith}
@@ -9,7 +9,7 @@ use borrow.Rule.Slice.PartMut.{putMid, midOf, mid-len, same-len-mid}
 use Rattle.io.specs.Counts.{Counts}
 use Rattle.serial_program.specs.Inside.{Inside}
 use Rattle.serial_program.specs.declared.Bytes.{Bytes}
-use Rattle.serial_program.specs.declared.Bytes.the-variants.{Read, Unread}
+use Rattle.serial_program.specs.declared.Bytes.the-variants.{Read}
 
 pub counts : (n : ℕ) (xs : List ℕ) → n ≤ length xs → Counts n xs
 counts n xs h = (h, sym (length-take-le n xs h))

@@ -1,5 +1,5 @@
 -- A file that is longer than the largest job is no job, and its first 49,541 bytes tell with which number it is refused.
-use mathlib.Core.Path.{_≡_, refl, ap, ap₂, sym, _∙_}
+use mathlib.Core.Path.{_≡_, refl, ap, sym, _∙_}
 use mathlib.Core.Bool.{Bool, true, false, not}
 use mathlib.Core.List.{List}
 use Prim.Native.Nat.{ℕ, zero, suc, _+_, _*_, _<_, _≤_}
@@ -11,7 +11,7 @@ use borrow.Author.Tests.{le-leb, leb-true, eqb-true}
 use Rattle.words.specs.Words.{load, size, pick, both, both-true, both-on, both-off, both-right-on, halt, pass}
 use Rattle.answers.specs.declared.Answer.the-variants.{Refused}
 use Rattle.job.specs.Fields.{bytes2, procedures, segmentLength, entryAt, count}
-use Rattle.job.specs.Test.{between, headHolds, refusal10, entryHolds, entriesHold, contentsHold, refusal11, jobAnswer}
+use Rattle.job.specs.Test.{between, headHolds, refusal10, entriesHold, contentsHold, refusal11, jobAnswer}
 use Rattle.job.specs.Accepted.{entry-says}
 
 -- n and L in range

@@ -1,7 +1,5 @@
 -- The text of document 01's job without overlap, established by computation.
 use mathlib.Core.Path.{_≡_, refl}
-use mathlib.Core.List.{List, [], _∷_}
-use Prim.Native.Nat.{ℕ}
 use Rattle.words.specs.Words.{load, pick, both, either, size}
 use Rattle.words.specs.Blocks.{storeAll}
 use Rattle.lists.specs.Tests.{upto}

@@ -1,5 +1,4 @@
 -- The digits of a number, put one behind the other.
-use mathlib.Core.Path.{ap, sym}
 use mathlib.Core.List.{List, [], _∷_}
 use Prim.Native.Nat.{ℕ, _+_, _/_, _%_, _^_, _<_, _≤_}
 use native.Mathlib.Omega.{arith}

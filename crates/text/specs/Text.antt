@@ -20,7 +20,7 @@ digits (suc f) n = let front = digits f (n / 10) in pick (ltb n 10) ((48 + n) �
 unfoldable pub decimal : ℕ → List ℕ
 decimal n = digits (suc n) n
 
--- a number from which the digits of 0 and of the largest word can be read off
+-- the least word, one with a 0 inside, and the greatest
 pub record Cases : Type 0 where
   pub least : decimal 0 ≡ ascii "0"
   pub inner : decimal 1203 ≡ ascii "1203"
