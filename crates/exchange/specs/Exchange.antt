@@ -10,12 +10,6 @@ use Rattle.exchange.specs.Line.{Item, value, spot, Search, free, seeking
 use Rattle.exchange.specs.Rights.{Passes, passes-all, put-under, looks-alone, Tasks}
 
 module _ {S : Type 0} (T : Tasks S) where
-  abbrev Line : Type 0
-  Line = List (Item S)
-
-  abbrev pub Past : Search → Item S → Type 0
-  Past = Passes (T .Pushes) (T .Pops)
-
   -- A move of some task, found by a search along the line.
   pub data Walk : Search → List (Item S) → List (Item S) → Type 0 where
     here : {m : Search} {s : S} {l : List (Item S)} (xs : List (Item S)) → Acts m (T .next s) xs → Walk m (spot s ∷ l) (xs ++ l)

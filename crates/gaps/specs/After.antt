@@ -5,9 +5,9 @@ use mathlib.Core.List.{List, [], _∷_, _++_}
 use Prim.Native.Nat.{ℕ}
 use Rattle.order_queue.specs.Points.{Point}
 use Rattle.gaps.specs.Maps.{All}
-use Rattle.gaps.specs.Line.{Mark, base, left, met, pass, Line, marks, mets, Fits}
+use Rattle.gaps.specs.Line.{Mark, base, left, met, pass, Line, marks, Fits}
 use Rattle.gaps.specs.Store.{Store, Closed, Memory, Laid, timeline}
-use Rattle.gaps.specs.Outline.{outline, same-marks, same-mets, same-fits}
+use Rattle.gaps.specs.Outline.{outline, same-marks, same-fits}
 use Rattle.gaps.specs.Stores.{Kept}
 
 -- the last mark of a line that is rewritten from some mark on
@@ -29,9 +29,6 @@ pub record After (own : ℕ → ℕ) (st : Store) (m : Memory) (holder : ℕ) (l
 module _ {own : ℕ → ℕ} {st : Store} {m : Memory} {holder : ℕ} {l : Line} {ps : List Point} (r : After own st m holder l ps) where
   pub after-marks : marks (r .line) ≡ marks l
   after-marks = same-marks (r .line) l (r .outlined)
-
-  pub after-mets : mets (r .line) ≡ mets l
-  after-mets = same-mets (r .line) l (r .outlined)
 
   pub after-fits : (uses : ℕ → Bool) → All (Fits uses) l → All (Fits uses) (r .line)
   after-fits uses h = same-fits (r .line) l (r .outlined) uses h

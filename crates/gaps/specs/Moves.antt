@@ -87,10 +87,6 @@ spawned t c m = record {
   store = m .store;
 }
 
--- the three views of t are x, y and z
-unfoldable pub viewsSet : ℕ → Extent → Extent → Extent → Memory → Memory
-viewsSet t x y z m = record { children = put (m .children) t x; user = put (m .user) t y; right = put (m .right) t z; store = m .store }
-
 -- the queue view goes from t to c, in a spawn or a finish
 abbrev pub headMoved : ℕ → ℕ → (ℕ → Option ℕ) → ℕ → Option ℕ
 headMoved t c heads = put (put heads c (heads t)) t none

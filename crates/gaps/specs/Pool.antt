@@ -78,12 +78,6 @@ module _ (own : ℕ → ℕ) (single : (x : ℕ) → own x ≤ 1) (st : Store) (
   sum : (x : ℕ) → occurrences x (allSegments a) + (occurrences x (segments l) + occurrences x (allSegments b)) + occurrences x (st .free) ≡ own x
   sum x = omega (arith, h .total x, count-all x a (l ∷ b), occurs-append x (segments l) (allSegments b))
 
-  pub mine-single : (x : ℕ) → mine st l x ≤ 1
-  mine-single x = omega (arith, sum x, single x)
-
-  pub my-segments : Segments (mine st l) (st .next) (st .contents) (st .free) l
-  my-segments = record { good = all-behind (ChainsIn st) a (l ∷ b) (h .chains) .0; once = λ x. refl }
-
   not-mine : (c : List ℕ) → ((x : ℕ) → occurrences x c ≤ occurrences x (allSegments a) + occurrences x (allSegments b)) → All (λ x. mine st l x ≡ 0) c
   unfolding occurrences
   not-mine c k = go c (λ x p. omega (arith, sum x, single x, k x, p))

@@ -1,5 +1,5 @@
 -- What writes no link and no free task record keeps the tree.
-use mathlib.Core.Path.{_≡_, refl, ap, ap₂, sym, _∙_, subst}
+use mathlib.Core.Path.{_≡_, ap, ap₂, sym, _∙_, subst}
 use mathlib.Core.List.{List, [], _∷_}
 use mathlib.Core.Logic.{_⊎_, inl, inr, ⊎-elim}
 use Prim.Native.Nat.{ℕ, _*_, _-_, _<_, _≤_}
@@ -25,18 +25,6 @@ pub record SameLinks (m n : List ℕ) : Type 0 where
   pub words : (t k : ℕ) → t < 128 → k < 6 → read n (task t k) ≡ read m (task t k)
   pub height : read n freeTasks ≡ read m freeTasks
   pub stack : (i : ℕ) → i < 128 → read n (freeTask i) ≡ read m (freeTask i)
-
-pub same-refl : (m : List ℕ) → size m ≡ WORDS → SameLinks m m
-same-refl m s = record { sized = s; words = λ t k a b. refl; height = refl; stack = λ i l. refl }
-
-pub same-trans : {l m n : List ℕ} → SameLinks l m → SameLinks m n → SameLinks l n
-same-trans a b =
-    record {
-      sized = b .sized;
-      words = λ t k x y. b .words t k x y ∙ a .words t k x y;
-      height = b .height ∙ a .height;
-      stack = λ i x. b .stack i x ∙ a .stack i x;
-    }
 
 module _ (m n : List ℕ) (w : SameLinks m n) where
   abbrev c : Contents

@@ -17,7 +17,7 @@ use Rattle.rules.specs.Test.{topTest, idleTest}
 use Rattle.rules_tasks.specs.Marks.{Kin}
 use Rattle.rules_tasks.specs.Tested.{Top, Idle, top-says, says-top, idle-says, says-idle}
 use Rattle.order.specs.Steps.{Item}
-use Rattle.links.specs.Row.{Leads, childless, child, oldest, older, Row, Each, row-keep, row-front, row-behind}
+use Rattle.links.specs.Row.{Leads, childless, child, oldest, older, Row, Each, row-keep, row-front}
 use Rattle.links.specs.Linked.{Linked, word-is, rules}
 use Rattle.links.specs.Idle.{idle-height, idle-last, same-stack}
 use Rattle.links.specs.Marks.{mark-once, free-unmarked, unfinished-met, unfinished-left}
@@ -96,10 +96,6 @@ module _ (m n : List ℕ) (T : List ℕ) (xs : List Item) (h : Linked m T xs) (t
 
   spawner : Unfinished c t
   spawner = unfinished-met m T xs h t small mine
-
-  -- what the spawner's mark led to
-  led : Row c (t ∷ a)
-  led = row-behind c b t a (subst (Row c) here (h .row))
 
   -- the youngest child of before, if there is one
   sibling : (o ≡ NONE) ⊎ (Kin c o t NONE × Unfinished c o)

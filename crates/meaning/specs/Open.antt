@@ -9,7 +9,7 @@ use lib.Dec.{ltb, eqb}
 use borrow.Author.Tests.{eq-eqb, ne-eqb, lt-ltb, le-ltb, ltb-true}
 use Rattle.words.specs.Words.{load, pick, both, both-true, pass, halt}
 use Rattle.lists.specs.Counting.{equal?}
-use Rattle.layout.specs.Layout.{NONE, NL, USER, lengthWord, numberWord, freeSegment, first, count, next, task, queueHead, read}
+use Rattle.layout.specs.Layout.{NONE, NL, USER, numberWord, freeSegment, first, count, next, task, queueHead, read}
 use Rattle.rules.specs.Views.{view}
 use Rattle.calls.specs.Segments.{valueAt}
 use Rattle.calls.specs.Views.{viewOf}
@@ -184,9 +184,6 @@ module _ (l n : ℕ) (hl : 1 ≤ l) (hl' : l ≤ 64) (hn : 4 ≤ n) (hn' : n ≤
   core-opened =
       subst (λ (m : List ℕ). Means m (openedIn n)) (sym (opened-core l n hn hn'))
       (record { sized = sized-new; means = meaning-path (meaningOf new) (openedIn n) next-new contents-new free-new heads-new views-new })
-
-  pub opened-length : read (opened l n) lengthWord ≡ l
-  opened-length = ap (λ (m : List ℕ). read m lengthWord) (opened-core l n hn hn') ∙ core-length l n hn hn'
 
   pub opened-number : read (opened l n) numberWord ≡ n
   opened-number = ap (λ (m : List ℕ). read m numberWord) (opened-core l n hn hn') ∙ core-number l n hn hn'

@@ -1,8 +1,8 @@
 -- push, as the memory of its queue and of the other queues.
-use mathlib.Core.Path.{_≡_, refl, ap, sym, _∙_}
+use mathlib.Core.Path.{_≡_, ap, sym, _∙_}
 use mathlib.Core.Bool.{Bool, true, false}
 use mathlib.Core.Option.{some}
-use mathlib.Core.List.{List, [], _∷_, _++_}
+use mathlib.Core.List.{List, [], _∷_}
 use Prim.Native.Nat.{ℕ, _-_}
 use native.Mathlib.Omega.{arith}
 use lib.Dec.{ltb}
@@ -12,21 +12,11 @@ use Rattle.calls.specs.Views.{taskAt, kindAt}
 use Rattle.gaps.specs.Maps.{put, put-other}
 use Rattle.gaps.specs.Line.{End, nonlocal, local, Extent, extent}
 use Rattle.gaps.specs.Store.{Store}
-use Rattle.gaps.specs.Moves.{childrenOf, rightOf, reduced, joined as storeJoined, taken as storeTaken, linkedHolding, pushedInto, pushedBehind, pushedApart}
+use Rattle.gaps.specs.Moves.{childrenOf, rightOf, reduced, joined as storeJoined, taken as storeTaken, linkedHolding, pushedBehind, pushedApart}
 use Rattle.gaps.specs.Search.{placeAt}
 use Rattle.meaning.specs.Meaning.{Meaning, storeOf, memoryOf}
-use Rattle.meaning.specs.Update.{withNext, withContents, withStore, withView, view-here, view-kind, memory-user, memory-elsewhere, store-set, shared, memory-shared}
+use Rattle.meaning.specs.Update.{withNext, withStore, withView, view-here, view-kind, memory-user, memory-elsewhere, store-set, shared, memory-shared}
 use Rattle.meaning.specs.Push.{takenIn, behindIn, apartIn}
-
--- INTO THE TAIL SEGMENT s
-module _ (M : Meaning) (s v : ℕ) where
-  pub memory-into : (q : ℕ) → memoryOf (withContents M s (M .contents s ++ v ∷ [])) q ≡ pushedInto s v (memoryOf M q)
-  unfolding pushedInto
-  memory-into q = refl
-
-  pub into-elsewhere : (q p : ℕ) → memoryOf (withContents M s (M .contents s ++ v ∷ [])) p ≡ shared (pushedInto s v (memoryOf M q) .store) (memoryOf M p)
-  unfolding pushedInto
-  into-elsewhere q p = refl
 
 -- INTO A NEW SEGMENT g BEHIND e, which has values
 module _ (M : Meaning) (q holder t : ℕ) (h : End) (e g : ℕ) (rest : List ℕ) (v w : ℕ) (r : List ℕ) (n : e ≡ g → ⊥) (filled : M .contents e ≡ w ∷ r) where

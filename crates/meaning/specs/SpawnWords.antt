@@ -224,20 +224,3 @@ module _ (m : List ℕ) (t r c : ℕ) (z : size m ≡ WORDS) (ht : t < 128) (hc 
     made-tail =
         last-two t (36 + q) (omega arith) (omega (arith, hq)) ∙ passed-tail viewed t r size-viewed ht q hq
         ∙ ap (λ (w : ℕ). keptUser r w q) (own (36 + q) (omega (arith, hq)))
-
-  -- THE LINKS: those of other tasks are kept, but for the spawner's youngest and its former youngest's younger
-  pub made-links : (u j : ℕ) → (u ≡ c → ⊥) → j < 16 → (u ≡ t → j ≡ YOUNGEST → ⊥) → (u ≡ read m (task t YOUNGEST) → j ≡ YOUNGER → ⊥)
-      → read (childMade m t r c) (task u j) ≡ read m (task u j)
-  unfolding childMade
-  made-links u j n h a b = go (eqb (read m (task t YOUNGEST)) NONE)
-    where
-      three : read kept3 (task u j) ≡ read m (task u j)
-      three =
-          task-other (passedOn viewed t r) t YOUNGEST u j c (omega arith) (omega (arith, h)) a
-          ∙ passed-other viewed t r size-viewed ht u j (omega (arith, h))
-          (λ e f g. omega (arith, f, h)) (λ e f g. omega (arith, f, h)) (λ e f g. omega (arith, f, h))
-          ∙ viewed-other u j n (omega (arith, h))
-
-      go : (s : Bool) → read (pick s kept3 (write kept3 (task (read m (task t YOUNGEST)) YOUNGER) c)) (task u j) ≡ read m (task u j)
-      go true = unfold pick in three
-      go false = unfold pick in task-other kept3 (read m (task t YOUNGEST)) YOUNGER u j c (omega arith) (omega (arith, h)) b ∙ three

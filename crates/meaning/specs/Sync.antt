@@ -5,7 +5,7 @@ use Prim.Native.Nat.{ℕ, _<_}
 use native.Mathlib.Omega.{arith}
 use Rattle.layout.specs.Layout.{CHILDREN, USER, RIGHT}
 use Rattle.calls.specs.Views.{viewOf, setView, merged}
-use Rattle.calls.specs.Sync.{syncs, syncedQueue, synced}
+use Rattle.calls.specs.Sync.{syncs, syncedQueue}
 use Rattle.gaps.specs.Maps.{put, put-same}
 use Rattle.gaps.specs.Line.{Extent, vacant}
 use Rattle.gaps.specs.Store.{Store}
@@ -93,20 +93,3 @@ memory-synced-elsewhere M q holder t p n =
     memory-elsewhere (withView S q CHILDREN t vacant) q t USER (reduced (M .views q CHILDREN t) (M .views q USER t)) p n
     ∙ memory-elsewhere S q t CHILDREN vacant p n
     ∙ memory-shared M q (syncedStore M q holder t) p n
-
--- ALL QUEUES, each with its holder and with what it needs when its turn comes
-pub queues-synced : (m : List ℕ) (t : ℕ) (holder : ℕ → ℕ) → Sized m → t < 128 → Syncs m t 0 (holder 0)
-    → Syncs (syncedQueue m t 0) t 1 (holder 1)
-    → Syncs (syncedQueue (syncedQueue m t 0) t 1) t 2 (holder 2)
-    → Syncs (syncedQueue (syncedQueue (syncedQueue m t 0) t 1) t 2) t 3 (holder 3)
-    → Becomes m (synced m t)
-    (syncedIn (syncedIn (syncedIn (syncedIn (meaningOf m) 0 (holder 0) t) 1 (holder 1) t) 2 (holder 2) t) 3 (holder 3) t)
-unfolding synced
-queues-synced m t holder z ht s0 s1 s2 s3 =
-    let a = queue-synced m t 0 (holder 0) z ht (omega arith) s0 in
-    let b = queue-synced _ t 1 (holder 1) (a .sized) ht (omega arith) s1 in
-    let ab = becomes-then (λ N. syncedIn N 1 (holder 1) t) a b in
-    let c = queue-synced _ t 2 (holder 2) (ab .sized) ht (omega arith) s2 in
-    let abc = becomes-then (λ N. syncedIn N 2 (holder 2) t) ab c in
-    let d = queue-synced _ t 3 (holder 3) (abc .sized) ht (omega arith) s3 in
-    becomes-then (λ N. syncedIn N 3 (holder 3) t) abc d

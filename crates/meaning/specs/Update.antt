@@ -96,17 +96,6 @@ module _ (M : Meaning) (q t : ℕ) where
     memory-elsewhere p n =
         λ i. record { children = view-queue p n i CHILDREN; user = view-queue p n i USER; right = view-queue p n i RIGHT; store = storeOf M p }
 
-  -- and the memory of its queue
-  pub memory-children : (x : Extent) → memoryOf (withView M q CHILDREN t x) q
-      ≡ record { children = put (M .views q CHILDREN) t x; user = M .views q USER; right = M .views q RIGHT; store = storeOf M q }
-  memory-children x =
-      λ i. record {
-        children = view-here CHILDREN x i;
-        user = view-kind CHILDREN x USER (λ e. omega arith) i;
-        right = view-kind CHILDREN x RIGHT (λ e. omega arith) i;
-        store = storeOf M q;
-      }
-
   pub memory-user : (x : Extent) → memoryOf (withView M q USER t x) q
       ≡ record { children = M .views q CHILDREN; user = put (M .views q USER) t x; right = M .views q RIGHT; store = storeOf M q }
   memory-user x =
@@ -134,12 +123,6 @@ module _ (M : Meaning) (q t : ℕ) where
 
     pub head-queue : (p : ℕ) → (p ≡ q → ⊥) → withHead M q t x .heads p ≡ M .heads p
     head-queue p n = put-other (M .heads) q _ p n
-
-    pub store-here : storeOf (withHead M q t x) q ≡ record { next = M .next; contents = M .contents; heads = put (M .heads q) t x; free = M .free }
-    store-here = λ i. record { next = M .next; contents = M .contents; heads = head-here i; free = M .free }
-
-    pub store-elsewhere : (p : ℕ) → (p ≡ q → ⊥) → storeOf (withHead M q t x) p ≡ storeOf M p
-    store-elsewhere p n = λ i. record { next = M .next; contents = M .contents; heads = head-queue p n i; free = M .free }
 
 -- TWO VIEWS CHANGED: the same one twice, and two kinds of one queue
 module _ (M : Meaning) (q k t : ℕ) (x : Extent) where

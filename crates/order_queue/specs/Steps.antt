@@ -6,7 +6,7 @@ use mathlib.Core.Logic.{⊎-elim}
 use Prim.Native.Nat.{ℕ, _+_, _≤_}
 use native.Mathlib.Omega.{arith}
 use lib.Dec.{eqb}
-use Rattle.words.specs.Words.{pick, pass, halt}
+use Rattle.words.specs.Words.{pick, halt}
 use Rattle.lists.specs.Counting.{one, one-yes}
 use Rattle.tree.specs.Rights.{uses}
 use Rattle.order.specs.Steps.{Task, Item, step, spot, Act, numberOf, rightsOf}
@@ -89,10 +89,6 @@ module _ (q : ℕ) (ys zs : List Item) (s : Task) where
   along-here : uses (rightsOf s) q ≡ true → along q Here ≡ along q ys ++ user (numberOf s) ∷ along q zs
   unfolding along
   along-here u = along-append q ys (spot s ∷ zs) ∙ ap (λ (l : List Point). along q ys ++ l) (halt _ _ u)
-
-  along-past : uses (rightsOf s) q ≡ false → along q Here ≡ along q ys ++ along q zs
-  unfolding along
-  along-past u = along-append q ys (spot s ∷ zs) ∙ ap (λ (l : List Point). along q ys ++ l) (pass _ u refl)
 
   -- where the task stands in the timeline
   pub located : {ps : List Point} → uses (rightsOf s) q ≡ true → (h : Timeline q Here ps)

@@ -10,7 +10,7 @@ use Rattle.lists.specs.Counting.{equal?}
 use Rattle.gaps.specs.Maps.{put, put-same, put-other}
 use Rattle.gaps.specs.Line.{End, nonlocal, local, Extent, vacant, extent}
 use Rattle.gaps.specs.Store.{Store, Memory}
-use Rattle.gaps.specs.Moves.{Place, childrenOf, rightOf, viewAt, reduced, childrenWith, rightsWith, taken, linkedHolding, joined, poppedTo, pushedInto, pushedBehind, pushedApart, popped, synced}
+use Rattle.gaps.specs.Moves.{Place, childrenOf, rightOf, viewAt, reduced, childrenWith, rightsWith, taken, linkedHolding, joined, poppedTo, pushedBehind, pushedApart, popped, synced}
 use Rattle.represents.specs.Represents.{ofTasks}
 
 -- a map written at a place where the test holds
@@ -30,10 +30,6 @@ unfoldable pub ofStore : (ℕ → Bool) → Store → Store
 ofStore a st = record { next = st .next; contents = st .contents; heads = λ t. pick (a t) (st .heads t) none; free = st .free }
 
 module _ (a : ℕ → Bool) where
-  with-heads : (st : Store) {f g : ℕ → Option ℕ} → f ≡ g
-      → _≡_ {A = Store} (record { next = st .next; contents = st .contents; heads = f; free = st .free }) (record { next = st .next; contents = st .contents; heads = g; free = st .free })
-  with-heads st e = λ i. record { next = st .next; contents = st .contents; heads = e i; free = st .free }
-
   live-linked : (vs : List ℕ) (holder s t : ℕ) (st : Store) → a holder ≡ true → ofStore a (linkedHolding vs holder s t st) ≡ linkedHolding vs holder s t (ofStore a st)
   unfolding ofStore
   live-linked [] holder s t st e = λ i. record {
@@ -66,11 +62,6 @@ module _ (a : ℕ → Bool) where
   -- a memory by its parts
   pub memory-path : {m n : Memory} → m .children ≡ n .children → m .user ≡ n .user → m .right ≡ n .right → m .store ≡ n .store → m ≡ n
   memory-path e f g h = λ i. record { children = e i; user = f i; right = g i; store = h i }
-
-  -- THE CALLS
-  pub live-into : (s v : ℕ) (m : Memory) → ofTasks a (pushedInto s v m) ≡ pushedInto s v (ofTasks a m)
-  unfolding ofTasks pushedInto
-  live-into s v m = refl
 
   pub live-behind : (holder t : ℕ) (h : End) (s g : ℕ) (rest : List ℕ) (v : ℕ) (m : Memory) → a holder ≡ true → a t ≡ true
       → ofTasks a (pushedBehind holder t h s g rest v m) ≡ pushedBehind holder t h s g rest v (ofTasks a m)
