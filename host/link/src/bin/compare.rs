@@ -12,7 +12,7 @@ use host::random::Random;
 use host::sample::*;
 use host::{foreign, hand};
 use link::pair::Pair;
-use link::rounds::random_of;
+use link::rounds::{asked, random_of, status, usage, Asked};
 use link::scenes;
 use std::process::ExitCode;
 
@@ -284,33 +284,20 @@ fn run_all(pair: &mut Pair, seed: u64) -> Outcome {
     }
 }
 
-fn run(words: &[String]) -> Result<Outcome, String> {
-    const USAGE: &str = "compare SEED [PART ROUND]";
-    let seed: u64 = words.first().ok_or(USAGE)?.parse().map_err(|_| USAGE)?;
+fn main() -> ExitCode {
+    let words: Vec<String> = std::env::args().skip(1).collect();
+    let Some((seed, wanted)) = asked(&words, &PARTS.map(|part| part.name)) else {
+        return usage("compare");
+    };
     println!("seed {seed}");
     let mut pair = Pair::default();
-    let outcome = match words {
-        [_] => run_all(&mut pair, seed),
-        [_, name, round] => {
-            let named = PARTS.iter().position(|part| part.name == *name);
-            let round = round.parse().map_err(|_| USAGE)?;
-            make_round(&mut pair, seed, named.ok_or(USAGE)?, round)
-        }
-        _ => return Err(USAGE.to_string()),
+    let outcome = match wanted {
+        Asked::All => run_all(&mut pair, seed),
+        Asked::One(at, round) => make_round(&mut pair, seed, at, round),
     };
     if outcome.is_ok() {
         println!("{}", pair.counts);
         println!("{} calls, agree", pair.counts.calls);
     }
-    Ok(outcome)
-}
-
-fn main() -> ExitCode {
-    let words: Vec<String> = std::env::args().skip(1).collect();
-    match run(&words) {
-        Ok(Ok(())) => return ExitCode::SUCCESS,
-        Ok(Err(what)) => println!("differs: {what}"),
-        Err(usage) => eprintln!("{usage}"),
-    }
-    ExitCode::FAILURE
+    status(outcome)
 }

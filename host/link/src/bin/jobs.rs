@@ -9,7 +9,7 @@ use host::random_jobs::accepted;
 use host::sample::noise;
 use host::serial::End;
 use link::linked_jobs::{answer_words, ANSWERS, WORKING};
-use link::rounds::random_of;
+use link::rounds::{asked, random_of, status, usage, Asked};
 use link::serial_pair::{test, Due, SerialPair};
 use std::collections::BTreeMap;
 use std::process::ExitCode;
@@ -188,9 +188,11 @@ fn report(state: &State) {
     println!("{} jobs and {steps} steps, agree", state.jobs);
 }
 
-fn run(words: &[String]) -> Result<Outcome, String> {
-    const USAGE: &str = "jobs SEED [PART ROUND]";
-    let seed: u64 = words.first().ok_or(USAGE)?.parse().map_err(|_| USAGE)?;
+fn main() -> ExitCode {
+    let words: Vec<String> = std::env::args().skip(1).collect();
+    let Some((seed, wanted)) = asked(&words, &PARTS.map(|part| part.name)) else {
+        return usage("jobs");
+    };
     println!("seed {seed}");
     let r = &mut random_of(seed, PARTS.len(), 0);
     let mut state = State {
@@ -199,27 +201,12 @@ fn run(words: &[String]) -> Result<Outcome, String> {
         replies: [0; 7],
         jobs: 0,
     };
-    let outcome = match words {
-        [_] => run_all(&mut state, seed),
-        [_, name, round] => {
-            let named = PARTS.iter().position(|part| part.name == *name);
-            let round = round.parse().map_err(|_| USAGE)?;
-            make_round(&mut state, seed, named.ok_or(USAGE)?, round)
-        }
-        _ => return Err(USAGE.to_string()),
+    let outcome = match wanted {
+        Asked::All => run_all(&mut state, seed),
+        Asked::One(at, round) => make_round(&mut state, seed, at, round),
     };
     if outcome.is_ok() {
         report(&state);
     }
-    Ok(outcome)
-}
-
-fn main() -> ExitCode {
-    let words: Vec<String> = std::env::args().skip(1).collect();
-    match run(&words) {
-        Ok(Ok(())) => return ExitCode::SUCCESS,
-        Ok(Err(what)) => println!("differs: {what}"),
-        Err(usage) => eprintln!("{usage}"),
-    }
-    ExitCode::FAILURE
+    status(outcome)
 }
