@@ -6,3 +6,4 @@ pub mod Lists
 pub mod Plain
 pub mod Serial
 pub mod Agree
+pub mod Events
