@@ -1,0 +1,5 @@
+pub mod Answers
+pub mod Words
+pub mod Rules
+pub mod Open
+pub mod Step
