@@ -1,2 +1,4 @@
 pub mod Beside
 pub mod After
+pub mod Points
+pub mod Located
