@@ -186,7 +186,7 @@ module _ (m : List ℕ) (xs : List Item) (e : Ended m xs) where
   status-word t n = sym (other (1472 + t * 48 + STATUS) (λ x. n (omega (arith, x))))
 
   -- NO OTHER CALL MOVES: nobody is unfinished
-  gone : (t : ℕ) → unfinishedIn m t ≡ false
+  pub gone : (t : ℕ) → unfinishedIn m t ≡ false
   unfolding unfinishedIn
   gone t = go (both (ltb t 128) (eqb (read m (task t STATUS)) UNFINISHED)) refl
     where

@@ -72,7 +72,7 @@ unfolding contentsHold
 contents-say j e p h = entries-say j (procedures j) 0 (entryAt (procedures j)) (both-true _ _ e .1) p (omega arith) (omega arith)
 
 -- a refusal that is not given
-passed : (b : Bool) (k : ℕ) (x : Answer) → pick b (Refused k) x ≡ Moved 0 → (b ≡ false) × (x ≡ Moved 0)
+pub passed : (b : Bool) (k : ℕ) (x : Answer) → pick b (Refused k) x ≡ Moved 0 → (b ≡ false) × (x ≡ Moved 0)
 unfolding pick
 passed true k x e = let z : _≡_ {A = ℕ} 0 1 = cc in let w : ⊥ = omega arith in absurd w
 passed false k x e = (refl, e)

@@ -29,7 +29,7 @@ no-end [] r x e = nil≢cons e
 no-end (y ∷ l) r x e = nil≢cons e
 
 -- the place of a task among the steps and spots
-place-at : (xs : List Mark) (ts us : List Task) (s : Task) → places xs ≡ ts ++ s ∷ us
+pub place-at : (xs : List Mark) (ts us : List Task) (s : Task) → places xs ≡ ts ++ s ∷ us
     → (ys : List Mark) × (zs : List Mark) × (xs ≡ ys ++ place s ∷ zs) × (places ys ≡ ts) × (places zs ≡ us)
 unfolding places
 place-at [] ts us s e = absurd (no-end ts us s e)
