@@ -5,3 +5,4 @@ pub mod States
 pub mod Tested
 pub mod Answered
 pub mod Numbers
+pub mod Goes

@@ -1,0 +1,164 @@
+-- WHAT A STEP OF A TASK DOES that stands on the line: it goes on, or waits, or is refused with 8 or 9. Here what the step of every
+-- operation has in common.
+use mathlib.Core.Path.{_≡_, refl, ap, ap₂, sym, _∙_, subst}
+use mathlib.Core.Bool.{true, false, not}
+use mathlib.Core.List.{List, [], _∷_, _++_}
+use mathlib.Core.Option.{Option, none, some}
+use Prim.Native.Nat.{ℕ, _<_}
+use Rattle.words.specs.Words.{pass}
+use Rattle.gaps.specs.Maps.{All, all-behind}
+use Rattle.tree.specs.Rights.{pops as mayPop}
+use Rattle.answers.specs.declared.Answer.{Answer}
+use Rattle.answers.specs.declared.Answer.the-variants.{Moved}
+use Rattle.answers.specs.declared.Finding.the-variants.{Waits as Later}
+use Rattle.answers.specs.Answers.{wordsOf, answerOf as coreAnswer}
+use Rattle.answers.specs.Calls.{Call}
+use Rattle.calls.specs.Outcomes.{outcomeOf}
+use Rattle.order.specs.Steps.{Item as Mark, numberOf, noted}
+use Rattle.order.specs.Waits.{unfinished, blocked, hasChild}
+use Rattle.order.specs.Finding.{finding}
+use Rattle.order.specs.Ordered.{rightsAt}
+use Rattle.represents.specs.Represents.{Represents}
+use Rattle.in_order.specs.Answered.{answered}
+use Rattle.in_order.specs.State.{State}
+use Rattle.in_order.specs.Ladder.{blocked-same, rights-are}
+use Rattle.in_order.specs.InOrder.{call-does}
+use Rattle.job.specs.declared.Instruction.{Instruction}
+use Rattle.job.specs.Operations.{operationAt}
+use Rattle.job.specs.Effects.{Effect, effect}
+use Rattle.job.specs.Test.{jobAnswer}
+use Rattle.plain.specs.Stack.{Stands, rightsOf}
+use Rattle.exchange.specs.Line.{Item, spot}
+use Rattle.job_line.specs.Tasks.{Runner, does, instructionOf}
+use Rattle.job_order.specs.Beside.{Numbered, standing, taskOf, Beside}
+use Rattle.job_order.specs.Located.{located, stands-unfinished}
+use Rattle.job_order.specs.After.{After}
+use Rattle.runner.specs.declared.StepAnswer.{StepAnswer}
+use Rattle.runner.specs.declared.StepAnswer.the-variants.{Waits, Refused}
+use Rattle.runner.specs.Words.{procedureOf, positionOf, registerOf, instructionFor}
+use Rattle.runner.specs.Answers.{answerWith, Outcome, outcome}
+use Rattle.runner.specs.Step.{callOf, replyOf, runnerAfter, done, replied, makes, stepTested, stepOutcome}
+use Rattle.any_order.specs.Statement.{notedBy}
+use Rattle.any_order.specs.States.{state-unfinished, still}
+use Rattle.any_order.specs.Written.{Words, Holds, Written}
+use Rattle.any_order.specs.Tested.{stands-at, tests-pass}
+
+-- why a task waits: for an older sibling, for a child, or for what a queue will hold
+pub data Waiting (j : List ℕ) (xs : List Mark) (n : Numbered) : Type 0 where
+  for-sibling : blocked (n .number) xs ≡ true → Waiting j xs n
+  for-child : hasChild (n .number) xs ≡ true → Waiting j xs n
+  for-queue : (q : ℕ) → q < 4 → mayPop (rightsOf j (n .runner .task)) q ≡ true → finding (n .number) q xs ≡ Later → Waiting j xs n
+
+-- the answers of a step that does not move
+pub data Stays (j : List ℕ) (xs : List Mark) (n : Numbered) : StepAnswer → Type 0 where
+  waits : Waiting j xs n → Stays j xs n Waits
+  eight : Stays j xs n (Refused 8)
+  nine : Stays j xs n (Refused 9)
+
+-- a step that moves: what it found, the number of a new task, and what it leaves
+pub record Goes (j m r : List ℕ) (xs : List Mark) (a b : List (Item Numbered)) (n : Numbered) : Type 0 where
+  pub found : Option ℕ
+  pub new : ℕ
+  pub core : List ℕ
+  pub runner : List ℕ
+  pub order : List Mark
+  pub tasks : List Numbered
+  pub outcome-is : let e = does (n .runner) (instructionOf j (n .runner)) found in
+      stepOutcome j m r (n .number) ≡ outcome (answerWith (e .word) (e .value) new) core runner
+  pub noted-is : let i = instructionFor j r (n .number) in
+      notedBy (callOf (operationAt (i .operation)) j (n .number) (registerOf r (n .number)) i) m xs ≡ order
+  pub state : State core order
+  pub after : After j order a b n tasks found
+  pub written : Written runner (standing a ++ (tasks ++ standing b))
+
+pub data Does (j m r : List ℕ) (xs : List Mark) (a b : List (Item Numbered)) (n : Numbered) : Type 0 where
+  stays : (x : StepAnswer) → Stays j xs n x → stepOutcome j m r (n .number) ≡ outcome x m r → Does j m r xs a b n
+  goes : Goes j m r xs a b n → Does j m r xs a b n
+
+module _ (j : List ℕ) (e : jobAnswer j ≡ Moved 0) (m r : List ℕ) (xs : List Mark) (a b : List (Item Numbered)) (n : Numbered) (st : State m xs)
+  (h : Beside j xs (a ++ spot n ∷ b)) (w : Written r (standing (a ++ spot n ∷ b))) (stood : All (λ k. Stands j (k .runner .task)) (standing (a ++ spot n ∷ b))) where
+  abbrev t : ℕ
+  t = n .number
+
+  abbrev u : Runner
+  u = n .runner
+
+  pub is-unfinished : unfinished t xs ≡ true
+  is-unfinished = stands-unfinished j a b n h
+
+  pub represents : Represents m xs
+  represents = still m xs st t is-unfinished
+
+  pub stands : Stands j (u .task)
+  stands = all-behind (λ k. Stands j (k .runner .task)) (standing a) (n ∷ standing b) (stands-at (λ k. Stands j (k .runner .task)) a b n stood) .0
+
+  pub words : Words r t (u .task .procedure) (u .task .position) (u .task .register)
+  words = all-behind (Holds r) (standing a) (n ∷ standing b) (stands-at (Holds r) a b n (w .held)) .0 .words
+
+  pub instruction-is : instructionFor j r t ≡ instructionOf j u
+  unfolding instructionFor instructionOf
+  instruction-is = ap₂ (λ (p i : ℕ). Rattle.job.specs.Fields.instructionAt j p i) (words .procedure) (words .position)
+
+  -- program order has the rights of the task's procedure
+  pub rights-is : rightsAt t xs ≡ rightsOf j (u .task)
+  unfolding taskOf numberOf Rattle.order.specs.Steps.rightsOf
+  rights-is =
+      let v = located j a b n h in
+      ap (rightsAt t) (v .here) ∙ rights-are m (v .before) (v .behind) (taskOf j n) (subst (Represents m) (v .here) represents)
+
+  blocked-is : Rattle.calls.specs.Waits.blocked m t ≡ blocked t xs
+  unfolding taskOf numberOf
+  blocked-is =
+      let v = located j a b n h in
+      blocked-same m (v .before) (v .behind) (taskOf j n) (subst (Represents m) (v .here) represents) ∙ ap (blocked t) (sym (v .here))
+
+  tested-is : stepOutcome j m r t ≡ stepTested j m r t
+  unfolding stepOutcome
+  tested-is = tests-pass j m r xs (a ++ spot n ∷ b) st h w stood e _
+
+  -- a task that an older sibling blocks waits
+  pub blocked-waits : blocked t xs ≡ true → Does j m r xs a b n
+  unfolding stepTested
+  blocked-waits d =
+      stays Waits (waits (for-sibling d))
+      (tested-is ∙ pass _ (ap not (state-unfinished m xs st t ∙ is-unfinished)) (Rattle.words.specs.Words.halt _ _ (blocked-is ∙ d)))
+
+  -- an instruction of the task, which nobody blocks
+  module _ (free : blocked t xs ≡ false) (i : Instruction) (is : instructionOf j u ≡ i) where
+    pub makes-it : stepOutcome j m r t ≡ makes t i (callOf (operationAt (i .operation)) j t (u .task .register) i) m r
+    unfolding stepTested
+    makes-it =
+        tested-is
+        ∙ pass _ (ap not (state-unfinished m xs st t ∙ is-unfinished))
+        (pass _ (blocked-is ∙ free)
+        (ap₂ (λ (s : Instruction) (x : ℕ). makes t s (callOf (operationAt (s .operation)) j t x s) m r) (instruction-is ∙ is) (words .register)))
+
+    call-is : callOf (operationAt (instructionFor j r t .operation)) j t (registerOf r t) (instructionFor j r t) ≡ callOf (operationAt (i .operation)) j t (u .task .register) i
+    call-is = ap₂ (λ (s : Instruction) (x : ℕ). callOf (operationAt (s .operation)) j t x s) (instruction-is ∙ is) (words .register)
+
+    -- what the step leaves, in terms of the task
+    pub done-is : (f : Option ℕ) (c : ℕ) (k : List ℕ) → done t i f c k r ≡ outcome (answerWith (does u i f .word) (does u i f .value) c) k (runnerAfter (operationAt (i .operation)) t c i (does u i f) r)
+    unfolding done does
+    done-is f c k =
+        ap (λ (d : Effect). outcome (answerWith (d .word) (d .value) c) k (runnerAfter (operationAt (i .operation)) t c i d r))
+        (ap₂ (λ (p x : ℕ). effect (operationAt (i .operation)) p x (i .operand) f) (words .position) (words .register))
+
+    -- with a core call c that is answered x
+    module _ (c : Call) (which : callOf (operationAt (i .operation)) j t (u .task .register) i ≡ some c) (x : Answer) (answer : answered c m xs ≡ x) where
+      abbrev core : List ℕ
+      core = wordsOf (outcomeOf c m)
+
+      pub call-replied : stepOutcome j m r t ≡ replied t i (replyOf x) core m r
+      unfolding makes
+      call-replied =
+          makes-it
+          ∙ ap (λ (o : Option Call). makes t i o m r) which
+          ∙ ap (λ (y : Answer). replied t i (replyOf y) core m r) (call-does c m xs st .answer ∙ answer)
+
+      pub call-state : State core (noted c x xs)
+      call-state = subst (λ (y : Answer). State core (noted c y xs)) answer (call-does c m xs st .holds)
+
+      pub call-noted : notedBy (callOf (operationAt (instructionFor j r t .operation)) j t (registerOf r t) (instructionFor j r t)) m xs ≡ noted c x xs
+      unfolding notedBy
+      call-noted =
+          ap (λ (o : Option Call). notedBy o m xs) (call-is ∙ which) ∙ ap (λ (y : Answer). noted c y xs) (call-does c m xs st .answer ∙ answer)
