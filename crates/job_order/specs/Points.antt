@@ -4,7 +4,8 @@ use mathlib.Core.Bool.{Bool, true, false}
 use mathlib.Core.List.{List, [], _∷_, _++_}
 use Prim.Native.Nat.{ℕ}
 use lib.Dec.{eqb}
-use Rattle.words.specs.Words.{pick}
+use borrow.Author.Tests.{eq-eqb, ne-eqb}
+use Rattle.words.specs.Words.{pick, halt, pass}
 use Rattle.tree.specs.Rights.{uses}
 use Rattle.order.specs.Steps.{Task, Item as Mark, step, spot as place, numberOf, rightsOf}
 use Rattle.order_queue.specs.Points.{Point, value as present, user}
@@ -52,6 +53,15 @@ module _ (j : List ℕ) (q : ℕ) where
       → pointsOf j q (spot n ∷ l) ≡ pick (uses (rightsOf (taskOf j n)) q) (user (numberOf (taskOf j n)) ∷ pointsOf j q l) (pointsOf j q l)
   unfolding pointsOf taskOf rightsOf numberOf
   point-is n l = refl
+
+  -- a value of the queue, and one of another
+  pub value-here : (v : ℕ) (l : List (Item Numbered)) → pointsOf j q (value q v ∷ l) ≡ present v ∷ pointsOf j q l
+  unfolding pointsOf
+  value-here v l = halt _ _ (eq-eqb q q refl)
+
+  pub value-past : (p v : ℕ) (l : List (Item Numbered)) → (p ≡ q → ⊥) → pointsOf j q (value p v ∷ l) ≡ pointsOf j q l
+  unfolding pointsOf
+  value-past p v l d = pass _ (ne-eqb p q d) refl
 
   -- the points of a line, where some items of it are put in place of others
   pub points-swap : (a b c : List (Item Numbered)) → pointsOf j q b ≡ pointsOf j q c → pointsOf j q (a ++ b) ≡ pointsOf j q (a ++ c)
