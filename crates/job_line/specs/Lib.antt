@@ -7,3 +7,5 @@ pub mod Plain
 pub mod Serial
 pub mod Agree
 pub mod Events
+pub mod Put
+pub mod Stood

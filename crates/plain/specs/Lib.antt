@@ -3,5 +3,6 @@ pub mod Run
 pub mod Cases
 pub mod Laws
 pub mod Stack
+pub mod Onward
 pub mod Kept
 pub mod Names
