@@ -6,3 +6,4 @@ pub mod Tested
 pub mod Answered
 pub mod Numbers
 pub mod Goes
+pub mod Operations

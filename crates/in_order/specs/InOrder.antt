@@ -118,7 +118,7 @@ calls-do (c ∷ cs) m xs st =
     (subst (λ (a : Answer). State (wordsOf (outcomeOf c m)) (noted c a xs)) (sym (d .answer)) (d .holds))
 
 -- the number of a new task, in a state
-fresh : (m : List ℕ) (xs : List Item) (st : State m xs) (t u v : ℕ) → answered (spawn-call t u) m xs ≡ Moved v → unfinished v xs ≡ false
+pub fresh : (m : List ℕ) (xs : List Item) (st : State m xs) (t u v : ℕ) → answered (spawn-call t u) m xs ≡ Moved v → unfinished v xs ≡ false
 unfolding answered ordered decided valueOf forTask
 fresh m xs (inl r) t u v e = fresh-task m xs t u v r (unfold forTask in e)
 fresh m xs (inr d) t u v e = let f : Refused 4 ≡ Moved v = sym (skip _ (d .none-left t) refl) ∙ e in let z : _≡_ {A = ℕ} 0 1 = cc in absurd (omega (arith, z))
