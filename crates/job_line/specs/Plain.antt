@@ -22,7 +22,7 @@ use Rattle.exchange.specs.Line.{Item, value, spot, finished, puts, looks, free,
 use Rattle.exchange.specs.Exchange.{Lead}
 use Rattle.exchange.specs.Agreement.{First}
 use Rattle.exchange.specs.Progress.{lead-free}
-use Rattle.job_line.specs.Tasks.{canPush, canPop, Runner, does as doesNext, answering, goesOn, afterSpawn, newTask, actionBy, action, instructionOf}
+use Rattle.job_line.specs.Tasks.{canPush, canPop, Runner, does as doesNext, answering, goesOn, afterSpawn, newTask, instruction, actionBy, action, instructionOf}
 use Rattle.job_line.specs.Within.{jobTasks}
 use Rattle.job_line.specs.Front.{valuesOf, remaining, lead-front}
 use Rattle.job_line.specs.Lists.{bare-append, bare-without, Lists, lists-pushed, lists-popped, lists-kept}
@@ -105,9 +105,6 @@ module _ (j : List ℕ) (qs : List (List ℕ)) (u : Runner) (us : List Runner) (
       }
 
   -- BY THE OPERATION'S NUMBER
-  abbrev instruction : ℕ → ℕ → ℕ → Instruction
-  instruction k w x = record { operation = k; which = w; operand = x }
-
   abbrev Case : ℕ → Type 0
   Case k = (w x : ℕ) → instructionOf j u ≡ instruction k w x → whichHolds j (rightsOf j (u .task)) (rowOf k) w ≡ true → Stepped j qs u us n l
 

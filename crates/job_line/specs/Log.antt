@@ -1,0 +1,110 @@
+-- THE LOG AND THE LINE: after any moves of an accepted job's tasks, what each task on the line has been answered are the
+-- events of its name in the log, and the log has no event of another name.
+use mathlib.Core.Path.{_≡_, refl, ap, sym, _∙_, subst}
+use mathlib.Core.List.{List, [], _∷_, _++_, append-assoc, append-nil}
+use Prim.Native.Nat.{ℕ}
+use Rattle.words.specs.Words.{halt, pass}
+use Rattle.gaps.specs.Maps.{All}
+use Rattle.order.specs.Steps.{Name}
+use Rattle.order_laws.specs.Names.{same-yes, same-no}
+use Rattle.job.specs.Accepted.{Accepted}
+use Rattle.plain.specs.Machine.{Event, advanced, parent, child}
+use Rattle.plain.specs.Run.{answersOf}
+use Rattle.plain.specs.Laws.{answers-join}
+use Rattle.exchange.specs.Line.{Item, value, spot, finished}
+use Rattle.exchange.specs.Agreement.{Moves}
+use Rattle.exchange.specs.Answers.{On, unfinished, over, behind}
+use Rattle.job_line.specs.Tasks.{Runner}
+use Rattle.job_line.specs.Within.{jobTasks}
+use Rattle.job_line.specs.Agree.{start}
+use Rattle.job_line.specs.Events.{walkEvent, log}
+use Rattle.job_line.specs.Put.{Put, goes, pushes, finishes, spawns}
+use Rattle.job_line.specs.Stood.{Standing, Replaces, here, past, takes, walk-moved, stand-kept, start-stands}
+use Rattle.job_line.specs.Named.{Unnamed, Apart, turned, Pairs, of-mover, pairs-kept, next-new, unnamed-before}
+
+-- the answers of a task, by the events es
+abbrev pub Own : List Event → Item Runner → Type 0
+Own es (value q v) = Unit {0}
+Own es (spot u) = u .answers ≡ answersOf (u .task .name) es
+Own es (finished u) = u .answers ≡ answersOf (u .task .name) es
+
+pub record Logged (l : List (Item Runner)) (es : List Event) : Type 0 where
+  pub own : All (Own es) l
+  pub heard : (p : Name) → All (Unnamed p) l → answersOf p es ≡ []
+  pub apart : Pairs l
+
+-- one event more
+module _ (es : List Event) (a : Event) (p : Name) where
+  one-more : a .name ≡ p → answersOf p (es ++ (a ∷ [])) ≡ answersOf p es ++ (a ∷ [])
+  unfolding answersOf
+  one-more e = answers-join p es (a ∷ []) ∙ ap (λ (x : List Event). answersOf p es ++ x) (halt _ _ (same-yes (a .name) p e))
+
+  no-more : (a .name ≡ p → ⊥) → answersOf p (es ++ (a ∷ [])) ≡ answersOf p es
+  unfolding answersOf
+  no-more n = answers-join p es (a ∷ []) ∙ ap (λ (x : List Event). answersOf p es ++ x) (pass _ (same-no (a .name) p n) refl) ∙ append-nil (answersOf p es)
+
+-- the task u moves and is answered a
+module _ (j : List ℕ) (es : List Event) (u : Runner) (a : Event) (made : a .name ≡ u .task .name) where
+  other-own : (x : Item Runner) → Apart (spot u) x → Own es x → Own (es ++ (a ∷ [])) x
+  other-own (value q v) h o = tt
+  other-own (spot w) h o = o ∙ sym (no-more es a (w .task .name) (λ e. h .differ (w .task .name) (sym made ∙ e) refl))
+  other-own (finished w) h o = o ∙ sym (no-more es a (w .task .name) (λ e. h .differ (w .task .name) (sym made ∙ e) refl))
+
+  others-own : (l : List (Item Runner)) → All (Apart (spot u)) l → All (Own es) l → All (Own (es ++ (a ∷ []))) l
+  others-own [] h o = tt
+  others-own (x ∷ l) h o = (other-own x (h .0) (o .0), others-own l (h .1) (o .1))
+
+  mover-own : Own es (spot u) → u .answers ++ (a ∷ []) ≡ answersOf (u .task .name) (es ++ (a ∷ []))
+  mover-own o = ap (λ (x : List Event). x ++ (a ∷ [])) o ∙ sym (one-more es a (u .task .name) made)
+
+  child-own : Unnamed (u .task .children ∷ u .task .name) (spot u) → answersOf (u .task .children ∷ u .task .name) es ≡ []
+      → [] ≡ answersOf (u .task .children ∷ u .task .name) (es ++ (a ∷ []))
+  child-own n e = sym (no-more es a (u .task .children ∷ u .task .name) (λ c. n (sym made ∙ c)) ∙ e)
+
+  put-own : {xs : List (Item Runner)} (l : List (Item Runner)) → Put j u a xs → Unnamed (u .task .children ∷ u .task .name) (spot u)
+      → answersOf (u .task .children ∷ u .task .name) es ≡ [] → All (Apart (spot u)) l → All (Own es) (spot u ∷ l) → All (Own (es ++ (a ∷ []))) (xs ++ l)
+  unfolding advanced parent child
+  put-own l (goes e st) n c h o = (mover-own (o .0), others-own l h (o .1))
+  put-own l (pushes q v e st) n c h o = (tt, (mover-own (o .0), others-own l h (o .1)))
+  put-own l finishes n c h o = (mover-own (o .0), others-own l h (o .1))
+  put-own l (spawns w x e st more) n c h o = (child-own n c, (mover-own (o .0), others-own l h (o .1)))
+
+  own-kept : {l k : List (Item Runner)} → Replaces j u a l k → Pairs l → Unnamed (u .task .children ∷ u .task .name) (spot u)
+      → answersOf (u .task .children ∷ u .task .name) es ≡ [] → All (Own es) l → All (Own (es ++ (a ∷ []))) k
+  own-kept (here {l = l} p) h n c o = put-own l p n c (h .0) o
+  own-kept (past {x = x} r) h n c o = (other-own x (turned (of-mover j (Apart x) r (h .0))) (o .0), own-kept r (h .1) n c (o .1))
+  own-kept (takes r) h n c o = own-kept r (h .1) n c (o .1)
+
+  heard-kept : {l k : List (Item Runner)} → Replaces j u a l k → Logged l es → (p : Name) → All (Unnamed p) k → answersOf p (es ++ (a ∷ [])) ≡ []
+  heard-kept r h p n =
+      let m = unnamed-before j p r n in
+      no-more es a p (λ e. of-mover j (Unnamed p) r m (sym made ∙ e)) ∙ h .heard p m
+
+  logged-kept : {l k : List (Item Runner)} → Replaces j u a l k → Logged l es → Logged k (es ++ (a ∷ []))
+  logged-kept r h =
+      let n = next-new j r (h .apart) in
+      record {
+        own = own-kept r (h .apart) (of-mover j (Unnamed (u .task .children ∷ u .task .name)) r n) (h .heard (u .task .children ∷ u .task .name) n) (h .own);
+        heard = heard-kept r h;
+        apart = pairs-kept j r (h .apart);
+      }
+
+module _ (j : List ℕ) (acc : Accepted j) where
+  all-logged : {n : ℕ} {l k : List (Item Runner)} (es : List Event) → All (Standing j) l → Logged l es → (ms : Moves (jobTasks j) n l k)
+      → Logged k (es ++ log j ms)
+  all-logged {l = l} es st h Moves.none = subst (Logged l) (sym (append-nil es)) h
+  all-logged {k = k} es st h (Moves.moves m ms) =
+      let a = walkEvent j (m .walk) in
+      let c = walk-moved j acc st (m .walk) in
+      subst (Logged k) (append-assoc es (a ∷ []) (log j ms))
+      (all-logged (es ++ (a ∷ [])) (stand-kept j acc (c .replaces) st) (logged-kept j es (c .mover) a (c .name) (c .replaces) h) ms)
+
+  pub moves-logged : {n : ℕ} {l : List (Item Runner)} (ms : Moves (jobTasks j) n start l) → Logged l (log j ms)
+  unfolding answersOf
+  moves-logged ms = all-logged [] (start-stands j acc) (record { own = (refl, tt); heard = λ p n. refl; apart = (tt, tt) }) ms
+
+-- the answers of one task of the line
+pub own-answers : (w : Runner) (es : List Event) {l : List (Item Runner)} → On w l → All (Own es) l → w .answers ≡ answersOf (w .task .name) es
+own-answers w es unfinished h = h .0
+own-answers w es over h = h .0
+own-answers w es (behind i) h = own-answers w es i (h .1)
