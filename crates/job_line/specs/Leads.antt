@@ -19,14 +19,16 @@ module _ (j : List ℕ) where
   leadEvent w = walkEvent j (lead-walk (jobTasks j) w)
 
   module _ (u : Runner) (r : List (Item Runner)) where
-    free-from : (vs : List (Item Runner)) → All NoSpot vs → {k : List (Item Runner)} (w : Lead (jobTasks j) free (vs ++ (spot u ∷ r)) k) → leadEvent w ≡ eventWith j u none
+    free-from : (vs : List (Item Runner)) → All NoSpot vs → {k : List (Item Runner)} (w : Lead (jobTasks j) free (vs ++ (spot u ∷ r)) k)
+        → leadEvent w ≡ eventWith j u none
     unfolding lead-walk
     free-from [] h (Lead.here xs d) = refl
     free-from [] h (Lead.past s p w) = absurd s
     free-from (x ∷ vs) h (Lead.here xs d) = absurd (h .0)
     free-from (x ∷ vs) h (Lead.past s p w) = free-from vs (h .1) w
 
-    found-from : (b : Bool) (q v : ℕ) (vs : List (Item Runner)) → All NoSpot vs → {k : List (Item Runner)} (w : Lead (jobTasks j) (found b q v) (vs ++ (spot u ∷ r)) k)
+    found-from : (b : Bool) (q v : ℕ) (vs : List (Item Runner)) → All NoSpot vs → {k : List (Item Runner)}
+        (w : Lead (jobTasks j) (found b q v) (vs ++ (spot u ∷ r)) k)
         → leadEvent w ≡ eventWith j u (some v)
     unfolding lead-walk
     found-from b q v [] h (Lead.here xs d) = refl
@@ -34,7 +36,8 @@ module _ (j : List ℕ) where
     found-from b q v (x ∷ vs) h (Lead.here xs d) = absurd (h .0)
     found-from b q v (x ∷ vs) h (Lead.past s p w) = found-from b q v vs (h .1) w
 
-    seeking-from : (b : Bool) (q : ℕ) (vs : List (Item Runner)) → All NoSpot vs → {k : List (Item Runner)} (w : Lead (jobTasks j) (seeking b q) (vs ++ (spot u ∷ r)) k)
+    seeking-from : (b : Bool) (q : ℕ) (vs : List (Item Runner)) → All NoSpot vs → {k : List (Item Runner)}
+        (w : Lead (jobTasks j) (seeking b q) (vs ++ (spot u ∷ r)) k)
         → leadEvent w ≡ eventWith j u (front (valuesOf q vs))
     unfolding lead-walk valuesOf front
     seeking-from b q [] h (Lead.here xs d) = refl
@@ -44,3 +47,14 @@ module _ (j : List ℕ) where
     seeking-from b q (value c v ∷ vs) h (Lead.finds w) = found-from b q v vs (h .1) w ∙ ap (λ (o : Option ℕ). eventWith j u o) (sym (front-here q v vs))
     seeking-from b q (spot t ∷ vs) h w = absurd (h .0)
     seeking-from b q (finished t ∷ vs) h (Lead.past s p w) = seeking-from b q vs (h .1) w
+
+    -- the same along a line l that is those items
+    module _ {l k : List (Item Runner)} (vs : List (Item Runner)) (bare : All NoSpot vs) (line : l ≡ vs ++ (spot u ∷ r)) where
+      pub free-event : (w : Lead (jobTasks j) free l k) → leadEvent w ≡ eventWith j u none
+      free-event =
+          subst (λ (x : List (Item Runner)). (w : Lead (jobTasks j) free x k) → leadEvent w ≡ eventWith j u none) (sym line) (free-from vs bare)
+
+      pub seeking-event : (b : Bool) (q : ℕ) (w : Lead (jobTasks j) (seeking b q) l k) → leadEvent w ≡ eventWith j u (front (valuesOf q vs))
+      seeking-event b q =
+          subst (λ (x : List (Item Runner)). (w : Lead (jobTasks j) (seeking b q) x k) → leadEvent w ≡ eventWith j u (front (valuesOf q vs))) (sym line)
+          (seeking-from b q vs bare)

@@ -12,3 +12,4 @@ pub mod Put
 pub mod Stood
 pub mod Named
 pub mod Log
+pub mod Answered

@@ -1,12 +1,14 @@
 -- THE LOG AND THE LINE: after any moves of an accepted job's tasks, what each task on the line has been answered are the
 -- events of its name in the log, and the log has no event of another name.
 use mathlib.Core.Path.{_≡_, refl, ap, sym, _∙_, subst}
+use mathlib.Core.Logic.{_⊎_, inl, inr, ⊎-elim}
 use mathlib.Core.List.{List, [], _∷_, _++_, append-assoc, append-nil}
 use Prim.Native.Nat.{ℕ}
+use native.Mathlib.Omega.{arith}
 use Rattle.words.specs.Words.{halt, pass}
 use Rattle.gaps.specs.Maps.{All}
 use Rattle.order.specs.Steps.{Name}
-use Rattle.order_laws.specs.Names.{same-yes, same-no}
+use Rattle.order_laws.specs.Names.{same?, same-yes, same-no}
 use Rattle.job.specs.Accepted.{Accepted}
 use Rattle.plain.specs.Machine.{Event, advanced, parent, child}
 use Rattle.plain.specs.Run.{answersOf}
@@ -20,7 +22,7 @@ use Rattle.job_line.specs.Agree.{start}
 use Rattle.job_line.specs.Events.{walkEvent, log}
 use Rattle.job_line.specs.Put.{Put, goes, pushes, finishes, spawns}
 use Rattle.job_line.specs.Stood.{Standing, Replaces, here, past, takes, walk-moved, stand-kept, start-stands}
-use Rattle.job_line.specs.Named.{Unnamed, Apart, turned, Pairs, of-mover, pairs-kept, next-new, unnamed-before}
+use Rattle.job_line.specs.Named.{Unnamed, nextName, Apart, turned, Pairs, not-own, of-mover, pairs-kept, next-new, unnamed-before}
 
 -- the answers of a task, by the events es
 abbrev pub Own : List Event → Item Runner → Type 0
@@ -28,6 +30,8 @@ Own es (value q v) = Unit {0}
 Own es (spot u) = u .answers ≡ answersOf (u .task .name) es
 Own es (finished u) = u .answers ≡ answersOf (u .task .name) es
 
+-- The line l and the events es: each task's answers are its events, no event is of a name that no task has, and names are
+-- used once.
 pub record Logged (l : List (Item Runner)) (es : List Event) : Type 0 where
   pub own : All (Own es) l
   pub heard : (p : Name) → All (Unnamed p) l → answersOf p es ≡ []
@@ -57,23 +61,22 @@ module _ (j : List ℕ) (es : List Event) (u : Runner) (a : Event) (made : a .na
   mover-own : Own es (spot u) → u .answers ++ (a ∷ []) ≡ answersOf (u .task .name) (es ++ (a ∷ []))
   mover-own o = ap (λ (x : List Event). x ++ (a ∷ [])) o ∙ sym (one-more es a (u .task .name) made)
 
-  child-own : Unnamed (u .task .children ∷ u .task .name) (spot u) → answersOf (u .task .children ∷ u .task .name) es ≡ []
-      → [] ≡ answersOf (u .task .children ∷ u .task .name) (es ++ (a ∷ []))
-  child-own n e = sym (no-more es a (u .task .children ∷ u .task .name) (λ c. n (sym made ∙ c)) ∙ e)
+  child-own : answersOf (nextName u) es ≡ [] → [] ≡ answersOf (nextName u) (es ++ (a ∷ []))
+  child-own e = sym (no-more es a (nextName u) (λ c. not-own u (sym made ∙ c)) ∙ e)
 
-  put-own : {xs : List (Item Runner)} (l : List (Item Runner)) → Put j u a xs → Unnamed (u .task .children ∷ u .task .name) (spot u)
-      → answersOf (u .task .children ∷ u .task .name) es ≡ [] → All (Apart (spot u)) l → All (Own es) (spot u ∷ l) → All (Own (es ++ (a ∷ []))) (xs ++ l)
+  put-own : {xs : List (Item Runner)} (l : List (Item Runner)) → Put j u a xs → answersOf (nextName u) es ≡ []
+      → All (Apart (spot u)) l → All (Own es) (spot u ∷ l) → All (Own (es ++ (a ∷ []))) (xs ++ l)
   unfolding advanced parent child
-  put-own l (goes e st) n c h o = (mover-own (o .0), others-own l h (o .1))
-  put-own l (pushes q v e st) n c h o = (tt, (mover-own (o .0), others-own l h (o .1)))
-  put-own l finishes n c h o = (mover-own (o .0), others-own l h (o .1))
-  put-own l (spawns w x e st more) n c h o = (child-own n c, (mover-own (o .0), others-own l h (o .1)))
+  put-own l (goes e st) c h o = (mover-own (o .0), others-own l h (o .1))
+  put-own l (pushes q v e st) c h o = (tt, (mover-own (o .0), others-own l h (o .1)))
+  put-own l finishes c h o = (mover-own (o .0), others-own l h (o .1))
+  put-own l (spawns w x e st more) c h o = (child-own c, (mover-own (o .0), others-own l h (o .1)))
 
-  own-kept : {l k : List (Item Runner)} → Replaces j u a l k → Pairs l → Unnamed (u .task .children ∷ u .task .name) (spot u)
-      → answersOf (u .task .children ∷ u .task .name) es ≡ [] → All (Own es) l → All (Own (es ++ (a ∷ []))) k
-  own-kept (here {l = l} p) h n c o = put-own l p n c (h .0) o
-  own-kept (past {x = x} r) h n c o = (other-own x (turned (of-mover j (Apart x) r (h .0))) (o .0), own-kept r (h .1) n c (o .1))
-  own-kept (takes r) h n c o = own-kept r (h .1) n c (o .1)
+  own-kept : {l k : List (Item Runner)} → Replaces j u a l k → Pairs l → answersOf (nextName u) es ≡ []
+      → All (Own es) l → All (Own (es ++ (a ∷ []))) k
+  own-kept (here {l = l} p) h c o = put-own l p c (h .0) o
+  own-kept (past {x = x} r) h c o = (other-own x (turned (of-mover j (Apart x) r (h .0))) (o .0), own-kept r (h .1) c (o .1))
+  own-kept (takes r) h c o = own-kept r (h .1) c (o .1)
 
   heard-kept : {l k : List (Item Runner)} → Replaces j u a l k → Logged l es → (p : Name) → All (Unnamed p) k → answersOf p (es ++ (a ∷ [])) ≡ []
   heard-kept r h p n =
@@ -82,9 +85,8 @@ module _ (j : List ℕ) (es : List Event) (u : Runner) (a : Event) (made : a .na
 
   logged-kept : {l k : List (Item Runner)} → Replaces j u a l k → Logged l es → Logged k (es ++ (a ∷ []))
   logged-kept r h =
-      let n = next-new j r (h .apart) in
       record {
-        own = own-kept r (h .apart) (of-mover j (Unnamed (u .task .children ∷ u .task .name)) r n) (h .heard (u .task .children ∷ u .task .name) n) (h .own);
+        own = own-kept r (h .apart) (h .heard (nextName u) (next-new j r (h .apart))) (h .own);
         heard = heard-kept r h;
         apart = pairs-kept j r (h .apart);
       }
@@ -97,7 +99,7 @@ module _ (j : List ℕ) (acc : Accepted j) where
       let a = walkEvent j (m .walk) in
       let c = walk-moved j acc st (m .walk) in
       subst (Logged k) (append-assoc es (a ∷ []) (log j ms))
-      (all-logged (es ++ (a ∷ [])) (stand-kept j acc (c .replaces) st) (logged-kept j es (c .mover) a (c .name) (c .replaces) h) ms)
+      (all-logged (es ++ (a ∷ [])) (stand-kept j (c .replaces) st) (logged-kept j es (c .mover) a (c .name) (c .replaces) h) ms)
 
   pub moves-logged : {n : ℕ} {l : List (Item Runner)} (ms : Moves (jobTasks j) n start l) → Logged l (log j ms)
   unfolding answersOf
@@ -108,3 +110,45 @@ pub own-answers : (w : Runner) (es : List Event) {l : List (Item Runner)} → On
 own-answers w es unfinished h = h .0
 own-answers w es over h = h .0
 own-answers w es (behind i) h = own-answers w es i (h .1)
+
+-- a task on the line of name p
+pub record Has (p : Name) (l : List (Item Runner)) : Type 0 where
+  pub task : Runner
+  pub on : On task l
+  pub name : task .task .name ≡ p
+
+-- there is one, or no item has the name
+pub has? : (p : Name) (l : List (Item Runner)) → Has p l ⊎ All (Unnamed p) l
+has? p [] = inr tt
+has? p (x ∷ l) = ⊎-elim (λ h. inl (record { task = h .task; on = behind (h .on); name = h .name })) (first x) (has? p l)
+  where
+    first : (y : Item Runner) → All (Unnamed p) l → Has p (y ∷ l) ⊎ All (Unnamed p) (y ∷ l)
+    first (value q v) n = inr (λ e. e, n)
+    first (spot u) n = ⊎-elim (λ e. inl (record { task = u; on = unfinished; name = e })) (λ d. inr (d, n)) (same? (u .task .name) p)
+    first (finished u) n = ⊎-elim (λ e. inl (record { task = u; on = over; name = e })) (λ d. inr (d, n)) (same? (u .task .name) p)
+
+-- the answers of name p are those of the task that has it
+pub has-answers : (p : Name) {l : List (Item Runner)} {es : List Event} → Logged l es → (h : Has p l) → h .task .answers ≡ answersOf p es
+has-answers p {l} {es} g h = own-answers (h .task) es (h .on) (g .own) ∙ ap (λ (q : Name). answersOf q es) (h .name)
+
+first-heard : (e : Event) (es : List Event) → answersOf (e .name) (e ∷ es) ≡ e ∷ answersOf (e .name) es
+unfolding answersOf
+first-heard e es = halt _ _ (same-yes (e .name) (e .name) refl)
+
+-- EVERY EVENT is that of a task on the line
+pub events-have : {l : List (Item Runner)} (es : List Event) → Logged l es → All (λ (e : Event). Has (e .name) l) es
+events-have {l} es g = each [] es refl
+  where
+    some : (xs ys : List Event) (e : Event) → xs ++ (e ∷ ys) ≡ [] → ⊥
+    some [] ys e h = let z : _≡_ {A = ℕ} 0 1 = cc in absurd (omega (arith, z))
+    some (x ∷ xs) ys e h = let z : _≡_ {A = ℕ} 0 1 = cc in absurd (omega (arith, z))
+
+    named : (xs ys : List Event) (e : Event) → xs ++ (e ∷ ys) ≡ es → All (Unnamed (e .name)) l → ⊥
+    named xs ys e h n =
+        some (answersOf (e .name) xs) (answersOf (e .name) ys) e
+        (ap (λ (x : List Event). answersOf (e .name) xs ++ x) (sym (first-heard e ys))
+        ∙ sym (answers-join (e .name) xs (e ∷ ys)) ∙ ap (answersOf (e .name)) h ∙ g .heard (e .name) n)
+
+    each : (xs ys : List Event) → xs ++ ys ≡ es → All (λ (e : Event). Has (e .name) l) ys
+    each xs [] h = tt
+    each xs (e ∷ ys) h = (⊎-elim (λ c. c) (λ n. absurd (named xs ys e h n)) (has? (e .name) l), each (xs ++ (e ∷ [])) ys (append-assoc xs (e ∷ []) ys ∙ h))

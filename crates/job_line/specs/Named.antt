@@ -33,6 +33,10 @@ open-named p n (value q v) o = absurd o
 open-named p n (spot u) o = o .0
 open-named p n (finished u) o = absurd o
 
+-- the name of its next child
+abbrev pub nextName : Runner → Name
+nextName u = u .task .children ∷ u .task .name
+
 -- where y descends from a child of x, that child was made
 abbrev Made : Item Runner → Item Runner → Type 0
 Made x y = (p q : Name) (k n : ℕ) → Open p n x → Named q y → Under (k ∷ p) q → k < n
@@ -57,15 +61,15 @@ apart-values q v [] = tt
 apart-values q v (x ∷ l) = (apart-value q v x, apart-values q v l)
 
 -- WHAT THE TASK u PUTS is apart from what u was apart from
-module _ (u : Runner) (a : Event) where
-  over-apart : (y : Item Runner) → Apart (spot u) y → Apart (finished (answered u a (u .task))) y
-  over-apart y h = record { differ = h .differ; left = λ p q k n o. absurd o; right = h .right }
+module _ (u : Runner) where
+  -- no name on the line is that of the next child, or descends from it
+  next-unused : (y : Item Runner) → Apart (spot u) y → (q : Name) → Named q y → Under (nextName u) q → ⊥
+  next-unused y h q b d = let z = h .left (u .task .name) q (u .task .children) (u .task .children) (refl, refl) b d in omega (arith, z)
 
-  -- no name on the line is that of the next child
-  next-unnamed : (y : Item Runner) → Apart (spot u) y → Unnamed (u .task .children ∷ u .task .name) y
-  next-unnamed y h e = let z = h .left (u .task .name) _ (u .task .children) (u .task .children) (refl, refl) e (under-self _) in omega (arith, z)
+  next-unnamed : (y : Item Runner) → Apart (spot u) y → Unnamed (nextName u) y
+  next-unnamed y h e = next-unused y h (nextName u) e (under-self _)
 
-  not-own : Unnamed (u .task .children ∷ u .task .name) (spot u)
+  pub not-own : Unnamed (nextName u) (spot u)
   not-own e = not-under-child (under-self (u .task .name)) ([], e)
 
   module _ (w x : ℕ) where
@@ -77,18 +81,18 @@ module _ (u : Runner) (a : Event) where
     child-apart y h =
         record {
           differ = λ p e b. next-unnamed y h (rw e b);
-          left = λ p q k n o b d. absurd (unused q b (under-parent (rw (← o .0) at d)));
+          left = λ p q k n o b d. absurd (next-unused y h q b (under-parent (rw (← o .0) at d)));
           right = λ p q k n o b d. old p k n o (d .0) (b ∙ d .1);
         }
       where
-        unused : (q : Name) → Named q y → Under (u .task .children ∷ u .task .name) q → ⊥
-        unused q b d = let z = h .left (u .task .name) q (u .task .children) (u .task .children) (refl, refl) b d in omega (arith, z)
-
-        old : (p : Name) (k n : ℕ) → Open p n y → (path : List ℕ) → u .task .children ∷ u .task .name ≡ path ++ (k ∷ p) → k < n
+        old : (p : Name) (k n : ℕ) → Open p n y → (path : List ℕ) → nextName u ≡ path ++ (k ∷ p) → k < n
         old p k n o [] e = absurd (h .differ p (tail-eq-of-cons-eq e) (open-named p n y o))
         old p k n o (i ∷ path) e = h .right p (u .task .name) k n o refl (path, tail-eq-of-cons-eq e)
 
-  module _ (e : Effect) where
+  over-apart : (a : Event) (y : Item Runner) → Apart (spot u) y → Apart (finished (answered u a (u .task))) y
+  over-apart a y h = record { differ = h .differ; left = λ p q k n o. absurd o; right = h .right }
+
+  module _ (a : Event) (e : Effect) where
     abbrev onward : Item Runner
     onward = spot (answered u a (advanced (u .task) e))
 
@@ -115,7 +119,7 @@ module _ (u : Runner) (a : Event) where
           differ = λ p c d. not-own (d ∙ sym c);
           left = λ p q k n o d r. absurd (not-under-child (under-self (u .task .name)) (rw (← d) at (rw (← o .0) at (under-parent r))));
           right = λ p q k n o d r.
-              let z = one-branch (rw (← o .0) at (rw (← d) at r)) (under-self (u .task .children ∷ u .task .name)) in
+              let z = one-branch (rw (← o .0) at (rw (← d) at r)) (under-self (nextName u)) in
               let m = o .1 in
               omega (arith, z, m);
         }
@@ -125,14 +129,14 @@ module _ (j : List ℕ) where
   put-apart {u} {a} y (goes e st) h = (turned (onward-apart u a e y (turned h)), tt)
   put-apart {u} {a} y (pushes q v e st) h = (turned (apart-value q v y), (turned (onward-apart u a e y (turned h)), tt))
   put-apart {u} {a} y finishes h = (turned (over-apart u a y (turned h)), tt)
-  put-apart {u} {a} y (spawns w x e st more) h = (turned (child-apart u a w x y (turned h)), (turned (spawner-apart u a e y (turned h)), tt))
+  put-apart {u} {a} y (spawns w x e st more) h = (turned (child-apart u w x y (turned h)), (turned (spawner-apart u a e y (turned h)), tt))
 
   put-pairs : {u : Runner} {a : Event} {xs : List (Item Runner)} (l : List (Item Runner)) → Put j u a xs → Pairs (spot u ∷ l) → Pairs (xs ++ l)
   put-pairs {u} {a} l (goes e st) h = (all-map (Apart (spot u)) _ l (onward-apart u a e) (h .0), h .1)
   put-pairs {u} {a} l (pushes q v e st) h = ((apart-value q v _, apart-values q v l), (all-map (Apart (spot u)) _ l (onward-apart u a e) (h .0), h .1))
   put-pairs {u} {a} l finishes h = (all-map (Apart (spot u)) _ l (over-apart u a) (h .0), h .1)
   put-pairs {u} {a} l (spawns w x e st more) h = (
-    (both-apart u a e w x, all-map (Apart (spot u)) _ l (child-apart u a w x) (h .0)),
+    (both-apart u a e w x, all-map (Apart (spot u)) _ l (child-apart u w x) (h .0)),
     (all-map (Apart (spot u)) _ l (spawner-apart u a e) (h .0), h .1),
   )
 
@@ -162,9 +166,9 @@ module _ (j : List ℕ) where
     pairs-kept (takes r) h = pairs-kept r (h .1)
 
     -- the next child's name is new
-    pub next-new : {l k : List (Item Runner)} → Replaces j u a l k → Pairs l → All (Unnamed (u .task .children ∷ u .task .name)) l
-    next-new (here {l = l} p) h = (not-own u a, all-map (Apart (spot u)) _ l (next-unnamed u a) (h .0))
-    next-new (past {x = x} r) h = (next-unnamed u a x (turned (of-mover (Apart x) r (h .0))), next-new r (h .1))
+    pub next-new : {l k : List (Item Runner)} → Replaces j u a l k → Pairs l → All (Unnamed (nextName u)) l
+    next-new (here {l = l} p) h = (not-own u, all-map (Apart (spot u)) _ l (next-unnamed u) (h .0))
+    next-new (past {x = x} r) h = (next-unnamed u x (turned (of-mover (Apart x) r (h .0))), next-new r (h .1))
     next-new (takes r) h = (λ e. e, next-new r (h .1))
 
     -- names stay on the line
