@@ -45,10 +45,15 @@ module _ {S : Type 0} (T : Tasks S) where
     moves : {n : ℕ} {l k j : List (Item S)} → Move l k → Moves n k j → Moves (suc n) l j
 
   -- the first task's move is a move
-  pub lead-walk : {m : Search} {l k : List (Item S)} → Lead T m l k → Walk T m l k
+  unfoldable pub lead-walk : {m : Search} {l k : List (Item S)} → Lead T m l k → Walk T m l k
   lead-walk (Lead.here xs d) = Walk.here xs d
   lead-walk (Lead.past s p w) = Walk.past p (lead-walk w)
   lead-walk (Lead.finds w) = Walk.finds (lead-walk w)
+
+  -- so the serial run is a list of moves
+  unfoldable pub serial-moves : {n : ℕ} {l z : List (Item S)} → Serial n l z → Moves n l z
+  serial-moves (ends a) = none
+  serial-moves (steps f r) = moves (record { search = f .search; begins = f .begins; walk = lead-walk (f .lead) }) (serial-moves r)
 
   no-walk : {m : Search} {l k : List (Item S)} → All NoSpot l → Walk T m l k → ⊥
   no-walk a (Walk.here xs d) = a .0

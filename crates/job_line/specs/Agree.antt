@@ -7,7 +7,7 @@ use native.Mathlib.Omega.{arith}
 use Rattle.gaps.specs.Maps.{All}
 use Rattle.job.specs.Accepted.{Accepted}
 use Rattle.plain.specs.Machine.{begin, queue}
-use Rattle.plain.specs.Run.{queuesOf, stackOf, stepsOf, run}
+use Rattle.plain.specs.Run.{queuesOf, stackOf, stepsOf, run, events}
 use Rattle.plain.specs.Kept.{begin-stands}
 use Rattle.exchange.specs.Line.{Item, spot, NoSpot}
 use Rattle.exchange.specs.Agreement.{Moves, agree, all-finished}
@@ -44,8 +44,8 @@ pub record Agrees (k n : ℕ) (qs : List (List ℕ)) (l : List (Item Runner)) : 
   pub left : All NoSpot l → (q : ℕ) → q < 4 → valuesOf q l ≡ queue qs q
 
 module _ (j : List ℕ) (acc : Accepted j) (m : ℕ) (end : stackOf (run m j) ≡ []) where
-  pub ran : Ran j start 0 (run m j)
-  unfolding run begin
+  pub ran : Ran j start 0 (run m j) (events m j)
+  unfolding run events begin
   ran = plain-runs j acc m 0 ([] ∷ [] ∷ [] ∷ [] ∷ []) (top ∷ []) start begins (unfold stackOf begin in begin-stands j acc) (unfold run begin in end)
 
   pub moves-agree : {k : ℕ} {l : List (Item Runner)} → Moves (jobTasks j) k start l → Agrees k (stepsOf (run m j)) (queuesOf (run m j)) l

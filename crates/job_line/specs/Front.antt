@@ -45,11 +45,11 @@ module _ {S : Type 0} where
   remaining-here true q v l k = refl
   remaining-here false q v l k = ap (λ (x : List (Item S)). x ++ k) (sym (halt _ _ (eq-eqb q q refl)))
 
-  front-past : (p q v : ℕ) (l : List (Item S)) → (p ≡ q → ⊥) → valuesOf q (value p v ∷ l) ≡ valuesOf q l
+  pub front-past : (p q v : ℕ) (l : List (Item S)) → (p ≡ q → ⊥) → valuesOf q (value p v ∷ l) ≡ valuesOf q l
   unfolding valuesOf
   front-past p q v l n = pass _ (ne-eqb p q n) refl
 
-  front-here : (q v : ℕ) (l : List (Item S)) → front (valuesOf q (value q v ∷ l)) ≡ some v
+  pub front-here : (q v : ℕ) (l : List (Item S)) → front (valuesOf q (value q v ∷ l)) ≡ some v
   unfolding valuesOf front
   front-here q v l = ap front (halt (v ∷ valuesOf q l) (valuesOf q l) (eq-eqb q q refl))
 

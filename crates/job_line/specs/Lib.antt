@@ -3,9 +3,13 @@ pub mod Within
 pub mod Lasting
 pub mod Front
 pub mod Lists
+pub mod Events
+pub mod Leads
 pub mod Plain
 pub mod Serial
 pub mod Agree
-pub mod Events
 pub mod Put
 pub mod Stood
+pub mod Named
+pub mod Log
+pub mod Answered

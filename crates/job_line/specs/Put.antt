@@ -1,12 +1,12 @@
 -- WHAT A MOVE PUTS in an accepted job: the task that moves with one answer more, and a value or a new task before it.
-use mathlib.Core.Path.{_≡_, refl, ap, sym, _∙_, subst}
+use mathlib.Core.Path.{_≡_, sym, subst}
 use mathlib.Core.Bool.{Bool, true, false≢true}
 use mathlib.Core.Option.{Option, none, some}
 use mathlib.Core.List.{List, [], _∷_, _++_}
 use Prim.Native.Nat.{ℕ, _≤_, zero-le}
 use Rattle.words.specs.Words.{pick, halt, both-true}
 use Rattle.job.specs.declared.Instruction.{Instruction}
-use Rattle.job.specs.Operations.{Row, rowOf, operationOf, operationAt}
+use Rattle.job.specs.Operations.{rowOf, operationOf, operationAt}
 use Rattle.job.specs.Effects.{Effect, effect}
 use Rattle.job.specs.Rows.{from, row-past}
 use Rattle.job.specs.Test.{whichHolds, fitting, instructionHolds}
@@ -15,7 +15,7 @@ use Rattle.plain.specs.Machine.{Task, Event, eventOf, advanced, parent, child}
 use Rattle.plain.specs.Stack.{rightsOf, Stands}
 use Rattle.plain.specs.Onward.{StandsAfter, stands-after}
 use Rattle.exchange.specs.Line.{Item, value, spot, finished, Action, puts, looks, Search, free, seeking, found, Acts}
-use Rattle.job_line.specs.Tasks.{canPush, canPop, Runner, does, goesOn, actionBy, action, instructionOf}
+use Rattle.job_line.specs.Tasks.{canPush, canPop, Runner, does, goesOn, instruction, actionBy, action, instructionOf}
 use Rattle.job_line.specs.Events.{foundBy, eventWith}
 
 -- the task t, which has had the answers of u and then a
@@ -40,13 +40,11 @@ module _ (j : List ℕ) (u : Runner) where
   putting s ys p (seeking b q) xs d = absurd d
   putting s ys p (found b q v) xs d = absurd d
 
-  looking : (s : Instruction) (b : Bool) (q : ℕ) (f : Option ℕ → List (Item Runner)) → ((o : Option ℕ) → Put j u (eventOf (u .task) s (does u s o)) (f o)) → Putting s (looks b q f)
+  looking : (s : Instruction) (b : Bool) (q : ℕ) (f : Option ℕ → List (Item Runner)) → ((o : Option ℕ) → Put j u (eventOf (u .task) s (does u s o)) (f o))
+      → Putting s (looks b q f)
   looking s b q f p free xs d = absurd d
   looking s b q f p (seeking c r) xs d = rw (d .2) (p none)
   looking s b q f p (found c r v) xs d = rw (d .2) (p (some v))
-
-  abbrev instruction : ℕ → ℕ → ℕ → Instruction
-  instruction k w x = record { operation = k; which = w; operand = x }
 
   -- by the operation's number
   abbrev Case : ℕ → Type 0
@@ -58,7 +56,8 @@ module _ (j : List ℕ) (u : Runner) where
   with-right : (s : Instruction) {b : Bool} (i k : Action Runner) → b ≡ true → Putting s i → Putting s (pick b i k)
   with-right s i k e p = subst (Putting s) (sym (halt i k e)) p
 
-  on-case : (k : ℕ) (w x : ℕ) → Stands j (advanced (u .task) (does u (instruction k w x) none)) → Putting (instruction k w x) (puts (spot (goesOn u (instruction k w x) none) ∷ []))
+  on-case : (k w x : ℕ) → Stands j (advanced (u .task) (does u (instruction k w x) none))
+      → Putting (instruction k w x) (puts (spot (goesOn u (instruction k w x) none) ∷ []))
   on-case k w x st = putting (instruction k w x) _ (goes _ st)
 
   by-number : (k : ℕ) → 0 ≤ k → Case k
@@ -72,7 +71,8 @@ module _ (j : List ℕ) (u : Runner) where
       (from Case 5 (λ w x a st. on-case 5 w x (st none))
       (from Case 6 (λ w x a st. on-case 6 w x (st none))
       (from Case 7 (λ w x a st. on-case 7 w x (st none))
-      (from Case 8 (λ w x a st. with-right (instruction 8 w x) _ _ (both-true _ _ a .1) (putting (instruction 8 w x) _ (spawns w x _ (st none .1) (st none .0))))
+      (from Case 8 (λ w x a st.
+      with-right (instruction 8 w x) _ _ (both-true _ _ a .1) (putting (instruction 8 w x) _ (spawns w x _ (st none .1) (st none .0))))
       (from Case 9 (λ w x a st. on-case 9 w x (st none))
       (λ k past w x a st. absurd (false≢true (rw (row-past k past) at a)))
       )))))))))

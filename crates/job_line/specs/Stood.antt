@@ -40,16 +40,10 @@ pub record Moved (j : List ℕ) (l k : List (Item Runner)) (a : Event) : Type 0 
   pub name : a .name ≡ mover .task .name
   pub replaces : Replaces j mover a l k
 
-module _ (j : List ℕ) (acc : Accepted j) where
+module _ (j : List ℕ) where
   left-or-taken : (b : Bool) (q v : ℕ) {l k : List (Item Runner)} (a : Event) → Moved j l k a → Moved j (value q v ∷ l) (leave b (value q v) k) a
   left-or-taken true q v a c = record { mover = c .mover; name = c .name; replaces = past (c .replaces) }
   left-or-taken false q v a c = record { mover = c .mover; name = c .name; replaces = takes (c .replaces) }
-
-  pub walk-moved : {m : Search} {l k : List (Item Runner)} → All (Standing j) l → (w : Walk (jobTasks j) m l k) → Moved j l k (walkEvent j w)
-  unfolding eventOf
-  walk-moved h (Walk.here {m = m} {s = u} xs d) = record { mover = u; name = refl; replaces = here (puts-so j u acc (h .0) m xs d) }
-  walk-moved h (Walk.past p w) = let c = walk-moved (h .1) w in record { mover = c .mover; name = c .name; replaces = past (c .replaces) }
-  walk-moved h (Walk.finds {b = b} {q = q} {v = v} w) = left-or-taken b q v (walkEvent j w) (walk-moved (h .1) w)
 
   put-stands : {u : Runner} {a : Event} {xs : List (Item Runner)} → Put j u a xs → All (Standing j) xs
   put-stands (goes e st) = (st, tt)
@@ -62,17 +56,24 @@ module _ (j : List ℕ) (acc : Accepted j) where
   stand-kept (past r) h = (h .0, stand-kept r (h .1))
   stand-kept (takes r) h = stand-kept r (h .1)
 
+  one-stands : {u : Runner} {l : List (Item Runner)} → All (Standing j) l → Unfinished u l → Stands j (u .task)
+  one-stands h first = h .0
+  one-stands h (behind i) = one-stands (h .1) i
+
+module _ (j : List ℕ) (acc : Accepted j) where
+  pub walk-moved : {m : Search} {l k : List (Item Runner)} → All (Standing j) l → (w : Walk (jobTasks j) m l k) → Moved j l k (walkEvent j w)
+  unfolding eventOf
+  walk-moved h (Walk.here {m = m} {s = u} xs d) = record { mover = u; name = refl; replaces = here (puts-so j u acc (h .0) m xs d) }
+  walk-moved h (Walk.past p w) = let c = walk-moved (h .1) w in record { mover = c .mover; name = c .name; replaces = past (c .replaces) }
+  walk-moved h (Walk.finds {b = b} {q = q} {v = v} w) = left-or-taken j b q v (walkEvent j w) (walk-moved (h .1) w)
+
   pub start-stands : All (Standing j) start
   unfolding stackOf begin
   start-stands = (begin-stands j acc .0, tt)
 
   all-stand : {n : ℕ} {l k : List (Item Runner)} → All (Standing j) l → Moves (jobTasks j) n l k → All (Standing j) k
   all-stand h Moves.none = h
-  all-stand h (Moves.moves m ms) = all-stand (stand-kept (walk-moved h (m .walk) .replaces) h) ms
-
-  one-stands : {u : Runner} {l : List (Item Runner)} → All (Standing j) l → Unfinished u l → Stands j (u .task)
-  one-stands h first = h .0
-  one-stands h (behind i) = one-stands (h .1) i
+  all-stand h (Moves.moves m ms) = all-stand (stand-kept j (walk-moved h (m .walk) .replaces) h) ms
 
   pub moves-stand : {n : ℕ} {l : List (Item Runner)} (ms : Moves (jobTasks j) n start l) (u : Runner) → Unfinished u l → Stands j (u .task)
-  moves-stand ms u i = one-stands (all-stand start-stands ms) i
+  moves-stand ms u i = one-stands j (all-stand start-stands ms) i

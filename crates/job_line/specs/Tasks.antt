@@ -27,6 +27,9 @@ pub record Runner : Type 0 where
   pub task : Task
   pub answers : List Event
 
+abbrev pub instruction : ℕ → ℕ → ℕ → Instruction
+instruction k w x = record { operation = k; which = w; operand = x }
+
 -- the effect of instruction s, where f is what was found in its queue
 unfoldable pub does : Runner → Instruction → Option ℕ → Effect
 does u s f = effect (operationAt (s .operation)) (u .task .position) (u .task .register) (s .operand) f

@@ -93,7 +93,10 @@ module _ (j : List ℕ) (acc : Accepted j) (t : Task) (here : Stands j t) where
       (from Onward 5 (λ w x f a b l. goes _ (ltb-true _ _ b))
       (from Onward 6 (λ w x f a b l. goes _ (zero-next _ _ 0 _ (onwards 6 refl refl l) (ltb-true _ _ b) (eqb (t .register) 0)))
       (from Onward 7 (λ w x f a b l. goes _ (onwards 7 refl refl l))
-      (from Onward 8 (λ w x f a b l. let s = both-true _ _ a in let p = spawns _ w x (onwards 8 refl refl l) (ltb-true _ _ (s .0)) in (p .0, p .1, s .1))
+      (from Onward 8 (λ w x f a b l.
+      let s = both-true _ _ a in
+      let p = spawns _ w x (onwards 8 refl refl l) (ltb-true _ _ (s .0)) in
+      (p .0, p .1, s .1))
       (from Onward 9 (λ w x f a b l. goes _ (onwards 9 refl refl l))
       (λ k past w x f a b l. absurd (false≢true (rw (row-past k past) at a)))
       )))))))))
@@ -108,7 +111,8 @@ module _ (j : List ℕ) (acc : Accepted j) (t : Task) (here : Stands j t) where
       → (instructionAt j (t .procedure) (t .position) .operation ≡ 0) ⊎ (instructionAt j (t .procedure) (t .position) .operation ≡ 5)
   unfolding lastHolds
   ends e =
-      let w = either-true _ _ (ap (λ (i : ℕ). ending (instructionAt j (t .procedure) i .operation)) (sym (before e)) ∙ acc .last (t .procedure) (here .procedure)) in
+      let w = either-true _ _
+      (ap (λ (i : ℕ). ending (instructionAt j (t .procedure) i .operation)) (sym (before e)) ∙ acc .last (t .procedure) (here .procedure)) in
       ⊎-elim (λ q. inl (eqb-true _ 0 q)) (λ q. inr (eqb-true _ 5 q)) w
     where
       ending : ℕ → Bool
