@@ -7,3 +7,6 @@ pub mod Answered
 pub mod Numbers
 pub mod Goes
 pub mod Operations
+pub mod Running
+pub mod Names
+pub mod Called

@@ -1,0 +1,100 @@
+-- ONE CALL of a run under way: the run goes on, or nothing changes.
+use mathlib.Core.Path.{_≡_, refl, ap, ap₂, sym, _∙_, subst}
+use mathlib.Core.Bool.{Bool, true, false, not}
+use mathlib.Core.List.{List, [], _∷_, _++_}
+use mathlib.Core.Option.{Option}
+use Prim.Native.Nat.{ℕ, _<_, suc}
+use Rattle.words.specs.Words.{pass, halt}
+use Rattle.gaps.specs.Maps.{All}
+use Rattle.answers.specs.declared.Answer.the-variants.{Moved}
+use Rattle.order.specs.Steps.{Item as Mark}
+use Rattle.order.specs.Waits.{unfinished}
+use Rattle.job.specs.Test.{jobAnswer}
+use Rattle.job.specs.Accepted.{accepted}
+use Rattle.plain.specs.Stack.{Stands}
+use Rattle.plain.specs.Machine.{Event}
+use Rattle.exchange.specs.Line.{Item, value, spot, finished}
+use Rattle.job_line.specs.Tasks.{Runner, does, instructionOf}
+use Rattle.job_line.specs.Events.{one-more, more-log, eventWith}
+use Rattle.job_line.specs.Stood.{Unfinished, first, behind, moves-stand}
+use Rattle.job_order.specs.Beside.{Numbered, unnumbered, standing, Beside}
+use Rattle.job_order.specs.Located.{unfinished-stands}
+use Rattle.runner.specs.declared.StepAnswer.{StepAnswer}
+use Rattle.runner.specs.declared.StepAnswer.the-variants.{Refused}
+use Rattle.runner.specs.Answers.{answerWith, outcome, hasMoved, answerOf}
+use Rattle.runner.specs.Step.{stepTested, stepOutcome}
+use Rattle.any_order.specs.Statement.{Stand, stepped, stepAnswer}
+use Rattle.any_order.specs.States.{state-unfinished}
+use Rattle.any_order.specs.Written.{Written}
+use Rattle.any_order.specs.Tested.{tests-pass}
+use Rattle.any_order.specs.Goes.{Stays, waits, eight, nine, Goes, Does, stays, goes}
+use Rattle.any_order.specs.Goes as common
+use Rattle.any_order.specs.Running.{Running, has-moved, same-stand, next-stand}
+use Rattle.any_order.specs.Names.{name-is, event-is}
+
+-- an answer of a step that does not move
+pub stays-still : {j : List ℕ} {xs : List Mark} {n : Numbered} (x : StepAnswer) → Stays j xs n x → hasMoved x ≡ false
+unfolding hasMoved
+stays-still x (waits w) = refl
+stays-still x eight = refl
+stays-still x nine = refl
+
+module _ (j : List ℕ) (e : jobAnswer j ≡ Moved 0) where
+  -- every task on the line is at an instruction that exists
+  all-stood : (l : List (Item Numbered)) → ((u : Runner) → Unfinished u (unnumbered l) → Stands j (u .task)) → All (λ n. Stands j (n .runner .task)) (standing l)
+  unfolding unnumbered standing
+  all-stood [] f = tt
+  all-stood (value q v ∷ l) f = all-stood l (λ u i. f u (behind i))
+  all-stood (spot n ∷ l) f = (f (n .runner) first, all-stood l (λ u i. f u (behind i)))
+  all-stood (finished n ∷ l) f = all-stood l (λ u i. f u (behind i))
+
+  pub stood : {s : Stand} {l : List (Item Numbered)} → Running j s l → All (λ n. Stands j (n .runner .task)) (standing l)
+  stood {l = l} run = all-stood l (λ u i. moves-stand j (accepted j e) (run .moves) u i)
+
+  -- What a call of task number t does.
+  pub data Called (s : Stand) (l : List (Item Numbered)) (t : ℕ) : Type 0 where
+    absent : unfinished t (s .order) ≡ false → stepAnswer j s t ≡ Refused 4 → stepped j t s ≡ s → Called s l t
+    held : (a b : List (Item Numbered)) (n : Numbered) (x : StepAnswer) → l ≡ a ++ spot n ∷ b → n .number ≡ t → Stays j (s .order) n x → stepAnswer j s t ≡ x
+        → stepped j t s ≡ s → Called s l t
+    went : (k : List (Item Numbered)) → hasMoved (stepAnswer j s t) ≡ true → Running j (stepped j t s) k → Called s l t
+
+  -- 4: nobody unfinished has the number
+  refused-four : (s : Stand) (l : List (Item Numbered)) (t : ℕ) → Running j s l → unfinished t (s .order) ≡ false → Called s l t
+  unfolding stepOutcome stepTested stepAnswer answerOf hasMoved
+  refused-four s l t run f =
+      let o : stepOutcome j (s .core) (s .runner) t ≡ outcome (Refused 4) (s .core) (s .runner) =
+      tests-pass j (s .core) (s .runner) (s .order) l (run .state) (run .beside) (run .written) (stood run) e _
+      ∙ halt _ _ (ap not (state-unfinished (s .core) (s .order) (run .state) t ∙ f)) in
+      absent f (ap answerOf o) (same-stand j s t (Refused 4) refl o)
+
+  module _ (s : Stand) (a b : List (Item Numbered)) (n : Numbered) (run : Running j s (a ++ spot n ∷ b)) where
+    abbrev t : ℕ
+    t = n .number
+
+    moves-on : Goes j (s .core) (s .runner) (s .order) a b n → Called s (a ++ spot n ∷ b) t
+    unfolding stepAnswer answerOf
+    moves-on g =
+        let f = g .found in
+        let d = does (n .runner) (instructionOf j (n .runner)) f in
+        let yes : hasMoved (answerWith (d .word) (d .value) (g .new)) ≡ true = unfold does in has-moved _ _ _ _ f _ (g .new) in
+        let p = common.represents j e (s .core) (s .runner) (s .order) a b n (run .state) (run .beside) (run .written) (stood run) .played in
+        let v = event-is j s n f (g .new) (name-is j (s .order) a b n p (run .beside))
+        (common.instruction-is j e (s .core) (s .runner) (s .order) a b n (run .state) (run .beside) (run .written) (stood run)) in
+        let next : Stand = record { core = g .core; runner = g .runner; order = g .order; events = s .events ++ eventWith j (n .runner) f ∷ [] } in
+        went (g .after .line) (ap (λ o. hasMoved (answerOf o)) (g .outcome-is) ∙ yes)
+        (subst (λ (k : Stand). Running j k (g .after .line)) (sym (next-stand j s t _ (g .core) (g .runner) (g .order) _ yes (g .outcome-is) (g .noted-is) v))
+        (record {
+          state = g .state;
+          beside = g .after .beside;
+          written = subst (Written (g .runner)) (sym (g .after .stand)) (g .written);
+          count = suc (run .count);
+          moves = one-more j (run .moves) (g .after .move);
+          log =
+              more-log j (run .moves) (g .after .move)
+              ∙ ap₂ (λ (es : List Event) (x : Event). es ++ x ∷ []) (run .log) (g .after .event);
+        }))
+
+    pub called-by : Does j (s .core) (s .runner) (s .order) a b n → Called s (a ++ spot n ∷ b) t
+    unfolding stepAnswer answerOf
+    called-by (stays x y o) = held a b n x refl refl y (ap answerOf o) (same-stand j s t x (stays-still x y) o)
+    called-by (goes g) = moves-on g

@@ -1,0 +1,114 @@
+-- A RUN UNDER WAY: both memories beside the line of the job's tasks, and the moves that led to it.
+use mathlib.Core.Path.{_≡_, refl, ap, ap₂, sym, _∙_, subst}
+use mathlib.Core.Bool.{Bool, true, false}
+use mathlib.Core.List.{List, [], _∷_, _++_}
+use mathlib.Core.Option.{Option, none, some}
+use Prim.Native.Nat.{ℕ}
+use native.Mathlib.Omega.{arith}
+use borrow.Author.Tests.{eq-eqb, ne-eqb}
+use Rattle.words.specs.Words.{pick, pass, halt}
+use Rattle.lists.specs.Counting.{one-yes}
+use Rattle.gaps.specs.Maps.{All}
+use Rattle.answers.specs.Calls.{Call}
+use Rattle.order.specs.Steps.{Name, Item as Mark, nameOf, numberOf}
+use Rattle.in_order.specs.State.{State}
+use Rattle.job.specs.Operations.{Operation, return, push, pushSum, pop, goIfEmpty, go, goIfZero, add, spawn, sync, operationAt}
+use Rattle.job.specs.Effects.{Word, spawned, pushed, took, moved, finished, empty, notEmpty, waits, refused, effect}
+use Rattle.plain.specs.Machine.{Event}
+use Rattle.exchange.specs.Line.{Item}
+use Rattle.exchange.specs.Agreement.{Moves}
+use Rattle.job_line.specs.Tasks.{Runner, does, instructionOf}
+use Rattle.job_line.specs.Within.{jobTasks}
+use Rattle.job_line.specs.Agree.{start}
+use Rattle.job_line.specs.Events as Log
+use Rattle.job_order.specs.Beside.{Numbered, unnumbered, standing, Beside}
+use Rattle.runner.specs.declared.StepAnswer.{StepAnswer}
+use Rattle.runner.specs.Words.{registerOf, instructionFor}
+use Rattle.runner.specs.Answers.{answerWith, wordOf, hasMoved, Outcome, outcome, answerOf, coreOf, runnerOf}
+use Rattle.runner.specs.Step.{callOf, stepOutcome}
+use Rattle.any_order.specs.Statement.{Stand, aside, eventFor, notedBy, stepped}
+use Rattle.any_order.specs.Written.{Written}
+
+pub record Running (j : List ℕ) (s : Stand) (line : List (Item Numbered)) : Type 0 where
+  pub state : State (s .core) (s .order)
+  pub beside : Beside j (s .order) line
+  pub written : Written (s .runner) (standing line)
+  pub count : ℕ
+  pub moves : Moves (jobTasks j) count start (unnumbered line)
+  pub log : Log.log j moves ≡ s .events
+
+-- THE WORDS of a step that goes on: it has moved, and its event has the word and the value of its effect
+pub has-moved : (o : Operation) (p x y : ℕ) (f : Option ℕ) (v c : ℕ) → hasMoved (answerWith (effect o p x y f .word) v c) ≡ true
+unfolding hasMoved answerWith effect
+has-moved return p x y f v c = refl
+has-moved push p x y f v c = refl
+has-moved pushSum p x y f v c = refl
+has-moved pop p x y none v c = refl
+has-moved pop p x y (some w) v c = refl
+has-moved goIfEmpty p x y none v c = refl
+has-moved goIfEmpty p x y (some w) v c = refl
+has-moved go p x y f v c = refl
+has-moved goIfZero p x y f v c = refl
+has-moved add p x y f v c = refl
+has-moved spawn p x y f v c = refl
+has-moved sync p x y f v c = refl
+
+pub same-word : (w : Word) (v c : ℕ) → wordOf (answerWith w v c) ≡ w
+unfolding wordOf answerWith
+same-word spawned v c = refl
+same-word pushed v c = refl
+same-word took v c = refl
+same-word moved v c = refl
+same-word finished v c = refl
+same-word empty v c = refl
+same-word notEmpty v c = refl
+same-word waits v c = refl
+same-word refused v c = refl
+
+pub same-value : (o : Operation) (p x y : ℕ) (f : Option ℕ) (c : ℕ) → let e = effect o p x y f in aside (answerWith (e .word) (e .value) c) ≡ e .value
+unfolding aside answerWith effect
+same-value return p x y f c = refl
+same-value push p x y f c = refl
+same-value pushSum p x y f c = refl
+same-value pop p x y none c = refl
+same-value pop p x y (some w) c = refl
+same-value goIfEmpty p x y none c = refl
+same-value goIfEmpty p x y (some w) c = refl
+same-value go p x y f c = refl
+same-value goIfZero p x y f c = refl
+same-value add p x y f c = refl
+same-value spawn p x y f c = refl
+same-value sync p x y f c = refl
+
+-- WHERE A RUN STANDS after a call with outcome o
+module _ (j : List ℕ) (s : Stand) (t : ℕ) where
+  abbrev Call-of : Option Call
+  Call-of = callOf (operationAt (instructionFor j (s .runner) t .operation)) j t (registerOf (s .runner) t) (instructionFor j (s .runner) t)
+
+  abbrev after : Outcome → Stand
+  after o =
+      record {
+        core = coreOf o;
+        runner = runnerOf o;
+        order = pick (hasMoved (answerOf o)) (notedBy Call-of (s .core) (s .order)) (s .order);
+        events = pick (hasMoved (answerOf o)) (s .events ++ eventFor j s t (answerOf o) ∷ []) (s .events);
+      }
+
+  stepped-is : (o : Outcome) → stepOutcome j (s .core) (s .runner) t ≡ o → stepped j t s ≡ after o
+  unfolding stepped
+  stepped-is o e = ap after e
+
+  -- a call that does not move
+  pub same-stand : (x : StepAnswer) → hasMoved x ≡ false → stepOutcome j (s .core) (s .runner) t ≡ outcome x (s .core) (s .runner) → stepped j t s ≡ s
+  unfolding coreOf runnerOf answerOf
+  same-stand x d e =
+      stepped-is (outcome x (s .core) (s .runner)) e
+      ∙ ap₂ (λ (l : List Mark) (es : List Event). record { core = s .core; runner = s .runner; order = l; events = es }) (pass _ d refl) (pass _ d refl)
+
+  -- a call that moves
+  pub next-stand : (x : StepAnswer) (m r : List ℕ) (l : List Mark) (e : Event) → hasMoved x ≡ true → stepOutcome j (s .core) (s .runner) t ≡ outcome x m r
+      → notedBy Call-of (s .core) (s .order) ≡ l → eventFor j s t x ≡ e → stepped j t s ≡ record { core = m; runner = r; order = l; events = s .events ++ e ∷ [] }
+  unfolding coreOf runnerOf answerOf
+  next-stand x m r l e d o n v =
+      stepped-is (outcome x m r) o
+      ∙ ap₂ (λ (k : List Mark) (es : List Event). record { core = m; runner = r; order = k; events = es }) (halt _ _ d ∙ n) (halt _ _ d ∙ ap (λ (y : Event). s .events ++ y ∷ []) v)
