@@ -6,3 +6,8 @@ pub mod Walks
 pub mod Steps
 pub mod Instructions
 pub mod Puts
+pub mod Searches
+pub mod Found
+pub mod Kept
+pub mod Looks
+pub mod Finds
