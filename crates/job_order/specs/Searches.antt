@@ -2,11 +2,11 @@
 use mathlib.Core.Path.{_≡_, refl, ap, sym, _∙_, subst}
 use mathlib.Core.Logic.{inl, inr, ⊎-elim}
 use mathlib.Core.Bool.{Bool, true, false}
-use mathlib.Core.List.{List, [], _∷_, _++_, map}
+use mathlib.Core.List.{List, [], _∷_, _++_, map, cons≢nil}
 use Prim.Native.Nat.{ℕ}
 use native.Mathlib.Omega.{arith}
 use lib.Dec.{eqb}
-use borrow.Author.Tests.{eqb-true}
+use borrow.Author.Tests.{eq-eqb, eqb-true}
 use Rattle.words.specs.Words.{pick, halt, pass}
 use Rattle.lists.specs.Counting.{equal?}
 use Rattle.tree.specs.Rights.{uses, pops as mayPop}
@@ -118,9 +118,9 @@ module _ (j : List ℕ) where
         → firstOf t (pointsOf j q (spot m ∷ l)) ≡ firstOf t (user (numberOf (taskOf j m)) ∷ pointsOf j q l)
     spot-first m l e = ap (firstOf t) (point-is j q m l ∙ halt _ _ e)
 
-    value-first : (v : ℕ) (l : List (Item Numbered)) → firstOf t (pointsOf j q (value q v ∷ l)) ≡ Value v
+    value-at : (r v : ℕ) (l : List (Item Numbered)) → r ≡ q → firstOf t (pointsOf j q (value r v ∷ l)) ≡ Value v
     unfolding firstOf
-    value-first v l = ap (firstOf t) (value-here j q v l)
+    value-at r v l d = ap (λ (x : ℕ). firstOf t (pointsOf j q (value x v ∷ l))) d ∙ ap (firstOf t) (value-here j q v l)
 
     -- a value is the first
     pub first-value : (v : ℕ) (a : List (Item Numbered)) → All (NoPop q) a → First a ≡ Value v → FirstValue q v a
@@ -129,8 +129,7 @@ module _ (j : List ℕ) where
       where
         here : r ≡ q → FirstValue q v (value r w ∷ a)
         here d =
-            let first = ap (λ (x : ℕ). firstOf t (pointsOf j q (value x w ∷ (a ++ spot n ∷ b)))) d ∙ value-first w (a ++ spot n ∷ b) in
-            let same : w ≡ v = same-value (sym first ∙ e) in
+            let same : w ≡ v = same-value (sym (value-at r w (a ++ spot n ∷ b) d) ∙ e) in
             let parts : value r w ∷ a ≡ value q v ∷ a = cc in
             record { front = []; back = a; parts = parts; bare = tt; quiet = p .1 }
 
@@ -151,8 +150,7 @@ module _ (j : List ℕ) where
     first-nothing (value r w ∷ a) p e = ⊎-elim here (past (first-nothing a (p .1))) (equal? r q)
       where
         here : r ≡ q → All (NoPoint q) (value r w ∷ a)
-        here d =
-            value-empty (sym (ap (λ (x : ℕ). firstOf t (pointsOf j q (value x w ∷ (a ++ spot n ∷ b)))) d ∙ value-first w (a ++ spot n ∷ b)) ∙ e)
+        here d = value-empty (sym (value-at r w (a ++ spot n ∷ b) d) ∙ e)
 
         past : (First a ≡ Empty → All (NoPoint q) a) → (r ≡ q → ⊥) → All (NoPoint q) (value r w ∷ a)
         past rest d = (d, rest (sym (later (value r w) a (value-past j q r w (a ++ spot n ∷ b) d)) ∙ e))
@@ -162,3 +160,17 @@ module _ (j : List ℕ) where
         go true d rest = absurd (p .0 (user-empty t (numberOf (taskOf j m)) _ (sym (spot-first m (a ++ spot n ∷ b) d) ∙ e)))
         go false d rest = (d, rest (sym (later (spot m) a (point-is j q m (a ++ spot n ∷ b) ∙ pass _ d refl)) ∙ e))
     first-nothing (finished m ∷ a) p e = (tt, first-nothing a (p .1) (sym (later (finished m) a (finished-past j q m (a ++ spot n ∷ b))) ∙ e))
+
+    -- where no task stands before it, it does not wait
+    pub first-moves : (a : List (Item Numbered)) → standing a ≡ [] → First a ≡ Waits → ⊥
+    unfolding standing firstOf
+    first-moves [] p e = waits-empty (sym e ∙ spot-first n b u ∙ halt _ _ (eq-eqb t t refl))
+    first-moves (value r w ∷ a) p e = ⊎-elim here (past (first-moves a p)) (equal? r q)
+      where
+        here : r ≡ q → ⊥
+        here d = value-waits (sym (value-at r w (a ++ spot n ∷ b) d) ∙ e)
+
+        past : (First a ≡ Waits → ⊥) → (r ≡ q → ⊥) → ⊥
+        past rest d = rest (sym (later (value r w) a (value-past j q r w (a ++ spot n ∷ b) d)) ∙ e)
+    first-moves (spot m ∷ a) p e = cons≢nil p
+    first-moves (finished m ∷ a) p e = first-moves a p (sym (later (finished m) a (finished-past j q m (a ++ spot n ∷ b))) ∙ e)
