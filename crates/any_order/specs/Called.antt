@@ -59,7 +59,7 @@ module _ (j : List ℕ) (e : jobAnswer j ≡ Moved 0) where
     went : (k : List (Item Numbered)) → hasMoved (stepAnswer j s t) ≡ true → Running j (stepped j t s) k → Called s l t
 
   -- 4: nobody unfinished has the number
-  refused-four : (s : Stand) (l : List (Item Numbered)) (t : ℕ) → Running j s l → unfinished t (s .order) ≡ false → Called s l t
+  pub refused-four : (s : Stand) (l : List (Item Numbered)) (t : ℕ) → Running j s l → unfinished t (s .order) ≡ false → Called s l t
   unfolding stepOutcome stepTested stepAnswer answerOf hasMoved
   refused-four s l t run f =
       let o : stepOutcome j (s .core) (s .runner) t ≡ outcome (Refused 4) (s .core) (s .runner) =

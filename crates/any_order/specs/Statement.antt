@@ -8,9 +8,9 @@ use mathlib.Core.Bool.{true, false}
 use mathlib.Core.List.{List, [], _∷_, _++_}
 use mathlib.Core.Logic.{_⊎_}
 use mathlib.Core.Option.{Option, none, some}
-use Prim.Native.Nat.{ℕ, zero, suc, _<_}
+use Prim.Native.Nat.{ℕ, _<_}
 use lib.Dec.{eqb}
-use lib.ListN.{length}
+use lib.ListN.{length, getElem?}
 use Rattle.words.specs.Words.{size, pick}
 use Rattle.layout.specs.Layout.{WORDS}
 use Rattle.answers.specs.declared.Answer.the-variants.{Moved}
@@ -28,7 +28,7 @@ use Rattle.plain.specs.Run.{queuesOf, stackOf, stepsOf, run, events, answersOf}
 use Rattle.runner.specs.declared.StepAnswer.{StepAnswer}
 use Rattle.runner.specs.declared.StepAnswer.the-variants.{Spawned, Pushed, Took, Finished, Moved as Went, Empty, NotEmpty, Waits, Refused}
 use Rattle.runner.specs.Words.{RUNNER, registerOf, instructionFor}
-use Rattle.runner.specs.Answers.{wordOf, valueOf, hasMoved, answerOf, coreOf, runnerOf}
+use Rattle.runner.specs.Answers.{wordOf, hasMoved, answerOf, coreOf, runnerOf}
 use Rattle.runner.specs.Open.{openOutcome}
 use Rattle.runner.specs.Step.{callOf, stepOutcome}
 
@@ -95,12 +95,6 @@ fresh j w v = let o = openOutcome j w v in record { core = coreOf o; runner = ru
 unfoldable pub stepAnswer : List ℕ → Stand → ℕ → StepAnswer
 stepAnswer j s t = answerOf (stepOutcome j (s .core) (s .runner) t)
 
--- value number i of a list
-unfoldable pub valueAt : ℕ → List ℕ → Option ℕ
-valueAt i [] = none
-valueAt zero (v ∷ vs) = some v
-valueAt (suc i) (v ∷ vs) = valueAt i vs
-
 abbrev pub AllFinished : Stand → Type 0
 AllFinished s = (t : ℕ) → unfinished (s .core) t ≡ false
 
@@ -118,7 +112,7 @@ pub record Agreed (j : List ℕ) (n : ℕ) (s : Stand) : Type 0 where
   -- once all have finished: every task has all its answers
   pub all : AllFinished s → (p : Name) → answersOf p (s .events) ≡ answersOf p (events n j)
   -- left gives the plain machine's lists, and 7 past their ends
-  pub left : AllFinished s → (q i : ℕ) → q < 4 → coreAnswer (leftOutcome (s .core) q i) ≡ leftAnswer (valueAt i (queue (queuesOf (run n j)) q))
+  pub left : AllFinished s → (q i : ℕ) → q < 4 → coreAnswer (leftOutcome (s .core) q i) ≡ leftAnswer (getElem? (queue (queuesOf (run n j)) q) i)
   -- and as many calls moved as the plain machine made steps
   pub moves : AllFinished s → length (s .events) ≡ stepsOf (run n j)
 
