@@ -76,7 +76,7 @@ pub data Does (j m r : List ℕ) (xs : List Mark) (a b : List (Item Numbered)) (
   goes : Goes j m r xs a b n → Does j m r xs a b n
 
 module _ (j : List ℕ) (e : jobAnswer j ≡ Moved 0) (m r : List ℕ) (xs : List Mark) (a b : List (Item Numbered)) (n : Numbered) (st : State m xs)
-  (h : Beside j xs (a ++ spot n ∷ b)) (w : Written r (standing (a ++ spot n ∷ b))) (stood : All (λ k. Stands j (k .runner .task)) (standing (a ++ spot n ∷ b))) where
+    (h : Beside j xs (a ++ spot n ∷ b)) (w : Written r (standing (a ++ spot n ∷ b))) (stood : All (λ k. Stands j (k .runner .task)) (standing (a ++ spot n ∷ b))) where
   abbrev t : ℕ
   t = n .number
 
