@@ -38,11 +38,12 @@ use Rattle.job_order.specs.Left.{left-along}
 use Rattle.runner.specs.declared.StepAnswer.{StepAnswer}
 use Rattle.runner.specs.declared.StepAnswer.the-variants.{Waits, Refused}
 use Rattle.runner.specs.Answers.{hasMoved, Outcome, answerOf}
+use Rattle.runner.specs.Laws.{has-moved}
 use Rattle.any_order.specs.Statement.{Stand, stepped, afterCalls, fresh, stepAnswer, AllFinished, Agreed, Promise}
 use Rattle.any_order.specs.States.{state-unfinished, still}
 use Rattle.any_order.specs.Goes.{Waiting, for-sibling, for-child, for-queue, Stays, waits, eight, nine, Does, stays, goes}
 use Rattle.any_order.specs.Looking.{step-does}
-use Rattle.any_order.specs.Running.{Running, has-moved}
+use Rattle.any_order.specs.Running.{Running}
 use Rattle.any_order.specs.Called.{stood, Called, absent, held, went, refused-four, called-by}
 use Rattle.any_order.specs.Fresh.{fresh-runs}
 

@@ -23,13 +23,14 @@ use Rattle.runner.specs.declared.StepAnswer.{StepAnswer}
 use Rattle.runner.specs.declared.StepAnswer.the-variants.{Refused}
 use Rattle.runner.specs.Answers.{answerWith, outcome, hasMoved, answerOf}
 use Rattle.runner.specs.Step.{stepTested, stepOutcome}
+use Rattle.runner.specs.Laws.{has-moved}
 use Rattle.any_order.specs.Statement.{Stand, stepped, stepAnswer}
 use Rattle.any_order.specs.States.{state-unfinished}
 use Rattle.any_order.specs.Written.{Written}
 use Rattle.any_order.specs.Tested.{tests-pass}
 use Rattle.any_order.specs.Goes.{Stays, waits, eight, nine, Goes, Does, stays, goes}
 use Rattle.any_order.specs.Goes as common
-use Rattle.any_order.specs.Running.{Running, has-moved, same-stand, next-stand}
+use Rattle.any_order.specs.Running.{Running, same-stand, next-stand}
 use Rattle.any_order.specs.Names.{name-is, event-is}
 
 -- an answer of a step that does not move

@@ -3,3 +3,4 @@ pub mod Words
 pub mod Rules
 pub mod Open
 pub mod Step
+pub mod Laws
