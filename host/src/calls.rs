@@ -1,7 +1,8 @@
 //! The eight calls of the core, on any words of any number.
 //!
 //! Each call tests in the order of document 01's table, and writes only when
-//! nothing can turn it down any more.
+//! nothing can turn it down any more. What follows the memory test stands in a
+//! function of its own, `try_..`, for the runner, which makes that test itself.
 
 use crate::answer::*;
 use crate::layout::*;
@@ -9,13 +10,18 @@ use crate::views::{self, EMPTY};
 use crate::{fast, late, pools, tree};
 
 /// An answer that ends a call early is the error case.
-type Tried = Result<Answer, Answer>;
+pub(crate) type Tried = Result<Answer, Answer>;
 type Passed = Result<(), Answer>;
 
-fn either(tried: Tried) -> Answer {
+pub(crate) fn either(tried: Tried) -> Answer {
     match tried {
         Ok(answer) | Err(answer) => answer,
     }
+}
+
+/// A call behind the memory test.
+fn whole(m: &mut [u32], behind: impl FnOnce(&mut [u32]) -> Tried) -> Answer {
+    either(memory_passes(m).and_then(|()| behind(m)))
 }
 
 fn refuse_if(bad: bool, answer: Answer) -> Passed {
@@ -33,7 +39,7 @@ fn memory_passes(m: &[u32]) -> Passed {
 }
 
 /// Test 4.
-fn task_unfinished(m: &[u32], t: u32) -> Passed {
+pub(crate) fn task_unfinished(m: &[u32], t: u32) -> Passed {
     refuse_if(t >= TASKS || status(m, t) != UNFINISHED, NO_SUCH_TASK)
 }
 
@@ -48,7 +54,7 @@ fn right_held(m: &[u32], t: u32, bit: u32) -> Passed {
 }
 
 /// The wait of every call for older siblings that pop.
-fn no_older_popper(m: &[u32], t: u32) -> Passed {
+pub(crate) fn no_older_popper(m: &[u32], t: u32) -> Passed {
     refuse_if(tree::waits_for_sibling(m, t), Answer::Waits)
 }
 
@@ -109,11 +115,10 @@ fn write_top(m: &mut [u32]) {
 
 /// Spawns a child of `t`; the value is its number.
 pub fn spawn(m: &mut [u32], t: u32, child_rights: u32) -> Answer {
-    either(try_spawn(m, t, child_rights))
+    whole(m, |m| try_spawn(m, t, child_rights))
 }
 
-fn try_spawn(m: &mut [u32], t: u32, child_rights: u32) -> Tried {
-    memory_passes(m)?;
+pub(crate) fn try_spawn(m: &mut [u32], t: u32, child_rights: u32) -> Tried {
     task_unfinished(m, t)?;
     refuse_if(child_rights & !rights(m, t) != 0, NO_RIGHT)?;
     no_older_popper(m, t)?;
@@ -181,11 +186,10 @@ enum PushPlan {
 
 /// Pushes `value` to queue `q`; the value is `value`.
 pub fn push(m: &mut [u32], t: u32, q: u32, value: u32) -> Answer {
-    either(try_push(m, t, q, value))
+    whole(m, |m| try_push(m, t, q, value))
 }
 
-fn try_push(m: &mut [u32], t: u32, q: u32, value: u32) -> Tried {
-    memory_passes(m)?;
+pub(crate) fn try_push(m: &mut [u32], t: u32, q: u32, value: u32) -> Tried {
     task_unfinished(m, t)?;
     queue_exists(q)?;
     right_held(m, t, push_right(q))?;
@@ -251,7 +255,6 @@ enum Finding {
 
 /// The tests of pop and test, and what they find.
 fn find(m: &[u32], t: u32, q: u32) -> Result<Finding, Answer> {
-    memory_passes(m)?;
     task_unfinished(m, t)?;
     queue_exists(q)?;
     right_held(m, t, pop_right(q))?;
@@ -270,10 +273,10 @@ fn find(m: &[u32], t: u32, q: u32) -> Result<Finding, Answer> {
 
 /// Pops from queue `q`; the value is the one taken.
 pub fn pop(m: &mut [u32], t: u32, q: u32) -> Answer {
-    either(try_pop(m, t, q))
+    whole(m, |m| try_pop(m, t, q))
 }
 
-fn try_pop(m: &mut [u32], t: u32, q: u32) -> Tried {
+pub(crate) fn try_pop(m: &mut [u32], t: u32, q: u32) -> Tried {
     match find(m, t, q)? {
         Finding::Empty => Err(PAST_THE_END),
         Finding::Waits => Err(Answer::Waits),
@@ -292,17 +295,19 @@ fn try_pop(m: &mut [u32], t: u32, q: u32) -> Tried {
 
 /// Is queue `q` empty for `t`? No word changes.
 pub fn test(m: &mut [u32], t: u32, q: u32) -> Answer {
-    match find(m, t, q) {
-        Err(answer) => answer,
-        Ok(Finding::Value(_)) => Answer::NotEmpty,
-        Ok(Finding::Empty) => Answer::Empty,
-        Ok(Finding::Waits) => Answer::Waits,
+    whole(m, |m| try_test(m, t, q))
+}
+
+pub(crate) fn try_test(m: &[u32], t: u32, q: u32) -> Tried {
+    match find(m, t, q)? {
+        Finding::Value(_) => Ok(Answer::NotEmpty),
+        Finding::Empty => Ok(Answer::Empty),
+        Finding::Waits => Err(Answer::Waits),
     }
 }
 
 /// The tests of sync and finish but the last.
 fn may_end(m: &[u32], t: u32) -> Passed {
-    memory_passes(m)?;
     task_unfinished(m, t)?;
     no_older_popper(m, t)?;
     no_child(m, t)
@@ -310,10 +315,10 @@ fn may_end(m: &[u32], t: u32) -> Passed {
 
 /// Reduces the children view with the user view, for each queue.
 pub fn sync(m: &mut [u32], t: u32) -> Answer {
-    either(try_sync(m, t))
+    whole(m, |m| try_sync(m, t))
 }
 
-fn try_sync(m: &mut [u32], t: u32) -> Tried {
+pub(crate) fn try_sync(m: &mut [u32], t: u32) -> Tried {
     may_end(m, t)?;
     refuse_if(late::sync_left_out(m, t), RULES_FAIL)?;
     join_children(m, t);
@@ -329,10 +334,10 @@ fn join_children(m: &mut [u32], t: u32) {
 
 /// Finishes `t`. The top's record stays, with its views.
 pub fn finish(m: &mut [u32], t: u32) -> Answer {
-    either(try_finish(m, t))
+    whole(m, |m| try_finish(m, t))
 }
 
-fn try_finish(m: &mut [u32], t: u32) -> Tried {
+pub(crate) fn try_finish(m: &mut [u32], t: u32) -> Tried {
     may_end(m, t)?;
     if t == 0 {
         refuse_if(late::sync_left_out(m, t), RULES_FAIL)?;
@@ -383,11 +388,10 @@ fn unlink(m: &mut [u32], t: u32) {
 
 /// Value number `index`, from 0, still in queue `q` once the top has finished.
 pub fn left(m: &mut [u32], q: u32, index: u32) -> Answer {
-    either(try_left(m, q, index))
+    whole(m, |m| try_left(m, q, index))
 }
 
 fn try_left(m: &[u32], q: u32, index: u32) -> Tried {
-    memory_passes(m)?;
     queue_exists(q)?;
     refuse_if(status(m, 0) != FINISHED, Answer::Waits)?;
     let (mut s, mut index) = (get(m, queue_head(0, q)), index);
