@@ -1,11 +1,10 @@
 -- What program order answers to the core call of a step, once the step's own tests have passed: the task is unfinished, no older
 -- sibling blocks it, and the job gave it the right.
-use mathlib.Core.Path.{_≡_, refl, ap, sym, _∙_}
+use mathlib.Core.Path.{_≡_, refl, _∙_}
 use mathlib.Core.Bool.{Bool, true, false}
 use mathlib.Core.List.{List}
 use mathlib.Core.Logic.{_⊎_, inl, inr}
 use Prim.Native.Nat.{ℕ, _<_}
-use native.Mathlib.Omega.{arith}
 use lib.Dec.{eqb}
 use borrow.Author.Tests.{lt-leb}
 use Rattle.words.specs.Words.{pick, pass, halt, either}

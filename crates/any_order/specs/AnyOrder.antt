@@ -8,29 +8,25 @@ use lib.ListN.{length, getElem?}
 use borrow.Author.Tests.{lt-leb}
 use Rattle.words.specs.Words.{pass}
 use Rattle.gaps.specs.Maps.{All}
-use Rattle.layout.specs.Layout.{WORDS}
-use Rattle.answers.specs.declared.Answer.{Answer}
 use Rattle.answers.specs.declared.Answer.the-variants.{Moved}
 use Rattle.answers.specs.Answers.{answerOf as coreAnswer}
 use Rattle.answers.specs.Calls.{left-call}
 use Rattle.calls.specs.Waits.{unfinished as unfinishedIn}
 use Rattle.calls.specs.Left.{leftOutcome}
 use Rattle.calls.specs.Outcomes.{outcomeOf}
-use Rattle.order.specs.Steps.{Name, Item as Mark}
 use Rattle.order.specs.Waits.{unfinished}
-use Rattle.order.specs.Finding.{leftOver}
 use Rattle.order.specs.Ordered.{leftAnswer, ordered}
 use Rattle.in_order.specs.Answered.{answered}
 use Rattle.in_order.specs.InOrder.{call-does}
 use Rattle.job.specs.Test.{jobAnswer}
-use Rattle.job.specs.Accepted.{Accepted, accepted}
-use Rattle.plain.specs.Machine.{Event, queue}
-use Rattle.plain.specs.Run.{queuesOf, stackOf, stepsOf, run, events, answersOf}
+use Rattle.job.specs.Accepted.{accepted}
+use Rattle.plain.specs.Machine.{Event}
+use Rattle.plain.specs.Run.{stackOf, run, answersOf}
 use Rattle.exchange.specs.Line.{Item, value, spot, finished, NoSpot}
 use Rattle.job_line.specs.Agree.{moves-agree}
 use Rattle.job_line.specs.Answered.{log-length, answers-first, answers-all}
 use Rattle.job_line.specs.Front.{valuesOf}
-use Rattle.job_order.specs.Beside.{Numbered, unnumbered, standing, Beside}
+use Rattle.job_order.specs.Beside.{Numbered, unnumbered, standing}
 use Rattle.job_order.specs.Located.{topNumbered, On, stands-unfinished, unfinished-stands}
 use Rattle.job_order.specs.Points.{standing-append}
 use Rattle.job_order.specs.First.{never-blocked, never-parent, never-waits}

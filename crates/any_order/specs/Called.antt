@@ -1,10 +1,9 @@
 -- ONE CALL of a run under way: the run goes on, or nothing changes.
 use mathlib.Core.Path.{_≡_, refl, ap, ap₂, sym, _∙_, subst}
-use mathlib.Core.Bool.{Bool, true, false, not}
+use mathlib.Core.Bool.{true, false, not}
 use mathlib.Core.List.{List, [], _∷_, _++_}
-use mathlib.Core.Option.{Option}
-use Prim.Native.Nat.{ℕ, _<_, suc}
-use Rattle.words.specs.Words.{pass, halt}
+use Prim.Native.Nat.{ℕ, suc}
+use Rattle.words.specs.Words.{halt}
 use Rattle.gaps.specs.Maps.{All}
 use Rattle.answers.specs.declared.Answer.the-variants.{Moved}
 use Rattle.order.specs.Steps.{Item as Mark}
@@ -17,8 +16,7 @@ use Rattle.exchange.specs.Line.{Item, value, spot, finished}
 use Rattle.job_line.specs.Tasks.{Runner, does, instructionOf}
 use Rattle.job_line.specs.Events.{one-more, more-log, eventWith}
 use Rattle.job_line.specs.Stood.{Unfinished, first, behind, moves-stand}
-use Rattle.job_order.specs.Beside.{Numbered, unnumbered, standing, Beside}
-use Rattle.job_order.specs.Located.{unfinished-stands}
+use Rattle.job_order.specs.Beside.{Numbered, unnumbered, standing}
 use Rattle.runner.specs.declared.StepAnswer.{StepAnswer}
 use Rattle.runner.specs.declared.StepAnswer.the-variants.{Refused}
 use Rattle.runner.specs.Answers.{answerWith, outcome, hasMoved, answerOf}

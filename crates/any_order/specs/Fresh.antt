@@ -1,11 +1,11 @@
 -- A FRESH OPENING of an accepted job: the core is opened, the top stands alone at its first instruction.
-use mathlib.Core.Path.{_≡_, refl, ap, sym, _∙_, subst}
+use mathlib.Core.Path.{_≡_, refl, sym, subst}
 use mathlib.Core.Bool.{true}
 use mathlib.Core.List.{List, [], _∷_}
-use mathlib.Core.Logic.{_⊎_, inl, inr, ⊎-elim}
-use Prim.Native.Nat.{ℕ, _+_, _*_, _<_, _≤_}
+use mathlib.Core.Logic.{inl, ⊎-elim}
+use Prim.Native.Nat.{ℕ, _+_, _*_, _≤_}
 use native.Mathlib.Omega.{arith}
-use lib.ListN.{length, replicate, getD, getD-replicate, length-replicate, List·getD-eq-default}
+use lib.ListN.{replicate, getD-replicate, length-replicate, List·getD-eq-default}
 use Rattle.words.specs.Words.{load, size, pick, both}
 use Rattle.lists.specs.Tests.{upto, upto-says}
 use Rattle.layout.specs.Layout.{WORDS}
@@ -17,15 +17,15 @@ use Rattle.represents_spawn.specs.Open.{open-represents}
 use Rattle.job.specs.Fields.{segmentLength}
 use Rattle.job.specs.Test.{jobAnswer}
 use Rattle.job.specs.Accepted.{Accepted, accepted}
-use Rattle.exchange.specs.Line.{Item, spot}
+use Rattle.exchange.specs.Line.{spot}
 use Rattle.exchange.specs.Agreement.{Moves}
-use Rattle.job_order.specs.Beside.{Numbered, unnumbered, standing}
+use Rattle.job_order.specs.Beside.{unnumbered, standing}
 use Rattle.job_order.specs.Located.{topNumbered, begins}
 use Rattle.runner.specs.Words.{RUNNER, procedureOf, positionOf, registerOf}
-use Rattle.runner.specs.Answers.{Outcome, outcome, coreOf, runnerOf}
+use Rattle.runner.specs.Answers.{Outcome, coreOf, runnerOf}
 use Rattle.runner.specs.Open.{segmentsFor, jobOpened, openOutcome}
 use Rattle.any_order.specs.Statement.{Stand, fresh}
-use Rattle.any_order.specs.Written.{Words, Written}
+use Rattle.any_order.specs.Written.{Words}
 use Rattle.any_order.specs.Tested.{job-passes}
 use Rattle.any_order.specs.Running.{Running}
 

@@ -2,8 +2,8 @@
 -- operation has in common.
 use mathlib.Core.Path.{_≡_, refl, ap, ap₂, sym, _∙_, subst}
 use mathlib.Core.Bool.{true, false, not}
-use mathlib.Core.List.{List, [], _∷_, _++_}
-use mathlib.Core.Option.{Option, none, some}
+use mathlib.Core.List.{List, _∷_, _++_}
+use mathlib.Core.Option.{Option, some}
 use Prim.Native.Nat.{ℕ, _<_}
 use Rattle.words.specs.Words.{pass}
 use Rattle.gaps.specs.Maps.{All, all-behind}
@@ -35,8 +35,8 @@ use Rattle.job_order.specs.Located.{located, stands-unfinished}
 use Rattle.job_order.specs.After.{After}
 use Rattle.runner.specs.declared.StepAnswer.{StepAnswer}
 use Rattle.runner.specs.declared.StepAnswer.the-variants.{Waits, Refused}
-use Rattle.runner.specs.Words.{procedureOf, positionOf, registerOf, instructionFor}
-use Rattle.runner.specs.Answers.{answerWith, Outcome, outcome}
+use Rattle.runner.specs.Words.{registerOf, instructionFor}
+use Rattle.runner.specs.Answers.{answerWith, outcome}
 use Rattle.runner.specs.Step.{callOf, replyOf, runnerAfter, done, replied, repliedTo, makes, stepTested, stepOutcome}
 use Rattle.any_order.specs.Statement.{notedBy}
 use Rattle.any_order.specs.States.{state-unfinished, still, behind-test}

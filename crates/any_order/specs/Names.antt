@@ -1,9 +1,9 @@
 -- The event that is noted for a step is the event of its task's move along the line.
-use mathlib.Core.Path.{_≡_, refl, ap, sym, _∙_}
+use mathlib.Core.Path.{_≡_, refl, ap, _∙_}
 use mathlib.Core.Bool.{Bool, true, false}
 use mathlib.Core.List.{List, [], _∷_, _++_}
 use mathlib.Core.Option.{Option}
-use Prim.Native.Nat.{ℕ, _≤_}
+use Prim.Native.Nat.{ℕ}
 use native.Mathlib.Omega.{arith}
 use lib.Dec.{eqb}
 use borrow.Author.Tests.{eq-eqb}
@@ -23,8 +23,8 @@ use Rattle.job_line.specs.Events.{eventWith}
 use Rattle.job_order.specs.Beside.{Numbered, taskOf, Beside}
 use Rattle.job_order.specs.Located.{located}
 use Rattle.runner.specs.Words.{instructionFor}
-use Rattle.runner.specs.Answers.{answerWith, wordOf}
-use Rattle.any_order.specs.Statement.{Stand, nameAt, aside, eventFor}
+use Rattle.runner.specs.Answers.{answerWith}
+use Rattle.any_order.specs.Statement.{Stand, nameAt, eventFor}
 use Rattle.any_order.specs.Running.{same-word, same-value}
 
 name-behind : (t : ℕ) (ys zs : List Mark) (s : Task) → count (spotNumbered t) ys ≡ 0 → numberOf s ≡ t → nameAt t (ys ++ place s ∷ zs) ≡ nameOf s

@@ -1,5 +1,5 @@
 -- No two unfinished tasks have one number; and a task that stands among the spots is unfinished.
-use mathlib.Core.Path.{_≡_, refl, ap, sym, _∙_, subst}
+use mathlib.Core.Path.{_≡_, refl, ap, sym, _∙_}
 use mathlib.Core.Bool.{true}
 use mathlib.Core.List.{List, [], _∷_, _++_, map, map-append, nil≢cons, head-eq-of-cons-eq, tail-eq-of-cons-eq}
 use mathlib.Core.Logic.{inl}
@@ -7,7 +7,7 @@ use Prim.Native.Nat.{ℕ}
 use native.Mathlib.Omega.{arith}
 use Rattle.lists.specs.Counting.{one-yes}
 use Rattle.gaps.specs.Maps.{All}
-use Rattle.order.specs.Steps.{Task, Item as Mark, step, spot as place, numberOf}
+use Rattle.order.specs.Steps.{Item as Mark, step, spot as place, numberOf}
 use Rattle.order.specs.Waits.{unfinished}
 use Rattle.order_laws.specs.Count.{count, spotNumbered, count-append}
 use Rattle.order_laws.specs.Numbers.{one-number}

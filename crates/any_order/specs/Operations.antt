@@ -2,7 +2,7 @@
 use mathlib.Core.Path.{_≡_, refl, ap, sym, _∙_, subst}
 use mathlib.Core.Bool.{true, false}
 use mathlib.Core.List.{List, [], _∷_, _++_}
-use mathlib.Core.Logic.{_⊎_, ⊎-elim}
+use mathlib.Core.Logic.{⊎-elim}
 use mathlib.Core.Option.{Option, none, some}
 use Prim.Native.Nat.{ℕ, _<_}
 use borrow.Author.Tests.{ltb-true}
@@ -14,8 +14,8 @@ use Rattle.answers.specs.declared.Answer.the-variants.{Moved, Waits, Refused}
 use Rattle.answers.specs.Answers.{wordsOf}
 use Rattle.answers.specs.Calls.{Call, spawn-call, push-call, sync-call, finish-call}
 use Rattle.calls.specs.Outcomes.{outcomeOf}
-use Rattle.order.specs.Steps.{Item as Mark, noted, counted, advance, spawns, pushes, syncs, finishes}
-use Rattle.order.specs.Waits.{blocked, hasChild, unfinished}
+use Rattle.order.specs.Steps.{Item as Mark, noted, counted, advance, spawns, pushes, finishes}
+use Rattle.order.specs.Waits.{blocked}
 use Rattle.order_waits.specs.Played.{Played}
 use Rattle.in_order.specs.Answered.{nextTask, answered}
 use Rattle.in_order.specs.State.{State}

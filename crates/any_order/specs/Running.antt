@@ -1,23 +1,18 @@
 -- A RUN UNDER WAY: both memories beside the line of the job's tasks, and the moves that led to it.
-use mathlib.Core.Path.{_≡_, refl, ap, ap₂, sym, _∙_, subst}
-use mathlib.Core.Bool.{Bool, true, false}
+use mathlib.Core.Path.{_≡_, refl, ap, ap₂, _∙_}
+use mathlib.Core.Bool.{true, false}
 use mathlib.Core.List.{List, [], _∷_, _++_}
 use mathlib.Core.Option.{Option, none, some}
 use Prim.Native.Nat.{ℕ}
-use native.Mathlib.Omega.{arith}
-use borrow.Author.Tests.{eq-eqb, ne-eqb}
-use Rattle.words.specs.Words.{pick, pass, halt}
-use Rattle.lists.specs.Counting.{one-yes}
-use Rattle.gaps.specs.Maps.{All}
+use Rattle.words.specs.Words.{pass, halt}
 use Rattle.answers.specs.Calls.{Call}
-use Rattle.order.specs.Steps.{Name, Item as Mark, nameOf, numberOf}
+use Rattle.order.specs.Steps.{Item as Mark}
 use Rattle.in_order.specs.State.{State}
 use Rattle.job.specs.Operations.{Operation, return, push, pushSum, pop, goIfEmpty, go, goIfZero, add, spawn, sync, operationAt}
 use Rattle.job.specs.Effects.{Word, spawned, pushed, took, moved, finished, empty, notEmpty, waits, refused, effect}
 use Rattle.plain.specs.Machine.{Event}
 use Rattle.exchange.specs.Line.{Item}
 use Rattle.exchange.specs.Agreement.{Moves}
-use Rattle.job_line.specs.Tasks.{Runner, does, instructionOf}
 use Rattle.job_line.specs.Within.{jobTasks}
 use Rattle.job_line.specs.Agree.{start}
 use Rattle.job_line.specs.Events as Log
@@ -26,7 +21,7 @@ use Rattle.runner.specs.declared.StepAnswer.{StepAnswer}
 use Rattle.runner.specs.Words.{registerOf, instructionFor}
 use Rattle.runner.specs.Answers.{answerWith, wordOf, hasMoved, Outcome, outcome, answerOf, coreOf, runnerOf}
 use Rattle.runner.specs.Step.{callOf, stepOutcome}
-use Rattle.any_order.specs.Statement.{Stand, aside, eventFor, notedBy, stepped}
+use Rattle.any_order.specs.Statement.{Stand, aside, eventFor, notedBy, standAfter, stepped}
 use Rattle.any_order.specs.Written.{Written}
 
 pub record Running (j : List ℕ) (s : Stand) (line : List (Item Numbered)) : Type 0 where
@@ -65,27 +60,18 @@ same-value add p x y f c = refl
 same-value spawn p x y f c = refl
 same-value sync p x y f c = refl
 
--- WHERE A RUN STANDS after a call with outcome o
+-- WHERE A RUN STANDS after a call
 module _ (j : List ℕ) (s : Stand) (t : ℕ) where
   abbrev Call-of : Option Call
   Call-of = callOf (operationAt (instructionFor j (s .runner) t .operation)) j t (registerOf (s .runner) t) (instructionFor j (s .runner) t)
 
-  abbrev after : Outcome → Stand
-  after o =
-      record {
-        core = coreOf o;
-        runner = runnerOf o;
-        order = pick (hasMoved (answerOf o)) (notedBy Call-of (s .core) (s .order)) (s .order);
-        events = pick (hasMoved (answerOf o)) (s .events ++ eventFor j s t (answerOf o) ∷ []) (s .events);
-      }
-
-  stepped-is : (o : Outcome) → stepOutcome j (s .core) (s .runner) t ≡ o → stepped j t s ≡ after o
+  stepped-is : (o : Outcome) → stepOutcome j (s .core) (s .runner) t ≡ o → stepped j t s ≡ standAfter j t s o
   unfolding stepped
-  stepped-is o e = ap after e
+  stepped-is o e = ap (standAfter j t s) e
 
   -- a call that does not move
   pub same-stand : (x : StepAnswer) → hasMoved x ≡ false → stepOutcome j (s .core) (s .runner) t ≡ outcome x (s .core) (s .runner) → stepped j t s ≡ s
-  unfolding coreOf runnerOf answerOf
+  unfolding coreOf runnerOf answerOf standAfter
   same-stand x d e =
       stepped-is (outcome x (s .core) (s .runner)) e
       ∙ ap₂ (λ (l : List Mark) (es : List Event). record { core = s .core; runner = s .runner; order = l; events = es }) (pass _ d refl) (pass _ d refl)
@@ -93,7 +79,7 @@ module _ (j : List ℕ) (s : Stand) (t : ℕ) where
   -- a call that moves
   pub next-stand : (x : StepAnswer) (m r : List ℕ) (l : List Mark) (e : Event) → hasMoved x ≡ true → stepOutcome j (s .core) (s .runner) t ≡ outcome x m r
       → notedBy Call-of (s .core) (s .order) ≡ l → eventFor j s t x ≡ e → stepped j t s ≡ record { core = m; runner = r; order = l; events = s .events ++ e ∷ [] }
-  unfolding coreOf runnerOf answerOf
+  unfolding coreOf runnerOf answerOf standAfter
   next-stand x m r l e d o n v =
       stepped-is (outcome x m r) o
       ∙ ap₂ (λ (k : List Mark) (es : List Event). record { core = m; runner = r; order = k; events = es }) (halt _ _ d ∙ n) (halt _ _ d ∙ ap (λ (y : Event). s .events ++ y ∷ []) v)

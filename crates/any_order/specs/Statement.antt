@@ -28,7 +28,7 @@ use Rattle.plain.specs.Run.{queuesOf, stackOf, stepsOf, run, events, answersOf}
 use Rattle.runner.specs.declared.StepAnswer.{StepAnswer}
 use Rattle.runner.specs.declared.StepAnswer.the-variants.{Spawned, Pushed, Took, Finished, Moved as Went, Empty, NotEmpty, Waits, Refused}
 use Rattle.runner.specs.Words.{RUNNER, registerOf, instructionFor}
-use Rattle.runner.specs.Answers.{wordOf, hasMoved, answerOf, coreOf, runnerOf}
+use Rattle.runner.specs.Answers.{wordOf, hasMoved, Outcome, answerOf, coreOf, runnerOf}
 use Rattle.runner.specs.Open.{openOutcome}
 use Rattle.runner.specs.Step.{callOf, stepOutcome}
 
@@ -69,10 +69,9 @@ unfoldable pub notedBy : Option Call → List ℕ → List Item → List Item
 notedBy none m xs = xs
 notedBy (some c) m xs = noted c (coreAnswer (outcomeOf c m)) xs
 
--- ONE CALL: a step of task number t. A call that waits or is refused leaves the steps and the events as they were.
-unfoldable pub stepped : List ℕ → ℕ → Stand → Stand
-stepped j t s =
-    let o = stepOutcome j (s .core) (s .runner) t in
+-- After a call of task number t with outcome o. A call that waits or is refused leaves the steps and the events as they were.
+unfoldable pub standAfter : List ℕ → ℕ → Stand → Outcome → Stand
+standAfter j t s o =
     let i = instructionFor j (s .runner) t in
     let c = callOf (operationAt (i .operation)) j t (registerOf (s .runner) t) i in
     record {
@@ -81,6 +80,10 @@ stepped j t s =
       order = pick (hasMoved (answerOf o)) (notedBy c (s .core) (s .order)) (s .order);
       events = pick (hasMoved (answerOf o)) (s .events ++ eventFor j s t (answerOf o) ∷ []) (s .events);
     }
+
+-- ONE CALL: a step of task number t
+unfoldable pub stepped : List ℕ → ℕ → Stand → Stand
+stepped j t s = standAfter j t s (stepOutcome j (s .core) (s .runner) t)
 
 -- a list of calls, each given by the number of its task
 unfoldable pub afterCalls : List ℕ → List ℕ → Stand → Stand

@@ -1,16 +1,13 @@
 -- The tests that every call of the runner makes first pass in every state that it reaches.
-use mathlib.Core.Path.{_≡_, refl, ap, ap₂, sym, _∙_, subst}
+use mathlib.Core.Path.{_≡_, refl, ap, sym, _∙_, subst}
 use mathlib.Core.Bool.{Bool, true, false, not, false≢true}
 use mathlib.Core.List.{List, [], _∷_, _++_}
 use Prim.Native.Nat.{ℕ, _<_}
-use native.Mathlib.Omega.{arith}
-use lib.Dec.{ltb, eqb}
 use borrow.Author.Tests.{eq-eqb, lt-ltb}
-use Rattle.words.specs.Words.{size, pick, pass, halt, true-both}
+use Rattle.words.specs.Words.{size, pass, halt, true-both}
 use Rattle.lists.specs.Tests.{says-upto}
 use Rattle.layout.specs.Layout.{WORDS}
 use Rattle.gaps.specs.Maps.{All, all-behind}
-use Rattle.rules.specs.Test.{rulesHold}
 use Rattle.answers.specs.declared.Answer.the-variants.{Moved}
 use Rattle.calls.specs.Waits.{rightsOf as rightsIn, unfinished as unfinishedIn}
 use Rattle.order.specs.Steps.{Item as Mark, numberOf, rightsOf as rightsWith}
@@ -19,18 +16,18 @@ use Rattle.represents.specs.Represents.{Represents}
 use Rattle.in_order.specs.State.{State, state-rules, state-size}
 use Rattle.in_order.specs.Ladder.{rights-same, rights-are}
 use Rattle.job.specs.Fields.{procedures, count, rights}
-use Rattle.job.specs.Test.{refusal10, refusal11, refusal12, jobAnswer}
-use Rattle.job.specs.Accepted.{Accepted, passed}
+use Rattle.job.specs.Test.{jobAnswer}
+use Rattle.job.specs.Accepted.{passed}
 use Rattle.plain.specs.Stack.{Stands, rightsOf}
 use Rattle.exchange.specs.Line.{Item, value, spot, finished}
 use Rattle.job_order.specs.Beside.{Numbered, standing, taskOf, Beside}
 use Rattle.job_order.specs.Points.{standing-append}
 use Rattle.job_order.specs.Located.{located, stands-unfinished, unfinished-stands}
-use Rattle.runner.specs.Words.{RUNNER, procedureOf, positionOf, registerOf}
+use Rattle.runner.specs.Words.{RUNNER, positionOf}
 use Rattle.runner.specs.Answers.{Outcome}
 use Rattle.runner.specs.Rules.{taskHolds, zeros, recordHolds, runnerHolds, jobTested, tested}
 use Rattle.any_order.specs.States.{state-unfinished, still}
-use Rattle.any_order.specs.Written.{Words, Holds, Other, Written}
+use Rattle.any_order.specs.Written.{Holds, Other, Written}
 
 -- no refusal 10, 11, 12 of an accepted job
 pub job-passes : (j m r : List ℕ) → jobAnswer j ≡ Moved 0 → size m ≡ WORDS → size r ≡ RUNNER → (o : Outcome) → jobTested j m r o ≡ o

@@ -1,15 +1,12 @@
 -- THE RUNNER'S WORDS of a line: each unfinished task has its procedure, instruction and register; all others have zeros.
-use mathlib.Core.Path.{_≡_, refl, ap, sym, _∙_}
-use mathlib.Core.List.{List, [], _∷_, _++_}
-use mathlib.Core.Logic.{_⊎_, inl, inr, ⊎-elim}
-use Prim.Native.Nat.{ℕ, zero, suc, _+_, _*_, _<_}
+use mathlib.Core.Path.{_≡_, ap, _∙_}
+use mathlib.Core.List.{List, [], _∷_}
+use Prim.Native.Nat.{ℕ, _+_, _*_, _<_}
 use native.Mathlib.Omega.{arith}
-use lib.ListN.{length}
 use Rattle.words.specs.Words.{load, size}
-use Rattle.words.specs.Blocks.{storeAll, block-other, size-storeAll}
-use Rattle.lists.specs.Counting.{equal?}
+use Rattle.words.specs.Blocks.{block-other, size-storeAll}
 use Rattle.meaning.specs.Records.{block-same}
-use Rattle.gaps.specs.Maps.{All, all-append, all-front, all-behind}
+use Rattle.gaps.specs.Maps.{All}
 use Rattle.job_order.specs.Beside.{Numbered}
 use Rattle.runner.specs.Words.{RUNNER, procedureOf, positionOf, registerOf, put}
 

@@ -16,7 +16,7 @@ use Rattle.runner.specs.declared.StepAnswer.the-variants.{Spawned, Waits
 use Rattle.runner.specs.Words.{procedureOf, positionOf, registerOf, put, instructionFor}
 use Rattle.runner.specs.Answers.{answerWith, hasMoved, Outcome, outcome, answerOf, coreOf, runnerOf}
 use Rattle.runner.specs.Rules.{refused, jobTested, tested}
-use Rattle.runner.specs.Step.{callOf, Reply, goes, stops, replyOf, runnerAfter, done, replied, coreOutcome, repliedTo, makes, stepTested, stepOutcome}
+use Rattle.runner.specs.Step.{Reply, goes, stops, replyOf, runnerAfter, done, replied, coreOutcome, repliedTo, makes, stepTested, stepOutcome}
 
 -- a step that goes on has moved
 pub has-moved : (o : Operation) (p x y : ℕ) (f : Option ℕ) (v c : ℕ) → hasMoved (answerWith (effect o p x y f .word) v c) ≡ true

@@ -5,7 +5,7 @@ use mathlib.Core.List.{List, [], _∷_}
 use Prim.Native.Nat.{ℕ}
 use Rattle.answers.specs.declared.Answer.the-variants.{Moved as Gives, Refused as NoMore}
 use Rattle.job.specs.Examples.{head, entry, ins, fullRun, wrappedSpawn}
-use Rattle.runner.specs.declared.StepAnswer.the-variants.{Spawned, Pushed, Took, Finished, Moved, Empty, Waits, Refused}
+use Rattle.runner.specs.declared.StepAnswer.the-variants.{Spawned, Pushed, Took, Finished, Moved, Empty, Waits}
 use Rattle.runner_table.specs.Table.{step, left, lent, lentRunner, right}
 
 -- Four poppers of queue 0, each blocked by those before it: the first tests and pops an empty queue, the others begin with

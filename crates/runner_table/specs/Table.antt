@@ -1,5 +1,5 @@
 -- Runs of jobs, tried on the outcomes of the runner's calls: each call with the answer that it must get.
-use mathlib.Core.Bool.{Bool, true, false}
+use mathlib.Core.Bool.{Bool, true}
 use mathlib.Core.List.{List, [], _∷_}
 use Prim.Native.Nat.{ℕ}
 use lib.Dec.{eqb}
@@ -32,7 +32,7 @@ use Rattle.job.specs.Effects.{sum, effect}
 use Rattle.job.specs.Test.{between, headHolds, refusal10, entryHolds, entriesHold, contentsHold, refusal11, whichHolds, operandHolds, fitting, instructionHolds, lastHolds, bodyHolds, refusal12}
 use Rattle.runner.specs.declared.StepAnswer.{StepAnswer}
 use Rattle.runner.specs.Words.{RUNNER, procedureOf, positionOf, registerOf, put, instructionFor}
-use Rattle.runner.specs.Answers.{answerWith, valueOf, statusOf, Outcome, outcome}
+use Rattle.runner.specs.Answers.{answerWith, valueOf, statusOf, outcome}
 use Rattle.runner.specs.Rules.{taskHolds, zeros, recordHolds, runnerHolds, refused, jobTested, tested}
 use Rattle.runner.specs.Open.{segmentsFor, jobOpened, openOutcome}
 use Rattle.runner.specs.Step.{callOf, replyOf, runnerAfter, done, replied, coreOutcome, repliedTo, makes, stepTested, stepOutcome}
