@@ -18,7 +18,7 @@ answerWith notEmpty v c = NotEmpty
 answerWith waits v c = Waits
 answerWith refused v c = Refused v
 
--- the word of an answer, and its value, 0 where "-" is printed
+-- the word of an answer, and the value that it returns: "a refusal .. returns its number and value 0"
 unfoldable pub wordOf : StepAnswer → Word
 wordOf (Spawned v) = spawned
 wordOf (Pushed v) = pushed
@@ -39,7 +39,7 @@ valueOf Finished = 0
 valueOf Empty = 0
 valueOf NotEmpty = 0
 valueOf Waits = 0
-valueOf (Refused k) = k
+valueOf (Refused k) = 0
 
 -- The status of an answer: "a refusal .. returns its number"; the others are numbers that no refusal has.
 unfoldable pub statusOf : StepAnswer → ℕ

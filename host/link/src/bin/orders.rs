@@ -1,0 +1,198 @@
+//! The linked runner against the model's: random jobs under random orders, and
+//! steps on damaged memories.
+//!
+//! `orders SEED` runs all parts. `orders SEED PART ROUND` makes one round of
+//! one part again, as the line of a difference names it.
+
+use host::damage::damage;
+use host::damaged_jobs::damaged;
+use host::job::Job;
+use host::layout::WORDS;
+use host::overlap::{Log, Plain};
+use host::random::Random;
+use host::random_jobs::accepted;
+use host::runner::{Stepped, RUNNER};
+use host::sample::{any_word, noise};
+use link::rounds::{asked, random_of, status, usage, Asked};
+use link::runner_pair::RunnerPair;
+use std::collections::BTreeMap;
+use std::process::ExitCode;
+
+type Outcome = Result<(), String>;
+
+/// Steps of a plain run that is run under other orders.
+const MOST_STEPS: u64 = 3_000;
+/// Calls of one run: so many times the plain machine's steps, and no more.
+const CALLS_A_STEP: u64 = 4;
+const MOST_CALLS: u64 = 400;
+
+struct Part {
+    name: &'static str,
+    rounds: u32,
+    round: fn(&mut State, &mut Random) -> Outcome,
+}
+
+const PARTS: [Part; 3] = [
+    Part {
+        name: "orders",
+        rounds: 20_000,
+        round: orders,
+    },
+    Part {
+        name: "damaged",
+        rounds: 6_000,
+        round: damaged_memories,
+    },
+    Part {
+        name: "lengths",
+        rounds: 300,
+        round: lengths,
+    },
+];
+
+#[derive(Default)]
+struct State {
+    /// How often each answer came, by its number.
+    counts: BTreeMap<u32, u64>,
+    calls: u64,
+    /// Runs in which all tasks finished.
+    ended: u64,
+}
+
+impl State {
+    fn count(&mut self, answer: Stepped) {
+        *self.counts.entry(answer.status()).or_default() += 1;
+        self.calls += 1;
+    }
+}
+
+/// The task of the next call: mostly one that is unfinished.
+fn somebody(r: &mut Random, log: &Log) -> u32 {
+    let unfinished = log.unfinished();
+    if unfinished.is_empty() || r.chance(3) {
+        return r.below(130);
+    }
+    r.pick(&unfinished)
+}
+
+/// A job under a random order, and now and then the ready map.
+fn orders(state: &mut State, r: &mut Random) -> Outcome {
+    let job = accepted(r);
+    let plain = Plain::run(&Job::read(&job).expect("a job"), MOST_STEPS);
+    let steps = plain.as_ref().map_or(MOST_STEPS, |plain| plain.steps);
+    let mut pair = RunnerPair::new(job, &noise(r, WORDS as u32), &noise(r, RUNNER as u32));
+    pair.open()?;
+    let mut log = Log::default();
+    for _ in 0..MOST_CALLS.min(CALLS_A_STEP * steps) {
+        let t = somebody(r, &log);
+        let answer = pair.step(t)?;
+        log.note(t, answer);
+        state.count(answer);
+        if r.chance(4) {
+            pair.ready()?;
+        }
+    }
+    if log.unfinished().is_empty() {
+        state.ended += 1;
+    }
+    match plain.and_then(|plain| plain.differs(&log)) {
+        Some(what) => Err(what),
+        None => Ok(()),
+    }
+}
+
+/// Changes words of the core, of the runner, or of the job.
+fn damage_one(r: &mut Random, pair: &mut RunnerPair) {
+    if r.chance(60) {
+        damage(r, &mut pair.model_core);
+    } else {
+        let at = r.below(RUNNER as u32) as usize;
+        pair.model_runner[at] = any_word(r);
+    }
+    pair.changed();
+}
+
+/// A run that is led somewhere, then damaged and stepped.
+fn damaged_memories(state: &mut State, r: &mut Random) -> Outcome {
+    let whole = accepted(r);
+    let other = damaged(r, &whole);
+    let job = if r.chance(90) { whole } else { other };
+    let mut pair = RunnerPair::new(job, &noise(r, WORDS as u32), &noise(r, RUNNER as u32));
+    state.count(pair.open()?);
+    for _ in 0..r.below(30) {
+        state.count(pair.step(r.below(4))?);
+    }
+    for _ in 0..10 {
+        damage_one(r, &mut pair);
+        let t = if r.chance(90) {
+            r.below(6)
+        } else {
+            any_word(r)
+        };
+        state.count(pair.step(t)?);
+        if r.chance(20) {
+            pair.ready()?;
+        }
+    }
+    Ok(())
+}
+
+/// Memories of other lengths.
+fn lengths(state: &mut State, r: &mut Random) -> Outcome {
+    let near = |r: &mut Random, due: usize| {
+        let due = due as u32;
+        r.pick(&[due, due, due - 1, due + 1, 0, 1, 2 * due])
+    };
+    let (core, runner) = (near(r, WORDS), near(r, RUNNER));
+    let mut pair = RunnerPair::new(accepted(r), &noise(r, core), &noise(r, runner));
+    state.count(pair.open()?);
+    state.count(pair.step(any_word(r))?);
+    pair.ready().map(|_| ())
+}
+
+fn make_round(state: &mut State, seed: u64, at: usize, round: u32) -> Outcome {
+    let outcome = (PARTS[at].round)(state, &mut random_of(seed, at, round));
+    outcome.map_err(|what| {
+        let name = PARTS[at].name;
+        format!("seed {seed}, part {name}, round {round}: {what}")
+    })
+}
+
+fn run_all(state: &mut State, seed: u64) -> Outcome {
+    for (at, part) in PARTS.iter().enumerate() {
+        let before = state.calls;
+        for round in 0..part.rounds {
+            make_round(state, seed, at, round)?;
+        }
+        println!("{}: {} calls", part.name, state.calls - before);
+    }
+    // Every way of moving, the wait, and 1, 2, 4, 8, 9 and the job's refusals.
+    let due = [1, 2, 4, 8, 9, 10, 11, 12, 32, 33, 34, 40, 41, 42, 43, 44];
+    match due.iter().find(|number| !state.counts.contains_key(number)) {
+        Some(number) => Err(format!("seed {seed}: no call was answered {number}")),
+        None => Ok(()),
+    }
+}
+
+fn main() -> ExitCode {
+    let words: Vec<String> = std::env::args().skip(1).collect();
+    let Some((seed, wanted)) = asked(&words, &PARTS.map(|part| part.name)) else {
+        return usage("orders");
+    };
+    println!("seed {seed}");
+    let mut state = State::default();
+    let outcome = match wanted {
+        Asked::All => run_all(&mut state, seed),
+        Asked::One(at, round) => make_round(&mut state, seed, at, round),
+    };
+    if outcome.is_ok() {
+        let counts: Vec<String> = state
+            .counts
+            .iter()
+            .map(|(k, n)| format!("{k}: {n}"))
+            .collect();
+        println!("answers by number: {}", counts.join(", "));
+        println!("{} calls agree, {} runs ended", state.calls, state.ended);
+    }
+    status(outcome)
+}

@@ -1,0 +1,77 @@
+//! The linked runner and the model's side by side: every call is made on both,
+//! and the answers, all words of both memories and the ready maps are compared.
+
+use crate::guarded::Guarded;
+use crate::linked_runner::{self, map_words, packed};
+use host::runner::{self, Stepped};
+
+pub struct RunnerPair {
+    job: Vec<u8>,
+    core: Guarded,
+    runner: Guarded,
+    pub model_core: Vec<u32>,
+    pub model_runner: Vec<u32>,
+}
+
+impl RunnerPair {
+    /// A job, and words that both are lent.
+    pub fn new(job: Vec<u8>, core: &[u32], runner: &[u32]) -> RunnerPair {
+        RunnerPair {
+            job,
+            core: Guarded::new(core),
+            runner: Guarded::new(runner),
+            model_core: core.to_vec(),
+            model_runner: runner.to_vec(),
+        }
+    }
+
+    /// Gives both the words of the model again, after these were changed.
+    pub fn changed(&mut self) {
+        self.core.set(&self.model_core);
+        self.runner.set(&self.model_runner);
+    }
+
+    pub fn open(&mut self) -> Result<Stepped, String> {
+        let due = runner::open(&self.job, &mut self.model_core, &mut self.model_runner);
+        let given = linked_runner::open(&self.job, self.core.lend(), self.runner.lend());
+        self.same("open", given, due)
+    }
+
+    pub fn step(&mut self, t: u32) -> Result<Stepped, String> {
+        let due = runner::step(&self.job, &mut self.model_core, &mut self.model_runner, t);
+        let given = linked_runner::step(&self.job, self.core.lend(), self.runner.lend(), t);
+        self.same(&format!("step {t}"), given, due)
+    }
+
+    /// The ready map of both.
+    pub fn ready(&mut self) -> Result<Stepped, String> {
+        let (due, map) = runner::ready(&self.job, &self.model_core, &self.model_runner);
+        let (given, words) =
+            linked_runner::ready(&self.job, self.core.words(), self.runner.words());
+        if words != map_words(map) {
+            return Err(format!("ready map {words:?}, model {map:?}"));
+        }
+        self.same("ready", given, due)
+    }
+
+    fn same(&self, call: &str, given: u64, due: Stepped) -> Result<Stepped, String> {
+        if given != packed(due) {
+            let (status, value) = (given >> 32, given & 0xFFFF_FFFF);
+            return Err(format!(
+                "{call}: status {status}, value {value}, model {due:?}"
+            ));
+        }
+        let core = self.core.words().iter().zip(&self.model_core);
+        let runner = self.runner.words().iter().zip(&self.model_runner);
+        if let Some(at) = core.clone().position(|(a, b)| a != b) {
+            return Err(format!("{call}: word {at} of the core"));
+        }
+        if let Some(at) = runner.clone().position(|(a, b)| a != b) {
+            return Err(format!("{call}: word {at} of the runner"));
+        }
+        if self.core.overrun() || self.runner.overrun() {
+            return Err(format!("{call}: words outside those lent changed"));
+        }
+        Ok(due)
+    }
+}
