@@ -2,15 +2,20 @@
 //!
 //! `bench` makes the same calls on the linked core and on the model, in turn.
 //! `bench growth` makes calls on the linked core alone, on memories of growing
-//! size. `bench serial` runs a job of 60,000 steps without overlap on both.
+//! size. `bench serial` runs a job of 60,000 steps without overlap on both,
+//! `bench overlap` the same job under a random order of its tasks.
 
 use host::asm::assemble;
 use host::call::Call;
 use host::job::Job;
 use host::layout::WORDS;
+use host::overlap::Log;
+use host::random::Random;
+use host::runner::{self, RUNNER};
 use host::serial::{self, End};
 use link::linked;
 use link::linked_jobs::{packed, run_serially, ANSWERS, WORKING};
+use link::linked_runner;
 use link::long_job;
 use link::scenes::{self, held_segments, unfinished_tasks, Scene};
 use std::process::ExitCode;
@@ -130,6 +135,68 @@ fn without_overlap() {
     println!("{:10}{linked:>10.2}{model:>10.2}{ratio:>8.2}", "a step");
 }
 
+/// Rounds of a run under another order, which takes longer.
+const RUNS: u32 = 31;
+
+/// Task numbers that lead the long job to its end, some of them in vain.
+fn order(job: &[u8]) -> Vec<u32> {
+    let (mut core, mut words) = (vec![0; WORDS], vec![0; RUNNER]);
+    runner::open(job, &mut core, &mut words);
+    let (mut log, mut tasks, mut r) = (Log::default(), Vec::new(), Random::new(2013));
+    while !log.unfinished().is_empty() {
+        let t = r.pick(&log.unfinished());
+        log.note(t, runner::step(job, &mut core, &mut words, t));
+        tasks.push(t);
+    }
+    assert_eq!(log.moves(), long_job::STEPS as u64);
+    tasks
+}
+
+/// How a job is opened and a step is made, with the answer in one number.
+type Steps = (
+    fn(&[u8], &mut [u32], &mut [u32]) -> u64,
+    fn(&[u8], &mut [u32], &mut [u32], u32) -> u64,
+);
+
+const LINKED: Steps = (linked_runner::open, linked_runner::step);
+const MODEL: Steps = (
+    |job, core, words| linked_runner::packed(runner::open(job, core, words)),
+    |job, core, words, t| linked_runner::packed(runner::step(job, core, words, t)),
+);
+
+/// Nanoseconds a call of a run, and a sum over all answers.
+fn run_order((open, step): Steps, job: &[u8], tasks: &[u32]) -> (f64, u64) {
+    let (mut core, mut words) = (vec![0; WORDS], vec![0; RUNNER]);
+    open(job, &mut core, &mut words);
+    let (time, sum) = timed(|| {
+        let add = |sum: u64, t: &u32| sum.rotate_left(1) ^ step(job, &mut core, &mut words, *t);
+        tasks.iter().fold(0, add)
+    });
+    (time / tasks.len() as f64, sum)
+}
+
+/// The long job with overlap, on the library and on the model; and the library
+/// with a call between any two that does nothing but the tests.
+fn with_overlap() {
+    let job = assemble(long_job::TEXT).expect("the long job assembles");
+    let tasks = order(&job);
+    let tests: Vec<u32> = tasks.iter().flat_map(|t| [*t, 128]).collect();
+    let (mut linked, mut model, mut twice) = (f64::INFINITY, f64::INFINITY, f64::INFINITY);
+    for _ in 0..RUNS {
+        let (time, sum) = run_order(LINKED, &job, &tasks);
+        linked = linked.min(time);
+        let (time, due) = run_order(MODEL, &job, &tasks);
+        model = model.min(time);
+        assert_eq!(sum, due, "answers");
+        twice = twice.min(2.0 * run_order(LINKED, &job, &tests).0);
+    }
+    println!("{} calls, {} of them moved", tasks.len(), long_job::STEPS);
+    println!("{:10}{:>10}{:>10}{:>8}", "", "linked", "model", "ratio");
+    let (ratio, share) = (linked / model, 100.0 * (twice - linked) / linked);
+    println!("{:10}{linked:>10.0}{model:>10.0}{ratio:>8.2}", "a call");
+    println!("share of the tests: {share:.0} per cent");
+}
+
 fn main() -> ExitCode {
     let words: Vec<String> = std::env::args().skip(1).collect();
     let words: Vec<&str> = words.iter().map(String::as_str).collect();
@@ -137,8 +204,9 @@ fn main() -> ExitCode {
         [] => beside_the_model,
         ["growth"] => growth,
         ["serial"] => without_overlap,
+        ["overlap"] => with_overlap,
         _ => {
-            eprintln!("bench [growth | serial]");
+            eprintln!("bench [growth | serial | overlap]");
             return ExitCode::FAILURE;
         }
     };
