@@ -2,4 +2,5 @@ pub mod Answers
 pub mod Words
 pub mod Rules
 pub mod Open
+pub mod Opens
 pub mod Step
