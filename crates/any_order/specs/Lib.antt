@@ -7,6 +7,9 @@ pub mod Answered
 pub mod Numbers
 pub mod Goes
 pub mod Operations
+pub mod Looking
 pub mod Running
 pub mod Names
 pub mod Called
+pub mod Fresh
+pub mod AnyOrder

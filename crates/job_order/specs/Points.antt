@@ -63,6 +63,10 @@ module _ (j : List ℕ) (q : ℕ) where
   unfolding pointsOf
   value-past p v l d = pass _ (ne-eqb p q d) refl
 
+  pub finished-past : (n : Numbered) (l : List (Item Numbered)) → pointsOf j q (finished n ∷ l) ≡ pointsOf j q l
+  unfolding pointsOf
+  finished-past n l = refl
+
   -- the points of a line, where some items of it are put in place of others
   pub points-swap : (a b c : List (Item Numbered)) → pointsOf j q b ≡ pointsOf j q c → pointsOf j q (a ++ b) ≡ pointsOf j q (a ++ c)
   points-swap a b c e = points-append a b ∙ ap (λ (l : List Point). pointsOf j q a ++ l) e ∙ sym (points-append a c)

@@ -25,12 +25,12 @@ use Rattle.job_order.specs.Points.{places-append, standing-append, point
 use Rattle.job_order.specs.Located.{Located, located, tasks-at}
 
 -- a push concerns one queue only
-pub push-quiet : (q p v : ℕ) → (p ≡ q → ⊥) → (added p (pushes q v) ≡ []) × (takes p (pushes q v) ≡ 0)
+push-quiet : (q p v : ℕ) → (p ≡ q → ⊥) → (added p (pushes q v) ≡ []) × (takes p (pushes q v) ≡ 0)
 unfolding added takes
 push-quiet q p v n = (pass _ (ne-eqb q p (λ e. n (sym e))) refl, refl)
 
 -- rights within others use no queue that those do not
-pub subset-uses : (a b q : ℕ) → q < 4 → subset a b ≡ true → uses a q ≡ true → uses b q ≡ true
+subset-uses : (a b q : ℕ) → q < 4 → subset a b ≡ true → uses a q ≡ true → uses b q ≡ true
 subset-uses a b q small e u = go (mayPop a q) refl
   where
     go : (c : Bool) → mayPop a q ≡ c → uses b q ≡ true

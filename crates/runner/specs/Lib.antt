@@ -4,3 +4,4 @@ pub mod Rules
 pub mod Open
 pub mod Opens
 pub mod Step
+pub mod Laws
