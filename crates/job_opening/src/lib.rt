@@ -1,7 +1,6 @@
 // Opening a job: the core for its segment length, and the top at its first instruction.
 ghost use mathlib.Core.Path.{_≡_};
-ghost use Rattle.runner.specs.Answers.{Outcome};
-ghost use Rattle.runner.specs.Answers.Outcome.{outcome};
+ghost use Rattle.runner.specs.Answers.{outcome};
 ghost use Rattle.runner.specs.Open.{segmentsFor, openOutcome};
 use runner::StepAnswer;
 

@@ -34,7 +34,8 @@ three m m1 m2 m3 t x y z e1 e2 e3 =
     ∙ store-more _ (suc (suc (t * 3))) z []
     ∙ store-none _ _)
 
-pub instruction-for : (j r : List ℕ) (t : ℕ) {p i : ℕ} {s : Instruction} → p ≡ procedureOf r t → i ≡ positionOf r t → s ≡ instructionAt j p i → s ≡ instructionFor j r t
+pub instruction-for : (j r : List ℕ) (t : ℕ) {p i : ℕ} {s : Instruction} → p ≡ procedureOf r t → i ≡ positionOf r t
+    → s ≡ instructionAt j p i → s ≡ instructionFor j r t
 unfolding instructionFor
 instruction-for j r t ep ei e = e ∙ ap₂ (instructionAt j) ep ei
 
