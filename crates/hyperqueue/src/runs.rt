@@ -1,0 +1,45 @@
+// Jobs with overlap, for hosts in other languages: opening a job, and a step of a task.
+ghost use mathlib.Core.Path.{_≡_};
+ghost use Prim.Native.Nat.{_+_, _*_};
+ghost use Rattle.runner.specs.Open.{openOutcome};
+ghost use Rattle.runner.specs.Step.{stepOutcome};
+ghost use Rattle.hyperqueue.specs.Steps.{packedStep, StepHanded};
+use runner::StepAnswer;
+
+// The number of a case with a value, packed.
+fn with_value(status: u32, value: u32) -> u64
+    ensures { λ r. ⌜ r ≡ status * 4294967296 + value ⌝ }
+{
+    crate::wide(status) * 4294967296 + crate::wide(value)
+}
+
+// The status in the high half, the value in the low half.
+pub fn pack_step(a: StepAnswer) -> u64
+    ensures { λ r. ⌜ r ≡ packedStep a ⌝ }
+{
+    match a {
+        StepAnswer::Spawned(v) => with_value(40, v),
+        StepAnswer::Pushed(v) => with_value(41, v),
+        StepAnswer::Took(v) => with_value(42, v),
+        StepAnswer::Finished => with_value(43, 0),
+        StepAnswer::Moved => with_value(44, 0),
+        StepAnswer::Empty => with_value(33, 0),
+        StepAnswer::NotEmpty => with_value(34, 0),
+        StepAnswer::Waits => with_value(32, 0),
+        StepAnswer::Refused(k) => with_value(k, 0),
+    }
+}
+
+#[no_mangle]
+pub extern "C" fn hq_job_open(job: &[u8], words: &mut [u32], runner: &mut [u32]) -> u64
+    ensures { λ r. ⌜ StepHanded r (now (words .exit)) (now (runner .exit)) (openOutcome (now (job .entry)) (now (words .entry)) (now (runner .entry))) ⌝ }
+{
+    pack_step(job_opening::open(job, words, runner))
+}
+
+#[no_mangle]
+pub extern "C" fn hq_job_step(job: &[u8], words: &mut [u32], runner: &mut [u32], task: u32) -> u64
+    ensures { λ r. ⌜ StepHanded r (now (words .exit)) (now (runner .exit)) (stepOutcome (now (job .entry)) (now (words .entry)) (now (runner .entry)) task) ⌝ }
+{
+    pack_step(stepping::step(job, words, runner, task))
+}
