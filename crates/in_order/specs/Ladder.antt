@@ -1,12 +1,12 @@
 -- THE REFUSALS that many calls share, by the words and by program order: 4, then 5 and 6.
 use mathlib.Core.Path.{_≡_, refl, sym, _∙_, subst}
-use mathlib.Core.Bool.{Bool, true, false, not, false≢true}
+use mathlib.Core.Bool.{Bool, true, not}
 use mathlib.Core.List.{List, _∷_, _++_}
 use Prim.Native.Nat.{ℕ, _<_}
 use native.Mathlib.Omega.{arith}
 use lib.Dec.{leb}
 use borrow.Author.Tests.{leb-false}
-use Rattle.words.specs.Words.{pick, either}
+use Rattle.words.specs.Words.{pick}
 use Rattle.answers.specs.declared.Answer.{Answer}
 use Rattle.answers.specs.declared.Answer.the-variants.{Refused}
 use Rattle.answers.specs.Answers.{Outcome, outcome}
@@ -22,12 +22,6 @@ use Rattle.links.specs.Waits.{same-unfinished, same-rights, same-blocked}
 use Rattle.represents.specs.Represents.{Represents}
 use Rattle.represents.specs.At.{mine-spot}
 use Rattle.in_order.specs.Does.{Does, refuses, chooses, chooses-not}
-
--- a test that fails has both parts failing
-pub neither-true : (a b : Bool) → either a b ≡ false → (a ≡ false) × (b ≡ false)
-unfolding either pick
-neither-true true b e = absurd (false≢true (sym e))
-neither-true false b e = (refl, e)
 
 module _ (P : List ℕ → List Item → Type 0) (runs : (m : List ℕ) (xs : List Item) → Represents m xs → P m xs) where
   -- 4, and where it is not refused the caller has a spot

@@ -3,7 +3,7 @@ use mathlib.Core.Path.{_≡_, refl, ap, ap₂, _∙_}
 use mathlib.Core.Bool.{Bool, true, false, not}
 use mathlib.Core.List.{List, _∷_, _++_}
 use Prim.Native.Nat.{ℕ}
-use Rattle.words.specs.Words.{pick, either}
+use Rattle.words.specs.Words.{pick, either, neither-true}
 use Rattle.answers.specs.declared.Answer.the-variants.{Moved, Waits, Refused}
 use Rattle.answers.specs.Answers.{outcome, answerOf, wordsOf}
 use Rattle.answers.specs.Calls.{Call, sync-call}
@@ -21,7 +21,7 @@ use Rattle.represents.specs.Represents.{Represents}
 use Rattle.represents.specs.At.{mine-spot}
 use Rattle.represents_finish.specs.Sync.{sync-allowed, sync-represents}
 use Rattle.in_order.specs.Does.{Does, waits, chooses, never}
-use Rattle.in_order.specs.Ladder.{neither-true, for-task, blocked-same}
+use Rattle.in_order.specs.Ladder.{for-task, blocked-same}
 
 -- the waits of sync and finish, by the words and by program order
 module _ (m : List ℕ) (ys zs : List Item) (s : Task) (r : Represents m (ys ++ spot s ∷ zs)) where

@@ -3,12 +3,12 @@ use mathlib.Core.Path.{_≡_, refl, ap, sym, _∙_, subst}
 use mathlib.Core.Bool.{Bool, true, false, not, false≢true}
 use mathlib.Core.List.{List, [], _∷_, _++_}
 use mathlib.Core.Logic.{_⊎_, inl, inr, ⊎-elim}
-use Prim.Native.Nat.{ℕ, _+_, _<_}
+use Prim.Native.Nat.{ℕ, _<_}
 use native.Mathlib.Omega.{arith}
 use lib.Dec.{eqb, ltb}
 use borrow.Author.Tests.{lt-ltb, ltb-true, eq-eqb, ne-eqb}
 use Rattle.words.specs.Words.{load, pass, halt, both, both-true, true-both, same-test}
-use Rattle.lists.specs.Counting.{occurrences, occurs-nil, occurs-here, occurs-past, equal?}
+use Rattle.lists.specs.Counting.{occurrences, occurs-nil, occurs-here, occurs-past, equal?, occurs-later}
 use Rattle.layout.specs.Layout.{PARENT, OLDER, YOUNGEST, task, read, recordOf}
 use Rattle.layout.specs.Frame.{record-word}
 use Rattle.tree.specs.Rights.{pushes, pops, subset}
@@ -16,7 +16,6 @@ use Rattle.tree.specs.Tour.{END, oldest}
 use Rattle.rules.specs.Rules.{walk}
 use Rattle.rules_tasks.specs.Holders.{met-count}
 use Rattle.gaps.specs.Search.{firstOf}
-use Rattle.gaps.specs.Maps.{occurs-later}
 use Rattle.calls.specs.Waits.{rightsOf as rightsIn, pusherBefore}
 use Rattle.calls.specs.Finish.{heir}
 use Rattle.order.specs.Steps.{Name, Task, Item, spot, nameOf, numberOf, rightsOf}

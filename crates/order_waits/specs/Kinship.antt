@@ -1,8 +1,8 @@
 -- What the waits keep true of the spots: parents stay, a blocked task has no children.
 use mathlib.Core.Path.{_≡_, refl, ap, ap₂, sym, _∙_, subst}
 use mathlib.Core.Bool.{true, false, false≢true}
-use mathlib.Core.List.{List, [], _∷_, _++_, head-eq-of-cons-eq, tail-eq-of-cons-eq}
-use mathlib.Core.Logic.{_⊎_, inl, inr, ⊎-elim}
+use mathlib.Core.List.{List, [], _∷_, _++_, head-eq-of-cons-eq, tail-eq-of-cons-eq, cons-ne-nil}
+use mathlib.Core.Logic.{inl, inr, ⊎-elim}
 use Prim.Native.Nat.{ℕ, _+_, _<_}
 use native.Mathlib.Omega.{arith}
 use lib.ListN.{length}
@@ -36,9 +36,6 @@ module _ (xs : List Item) where
 cons-same : {i j : ℕ} {p q : Name} → i ∷ p ≡ j ∷ q → (i ≡ j) × (p ≡ q)
 cons-same e = (head-eq-of-cons-eq e, tail-eq-of-cons-eq e)
 
-no-cons : {i : ℕ} {p : Name} {A : Type 0} → i ∷ p ≡ [] → A
-no-cons e = let z : _≡_ {A = ℕ} 0 1 = cc in absurd (omega (arith, z))
-
 top-alone : (s : Task) → In (spot s) begin → nameOf s ≡ []
 unfolding begin nameOf
 top-alone s (inl e) = ap nameOf (same-spot e)
@@ -46,9 +43,9 @@ top-alone s (inr i) = absurd i
 
 begin-kinship : Kinship begin
 begin-kinship = record {
-  below = λ s o j a b e. no-cons (sym e ∙ top-alone o b);
-  parent = λ s k p a e. no-cons (sym e ∙ top-alone s a);
-  idle = λ o s c k b i j e. no-cons (sym e ∙ top-alone c j);
+  below = λ s o j a b e. absurd (cons-ne-nil _ _ (sym e ∙ top-alone o b));
+  parent = λ s k p a e. absurd (cons-ne-nil _ _ (sym e ∙ top-alone s a));
+  idle = λ o s c k b i j e. absurd (cons-ne-nil _ _ (sym e ∙ top-alone c j));
 }
 
 pub says-blocked : (xs : List Item) → Reached xs → (o s : Task) → Blocks xs o s → In (spot s) xs → blocked (numberOf s) xs ≡ true

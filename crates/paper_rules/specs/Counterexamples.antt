@@ -22,6 +22,7 @@ use Rattle.gaps.specs.Line.{End, nonlocal, local, extent}
 use Rattle.links.specs.Linked.{word-is}
 use Rattle.meaning.specs.Meaning.{optional, endOf, extentOf, viewIn}
 use Rattle.meaning.specs.Reads.{next-at, head-at, view-at}
+use Rattle.meaning.specs.Free.{optional-none}
 use Rattle.paper_rules.specs.Order.{ViewName, queue, user, right, behind, placeIn, place, Before}
 use Rattle.paper_rules.specs.Words.{viewAt, headOnly, taskOf, NotQueue, Current, LinkedList}
 
@@ -133,7 +134,7 @@ rule-7-false m e rule =
     (record {
       start = 4;
       rest = [];
-      linked = next-at m 4 (omega arith) ∙ ap optional n4 ∙ none-there;
+      linked = next-at m 4 (omega arith) ∙ ap optional n4 ∙ optional-none;
       headEnd = local 4;
       tailEnd = local 4;
       head-in = v;
@@ -145,9 +146,6 @@ rule-7-false m e rule =
   where
     both-four : extentOf (view 4 4) ≡ extent (local 4) (local 4)
     both-four = unfold extentOf isEmpty endOf pick both in refl
-
-    none-there : optional NONE ≡ none
-    none-there = unfold optional pick in refl
 
 pub rule-7-case : (m : List ℕ) × (tried youngerFinished lent ≡ some m)
 rule-7-case = moves youngerFinished (unfold computed isSome in refl)
@@ -183,7 +181,7 @@ rule-8-false m e rule =
     (record {
       start = 0;
       rest = [];
-      linked = next-at m 0 (omega arith) ∙ ap optional n0 ∙ none-there;
+      linked = next-at m 0 (omega arith) ∙ ap optional n0 ∙ optional-none;
       headEnd = nonlocal;
       tailEnd = nonlocal;
       head-in = ap headOnly (head-at m 0 1 (omega arith) (omega arith) ∙ ap optional hq ∙ zero-there);
@@ -194,9 +192,6 @@ rule-8-false m e rule =
     (ap (λ (x : ℕ). both (pushes x 0) (pops x 0)) r1 ∙ pop-only) in
     omega (arith, w, pq, pu)
   where
-    none-there : optional NONE ≡ none
-    none-there = unfold optional pick in refl
-
     zero-there : optional 0 ≡ some 0
     zero-there = unfold optional pick in refl
 

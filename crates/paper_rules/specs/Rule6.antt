@@ -6,8 +6,7 @@ use mathlib.Core.List.{List, [], _∷_, _++_, append-assoc}
 use mathlib.Core.Logic.{_⊎_, inl, inr, ⊎-elim}
 use Prim.Native.Nat.{ℕ, _<_}
 use native.Mathlib.Omega.{arith}
-use Rattle.lists.specs.Counting.{occurrences, occurs-here, equal?}
-use Rattle.rules_tasks.specs.Holders.{below?}
+use Rattle.lists.specs.Counting.{occurrences, occurs-here, equal?, below?}
 use Rattle.order.specs.Steps.{Item}
 use Rattle.gaps.specs.Maps.{All, all-append}
 use Rattle.gaps.specs.Line.{End, local, extent, firstChain, segments}

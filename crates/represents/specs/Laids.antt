@@ -1,17 +1,17 @@
 -- THE FOUR QUEUES OVER ONE STORE: a call on one of them leaves the others laid out as they were.
 use mathlib.Core.Path.{_≡_, refl, sym, subst}
 use mathlib.Core.List.{List, [], _∷_, _++_}
-use mathlib.Core.Logic.{_⊎_, ⊎-elim}
-use Prim.Native.Nat.{ℕ, zero, suc, _+_, _<_, _≤_}
+use mathlib.Core.Logic.{⊎-elim}
+use Prim.Native.Nat.{ℕ, _+_, _<_, _≤_}
 use native.Mathlib.Omega.{arith}
 use Rattle.words.specs.Words.{pick}
 use Rattle.lists.specs.Counting.{occurrences, equal?, occurs-append}
+use Rattle.tree.specs.Queues.{by-four}
 use Rattle.gaps.specs.Maps.{All, put, put-same, put-other, all-in}
 use Rattle.gaps.specs.Line.{Line, segments}
 use Rattle.gaps.specs.Store.{Store, Memory, Laid, Segments, timeline}
 use Rattle.gaps.specs.Stores.{Kept}
 use Rattle.gaps.specs.Pool.{Pool, mine, laid-mine, pool-row, other-queue}
-use Rattle.meaning.specs.Records.{by-four}
 use Rattle.meaning.specs.Update.{shared}
 
 -- the four lines

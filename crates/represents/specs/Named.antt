@@ -2,21 +2,20 @@
 use mathlib.Core.Path.{_≡_, refl, ap, sym, _∙_}
 use mathlib.Core.Bool.{Bool, true, false, false≢true}
 use mathlib.Core.List.{List, [], _∷_}
-use mathlib.Core.Logic.{_⊎_, ⊎-elim}
-use Prim.Native.Nat.{ℕ, zero, suc, _+_, _-_, _<_}
+use mathlib.Core.Logic.{⊎-elim}
+use Prim.Native.Nat.{ℕ, zero, suc, _+_, _<_}
 use native.Mathlib.Omega.{arith}
 use lib.Dec.{ltb}
 use lib.ListN.{drop}
 use lib.Seq.{getD-drop}
 use borrow.Author.Tests.{lt-ltb, ltb-true, eq-eqb, ne-eqb}
 use Rattle.words.specs.Words.{load, pick, halt, pass, both, true-both, both-true}
-use Rattle.lists.specs.Counting.{occurrences, occurs-nil, occurs-here, occurs-past, equal?}
+use Rattle.lists.specs.Counting.{occurrences, occurs-nil, occurs-here, occurs-past, equal?, occurs-later}
 use Rattle.layout.specs.Layout.{task, queueHead, read, recordOf}
 use Rattle.layout.specs.Frame.{record-word}
 use Rattle.tree.specs.Tour.{MARKS, tour}
 use Rattle.calls.specs.Segments.{indexOf, headIndex}
 use Rattle.gaps.specs.Search.{firstOf}
-use Rattle.gaps.specs.Maps.{occurs-later}
 use Rattle.links.specs.Places.{seek-first}
 use Rattle.meaning.specs.Links.{NamedBy}
 

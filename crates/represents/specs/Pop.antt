@@ -4,7 +4,7 @@ use mathlib.Core.Bool.{Bool, true, false, false≢true}
 use mathlib.Core.Option.{none, some}
 use mathlib.Core.List.{List, [], _∷_, _++_}
 use mathlib.Core.Logic.{inl, inr}
-use Prim.Native.Nat.{ℕ, suc, _+_, _<_}
+use Prim.Native.Nat.{ℕ, _<_}
 use native.Mathlib.Omega.{arith}
 use borrow.Author.Tests.{ne-eqb}
 use Rattle.words.specs.Words.{pick, halt, pass as skip}
@@ -47,10 +47,11 @@ use Rattle.represents.specs.Nexts.{Nexts, nexts-popped, words-nexts}
 use Rattle.represents.specs.Parts.{holders, parts-of}
 use Rattle.represents.specs.Live.{live-popping}
 use Rattle.represents.specs.Plain.{queue-represents}
-use Rattle.represents.specs.FirstNamed.{one-mine, segment-below, first-in}
+use Rattle.represents.specs.FirstNamed.{one-mine, segment-below}
 use Rattle.represents.specs.Room.{room}
 use Rattle.represents.specs.At.{task-unfinished, task-alive, single-spot, where-it-stands}
 use Rattle.represents.specs.Push.{queue-memory, masked-share}
+use Rattle.represents.specs.FirstNames.{first-in}
 
 quiet : (q p : ℕ) → (p ≡ q → ⊥) → (added p (pops q) ≡ []) × (takes p (pops q) ≡ 0)
 unfolding added takes

@@ -2,8 +2,8 @@
 use mathlib.Core.Path.{_≡_, refl, ap, ap₂, sym, _∙_, subst}
 use mathlib.Core.Bool.{Bool, true, false}
 use mathlib.Core.List.{List, [], _∷_}
-use mathlib.Core.Logic.{_⊎_, ⊎-elim}
-use Prim.Native.Nat.{ℕ, zero, suc, _-_, _<_}
+use mathlib.Core.Logic.{⊎-elim}
+use Prim.Native.Nat.{ℕ, _-_, _<_}
 use native.Mathlib.Omega.{arith}
 use lib.Dec.{ltb, eqb}
 use borrow.Author.Tests.{lt-ltb, le-ltb}
@@ -11,6 +11,7 @@ use Rattle.words.specs.Words.{pick, halt, pass as skip, both, either, both-on}
 use Rattle.lists.specs.Counting.{occurrences, occurs-here, occurs-past, equal?}
 use Rattle.layout.specs.Layout.{CHILDREN, RIGHTS}
 use Rattle.tree.specs.Rights.{uses, bits}
+use Rattle.tree.specs.Queues.{by-four}
 use Rattle.rules.specs.Contents.{Contents, decode}
 use Rattle.rules.specs.Rules.{Unfinished}
 use Rattle.rules_tasks.specs.Tested.{top-says}
@@ -24,7 +25,6 @@ use Rattle.links.specs.Linked.{word-is}
 use Rattle.links.specs.Marks.{mark-held}
 use Rattle.meaning.specs.Meaning.{viewIn}
 use Rattle.meaning.specs.Find.{part-taken, view-stands}
-use Rattle.meaning.specs.Records.{by-four}
 use Rattle.represents.specs.Represents.{ofTasks, queueMemory, usesIn, Represents}
 use Rattle.represents.specs.Views.{unfinished-alive}
 

@@ -23,9 +23,10 @@ use Rattle.meaning.specs.Meaning.{viewIn}
 use Rattle.meaning.specs.Find.{part-taken, view-stands}
 use Rattle.represents.specs.Represents.{queueMemory, usesIn, Represents}
 use Rattle.represents.specs.Walks.{first-path, tour-ends, marked}
+use Rattle.represents.specs.Views.{children-word}
 use Rattle.represents_finish.specs.Leaf.{Leaf, leaf}
 use Rattle.represents_finish.specs.Way.{Way}
-use Rattle.represents_finish.specs.Queue.{way-linked, children-word, unfinished-live}
+use Rattle.represents_finish.specs.Queue.{way-linked, unfinished-live}
 
 module _ (m : List ℕ) (ys zs : List Item) (s : Task) (r : Represents m (ys ++ spot s ∷ zs)) (barren : hasChild m (numberOf s) ≡ false) (above : 0 < numberOf s) where
   abbrev t : ℕ
@@ -69,7 +70,7 @@ module _ (m : List ℕ) (ys zs : List Item) (s : Task) (r : Represents m (ys ++ 
         go true e = unfold either in halt _ _ e ∙ sym (halt _ _ e)
         go false e =
             ap (λ (v : Extent). either (ltb x 128) (either (eqb (x - 128) 0) (occupied v)))
-            (children-word m Old r n holder line way q (x - 128) (unfinished-live m Old r n holder line way (x - 128) (subst (Unfinished (decode m)) (skip x e refl) (marked m Old r x p .1))))
+            (children-word n q (x - 128) (unfinished-live m Old r n holder line way (x - 128) (subst (Unfinished (decode m)) (skip x e refl) (marked m Old r x p .1))))
 
     -- a search from behind t
     search : (f : ℕ → Bool) → seek MARKS f (recordOf n) (after (recordOf n) (t + 128)) ≡ firstOf f (here .earlier)

@@ -13,7 +13,8 @@ use Rattle.gaps.specs.Line.{Line, marks}
 use Rattle.gaps.specs.Store.{timeline}
 use Rattle.represents.specs.Represents.{Represents}
 use Rattle.represents.specs.At.{single-spot}
-use Rattle.represents_finish.specs.Way.{Vacant, Turn}
+use Rattle.represents.specs.Covered.{Vacant}
+use Rattle.represents_finish.specs.Way.{Turn}
 
 -- In the turn of queue q, whose line was l, t leaves it. Program order is xs then, the tour T.
 pub record Change (m n n′ : List ℕ) (t q : ℕ) (l : Line) (h : ℕ) (xs : List Item) (T : List ℕ) : Type 0 where

@@ -9,6 +9,7 @@ use native.Mathlib.Omega.{arith}
 use Rattle.words.specs.Words.{pick, true-both}
 use Rattle.lists.specs.Counting.{occurrences, occurs-append, occurs-here, occurs-past, equal?}
 use Rattle.tree.specs.Rights.{eachQueue}
+use Rattle.tree.specs.Queues.{by-four}
 use Rattle.calls.specs.Waits.{hasChild}
 use Rattle.calls.specs.Finish.{finishes as allows, finishedQueue, unlinked, finished}
 use Rattle.order.specs.Steps.{Task, Item, spot, finishes, numberOf, advance}
@@ -25,15 +26,15 @@ use Rattle.links.specs.Marks.{mark-once}
 use Rattle.links.specs.Finish.{Finished}
 use Rattle.meaning.specs.Meaning.{storeIn}
 use Rattle.meaning.specs.Tree.{LinksOnly}
-use Rattle.meaning.specs.Records.{by-four}
 use Rattle.represents.specs.Represents.{queueMemory, usesIn, opened, Represents}
 use Rattle.represents.specs.Nexts.{Nexts}
 use Rattle.represents.specs.Laids.{Laids}
 use Rattle.represents.specs.Parts.{of-parts}
 use Rattle.represents.specs.Plain.{laids-as}
 use Rattle.represents.specs.At.{task-unfinished, single-spot}
+use Rattle.represents.specs.Covered.{Vacant}
 use Rattle.represents_finish.specs.Leaf.{Leaf, leaf}
-use Rattle.represents_finish.specs.Way.{Vacant, Way, Standing, all-begin, laids-over}
+use Rattle.represents_finish.specs.Way.{Way, Standing, all-begin, laids-over}
 use Rattle.represents_finish.specs.Heir.{gone}
 use Rattle.represents_finish.specs.FinishTurn.{Rest, Stage, turn-allowed, finish-turn}
 use Rattle.represents_finish.specs.Unlinked.{freed, words, links-only, tree-after}

@@ -30,12 +30,12 @@ use Rattle.meaning.specs.Finish.{Reduces, kind-below}
 use Rattle.meaning.specs.FinishTest.{behind-same, Stays, returned-whole, finish-test}
 use Rattle.represents.specs.Represents.{ofTasks, queueMemory, Represents}
 use Rattle.represents.specs.At.{task-unfinished}
+use Rattle.represents.specs.Covered.{Covered}
 use Rattle.represents_finish.specs.Leaf.{leaf}
 use Rattle.represents_finish.specs.Way.{Way}
 use Rattle.represents_finish.specs.Meets.{Meets, Headless, meets-reduces}
 use Rattle.represents_finish.specs.Reductions.{Link, Leaving}
 use Rattle.represents_finish.specs.Queue.{single, held-below, held-local}
-use Rattle.represents_finish.specs.FirstNames.{Covered}
 use Rattle.represents_finish.specs.Target.{markOf, returns, returned-at, target-at}
 use Rattle.represents_finish.specs.Reduced.{children-is, user-is, right-is, inner-is, whole-is, views, held, names, reduces as reductions}
 use Rattle.represents_finish.specs.FinishTest.{frees-says, inner-extent, first-keeps, stays, none-allowed}

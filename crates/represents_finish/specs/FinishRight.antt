@@ -28,12 +28,12 @@ use Rattle.represents.specs.Represents.{alive, ofTasks, queueMemory, usesIn, Re
 use Rattle.represents.specs.Nexts.{Nexts, HeadBelow, nexts-joined}
 use Rattle.represents.specs.Push.{masked-share}
 use Rattle.represents.specs.At.{single-spot}
+use Rattle.represents.specs.Covered.{Covered, Vacant}
 use Rattle.represents_finish.specs.Leaf.{leaf, with-right}
-use Rattle.represents_finish.specs.Way.{Vacant, Way, Standing}
+use Rattle.represents_finish.specs.Way.{Way, Standing}
 use Rattle.represents_finish.specs.Queue.{single, held-below}
 use Rattle.represents_finish.specs.Reductions.{Leaving, leaving-views}
 use Rattle.represents_finish.specs.HeadsBelow.{headless-below, reduced-below, right-below}
-use Rattle.represents_finish.specs.FirstNames.{Covered}
 use Rattle.represents_finish.specs.LiveFinish.{live-finish}
 use Rattle.represents_finish.specs.Reduced.{alive-t, alive-h, was}
 use Rattle.represents_finish.specs.Returned.{Back, views-back}

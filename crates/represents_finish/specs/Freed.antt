@@ -9,7 +9,7 @@ use native.Mathlib.Omega.{arith}
 use lib.Dec.{ltb, eqb}
 use borrow.Author.Tests.{ltb-true, ltb-false, eq-eqb}
 use Rattle.words.specs.Words.{pick, halt, pass as skip, both, both-right-off}
-use Rattle.lists.specs.Counting.{one, occurrences, occurs-here, occurs-past, equal?}
+use Rattle.lists.specs.Counting.{one, occurrences, equal?, occurs-not}
 use Rattle.layout.specs.Layout.{FREE, STATUS, RIGHTS, CHILDREN, USER, RIGHT, numberWord, task, read}
 use Rattle.tree.specs.Rights.{uses}
 use Rattle.calls.specs.Waits.{rightsOf as rightsIn}
@@ -23,15 +23,7 @@ use Rattle.meaning.specs.Kept.{Kept, Means}
 use Rattle.meaning.specs.Tree.{LinksOnly, links-mean}
 use Rattle.meaning.specs.Freed.{freedIn, freed-only, other-word, record-freed}
 use Rattle.represents.specs.Represents.{alive, ofTasks, queueMemory, usesIn, opened}
-use Rattle.represents_finish.specs.Way.{Vacant}
-
--- a number that does not stand in a list is no member of it
-apart-first : (x y : ℕ) (l : List ℕ) → occurrences y (x ∷ l) ≡ 0 → (x ≡ y → ⊥) × (occurrences y l ≡ 0)
-apart-first x y l e =
-    ⊎-elim
-    (λ d. let k = occurs-here x y l d in let z : ⊥ = omega (arith, k, e) in absurd z)
-    (λ d. (d, sym (occurs-past x y l d) ∙ e))
-    (equal? x y)
+use Rattle.represents.specs.Covered.{Vacant}
 
 -- the task of a mark that is none of t's
 other-task : (x t : ℕ) → (x ≡ t → ⊥) → (x ≡ 128 + t → ⊥) → pick (ltb x 128) x (x - 128) ≡ t → ⊥
@@ -47,16 +39,16 @@ pub fits-without : (u w : ℕ → Bool) (t : ℕ) → ((x : ℕ) → (x ≡ t �
 fits-without u w t same [] a b h = tt
 fits-without u w t same (base c ∷ l) a b h = (tt, fits-without u w t same l a b (h .1))
 fits-without u w t same (left x ∷ l) a b h =
-    let i = apart-first (128 + x) t (marks l) a in
-    let j = apart-first (128 + x) (128 + t) (marks l) b in
+    let i = occurs-not (128 + x) t (marks l) a in
+    let j = occurs-not (128 + x) (128 + t) (marks l) b in
     (same x (λ e. j .0 (ap (λ (y : ℕ). 128 + y) e)) ∙ h .0, fits-without u w t same l (i .1) (j .1) (h .1))
 fits-without u w t same (met x c ∷ l) a b h =
-    let i = apart-first x t (marks l) a in
-    let j = apart-first x (128 + t) (marks l) b in
+    let i = occurs-not x t (marks l) a in
+    let j = occurs-not x (128 + t) (marks l) b in
     (same x (i .0) ∙ h .0, fits-without u w t same l (i .1) (j .1) (h .1))
 fits-without u w t same (pass x ∷ l) a b h =
-    let i = apart-first x t (marks l) a in
-    let j = apart-first x (128 + t) (marks l) b in
+    let i = occurs-not x t (marks l) a in
+    let j = occurs-not x (128 + t) (marks l) b in
     (same (pick (ltb x 128) x (x - 128)) (other-task x t (i .0) (j .0)) ∙ h .0, fits-without u w t same l (i .1) (j .1) (h .1))
 
 -- THE WORDS n, which have the tree of m, and those where the record of t is free

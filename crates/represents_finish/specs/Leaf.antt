@@ -12,8 +12,9 @@ use Rattle.gaps.specs.Line.{Extent, left, met, pass, Line, marks, Fits, Mode, V
 use Rattle.gaps.specs.Splits.{all-proper, small-mets, met-leaf, pass-leaf}
 use Rattle.tree.specs.Tour.{met as metIn}
 use Rattle.links.specs.Linked.{numbersBack}
-use Rattle.links.specs.Places.{Place, childless, met-past}
+use Rattle.links.specs.Places.{Place, childless}
 use native.Mathlib.Omega.{arith}
+use Rattle.rules_tasks.specs.Holders.{met-past}
 use Rattle.represents.specs.Represents.{usesIn, Represents}
 use Rattle.represents.specs.Views.{uses-small}
 use Rattle.represents.specs.At.{task-unfinished, where-it-stands}

@@ -26,12 +26,12 @@ use Rattle.meaning.specs.FinishMemory.{memory-none-returned, memory-returned, n
 use Rattle.represents.specs.Represents.{alive, queueMemory, usesIn, Represents}
 use Rattle.represents.specs.Live.{holdsAt}
 use Rattle.represents.specs.At.{task-unfinished}
+use Rattle.represents.specs.Covered.{Covered}
+use Rattle.represents.specs.Naming.{Names, names-view}
 use Rattle.represents_finish.specs.Leaf.{leaf}
 use Rattle.represents_finish.specs.Way.{Way}
 use Rattle.represents_finish.specs.Meets.{Meets, Headless, tails-tailed, vacant-not}
 use Rattle.represents_finish.specs.Reductions.{Link}
-use Rattle.represents_finish.specs.Naming.{Names, names-view}
-use Rattle.represents_finish.specs.FirstNames.{Covered}
 use Rattle.represents_finish.specs.Target.{markOf, returns, returned-at, target-at}
 use Rattle.represents_finish.specs.Reduced.{alive-t, inner-is, whole-is, views, not-none, linkable, store-idle, reduces}
 

@@ -27,12 +27,14 @@ use Rattle.represents.specs.Nexts.{Nexts, nexts-joined}
 use Rattle.represents.specs.Live.{live-sync}
 use Rattle.represents.specs.Push.{masked-share}
 use Rattle.represents.specs.At.{mine-spot, task-unfinished}
+use Rattle.represents.specs.Views.{children-word, user-word}
+use Rattle.represents.specs.Covered.{Vacant}
 use Rattle.represents_finish.specs.Leaf.{with-right}
-use Rattle.represents_finish.specs.Way.{Vacant, Way, Standing, AllStand, Turn, turn-same}
+use Rattle.represents_finish.specs.Way.{Way, Standing, AllStand, Turn, turn-same}
 use Rattle.represents_finish.specs.Meets.{Apart, Tails, meets-reduces, meets-links, tails-tailed}
 use Rattle.represents_finish.specs.HeadsBelow.{headless-below}
 use Rattle.represents_finish.specs.Reductions.{Leaving, leaving-views}
-use Rattle.represents_finish.specs.Queue.{single, held-local, spot-alive, children-word, user-word, holder-alive}
+use Rattle.represents_finish.specs.Queue.{single, held-local, spot-alive, holder-alive}
 
 -- nothing is written where both views are vacant
 vacant-synced : (M : Meaning) (q holder t : ℕ) → M .views q CHILDREN t ≡ vacant → M .views q USER t ≡ vacant → syncedIn M q holder t ≡ M
@@ -64,10 +66,10 @@ module _ (m : List ℕ) (ys zs : List Item) (s : Task) (r : Represents m (ys ++ 
     alive-h = holder-alive m Old r n holder line way q (holder q) (stands .first)
 
     C : viewIn n q CHILDREN t ≡ Q .children t
-    C = children-word m Old r n holder line way q t alive-t
+    C = children-word n q t alive-t
 
     U : viewIn n q USER t ≡ Q .user t
-    U = user-word m Old r n holder line way q t alive-t
+    U = user-word n q t alive-t
 
     -- THE TASK HAS A RIGHT: b and a are the line's parts, c the chain of the gap behind its spot
     module _ (b : Line) (c : List ℕ) (a : Line) (parts : line q ≡ b ++ (met t c ∷ (left t ∷ a))) where

@@ -25,16 +25,17 @@ use Rattle.gaps.specs.Search.{firstOf, task-left, placeAt, takesPart as partTak
 use Rattle.gaps.specs.Absent.{met-marks, left-marks}
 use Rattle.gaps.specs.Pool.{mine}
 use Rattle.gaps.specs.Splits.{small-mets}
+use Rattle.links.specs.Marks.{mark-met}
 use Rattle.meaning.specs.Meaning.{extentOf, viewIn}
 use Rattle.meaning.specs.FinishTest.{returned-nonlocal, returned-local}
 use Rattle.represents.specs.Represents.{alive, queueMemory, usesIn, Represents}
-use Rattle.represents.specs.Views.{uses-small}
+use Rattle.represents.specs.Views.{uses-small, children-word, right-word}
 use Rattle.represents.specs.Walks.{top-uses, marked}
 use Rattle.represents.specs.Live.{holdsAt}
 use Rattle.represents.specs.FirstNamed.{task-there}
 use Rattle.represents_finish.specs.Leaf.{leaf}
 use Rattle.represents_finish.specs.Way.{Way}
-use Rattle.represents_finish.specs.Queue.{unfinished-there, children-word, right-word, unfinished-live}
+use Rattle.represents_finish.specs.Queue.{unfinished-live}
 use Rattle.represents_finish.specs.Back.{earlier-marks, earlier-ends, back-part, back-stand}
 
 -- the tasks of a line have a right to the queue
@@ -141,7 +142,7 @@ module _ (m : List ℕ) (ys zs : List Item) (s : Task) (r : Represents m (ys ++ 
             let g = occurs-here t u (lefts a) (sym e) in
             omega (arith, d, f, g, p);
         live = unfinished-live m Old r n holder line way u k;
-        there = unfinished-there m Old r n holder line way u k;
+        there = mark-met m (r .tour) Old (r .linked) u k;
       }
 
   abbrev Rest : Place → Type 0
@@ -159,7 +160,7 @@ module _ (m : List ℕ) (ys zs : List Item) (s : Task) (r : Represents m (ys ++ 
   unfolding holdsAt
   at-right u p =
       let o = met-other u p in
-      record { task = o; holds = o .live; view = sym (right-word m Old r n holder line way q u (o .live)); rest = rest }
+      record { task = o; holds = o .live; view = sym (right-word n q u (o .live)); rest = rest }
     where
       rest : Rest (rightOf u)
       rest vacant x e = (refl, refl)
@@ -172,7 +173,7 @@ module _ (m : List ℕ) (ys zs : List Item) (s : Task) (r : Represents m (ys ++ 
   unfolding holdsAt
   at-children u p =
       let o = left-other u p in
-      record { task = o; holds = o .live; view = sym (children-word m Old r n holder line way q u (o .live)); rest = rest }
+      record { task = o; holds = o .live; view = sym (children-word n q u (o .live)); rest = rest }
     where
       rest : Rest (childrenOf u)
       rest vacant x e = (refl, refl)

@@ -12,7 +12,7 @@ use Rattle.order.specs.Steps.{Item}
 use Rattle.order_waits.specs.Popper.{firstPopper}
 use Rattle.order_queue.specs.Points.{Timeline}
 use Rattle.gaps.specs.Maps.{All, put, put-same, put-other}
-use Rattle.gaps.specs.Line.{vacant, Line, marks, Fits}
+use Rattle.gaps.specs.Line.{Line, marks, Fits}
 use Rattle.gaps.specs.Store.{Store, Chain, Memory, Laid, timeline}
 use Rattle.gaps.specs.Stores.{Kept as StoreKept}
 use Rattle.gaps.specs.Pool.{allSegments, mine}
@@ -25,10 +25,7 @@ use Rattle.represents.specs.Laids.{four, Laids, laids-row, other-timeline}
 use Rattle.represents.specs.Parts.{holders, parts-of, opened-single}
 use Rattle.represents.specs.Plain.{laids-as}
 use Rattle.represents.specs.Push.{queue-memory}
-
--- task x has no view in the memory w
-abbrev pub Vacant : Memory → ℕ → Type 0
-Vacant w x = (w .children x ≡ vacant) × (w .user x ≡ vacant) × (w .right x ≡ vacant)
+use Rattle.represents.specs.Covered.{Vacant}
 
 -- THE WORDS n, on the way from m: the tree is that of m, and the four queues are laid out.
 pub record Way (m n : List ℕ) (holder : ℕ → ℕ) (line : ℕ → Line) : Type 0 where

@@ -10,7 +10,7 @@ use lib.Dec.{ltb, eqb}
 use lib.ListN.{drop, take}
 use borrow.Author.Tests.{eq-eqb, lt-ltb, ltb-true}
 use Rattle.words.specs.Words.{both, both-on, both-right-off, true-both}
-use Rattle.lists.specs.Counting.{occurrences, occurs-here, occurs-append}
+use Rattle.lists.specs.Counting.{occurrences, occurs-here, occurs-append, occurs-first}
 use Rattle.layout.specs.Layout.{NONE, FREE, STATUS, RIGHTS, YOUNGEST, numberWord, freeTasks, freeTask, task, address, read, write}
 use Rattle.tree.specs.Rights.{uses, subset}
 use Rattle.rules.specs.Contents.{Contents, decode, word}
@@ -137,7 +137,8 @@ module _ (m : List ℕ) (ys zs : List Item) (s : Task) (r : Represents m (ys ++ 
   sub-word = ap (subset u) (r .linked .rights s (mine-spot m ys zs s r)) ∙ sub
 
   pub child-unmarked : (occurrences child (r .tour) ≡ 0) × (occurrences (128 + child) (r .tour) ≡ 0)
-  child-unmarked = unmarked m after (r .tour) Old (r .linked) t u child words (stands .later) (stands .earlier) (stands .here) small sub-word
+  child-unmarked = unmarked m after t child u words (r .tour) Old (r .linked) small
+      (let e = ap (occurrences t) (stands .here) ∙ occurs-append t (stands .later) (t ∷ stands .earlier) in let f = occurs-first t (stands .earlier) in omega (arith, e, f))
 
   pub new-is : New ≡ ys ++ (made s (spawns child u) ++ zs)
   new-is = advance-at ys zs s (spawns child u) (single-spot m ys zs s r)

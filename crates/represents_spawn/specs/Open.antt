@@ -1,7 +1,7 @@
 -- OPENING gives the invariant: segment q is the only one of queue q, all others are free, the top has all queue views.
 use mathlib.Core.Path.{_≡_, refl, ap, sym, _∙_, subst}
 use mathlib.Core.Bool.{true, false, not, false≢true}
-use mathlib.Core.Logic.{_⊎_, ⊎-elim}
+use mathlib.Core.Logic.{⊎-elim}
 use mathlib.Core.Option.{none, some}
 use mathlib.Core.List.{List, [], _∷_}
 use Prim.Native.Nat.{ℕ, zero, suc, _+_, _-_, _<_, _≤_}
@@ -9,11 +9,11 @@ use native.Mathlib.Omega.{arith}
 use lib.Dec.{ltb, eqb}
 use borrow.Author.Tests.{eq-eqb, lt-ltb, le-ltb}
 use Rattle.words.specs.Words.{load, pick, pass as skip, halt, both, true-both, both-off, both-right-off}
-use Rattle.lists.specs.Counting.{one, one-no, occurrences, occurs-nil, occurs-here, occurs-past, equal?}
+use Rattle.lists.specs.Counting.{one, one-no, occurrences, occurs-nil, occurs-here, occurs-past, equal?, below?}
 use Rattle.layout.specs.Layout.{STATUS, RIGHTS, CHILDREN, USER, RIGHT, numberWord, read}
 use Rattle.tree.specs.Rights.{bits, uses, pops}
+use Rattle.tree.specs.Queues.{by-four}
 use Rattle.rules.specs.Test.{inRange}
-use Rattle.rules_tasks.specs.Holders.{below?}
 use Rattle.calls.specs.Open.{opened as openedWords}
 use Rattle.calls.specs.Waits.{rightsOf as rightsIn}
 use Rattle.order.specs.Steps.{begin, numberOf, rightsOf}
@@ -30,7 +30,6 @@ use Rattle.links.specs.Linked.{word-is}
 use Rattle.meaning.specs.Meaning.{Meaning, listed, nextIn, freeIn, headsIn, viewIn}
 use Rattle.meaning.specs.Kept.{Means}
 use Rattle.meaning.specs.Open.{topView, openedIn, core-opened, opened-number}
-use Rattle.meaning.specs.Records.{by-four}
 use Rattle.represents.specs.Represents.{alive, ofTasks, queueMemory, usesIn, opened, Represents}
 use Rattle.represents.specs.Nexts.{Leads, Nexts}
 use Rattle.represents.specs.Views.{unfinished-alive}

@@ -1,13 +1,13 @@
 -- The state of the test of order is made from the views passed so far; it says that they are joined.
 use mathlib.Core.Path.{_≡_, refl, ap, sym, _∙_}
-use mathlib.Core.Bool.{Bool, true, false, not}
+use mathlib.Core.Bool.{not}
 use mathlib.Core.List.{List, [], _∷_}
 use mathlib.Core.Logic.{_⊎_, inl, inr, ⊎-elim, _↔_}
 use Prim.Native.Nat.{ℕ, _≤_}
 use native.Mathlib.Omega.{arith}
 use lib.Dec.{eqb}
 use borrow.Author.Tests.{eq-eqb, ne-eqb}
-use Rattle.words.specs.Words.{pick, pass, halt, both, true-both, either, true-left, true-right}
+use Rattle.words.specs.Words.{pick, pass, halt, true-both, true-left, true-right, both-off, neither}
 use Rattle.lists.specs.Counting.{equal?}
 use Rattle.layout.specs.Layout.{NONE, NL}
 use Rattle.rules.specs.Views.{View, view, more, Joined}
@@ -30,14 +30,6 @@ marked-few e = ⊎-elim (λ q. let a = marked-yes e q in omega (arith, a)) (λ q
 -- both ends of a view are the mark for none, or neither
 abbrev pub Pair : ℕ → ℕ → Type 0
 Pair h e = ((h ≡ NONE) × (e ≡ NONE)) ⊎ ((h ≡ NONE → ⊥) × (e ≡ NONE → ⊥))
-
-neither : {a b : Bool} → a ≡ false → b ≡ false → either a b ≡ false
-unfolding either
-neither e f = pass true e f
-
-not-both : {a : Bool} (b : Bool) → a ≡ false → both a b ≡ false
-unfolding both
-not-both b e = pass b e refl
 
 module _ (h e o : ℕ) where
   pub passed-none : h ≡ NONE → e ≡ NONE → passed h e o ≡ o
@@ -87,7 +79,7 @@ more-none h e vs p q = halt _ _ (true-both (eq-eqb h NONE p) (eq-eqb e NONE q))
 
 more-some : (h e : ℕ) (vs : List View) → (h ≡ NONE → ⊥) → more (view h e) vs ≡ view h e ∷ vs
 unfolding more
-more-some h e vs p = pass _ (not-both _ (ne-eqb h NONE p)) refl
+more-some h e vs p = pass _ (both-off _ (ne-eqb h NONE p)) refl
 
 state-fit : (h e : ℕ) (vs : List View) → marked e ≡ state vs → state (view h e ∷ vs) ≡ marked h
 unfolding state

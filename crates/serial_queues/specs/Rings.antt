@@ -105,9 +105,10 @@ front-there w q n l e x = ap front (queue-ring w q l ∙ ap (ringFrom w q (load 
     first zero x = absurd (x refl)
     first (suc n) x = unfold ringFrom front in refl
 
+pub no-front : (xs : List ℕ) → length xs ≡ 0 → none ≡ front xs
+unfolding front
+no-front [] z = refl
+no-front (x ∷ xs) z = let y : ⊥ = omega arith in absurd y
+
 pub front-none : (w : List ℕ) (q n : ℕ) → n ≡ length (queue (lists w) q) → n ≡ 0 → none ≡ front (queue (lists w) q)
-front-none w q n e z = nothing (queue (lists w) q) (sym e ∙ z)
-  where
-    nothing : (xs : List ℕ) → length xs ≡ 0 → none ≡ front xs
-    nothing [] z = unfold front in refl
-    nothing (x ∷ xs) z = let y : ⊥ = omega arith in absurd y
+front-none w q n e z = no-front (queue (lists w) q) (sym e ∙ z)

@@ -1,17 +1,15 @@
 -- The child's record, four words at a time. No store reaches a word that is read later.
 use mathlib.Core.Path.{_≡_, refl, ap, sym, _∙_}
-use mathlib.Core.Bool.{Bool, true, false}
 use mathlib.Core.List.{List, [], _∷_, _++_}
-use mathlib.Core.Logic.{_⊎_, inl, inr, ⊎-elim}
+use mathlib.Core.Logic.{_⊎_, inl, inr}
 use Prim.Native.Nat.{ℕ, suc, _+_, _*_, _<_, _≤_}
 use native.Mathlib.Omega.{arith}
-use lib.Dec.{eqb}
 use lib.ListN.{length}
 use borrow.Author.Tests.{eq-eqb, ne-eqb}
-use Rattle.words.specs.Words.{load, store, pick, halt, pass}
+use Rattle.words.specs.Words.{store, halt, pass}
 use Rattle.words.specs.Blocks.{storeAll, store-none, store-more, store-append, block-other}
 use Rattle.layout.specs.Layout.{NONE, UNFINISHED, USER, YOUNGER, YOUNGEST, task, head, tail, queueHead, address, read, write}
-use Rattle.calls.specs.Spawn.{forQueues, passedUser, passedQueue, keptUser, keptQueue, noWords, childViews, passedOn, childMade}
+use Rattle.calls.specs.Spawn.{forQueues, passedUser, passedQueue, keptUser, keptQueue, noWords, childViews, passedOn, childMade, queues-four}
 
 -- words k of all records, where words j to j + n - 1 of a record are stored
 others-stay : (m : List ℕ) (c j t k n : ℕ) (ws : List ℕ) → length ws ≡ n → j + n ≤ 48 → k < 48 → (k < j) ⊎ (j + n ≤ k)
@@ -30,10 +28,6 @@ queues-same f g e =
     ∙ ap (λ (x : ℕ). g 0 ∷ x ∷ f 2 ∷ f 3 ∷ []) (e 1 (omega arith))
     ∙ ap (λ (x : ℕ). g 0 ∷ g 1 ∷ x ∷ f 3 ∷ []) (e 2 (omega arith))
     ∙ ap (λ (x : ℕ). g 0 ∷ g 1 ∷ g 2 ∷ x ∷ []) (e 3 (omega arith))
-
-queues-four : (f : ℕ → ℕ) → length (forQueues f) ≡ 4
-unfolding forQueues
-queues-four f = refl
 
 -- four words in front of others
 more-four : (m m' : List ℕ) (c k : ℕ) (xs ys : List ℕ) → length xs ≡ 4 → m' ≡ storeAll m (address (task c k)) xs

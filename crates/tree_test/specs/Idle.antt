@@ -7,7 +7,7 @@ use native.Mathlib.Omega.{arith}
 use native.Mathlib.Numerals.{add-one}
 use lib.Dec.{leb, ltb, eqb}
 use lib.ListN.{length, getD, drop, take, replicate, length-drop}
-use lib.Seq.{drop-cons}
+use lib.Seq.{drop-cons, length-take-le}
 use borrow.Author.Tests.{ltb-true, lt-ltb, leb-true, le-leb, lt-leb, leb-false}
 use Rattle.words.specs.Words.{load, store, size, pick, both, both-on, both-off, same-test}
 use Rattle.lists.specs.Tests.{each}
@@ -16,7 +16,7 @@ use Rattle.layout.specs.Layout.{FREE, STATUS, freeTasks, read}
 use Rattle.rules.specs.Contents.{decode, word}
 use Rattle.rules.specs.Test.{idleTest}
 use Rattle.tree_test.specs.Records.{status-at}
-use Rattle.tree_test.specs.Stacks.{take-few, take-many, take-all}
+use Rattle.tree_test.specs.Stacks.{take-few, take-many}
 
 -- the k records from place i of the stack on; d has the marks of those before
 unfoldable pub idleFrom : ℕ → List ℕ → ℕ → List ℕ → Bool
@@ -113,5 +113,5 @@ module _ (m : List ℕ) where
       room l = unfold size in let a = length-drop 320 m in omega (arith, a, s, l)
 
       go : (b : Bool) → leb (read m freeTasks) 127 ≡ b → (read m freeTasks ≤ 127) × (length ((decode m) .idle) ≡ read m freeTasks)
-      go true q = let l = leb-true (read m freeTasks) 127 q in (l, take-all (read m freeTasks) (drop 320 m) (room l))
+      go true q = let l = leb-true (read m freeTasks) 127 q in (l, length-take-le (read m freeTasks) (drop 320 m) (room l))
       go false q = absurd (false≢true (idle-many s (leb-false (read m freeTasks) 127 q) ∙ e))

@@ -6,7 +6,7 @@ use Prim.Native.Nat.{ℕ, _<_, _≤_, _*_}
 use native.Mathlib.Nat.{mul-le-mul}
 use lib.Dec.{leb, eqb}
 use borrow.Author.Tests.{leb-true, le-leb, lt-leb, ne-eqb, eq-eqb}
-use Rattle.words.specs.Words.{pick, both, both-true, both-on, both-off, both-right-off, either, true-left, true-right}
+use Rattle.words.specs.Words.{both, both-true, both-on, both-off, both-right-off, true-left, true-right, neither}
 use Rattle.layout.specs.Layout.{NONE, UNFINISHED, FINISHED, STATUS, RIGHTS, PARENT, OLDER, YOUNGER, YOUNGEST, task, read}
 use Rattle.layout.specs.Frame.{record-word}
 use Rattle.rules.specs.Contents.{decode, word}
@@ -63,10 +63,6 @@ module _ (m : List ℕ) where
   pub top-closed : read m (task 0 STATUS) ≡ FINISHED → read m (task 0 YOUNGEST) ≡ NONE → topAlone m ≡ topTest (decode m)
   unfolding topTest
   top-closed e f = alone ∙ sym (both-on (true-right _ (both-on (eq-eqb _ _ (state STATUS ∙ e)) ∙ eq-eqb _ _ (state YOUNGEST ∙ f))))
-
-  neither : {a b : Bool} → a ≡ false → b ≡ false → either a b ≡ false
-  unfolding either pick
-  neither e f = rw (e, f) refl
 
   pub top-other : (read m (task 0 STATUS) ≡ UNFINISHED → ⊥) → (read m (task 0 STATUS) ≡ FINISHED → ⊥) → false ≡ topTest (decode m)
   unfolding topTest

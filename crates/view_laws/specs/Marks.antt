@@ -9,13 +9,13 @@ use lib.Dec.{ltb, eqb}
 use lib.ListN.{length}
 use borrow.Author.Tests.{lt-ltb, le-ltb}
 use Rattle.words.specs.Words.{pick, pass, halt}
-use Rattle.lists.specs.Counting.{one, occurrences, over, equal?, occurs-nil, occurs-here, occurs-past}
+use Rattle.lists.specs.Counting.{one, occurrences, over, equal?, occurs-nil, occurs-here, occurs-past, below?}
 use Rattle.layout.specs.Layout.{NONE, RIGHTS, CHILDREN, USER, RIGHT}
 use Rattle.tree.specs.Rights.{uses}
 use Rattle.tree.specs.Tour.{met}
 use Rattle.rules.specs.Contents.{Contents, word, owners}
 use Rattle.rules.specs.Test.{passedAt, orderAt, orderOf}
-use Rattle.rules_tasks.specs.Holders.{below?}
+use Rattle.rules_tasks.specs.Holders.{met-here, met-past}
 use Rattle.view_events.specs.Events.{Event, queuesAt, kindAt, eventsAt, events}
 use Rattle.view_laws.specs.Good.{Queued, allowed, orderFrom, ownersOf, tailsOf, headsOf}
 use Rattle.view_laws.specs.Tasks.{MayKind, MayQueues, kind-allowed, allowed-kind, queues-allowed, allowed-queues, kind-order, queues-order, kind-owners, kind-queued, queues-queued}
@@ -30,14 +30,6 @@ twice : (u : Bool) (g : ℕ → ℕ) (a o : ℕ) → pick u (g (pick u a o)) (pi
 unfolding pick
 twice true g a o = refl
 twice false g a o = refl
-
-pub met-here : (x : ℕ) (xs : List ℕ) → x < 128 → met (x ∷ xs) ≡ x ∷ met xs
-unfolding met
-met-here x xs l = halt _ _ (lt-ltb x 128 l)
-
-pub met-past : (x : ℕ) (xs : List ℕ) → 128 ≤ x → met (x ∷ xs) ≡ met xs
-unfolding met
-met-past x xs l = pass _ (le-ltb x 128 l) refl
 
 pub lefts-here : (x : ℕ) (xs : List ℕ) → 128 ≤ x → lefts (x ∷ xs) ≡ (x - 128) ∷ lefts xs
 unfolding lefts

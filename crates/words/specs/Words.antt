@@ -4,7 +4,8 @@ use mathlib.Core.Path.{_≡_, refl, sym, _∙_}
 use mathlib.Core.Bool.{Bool, true, false, false≢true}
 use mathlib.Core.Logic.{_⊎_, inl, inr}
 use mathlib.Core.List.{List}
-use Prim.Native.Nat.{ℕ, _<_}
+use Prim.Native.Nat.{ℕ, suc, _<_}
+use native.Mathlib.Omega.{arith}
 use lib.ListN.{length, getD, set, length-set}
 use lib.Seq.{getD-set-other, getD-set-same}
 
@@ -49,6 +50,12 @@ pass x e h = rw e h
 pub halt : {A : Type 0} {b : Bool} (x y : A) → b ≡ true → pick b x y ≡ x
 unfolding pick
 halt x y e = rw e
+
+-- a ladder of numbers other than 0 that gives 0 has passed each rung
+pub rung : (b : Bool) (k n : ℕ) → pick b (suc k) n ≡ 0 → (b ≡ false) × (n ≡ 0)
+unfolding pick
+rung true k n e = let z : ⊥ = omega (arith, e) in absurd z
+rung false k n e = (refl, e)
 
 pub size-store : (m : List ℕ) (a v : ℕ) → size (store m a v) ≡ size m
 unfolding size store
@@ -109,6 +116,15 @@ pub either-true : (a b : Bool) → either a b ≡ true → (a ≡ true) ⊎ (b �
 unfolding either pick
 either-true true b e = inl refl
 either-true false b e = inr e
+
+pub neither : {a b : Bool} → a ≡ false → b ≡ false → either a b ≡ false
+unfolding either
+neither e f = pass true e f
+
+pub neither-true : (a b : Bool) → either a b ≡ false → (a ≡ false) × (b ≡ false)
+unfolding either pick
+neither-true true b e = no (sym e)
+neither-true false b e = (refl, e)
 
 pub true-left : {a : Bool} (b : Bool) → a ≡ true → either a b ≡ true
 unfolding either

@@ -1,6 +1,6 @@
 use Prim.Native.Nat.{zero-le}
 use mathlib.Core.Path.{refl}
-use Rattle.run_text.proofs.Glue.{above, said, said-past}
+use Rattle.run_text.proofs.Glue.{said, said-past}
 use Rattle.text.specs.Text.{ascii}
 use Rattle.run_text.specs.Lines.{answerText, spaced}
 use borrow.Author.Needs.{needs}
@@ -9,6 +9,7 @@ use Rattle.run_text.proofs.answer.Tie as tie
 use Rattle.run_text.proofs.answer.Reads as reads
 use Rattle.run_text.proofs.answer.Lts as lts
 use Rattle.text.proofs.put.Reads as put-reads
+use Rattle.job.specs.Rows.{above}
 
 slice-aggregate-put : tie.Need-slice-aggregate-put
 slice-aggregate-put c = search needs

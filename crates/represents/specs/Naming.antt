@@ -1,14 +1,18 @@
 -- WHAT NAMES A SEGMENT, by the meaning of the words: the head of one queue view, and nothing else.
 use mathlib.Core.Path.{_≡_, ap, sym, _∙_}
+use mathlib.Core.Bool.{false}
 use mathlib.Core.Option.{some}
 use mathlib.Core.List.{List}
 use mathlib.Core.Logic.{_⊎_, inl, inr, ⊎-elim}
 use Prim.Native.Nat.{ℕ, _+_, _-_, _*_, _/_, _%_, _<_}
 use native.Mathlib.Omega.{arith}
-use Rattle.lists.specs.Counting.{occurrences, equal?}
-use Rattle.layout.specs.Layout.{NL, task, head, tail, queueHead, read}
-use Rattle.rules_tasks.specs.Holders.{below?}
-use Rattle.calls.specs.Views.{viewOf}
+use lib.Dec.{eqb}
+use borrow.Author.Tests.{ne-eqb}
+use Rattle.words.specs.Words.{both-off}
+use Rattle.lists.specs.Counting.{occurrences, equal?, below?}
+use Rattle.layout.specs.Layout.{NL, task, head, tail, queueHead, read, NONE}
+use Rattle.rules.specs.Views.{view}
+use Rattle.calls.specs.Views.{viewOf, isEmpty}
 use Rattle.gaps.specs.Maps.{put, put-same, put-other}
 use Rattle.gaps.specs.Line.{End, local, Extent, extent}
 use Rattle.order.specs.Steps.{Item}
@@ -19,8 +23,7 @@ use Rattle.meaning.specs.Free.{optional-some, link-word}
 use Rattle.meaning.specs.Extents.{end-local, filled-extent}
 use Rattle.meaning.specs.Update.{withView}
 use Rattle.meaning.specs.Links.{NamedBy}
 use Rattle.represents.specs.Named.{OnlyNamed, named-by}
-use Rattle.represents.specs.FirstNamed.{not-empty-head}
 
 -- Of all heads of views of the tasks of the tour T only the head of queue view q of task h is segment g.
 pub record Names (M : Meaning) (T : List ℕ) (g h q : ℕ) : Type 0 where
@@ -60,6 +63,11 @@ names-view M T g h q p k t v n w =
       views = λ x p′ k′ l i a b y e. ⊎-elim (λ d. n y (sym d ∙ e)) (λ d. w .views x p′ k′ l i a b y (sym d ∙ e)) (written (M .views) p k t v p′ k′ x);
     }
 
+-- a view with a head is not empty
+not-empty-head : (h e : ℕ) → (h ≡ NONE → ⊥) → isEmpty (view h e) ≡ false
+unfolding isEmpty
+not-empty-head h e n = both-off (eqb e NONE) (ne-eqb h NONE n)
+
 -- BY THE WORDS
 module _ (n : List ℕ) (T : List ℕ) (g h q : ℕ) (small : h < 128) (queue : q < 4) (low : g < NL) (there : 0 < occurrences h T) (w : Names (meaningOf n) T g h q) where
   none-word : (x k p : ℕ) → x < 128 → 0 < occurrences x T → k < 3 → p < 4 → read n (head k x p) ≡ g → ⊥
@@ -79,7 +87,7 @@ module _ (n : List ℕ) (T : List ℕ) (g h q : ℕ) (small : h < 128) (queue : 
       (ap (λ (k : ℕ). read n (task x k)) (let z : 20 + (i - 4) / 4 * 4 + (i - 4) % 4 ≡ 16 + i = omega (arith, b) in z) ∙ e)))
       (below? i 4)
 
-  names-only : OnlyNamed n T g h q
+  pub names-only : OnlyNamed n T g h q
   names-only =
       record {
         task-range = small;
