@@ -1,4 +1,5 @@
 pub mod Contents
+pub mod Stack
 pub mod Views
 pub mod Rules
 pub mod Test

@@ -4,12 +4,12 @@ use mathlib.Core.Bool.{Bool, true, false, false≢true}
 use mathlib.Core.List.{List, [], _∷_}
 use Prim.Native.Nat.{ℕ, zero, suc, _+_, _*_, _<_, _≤_}
 use native.Mathlib.Omega.{arith}
-use native.Mathlib.Numerals.{add-one}
 use lib.Dec.{leb, ltb, eqb}
-use lib.ListN.{length, getD, drop, take, replicate, length-drop}
-use lib.Seq.{drop-cons, length-take-le}
+use lib.ListN.{length, drop, take, replicate, length-drop}
+use lib.Seq.{length-take-le}
 use borrow.Author.Tests.{ltb-true, lt-ltb, leb-true, le-leb, lt-leb, leb-false}
 use Rattle.words.specs.Words.{load, store, size, pick, both, both-on, both-off, same-test}
+use Rattle.words.specs.Blocks.{take-more}
 use Rattle.lists.specs.Tests.{each}
 use Rattle.lists.specs.Distinct.{fresh, distinct}
 use Rattle.layout.specs.Layout.{FREE, STATUS, freeTasks, read}
@@ -25,13 +25,6 @@ idleFrom (suc k) m i d =
     let t = load m (320 + i) in
     let rest = idleFrom k m (i + 1) (store d t 1) in
     both (leb 1 t) (both (leb t 127) (both (eqb (load d t) 0) (both (eqb (load m (1472 + t * 48)) 0) rest)))
-
--- the first of some words of a memory, and the others
-take-more : (k a : ℕ) (m : List ℕ) → a < size m → take (suc k) (drop a m) ≡ load m a ∷ take k (drop (a + 1) m)
-unfolding size load
-take-more k a m h =
-    ap (take (suc k)) (drop-cons m a 0 h)
-    ∙ ap (λ (j : ℕ). getD m a 0 ∷ take k (drop j m)) (sym (add-one a))
 
 below-same : (t : ℕ) → leb t 127 ≡ ltb t 128
 below-same t =

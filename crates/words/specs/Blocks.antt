@@ -3,9 +3,10 @@ use mathlib.Core.Path.{_≡_, refl, ap, sym, _∙_}
 use mathlib.Core.List.{List, [], _∷_, _++_}
 use Prim.Native.Nat.{ℕ, zero, suc, _+_, _*_, _<_, _≤_}
 use native.Mathlib.Nat.{le-of-suc-le-suc, add-zero, add-comm, zero-mul, suc-mul}
+use native.Mathlib.Numerals.{add-one}
 use native.Mathlib.Omega.{arith}
-use lib.ListN.{length, getD, drop}
-use lib.Seq.{drop-drop}
+use lib.ListN.{length, getD, drop, take}
+use lib.Seq.{drop-drop, drop-cons}
 use Rattle.words.specs.Words.{load, store, size, load-other, load-same, size-store}
 
 -- the memory with the words ws from address a on
@@ -88,6 +89,13 @@ size-storeAll [] a ws = refl
 size-storeAll (x ∷ m) zero [] = refl
 size-storeAll (x ∷ m) zero (w ∷ ws) = ap suc (size-storeAll m zero ws)
 size-storeAll (x ∷ m) (suc a) ws = ap suc (size-storeAll m a ws)
+
+-- the first of some words of a memory, and the others
+pub take-more : (k a : ℕ) (m : List ℕ) → a < size m → take (suc k) (drop a m) ≡ load m a ∷ take k (drop (a + 1) m)
+unfolding size load
+take-more k a m h =
+    ap (take (suc k)) (drop-cons m a 0 h)
+    ∙ ap (λ (j : ℕ). getD m a 0 ∷ take k (drop j m)) (sym (add-one a))
 
 -- n rows of w words each: row i is the list from its first word on
 unfoldable pub rows : ℕ → ℕ → List ℕ → List (List ℕ)

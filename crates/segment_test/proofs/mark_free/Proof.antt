@@ -1,4 +1,4 @@
-use Rattle.segment_test.specs.Stack.{rest, rest-all, free-far, free-again, free-more, marking-more, free-done, marking-done}
+use Rattle.segment_test.specs.Stack.{rest-all, free-far, free-again, free-more, marking-more, free-done, marking-done}
 use Rattle.rules.specs.Contents.{decode}
 use Rattle.lists.specs.Distinct.{fresh}
 use Rattle.lists.specs.Marks.{marking}
@@ -8,6 +8,7 @@ use mathlib.Core.Bool.{false≢true}
 use mathlib.Core.Path.{_≡_, ap, _∙_}
 use borrow.Author.Needs.{needs}
 use native.Mathlib.Omega.{arith}
+use Rattle.rules.specs.Stack.{rest}
 use Rattle.segment_test.proofs.mark_free.Statement.{statement}
 use Rattle.segment_test.proofs.mark_free.Tie as tie
 use Rattle.segment_test.proofs.mark_free.Reads as reads

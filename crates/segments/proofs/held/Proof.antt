@@ -4,8 +4,9 @@ use native.Mathlib.Omega.{arith}
 use borrow.Author.Needs.{needs}
 use lib.Dec.{eqb}
 use Rattle.lists.specs.Counting.{occurrences}
+use Rattle.rules.specs.Stack.{rest, rest-end}
 use Rattle.segments.specs.Names.{held}
-use Rattle.segments.proofs.Free.{rest, rest-out, rest-end, held-start, held-found, held-next, held-none}
+use Rattle.segments.proofs.Free.{rest-out, held-start, held-found, held-next, held-none}
 use Rattle.segments.proofs.held.Statement.{statement}
 use Rattle.segments.proofs.held.Tie as tie
 use Rattle.segments.proofs.held.Reads as reads

@@ -4,8 +4,9 @@ use native.Mathlib.Omega.{arith}
 use borrow.Author.Needs.{needs}
 use lib.ListN.{length}
 use Rattle.lists.specs.Marks.{marking}
+use Rattle.rules.specs.Stack.{rest, rest-end}
 use Rattle.segments.specs.Names.{freeStack}
-use Rattle.segments.proofs.Free.{rest, rest-out, rest-end, marks-start, marks-next, marks-none}
+use Rattle.segments.proofs.Free.{rest-out, marks-start, marks-next, marks-none}
 use Rattle.segments.proofs.mark_free.Statement.{statement}
 use Rattle.segments.proofs.mark_free.Tie as tie
 use Rattle.segments.proofs.mark_free.Reads as reads
