@@ -86,7 +86,8 @@ module _ (m m1 : List ℕ) (t q : ℕ) {s n : ℕ} (es : s ≡ read m (task t (1
     segment-freed m2 m3 f g h =
         h
         ∙ ap (released m2) es
-        ∙ ap (λ (x : List ℕ). released x H) (g ∙ ap (λ (x : List ℕ). write x (task t (16 + q)) n) drop-same ∙ ap (write (dropped m H) (task t (16 + q))) next-same)
+        ∙ ap (λ (x : List ℕ). released x H)
+        (g ∙ ap (λ (x : List ℕ). write x (task t (16 + q)) n) drop-same ∙ ap (write (dropped m H) (task t (16 + q))) next-same)
         ∙ sym (pass _ (neither (ne-eqb _ _ (λ e. f1 (next-same ∙ e))) (ap not (eq-eqb _ _ (sym count-same ∙ f)))) refl)
 
 pub head-count : (m : List ℕ) (t q : ℕ) {s : ℕ} → s ≡ read m (task t (16 + q)) → 0 < read m (segment (read m (task t (16 + q))) 1) → 0 < read m (segment s 1)

@@ -59,9 +59,12 @@ module _ (m : List ℕ) (xs : List Item) (r : Represents m xs) (alone : read m (
         let z = third b w (tail-eq-of-cons-eq k) in
         let is : t ≡ 0 = (let h = head-eq-of-cons-eq k in omega (arith, h)) in
         (z .0, z .1, ap (λ (x : ℕ). left x ∷ b) is ∙ ap (λ (y : Line). left 0 ∷ y) (z .2))
-    second l (meeting {t = t} v w e i f0 b u) f k = let h = head-eq-of-cons-eq k in let a = uses-small m q t (f .0) in let z : ⊥ = omega (arith, h, a) in absurd z
+    second l (meeting {t = t} v w e i f0 b u) f k =
+        let h = head-eq-of-cons-eq k in let a = uses-small m q t (f .0) in let z : ⊥ = omega (arith, h, a) in absurd z
     second l (passing {x = x} w) f k =
-        absurd (false≢true (sym (subst (λ (y : ℕ). usesIn m q (pick (ltb y 128) y (y - 128)) ≡ false) (head-eq-of-cons-eq k) (f .0)) ∙ (unfold pick in top-uses m xs r q small)))
+        absurd
+        (false≢true
+        (sym (subst (λ (y : ℕ). usesIn m q (pick (ltb y 128) y (y - 128)) ≡ false) (head-eq-of-cons-eq k) (f .0)) ∙ (unfold pick in top-uses m xs r q small)))
 
     -- THE LINE of a queue: the top's spot, and one chain before it
     pub line-alone : (g : ℕ) × (d : List ℕ) × (r .line q ≡ met 0 [] ∷ left 0 ∷ base (g ∷ d) ∷ [])
@@ -69,7 +72,8 @@ module _ (m : List ℕ) (xs : List Item) (r : Represents m xs) (alone : read m (
         let p = parts-of m xs r in
         first (r .line q) (p .laids .laid q small .views) (p .laids .laid q small .closed) (p .fits q small) (p .marked q small ∙ tour-alone)
       where
-        first : (l : Line) {n : Mode} → At l n → Closed l → All (Fits (usesIn m q)) l → marks l ≡ 0 ∷ 128 ∷ [] → (g : ℕ) × (d : List ℕ) × (l ≡ met 0 [] ∷ left 0 ∷ base (g ∷ d) ∷ [])
+        first : (l : Line) {n : Mode} → At l n → Closed l → All (Fits (usesIn m q)) l → marks l ≡ 0 ∷ 128 ∷ []
+            → (g : ℕ) × (d : List ℕ) × (l ≡ met 0 [] ∷ left 0 ∷ base (g ∷ d) ∷ [])
         first l (queue e) z f k = absurd z
         first l (leaves v e i w) z f k = absurd z
         first l (passing w) z f k = absurd z

@@ -99,7 +99,8 @@ module _ (m n : List ℕ) (t : ℕ) where
           older-is = older-is;
           fixed = λ x k l i ne.
               stays x k l (omega (arith, i)) ne
-              (λ e. let z : ⊥ = omega (arith, e, i) in absurd z) (λ e. let z : ⊥ = omega (arith, e, i) in absurd z) (λ e. let z : ⊥ = omega (arith, e, i) in absurd z);
+              (λ e. let z : ⊥ = omega (arith, e, i) in absurd z) (λ e. let z : ⊥ = omega (arith, e, i) in absurd z)
+              (λ e. let z : ⊥ = omega (arith, e, i) in absurd z);
           younger-stays = λ z l nz ns.
               stays z YOUNGER l (omega arith) nz (λ e. ns) (λ e. let f : ⊥ = omega (arith, e) in absurd f) (λ e. let f : ⊥ = omega (arith, e) in absurd f);
           youngest-stays = λ z l nz ns.

@@ -92,7 +92,10 @@ module _ (m n : List ℕ) (T : List ℕ) (xs : List Item) (h : Linked m T xs) (t
   after-left x z is (child l e k) = let f : ⊥ = omega (arith, is, l) in absurd f
   after-left x z is (oldest {t = v} {p = q} g l e i f) =
       let s : v ≡ t = omega (arith, is) in
-      inl (sym (word-is m t OLDER) ∙ ap (λ (u : ℕ). word c u OLDER) (sym s) ∙ f, ap (λ (u : ℕ). 128 + u) (sym e ∙ ap (λ (u : ℕ). word c u PARENT) s ∙ word-is m t PARENT))
+      inl (
+        sym (word-is m t OLDER) ∙ ap (λ (u : ℕ). word c u OLDER) (sym s) ∙ f,
+        ap (λ (u : ℕ). 128 + u) (sym e ∙ ap (λ (u : ℕ). word c u PARENT) s ∙ word-is m t PARENT),
+      )
   after-left x z is (older {t = v} {p = q} g l e i f k) =
       let s : v ≡ t = omega (arith, is) in
       let r : z ≡ o = sym f ∙ ap (λ (u : ℕ). word c u OLDER) s ∙ word-is m t OLDER in
@@ -171,7 +174,9 @@ module _ (m n : List ℕ) (T : List ℕ) (xs : List Item) (h : Linked m T xs) (t
   abbrev Behind : List ℕ
   Behind = t ∷ (128 + t) ∷ a
 
-  behind-counts : (x : ℕ) → (occurrences x a ≤ occurrences x Behind) × (x ≡ t → occurrences x a + 1 ≤ occurrences x Behind) × (x ≡ 128 + t → occurrences x a + 1 ≤ occurrences x Behind)
+  behind-counts : (x : ℕ)
+      → (occurrences x a ≤ occurrences x Behind) × (x ≡ t → occurrences x a + 1 ≤ occurrences x Behind)
+      × (x ≡ 128 + t → occurrences x a + 1 ≤ occurrences x Behind)
   behind-counts x =
       ⊎-elim
       (λ e.

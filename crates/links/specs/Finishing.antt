@@ -32,7 +32,8 @@ back-finish ys zs (taskOf p t q k) = back-append ys _
 
 module _ (m n : List ℕ) (T : List ℕ) (ys zs : List Item) (s : Task) (play : Played (ys ++ spot s ∷ zs)) (next : Played (ys ++ (made s finishes ++ zs)))
     (h : Linked m T (ys ++ spot s ∷ zs)) (w : Finished m n (numberOf s)) (b a : List ℕ) (here : T ≡ b ++ numberOf s ∷ (128 + numberOf s) ∷ a)
-    (later : met b ≡ numbersBack zs) (earlier : met a ≡ numbersBack ys) (above : 0 < numberOf s) (none : hasChild (numberOf s) (ys ++ spot s ∷ zs) ≡ false) where
+    (later : met b ≡ numbersBack zs) (earlier : met a ≡ numbersBack ys) (above : 0 < numberOf s)
+    (none : hasChild (numberOf s) (ys ++ spot s ∷ zs) ≡ false) where
   abbrev t : ℕ
   t = numberOf s
 
@@ -79,7 +80,8 @@ module _ (m n : List ℕ) (T : List ℕ) (ys zs : List Item) (s : Task) (play : 
       let b4 = occurs-here t t [] refl in
       omega (arith, a0, a1, a2, b0, b1, b2, b3, b4)
 
-  stays : (o : Task) (v : (o' : Task) × In (spot o') Old × Like o o') → In (spot o) New → (k : ℕ) → k ≤ 2 → read n (task (numberOf o) k) ≡ read m (task (numberOf (v .0)) k)
+  stays : (o : Task) (v : (o' : Task) × In (spot o') Old × Like o o') → In (spot o) New → (k : ℕ) → k ≤ 2
+      → read n (task (numberOf o) k) ≡ read m (task (numberOf (v .0)) k)
   stays o v i k l =
       ap (λ (x : ℕ). read n (task x k)) (v .2 .number)
       ∙ cut-word m n t stay (numberOf (v .0)) k (spot-unfinished m T Old h (v .0) (v .1) .0) l (λ e. gone o i (v .2 .number ∙ e))

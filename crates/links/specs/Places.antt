@@ -46,7 +46,8 @@ met-append (x ∷ a) b = go (ltb x 128) (met-append a b)
 met-parts : (T l r : List ℕ) (t : ℕ) → met T ≡ l ++ t ∷ r → (b : List ℕ) × (a : List ℕ) × (T ≡ b ++ t ∷ a) × (met b ≡ l) × (met a ≡ r)
 unfolding met
 met-parts [] l r t e = absurd (append-ne-nil-of-right-ne-nil l (cons-ne-nil t r) (sym e))
-met-parts (x ∷ T) l r t e = ⊎-elim (λ h. on l (sym (met-here x T h) ∙ e) h (λ k d. met-parts T k r t d)) (λ h. over h (met-parts T l r t (sym (met-past x T h) ∙ e))) (below? x 128)
+met-parts (x ∷ T) l r t e =
+    ⊎-elim (λ h. on l (sym (met-here x T h) ∙ e) h (λ k d. met-parts T k r t d)) (λ h. over h (met-parts T l r t (sym (met-past x T h) ∙ e))) (below? x 128)
   where
     on : (l : List ℕ) → x ∷ met T ≡ l ++ t ∷ r → x < 128
         → ((k : List ℕ) → met T ≡ k ++ t ∷ r → (b : List ℕ) × (a : List ℕ) × (T ≡ b ++ t ∷ a) × (met b ≡ k) × (met a ≡ r))

@@ -66,12 +66,24 @@ module _ (m n : List ℕ) (T : List ℕ) (xs : List Item) (h : Linked m T xs) (t
       child l (stays v YOUNGEST (unfinished-met m T xs h v l p) (omega arith) (λ q. n) (λ q. let f : ⊥ = omega (arith, q) in absurd f) ∙ e)
       (kin-stays z v NONE (unfinished-met m T xs h v l p) (not-child z v n k) k)
   leads-stay x y p n (oldest {t = v} {p = q} g l e i f) =
-      oldest g l (stays v PARENT (unfinished-left m T xs h v p) (omega arith) (λ s. let z : ⊥ = omega (arith, s) in absurd z) (λ s. let z : ⊥ = omega (arith, s) in absurd z) ∙ e) i
-      (stays v OLDER (unfinished-left m T xs h v p) (omega arith) (λ s. let z : ⊥ = omega (arith, s) in absurd z) (λ s. let z : ⊥ = omega (arith, s) in absurd z) ∙ f)
+      oldest g l
+      (stays v PARENT (unfinished-left m T xs h v p) (omega arith) (λ s. let z : ⊥ = omega (arith, s) in absurd z)
+      (λ s. let z : ⊥ = omega (arith, s) in absurd z)
+      ∙ e)
+      i
+      (stays v OLDER (unfinished-left m T xs h v p) (omega arith) (λ s. let z : ⊥ = omega (arith, s) in absurd z)
+      (λ s. let z : ⊥ = omega (arith, s) in absurd z)
+      ∙ f)
   leads-stay x y p n (older {t = v} {y = z} {p = q} g l e i f k) =
       let up = rules m T xs h .parents v q ((λ s. omega (arith, s, g)), (unfinished-left m T xs h v p, e)) in
-      older g l (stays v PARENT (unfinished-left m T xs h v p) (omega arith) (λ s. let z : ⊥ = omega (arith, s) in absurd z) (λ s. let z : ⊥ = omega (arith, s) in absurd z) ∙ e) i
-      (stays v OLDER (unfinished-left m T xs h v p) (omega arith) (λ s. let z : ⊥ = omega (arith, s) in absurd z) (λ s. let z : ⊥ = omega (arith, s) in absurd z) ∙ f)
+      older g l
+      (stays v PARENT (unfinished-left m T xs h v p) (omega arith) (λ s. let z : ⊥ = omega (arith, s) in absurd z)
+      (λ s. let z : ⊥ = omega (arith, s) in absurd z)
+      ∙ e)
+      i
+      (stays v OLDER (unfinished-left m T xs h v p) (omega arith) (λ s. let z : ⊥ = omega (arith, s) in absurd z)
+      (λ s. let z : ⊥ = omega (arith, s) in absurd z)
+      ∙ f)
       (kin-stays z q v up (not-older z q v l k) k)
 
   each-stays : (l : List ℕ) → ((x : ℕ) → 0 < occurrences x l → (0 < occurrences x T) × (x ≡ t → ⊥)) → Each c d l
@@ -106,7 +118,9 @@ module _ (m n : List ℕ) (T : List ℕ) (xs : List Item) (h : Linked m T xs) (t
         parent = word-is n u PARENT ∙ w .parent;
         younger = word-is n u YOUNGER ∙ w .younger;
         rights = ap₂ subset (word-is n u RIGHTS ∙ w .rights)
-            (stays t RIGHTS spawner (omega arith) (λ q. let z : ⊥ = omega (arith, q) in absurd z) (λ q. let z : ⊥ = omega (arith, q) in absurd z) ∙ word-is m t RIGHTS) ∙ sub;
+            (stays t RIGHTS spawner (omega arith) (λ q. let z : ⊥ = omega (arith, q) in absurd z) (λ q. let z : ⊥ = omega (arith, q) in absurd z)
+            ∙ word-is m t RIGHTS)
+            ∙ sub;
       }
 
   -- where the child is left: its older sibling is met, or its parent left

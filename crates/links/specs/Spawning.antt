@@ -35,7 +35,8 @@ back-spawn ys zs (taskOf p t q k) u r =
     ∙ ap (λ (l : List ℕ). l ++ numbersBack ys) (append-assoc (numbersBack zs) (t ∷ []) (u ∷ []))
     ∙ append-assoc (numbersBack zs) (t ∷ u ∷ []) (numbersBack ys)
 
-module _ (m n : List ℕ) (T : List ℕ) (ys zs : List Item) (s : Task) (r u : ℕ) (play : Played (ys ++ spot s ∷ zs)) (next : Played (ys ++ (made s (spawns u r) ++ zs)))
+module _ (m n : List ℕ) (T : List ℕ) (ys zs : List Item) (s : Task) (r u : ℕ) (play : Played (ys ++ spot s ∷ zs))
+    (next : Played (ys ++ (made s (spawns u r) ++ zs)))
     (h : Linked m T (ys ++ spot s ∷ zs)) (w : Spawned m n (numberOf s) r u) (b a : List ℕ) (here : T ≡ b ++ numberOf s ∷ a)
     (later : met b ≡ numbersBack zs) (earlier : met a ≡ numbersBack ys) (sub : subset r (read m (task (numberOf s) RIGHTS)) ≡ true) where
   abbrev t : ℕ
@@ -89,7 +90,8 @@ module _ (m n : List ℕ) (T : List ℕ) (ys zs : List Item) (s : Task) (r u : �
   which : (o : Task) → In (spot o) New → Was o ⊎ IsChild o
   which o i = ⊎-elim inl (λ v. inr (child-is o v)) (back ys zs s (spawns u r) o i)
 
-  word-stays : (o : Task) (v : Was o) (k : ℕ) → k < 6 → (k ≡ YOUNGEST → ⊥) → (k ≡ YOUNGER → ⊥) → read n (task (numberOf o) k) ≡ read m (task (numberOf (v .0)) k)
+  word-stays : (o : Task) (v : Was o) (k : ℕ) → k < 6 → (k ≡ YOUNGEST → ⊥) → (k ≡ YOUNGER → ⊥)
+      → read n (task (numberOf o) k) ≡ read m (task (numberOf (v .0)) k)
   word-stays o v k l f g =
       ap (λ (x : ℕ). read n (task x k)) (v .2 .number)
       ∙ kept-word m n t u stay (numberOf (v .0)) k (spot-unfinished m T Old h (v .0) (v .1)) l f g
@@ -146,7 +148,10 @@ module _ (m n : List ℕ) (T : List ℕ) (ys zs : List Item) (s : Task) (r u : �
 
       not-new : (o : Task) → In (spot o) Old → read m (task (numberOf o) OLDER) ≡ u → ⊥
       not-new o i e =
-          let v = on-older m T Old play h o _ u i refl (On.here {c = load (recordOf m (numberOf o)) OLDER} (let l = below-child in let f = record-word m (numberOf o) OLDER in omega (arith, e, f, l)) (record-word m (numberOf o) OLDER ∙ e)) in
+          let v = on-older m T Old play h o _ u i refl
+          (On.here {c = load (recordOf m (numberOf o)) OLDER} (let l = below-child in let f = record-word m (numberOf o) OLDER in omega (arith, e, f, l))
+          (record-word m (numberOf o) OLDER ∙ e))
+          in
           nobody (v .0) (v .1) (v .2)
 
       youngest-on : (x : ℕ) → x < 128 → read m (task t YOUNGEST) ≡ x → On (recordOf m) (load (recordOf m t) YOUNGEST) x
@@ -174,7 +179,9 @@ module _ (m n : List ℕ) (T : List ℕ) (ys zs : List Item) (s : Task) (r u : �
         first = new-first m n T Old h t r u w stay b a here small sub;
         row = new-row m n T Old h t r u w stay b a here small sub;
         many = new-many m n T Old h t r u w stay b a here;
-        running = kept-word m n t u stay 0 STATUS (omega arith, word-is m 0 STATUS ∙ h .running) (omega arith) (λ q. omega (arith, q)) (λ q. omega (arith, q)) ∙ h .running;
+        running =
+            kept-word m n t u stay 0 STATUS (omega arith, word-is m 0 STATUS ∙ h .running) (omega arith) (λ q. omega (arith, q)) (λ q. omega (arith, q))
+            ∙ h .running;
         spots = spots-are;
         rights = rights-are;
         parents = parents-are;

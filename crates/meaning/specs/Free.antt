@@ -20,7 +20,8 @@ use Rattle.meaning.specs.Update.{withNext, withContents, withFree}
 use Rattle.meaning.specs.Reads.{stack-path, contents-at, value-word, next-same, contents-same}
 use Rattle.meaning.specs.Kept.{Becomes, becomes-then, becomes-at, read-away}
 use Rattle.meaning.specs.SegmentsOnly.{SegmentsOnly, segments-then, height-only, place-only, segments-sized, segments-become}
-use Rattle.meaning.specs.Segment.{OnlySegment, segment-then, segment-other, record-written, value-written, same-length, value-inside, number-below, segment-sized, next-changed, values-changed, free-kept}
+use Rattle.meaning.specs.Segment.{OnlySegment, segment-then, segment-other, record-written, value-written, same-length, value-inside, number-below}
+use Rattle.meaning.specs.Segment.{segment-sized, next-changed, values-changed, free-kept}
 
 -- a link by its word
 pub optional-none : optional NONE ≡ none

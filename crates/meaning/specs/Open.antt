@@ -23,7 +23,8 @@ use Rattle.meaning.specs.Kept.{Means}
 use Rattle.meaning.specs.Free.{optional-none, optional-some}
 use Rattle.meaning.specs.Extents.{end-nonlocal, end-local, tailed-extent, no-view}
 use Rattle.meaning.specs.Freed.{zeroView, zero-view}
-use Rattle.meaning.specs.OpenWords.{core, opened-core, size-core, core-length, core-number, core-height, core-stack, core-first, core-other, core-top, core-free}
+use Rattle.meaning.specs.OpenWords.{core, opened-core, size-core, core-length, core-number, core-height}
+use Rattle.meaning.specs.OpenWords.{core-stack, core-first, core-other, core-top, core-free}
 
 -- view k of the top, of queue q
 abbrev pub topView : ℕ → ℕ → Extent

@@ -24,7 +24,8 @@ use Rattle.meaning.specs.Kept.{Means}
 use Rattle.meaning.specs.TasksOnly.{tasks-mean}
 use Rattle.meaning.specs.Free.{optional-none}
 use Rattle.meaning.specs.Extents.{no-view}
-use Rattle.meaning.specs.SpawnWords.{child-queue, child-heads, child-tails, made-only, made-other, made-child, made-kept, made-queue, made-head, made-tail}
+use Rattle.meaning.specs.SpawnWords.{child-queue, child-heads, child-tails, made-only, made-other, made-child, made-kept, made-queue, made-head}
+use Rattle.meaning.specs.SpawnWords.{made-tail}
 
 -- the queue heads of one queue, where b says that the child may pop from it
 abbrev pub spawnedHeads : Bool → ℕ → ℕ → (ℕ → Option ℕ) → ℕ → Option ℕ

@@ -47,7 +47,9 @@ segments-made m m1 m2 m3 m4 e1 e2 e3 e4 =
 pub one-made : (m m1 m2 m3 : List ℕ) (s : ℕ) → m1 ≡ write m (segment s 0) 0 → m2 ≡ write m1 (segment s 1) 0 → m3 ≡ write m2 (segment s 2) NONE
     → m3 ≡ storeAll m (address (segment s 0)) emptySegment
 unfolding write address
-one-made m m1 m2 m3 s e1 e2 e3 = store-three m m1 m2 m3 (448 + s * 4 + 0) 0 0 NONE e1 (e2 ∙ ap (λ (b : ℕ). store m1 b 0) (let z : 448 + s * 4 + 1 ≡ 448 + s * 4 + 0 + 1 = omega arith in z)) (e3 ∙ ap (λ (b : ℕ). store m2 b NONE) (let z : 448 + s * 4 + 2 ≡ 448 + s * 4 + 0 + 2 = omega arith in z))
+one-made m m1 m2 m3 s e1 e2 e3 =
+    store-three m m1 m2 m3 (448 + s * 4 + 0) 0 0 NONE e1 (e2 ∙ ap (λ (b : ℕ). store m1 b 0) (let z : 448 + s * 4 + 1 ≡ 448 + s * 4 + 0 + 1 = omega arith in z))
+    (e3 ∙ ap (λ (b : ℕ). store m2 b NONE) (let z : 448 + s * 4 + 2 ≡ 448 + s * 4 + 0 + 2 = omega arith in z))
 
 -- the links of the top
 links-made : (m m1 m2 m3 : List ℕ) → m1 ≡ storeAll m 1472 (UNFINISHED ∷ 255 ∷ NONE ∷ NONE ∷ []) → m2 ≡ store m1 1476 NONE → m3 ≡ store m2 1477 NONE
@@ -78,7 +80,8 @@ views-made m m1 m2 m3 m4 m5 m6 m7 e1 e2 e3 e4 e5 e6 e7 =
     ∙ four-more m5 m6 1508 0 1 2 3 _ e6
     ∙ sym e7)
 
-pub top-made : (m m1 m2 m3 m4 m5 m6 m7 m8 m9 m10 : List ℕ) → m1 ≡ storeAll m 1472 (UNFINISHED ∷ 255 ∷ NONE ∷ NONE ∷ []) → m2 ≡ store m1 1476 NONE → m3 ≡ store m2 1477 NONE
+pub top-made : (m m1 m2 m3 m4 m5 m6 m7 m8 m9 m10 : List ℕ) → m1 ≡ storeAll m 1472 (UNFINISHED ∷ 255 ∷ NONE ∷ NONE ∷ []) → m2 ≡ store m1 1476 NONE
+    → m3 ≡ store m2 1477 NONE
     → m4 ≡ storeAll m3 1488 (0 ∷ 1 ∷ 2 ∷ 3 ∷ []) → m5 ≡ storeAll m4 1492 (NONE ∷ NONE ∷ NONE ∷ NONE ∷ [])
     → m6 ≡ storeAll m5 1496 (NL ∷ NL ∷ NL ∷ NL ∷ []) → m7 ≡ storeAll m6 1500 (NONE ∷ NONE ∷ NONE ∷ NONE ∷ [])
     → m8 ≡ storeAll m7 1504 (NONE ∷ NONE ∷ NONE ∷ NONE ∷ []) → m9 ≡ storeAll m8 1508 (0 ∷ 1 ∷ 2 ∷ 3 ∷ [])

@@ -77,7 +77,8 @@ front q (step p a ∷ xs) popped ps n e = ⊎-elim (none (front q xs popped ps n
     by rest v [] (user t ∷ ps) d = absurd (cons-apart d)
     by rest v (w ∷ popped) ps d = rest popped ps (same-value d .1)
 
-    one : More q xs → (v : ℕ) × (added q a ≡ value v ∷ []) → Front ps (run (flagAfter q false xs) (drop (length popped) (flags false (added q a) ++ flagged q false xs)))
+    one : More q xs → (v : ℕ) × (added q a ≡ value v ∷ [])
+        → Front ps (run (flagAfter q false xs) (drop (length popped) (flags false (added q a) ++ flagged q false xs)))
     one rest w = rw (w .1) (by rest (w .0) popped ps (ap (λ (l : List Point). l ++ along q xs) (sym (w .1)) ∙ e))
 front q (spot s ∷ xs) popped ps n e = go (front q xs popped ps (n .1)) (uses (rightsOf s) q) refl
   where
@@ -88,7 +89,8 @@ front q (spot s ∷ xs) popped ps n e = go (front q xs popped ps (n .1)) (uses (
     user-first [] (user t ∷ ps) d = let w = behind-pusher q xs in rw (w .1) (held (w .0))
     user-first (w ∷ popped) ps d = absurd (cons-apart (sym d))
 
-    go : (along q xs ≡ values popped ++ ps → Says q xs popped ps false) → (b : Bool) → uses (rightsOf s) q ≡ b → Says q xs popped ps (either false (mayPush (rightsOf s) q))
+    go : (along q xs ≡ values popped ++ ps → Says q xs popped ps false) → (b : Bool) → uses (rightsOf s) q ≡ b
+        → Says q xs popped ps (either false (mayPush (rightsOf s) q))
     go rest true u =
         subst (Says q xs popped ps) (sym (uses-pushes (rightsOf s) q u (n .0)))
         (user-first popped ps (sym (halt (user (numberOf s) ∷ along q xs) (along q xs) u) ∙ e))

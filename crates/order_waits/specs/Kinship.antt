@@ -29,7 +29,8 @@ module _ (xs : List Item) where
     -- children are numbered below the number of children made
     pub below : (s o : Task) (j : ℕ) → Stands s → Stands o → nameOf o ≡ j ∷ nameOf s → j < kidsOf s
     -- "an unfinished task other than the top has an unfinished parent", with all its rights
-    pub parent : (s : Task) (k : ℕ) (p : Name) → Stands s → nameOf s ≡ k ∷ p → (o : Task) × Stands o × (nameOf o ≡ p) × (subset (rightsOf s) (rightsOf o) ≡ true)
+    pub parent : (s : Task) (k : ℕ) (p : Name) → Stands s → nameOf s ≡ k ∷ p
+        → (o : Task) × Stands o × (nameOf o ≡ p) × (subset (rightsOf s) (rightsOf o) ≡ true)
     -- a blocked task has no children
     pub idle : (o s c : Task) (k : ℕ) → Blocks o s → Stands s → Stands c → nameOf c ≡ k ∷ nameOf s → ⊥
 
@@ -59,7 +60,8 @@ blocked-says xs h s i e =
     let b = both-true _ _ (w .2) in
     (w .0, (w .1, b .0, b .1))
 
-pub says-child-there : (xs : List Item) → Reached xs → (s c : Task) (k : ℕ) → In (spot s) xs → In (spot c) xs → nameOf c ≡ k ∷ nameOf s → hasChild (numberOf s) xs ≡ true
+pub says-child-there : (xs : List Item) → Reached xs → (s c : Task) (k : ℕ) → In (spot s) xs → In (spot c) xs → nameOf c ≡ k ∷ nameOf s
+    → hasChild (numberOf s) xs ≡ true
 unfolding hasChild
 says-child-there xs h s c k i j e = pair-is xs h _ s i ∙ says-some _ xs c j (ap (λ (n : Name). isChild n (nameOf s)) e ∙ says-child k (nameOf s))
 
@@ -200,7 +202,8 @@ module _ (ys zs : List Item) (s : Task) (a : Act) where
     pub step-kinship : Kinship New
     step-kinship = record { below = below-after; parent = parent-after; idle = idle-after }
 
-moved-kinship : {xs : List Item} (t : ℕ) (a : Act) → Reached xs → Reached (advance t a xs) → unfinished t xs ≡ true → blocked t xs ≡ false → Asked t a xs → Kinship xs
+moved-kinship : {xs : List Item} (t : ℕ) (a : Act) → Reached xs → Reached (advance t a xs) → unfinished t xs ≡ true → blocked t xs ≡ false → Asked t a xs
+    → Kinship xs
     → Kinship (advance t a xs)
 moved-kinship {xs} t a old new u b c kin = go (stands-at xs old t u)
   where

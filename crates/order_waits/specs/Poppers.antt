@@ -60,7 +60,8 @@ popper-says q (spot s ∷ xs) n e = go (mayPop (rightsOf s) q) refl (popper-says
     go false b rest = let w = rest (sym (pass _ b refl) ∙ e) in (w .0, inr (w .1), w .2, w .3)
 
 -- the task with this number is not among the spots before its own
-pub none-before : (ys zs : List Item) (s : Task) (q : ℕ) → Reached (ys ++ spot s ∷ zs) → firstPopper q (ys ++ spot s ∷ zs) ≡ some (numberOf s) → firstPopper q ys ≡ none
+pub none-before : (ys zs : List Item) (s : Task) (q : ℕ) → Reached (ys ++ spot s ∷ zs) → firstPopper q (ys ++ spot s ∷ zs) ≡ some (numberOf s)
+    → firstPopper q ys ≡ none
 unfolding orElse count
 none-before ys zs s q h e = go (firstPopper q ys) refl (sym (popper-append q ys (spot s ∷ zs)) ∙ e)
   where
@@ -96,7 +97,8 @@ pub first-says : (ys zs : List Item) (s : Task) (q : ℕ) → Reached (ys ++ spo
 first-says ys zs s q h e o i = all-none q ys o (none-before ys zs s q h e) i
 
 -- and where none pops before it, it is the first
-pub first-is : (ys zs : List Item) (s : Task) (q : ℕ) → mayPop (rightsOf s) q ≡ true → firstPopper q ys ≡ none → firstPopper q (ys ++ spot s ∷ zs) ≡ some (numberOf s)
+pub first-is : (ys zs : List Item) (s : Task) (q : ℕ) → mayPop (rightsOf s) q ≡ true → firstPopper q ys ≡ none
+    → firstPopper q (ys ++ spot s ∷ zs) ≡ some (numberOf s)
 unfolding firstPopper orElse
 first-is ys zs s q m e = popper-append q ys (spot s ∷ zs) ∙ ap (λ (o : Option ℕ). orElse o (firstPopper q (spot s ∷ zs))) e ∙ halt _ _ m
 
@@ -150,9 +152,18 @@ module _ (ys zs : List Item) (s : Task) (q : ℕ) where
   other-first a h e n f = go (firstPopper q ys) refl (mayPop (rightsOf s) q) refl
     where
       go : (o : Option ℕ) → firstPopper q ys ≡ o → (b : Bool) → mayPop (rightsOf s) q ≡ b → firstPopper q (New a) ≡ some h
-      go (some m) d b c = new-is a ∙ ap (λ (x : Option ℕ). orElse x (orElse (firstPopper q (made s a)) Rest)) d ∙ sym (ap (λ (x : Option ℕ). orElse x (pick (mayPop (rightsOf s) q) (some (numberOf s)) Rest)) d) ∙ sym old-is ∙ e
+      go (some m) d b c =
+          new-is a
+          ∙ ap (λ (x : Option ℕ). orElse x (orElse (firstPopper q (made s a)) Rest)) d
+          ∙ sym (ap (λ (x : Option ℕ). orElse x (pick (mayPop (rightsOf s) q) (some (numberOf s)) Rest)) d)
+          ∙ sym old-is
+          ∙ e
       go none d true c =
-          absurd (n (sym (Option·some-injective _ _ (sym (old-is ∙ ap (λ (x : Option ℕ). orElse x (pick (mayPop (rightsOf s) q) (some (numberOf s)) Rest)) d ∙ halt _ _ c) ∙ e))))
+          absurd
+          (n
+          (sym
+          (Option·some-injective _ _
+          (sym (old-is ∙ ap (λ (x : Option ℕ). orElse x (pick (mayPop (rightsOf s) q) (some (numberOf s)) Rest)) d ∙ halt _ _ c) ∙ e))))
       go none d false c =
           new-is a
           ∙ ap (λ (x : Option ℕ). orElse (firstPopper q ys) (orElse x Rest)) (f c)

@@ -92,7 +92,8 @@ rule-6-false m e rule =
     let s2 : read m (task 2 STATUS) ≡ UNFINISHED = cc in
     let r1 : read m (task 1 RIGHTS) ≡ 1 = cc in
     let w = rule (right 1) (user 2) 4 nonlocal nonlocal (busy m 1 (omega arith) s1) (busy m 2 (omega arith) s2)
-    (view-of m RIGHT 1 4 NL (omega arith) (omega arith) hr tr ∙ head-four) (view-of m USER 2 NL 4 (omega arith) (omega arith) hu tu ∙ tail-four) (λ z. omega (arith, z)) in
+    (view-of m RIGHT 1 4 NL (omega arith) (omega arith) hr tr ∙ head-four) (view-of m USER 2 NL 4 (omega arith) (omega arith) hu tu ∙ tail-four)
+    (λ z. omega (arith, z)) in
     false≢true (sym no-pop ∙ ap (λ (x : ℕ). pops x 0) (sym r1) ∙ w .0)
   where
     head-four : extentOf (view 4 NL) ≡ extent (local 4) nonlocal

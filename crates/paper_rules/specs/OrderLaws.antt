@@ -70,7 +70,9 @@ module _ (m : List ℕ) (xs : List Item) (r : Represents m xs) where
     visit = holder-visit c idle whole t (inr u)
 
     met-at : suc (behind t T) ≡ visit .met
-    met-at = tree-same c (suc (behind t T)) (visit .met) t (mark-tree t (mark-met m (r .tour) xs (r .linked) t u)) (reached-tree c (count c) (visit .met) t (visit .reached))
+    met-at =
+        tree-same c (suc (behind t T)) (visit .met) t (mark-tree t (mark-met m (r .tour) xs (r .linked) t u))
+        (reached-tree c (count c) (visit .met) t (visit .reached))
 
     left-at : suc (behind (128 + t) T) ≡ visit .left
     left-at = tree-same c (suc (behind (128 + t) T)) (visit .left) (128 + t) (mark-tree (128 + t) (mark-left m T xs (r .linked) t u)) (visit .leaves)

@@ -74,4 +74,5 @@ module _ (m : List ℕ) (xs : List Item) (r : Represents m xs) where
     first-named =
         let w = holder-unfinished q small in
         names-only m (r .tour) g h q (w .0 .0) small (segment-local q g small (first-in (r .line q) g c first)) (w .1)
-        (first-names (opened m) (opened-single m) m (r .tour) (holders m xs r) (r .line) (old .laids) here covered q small (unfinished-alive m h (w .0)) g c first)
+        (first-names (opened m) (opened-single m) m (r .tour) (holders m xs r) (r .line) (old .laids) here covered q small (unfinished-alive m h (w .0)) g c
+        first)

@@ -58,7 +58,8 @@ module _ (m : List ℕ) (ys zs : List Item) (s : Task) (r : Represents m (ys ++ 
       let w = where-it-stands m ys zs s r in
       let e = ap (occurrences x) (w .here) in
       let f = occurs-append x (w .later) (t ∷ w .earlier) in
-      ⊎-elim (λ d. let k = occurs-here t x (w .earlier) d in omega (arith, e, f, k)) (λ d. let k = occurs-past t x (w .earlier) d in omega (arith, e, f, k, p)) (equal? t x)
+      ⊎-elim (λ d. let k = occurs-here t x (w .earlier) d in omega (arith, e, f, k)) (λ d. let k = occurs-past t x (w .earlier) d in omega (arith, e, f, k, p))
+      (equal? t x)
 
   fits-before : All (Fits (usesIn m q)) a
   fits-before =
@@ -77,7 +78,8 @@ module _ (m : List ℕ) (ys zs : List Item) (s : Task) (r : Represents m (ys ++ 
   ends-before : Ends (where-it-stands m ys zs s r .earlier)
   ends-before =
       go (where-it-stands m ys zs s r .earlier)
-      (ends-behind (where-it-stands m ys zs s r .later) t (where-it-stands m ys zs s r .earlier) (subst Ends (where-it-stands m ys zs s r .here) (tour-ends m Old r)))
+      (ends-behind (where-it-stands m ys zs s r .later) t (where-it-stands m ys zs s r .earlier)
+      (subst Ends (where-it-stands m ys zs s r .here) (tour-ends m Old r)))
     where
       go : (l : List ℕ) → Ends (t ∷ l) → Ends l
       go [] e = let k = task-unfinished m ys zs s r .0 in let z : ⊥ = omega (arith, e, k) in absurd z

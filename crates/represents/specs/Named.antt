@@ -43,7 +43,8 @@ unfolding indexOf load
 index-none g zero r f = refl
 index-none g (suc n) r f =
     pass _ (ne-eqb _ g (f 0 (omega arith)))
-    (let h = index-none g n (drop 1 r) (λ j i d. f (suc j) (omega (arith, i)) (ap (load r) (let z : suc j ≡ 1 + j = omega arith in z) ∙ sym (getD-drop 1 r j 0) ∙ d)) in
+    (let h = index-none g n (drop 1 r)
+    (λ j i d. f (suc j) (omega (arith, i)) (ap (load r) (let z : suc j ≡ 1 + j = omega arith in z) ∙ sym (getD-drop 1 r j 0) ∙ d)) in
     omega (arith, h))
 
 -- the first mark that a test holds of, where it holds of one only
@@ -68,7 +69,10 @@ named-by m T g h q is w =
       task =
           seek-first MARKS f (recordOf m) 0
           ∙ ap (firstOf f) is
-          ∙ first-only f T h (w .there) (true-both (lt-ltb h 128 (w .task-range)) (lt-ltb (indexOf g 16 (drop 16 (recordOf m h))) 16 (let e = index in let l = w .queue-range in omega (arith, e, l)))) only;
+          ∙ first-only f T h (w .there)
+          (true-both (lt-ltb h 128 (w .task-range))
+          (lt-ltb (indexOf g 16 (drop 16 (recordOf m h))) 16 (let e = index in let l = w .queue-range in omega (arith, e, l))))
+          only;
       index = index;
     }
   where

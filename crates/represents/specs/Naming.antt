@@ -69,7 +69,8 @@ unfolding isEmpty
 not-empty-head h e n = both-off (eqb e NONE) (ne-eqb h NONE n)
 
 -- BY THE WORDS
-module _ (n : List ℕ) (T : List ℕ) (g h q : ℕ) (small : h < 128) (queue : q < 4) (low : g < NL) (there : 0 < occurrences h T) (w : Names (meaningOf n) T g h q) where
+module _ (n : List ℕ) (T : List ℕ) (g h q : ℕ) (small : h < 128) (queue : q < 4) (low : g < NL) (there : 0 < occurrences h T)
+    (w : Names (meaningOf n) T g h q) where
   none-word : (x k p : ℕ) → x < 128 → 0 < occurrences x T → k < 3 → p < 4 → read n (head k x p) ≡ g → ⊥
   unfolding viewOf
   none-word x k p l i a b e =

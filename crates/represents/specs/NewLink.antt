@@ -118,11 +118,13 @@ module _ (m : List ℕ) (ys zs : List Item) (s : Task) (r : Represents m (ys ++ 
       omega (arith, u, w, f)
 
   -- the last segment of the gap before, where it is empty, is the first of the queue
-  alone : (p : ℕ) (c : List ℕ) → Gap a p c → 0 < occurrences (lastOf p c) (segments a) → contentsIn n (lastOf p c) ≡ [] → firstChain (r .line q) ≡ lastOf p c ∷ []
+  alone : (p : ℕ) (c : List ℕ) → Gap a p c → 0 < occurrences (lastOf p c) (segments a) → contentsIn n (lastOf p c) ≡ []
+      → firstChain (r .line q) ≡ lastOf p c ∷ []
   unfolding queueMemory ofTasks
   alone p c k there e =
       let was : contentsIn m (lastOf p c) ≡ [] =
-      sym (ap (λ (M : Meaning). M .contents (lastOf p c)) (is-taken .means) ∙ put-other (contentsIn m) g (v ∷ []) (lastOf p c) (not-free (lastOf p c) there)) ∙ e in
+      sym (ap (λ (M : Meaning). M .contents (lastOf p c)) (is-taken .means) ∙ put-other (contentsIn m) g (v ∷ []) (lastOf p c) (not-free (lastOf p c) there))
+      ∙ e in
       let good = all-behind (Chain (queueMemory m q .store .next) (contentsIn m)) (here .later) (met t (here .chain) ∷ a) (laid .held .chains .good) .1 in
       let w = is-sole (queueMemory m q .store .next) (contentsIn m) k good was in
       let d : lastOf p c ≡ p = ap (lastOf p) (w .1) in

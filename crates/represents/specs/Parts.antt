@@ -71,7 +71,8 @@ module _ (m : List ℕ) (xs : List Item) (r : Represents m xs) where
         bare = λ q i. r .queue q i .bare;
       }
 
-pub of-parts : (m : List ℕ) (T : List ℕ) (xs : List Item) (line : ℕ → Line) (holder : ℕ → ℕ) → Linked m T xs → Played xs → Sized m → Nexts (read m numberWord) (nextIn m) → Parts m T xs line holder → Represents m xs
+pub of-parts : (m : List ℕ) (T : List ℕ) (xs : List Item) (line : ℕ → Line) (holder : ℕ → ℕ) → Linked m T xs → Played xs → Sized m
+    → Nexts (read m numberWord) (nextIn m) → Parts m T xs line holder → Represents m xs
 of-parts m T xs line holder l p s n a =
     record {
       tour = T;

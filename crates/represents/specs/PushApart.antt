@@ -75,7 +75,9 @@ module _ (m : List ℕ) (ys zs : List Item) (s : Task) (r : Represents m (ys ++ 
       go : Found (queueMemory m q .children) (queueMemory m q .right) a (placeAt y)
           → Links (taken m v) q (holders m Old r q) (viewAt (queueMemory m q .children) (queueMemory m q .right) (placeAt y)) (extent (local g) nonlocal)
       go (nothing e k) = subst (λ (w : Extent). Links (taken m v) q (holders m Old r q) w (extent (local g) nonlocal)) (sym e) tt
-      go (Found.tail h p c e k) = subst (λ (w : Extent). Links (taken m v) q (holders m Old r q) w (extent (local g) nonlocal)) (sym e) (linkable m ys zs s r q small here v g rest ef p c k)
+      go (Found.tail h p c e k) =
+          subst (λ (w : Extent). Links (taken m v) q (holders m Old r q) w (extent (local g) nonlocal)) (sym e)
+          (linkable m ys zs s r q small here v g rest ef p c k)
 
   -- the late refusal 2 does not come
   pub apart-reducible : reducible (viewOf m q (taskAt (justBefore m q t)) (kindAt (justBefore m q t))) (view (nextFree m) NL) ≡ true
@@ -93,35 +95,49 @@ module _ (m : List ℕ) (ys zs : List Item) (s : Task) (r : Represents m (ys ++ 
           tailed-extent (nextFree m) NL (λ e. omega (arith, e))
           ∙ ap₂ extent (end-local (nextFree m) not-mark ∙ ap local (next-free m g rest ef)) (end-nonlocal NL refl)
 
-      go : Found (queueMemory m q .children) (queueMemory m q .right) a (placeAt y) → reduces (viewAt (queueMemory m q .children) (queueMemory m q .right) (placeAt y)) (extent (local g) nonlocal) ≡ true
+      go : Found (queueMemory m q .children) (queueMemory m q .right) a (placeAt y)
+          → reduces (viewAt (queueMemory m q .children) (queueMemory m q .right) (placeAt y)) (extent (local g) nonlocal) ≡ true
       go (nothing e k) = ap (λ (w : Extent). reduces w (extent (local g) nonlocal)) e
       go (Found.tail h p c e k) =
           ap (λ (w : Extent). reduces w (extent (local g) nonlocal)) e
-          ∙ ap not (ne-eqb (lastOf p c) g (not-free m ys zs s r q small here v g rest ef (lastOf p c) (let i = last-in p c in let j = count-gap (lastOf p c) k in omega (arith, i, j))))
+          ∙ ap not
+          (ne-eqb (lastOf p c) g
+          (not-free m ys zs s r q small here v g rest ef (lastOf p c) (let i = last-in p c in let j = count-gap (lastOf p c) k in omega (arith, i, j))))
 
   abbrev after : Memory
   after = pushedApart (holders m Old r q) t (placeAt y) g rest v (queueMemory m q)
 
   live : ofTasks (alive m) (pushedApart (holders m Old r q) t (placeAt y) g rest v (memoryIn m q)) ≡ after
   unfolding queueMemory
-  live = live-apart (alive m) (holders m Old r q) t (placeAt y) g rest v (memoryIn m q) (holder-alive m ys zs s r q v small may) (task-alive m ys zs s r) (placed .holds)
+  live =
+      live-apart (alive m) (holders m Old r q) t (placeAt y) g rest v (memoryIn m q) (holder-alive m ys zs s r q v small may) (task-alive m ys zs s r)
+      (placed .holds)
 
-  pub push-apart : Played New → Represents (setView (joined (taken m v) q (taskAt (justBefore m q t)) (kindAt (justBefore m q t)) (view (nextFree m) NL)) q t USER (view NL (nextFree m))) New
+  pub push-apart : Played New
+      → Represents
+      (setView (joined (taken m v) q (taskAt (justBefore m q t)) (kindAt (justBefore m q t)) (view (nextFree m) NL)) q t USER (view NL (nextFree m))) New
   unfolding queueMemory ofTasks pushedApart
   push-apart play =
-      subst (λ (z : ℕ). Represents (setView (joined (taken m v) q (taskAt z) (kindAt z) (view (nextFree m) NL)) q t USER (view NL (nextFree m))) New) (sym search-is)
+      subst (λ (z : ℕ). Represents (setView (joined (taken m v) q (taskAt z) (kindAt z) (view (nextFree m) NL)) q t USER (view NL (nextFree m))) New)
+      (sym search-is)
       (pushed m ys zs s r q v small may _ (apartIn (meaningOf m) q (holders m Old r q) t (kindAt y) (taskAt y) g rest v) after
-      (pushed-apart m t q v g rest (r .sized) (task-unfinished m ys zs s r .0) small ef segment-there (taskAt y) (kindAt y) (holders m Old r q) (placed .range) (kind-below y) links) play
-      (nexts-joined (read m numberWord) (some-opened m ys zs s r q v small may) (holders m Old r q) (viewAt (queueMemory m q .children) (queueMemory m q .right) (placeAt y)) (extent (local g) nonlocal)
+      (pushed-apart m t q v g rest (r .sized) (task-unfinished m ys zs s r .0) small ef segment-there (taskAt y) (kindAt y) (holders m Old r q) (placed .range)
+      (kind-below y) links)
+      play
+      (nexts-joined (read m numberWord) (some-opened m ys zs s r q v small may) (holders m Old r q)
+      (viewAt (queueMemory m q .children) (queueMemory m q .right) (placeAt y)) (extent (local g) nonlocal)
       (taken-store g rest v (queueMemory m q .store)) segment-there
       (nexts-taken (read m numberWord) (some-opened m ys zs s r q v small may) g rest v (queueMemory m q .store) (old-nexts m ys zs s r q v small may)))
       same others bare
-      (apart-row (mine (queueMemory m q .store) (r .line q)) (one-mine m Old r q small) (queueMemory m q) (holders m Old r q) (here .later) t (here .chain) a v (laid-at m ys zs s r q small here) g rest ef (placeAt y) empty target))
+      (apart-row (mine (queueMemory m q .store) (r .line q)) (one-mine m Old r q small) (queueMemory m q) (holders m Old r q) (here .later) t (here .chain) a v
+      (laid-at m ys zs s r q small here) g rest ef (placeAt y) empty target))
     where
       same : ofTasks (alive m) (memoryOf (apartIn (meaningOf m) q (holders m Old r q) t (kindAt y) (taskAt y) g rest v) q) ≡ after
       same = ap (ofTasks (alive m)) (memory-apart (meaningOf m) q (holders m Old r q) t g rest v y) ∙ live
 
-      others : (p : ℕ) → p < 4 → (p ≡ q → ⊥) → ofTasks (alive m) (memoryOf (apartIn (meaningOf m) q (holders m Old r q) t (kindAt y) (taskAt y) g rest v) p) ≡ shared (after .store) (queueMemory m p)
+      others : (p : ℕ) → p < 4 → (p ≡ q → ⊥)
+          → ofTasks (alive m) (memoryOf (apartIn (meaningOf m) q (holders m Old r q) t (kindAt y) (taskAt y) g rest v) p)
+          ≡ shared (after .store) (queueMemory m p)
       others p i k =
           ap (ofTasks (alive m)) (apart-elsewhere (meaningOf m) q (holders m Old r q) t g rest v (kindAt y) (taskAt y) p k)
           ∙ masked-share (alive m) (memoryOf (apartIn (meaningOf m) q (holders m Old r q) t (kindAt y) (taskAt y) g rest v) q) (memoryIn m p)

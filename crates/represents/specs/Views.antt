@@ -37,14 +37,17 @@ module _ (uses : ℕ → Bool) where
       (λ n. let e = occurs-past y x (marks l) n in met-in l (f .1) x s u (omega (arith, e, p)))
       (equal? y x)
 
-  pub left-in : (l : Line) → All (Fits uses) l → All (λ t. t < 128) (mets l) → (x : ℕ) → uses x ≡ true → 0 < occurrences (128 + x) (marks l) → 0 < occurrences x (lefts l)
+  pub left-in : (l : Line) → All (Fits uses) l → All (λ t. t < 128) (mets l) → (x : ℕ) → uses x ≡ true → 0 < occurrences (128 + x) (marks l)
+      → 0 < occurrences x (lefts l)
   unfolding taskAt
   left-in [] f s x u p = let e = occurs-nil (128 + x) in let z : ⊥ = omega (arith, e, p) in absurd z
   left-in (base c ∷ l) f s x u p = left-in l (f .1) s x u p
   left-in (left t ∷ l) f s x u p =
       ⊎-elim
       (λ e. let g = occurs-here t x (lefts l) e in omega (arith, g))
-      (λ n. let e = occurs-past (128 + t) (128 + x) (marks l) (λ q. n (omega (arith, q))) in occurs-later t x (lefts l) (left-in l (f .1) s x u (omega (arith, e, p))))
+      (λ n.
+      let e = occurs-past (128 + t) (128 + x) (marks l) (λ q. n (omega (arith, q))) in
+      occurs-later t x (lefts l) (left-in l (f .1) s x u (omega (arith, e, p))))
       (equal? t x)
   left-in (met t c ∷ l) f s x u p =
       let b = s .0 in

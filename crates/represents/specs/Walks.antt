@@ -34,7 +34,8 @@ unfolding firstOf
 first-path f g [] h = refl
 first-path f g (y ∷ l) h =
     ap₂ (λ (b : Bool) (k : ℕ). pick b y k) (h y (let e = occurs-here y y l refl in omega (arith, e)))
-    (first-path f g l (λ x p. h x (⊎-elim (λ e. let k = occurs-here y x l e in omega (arith, k)) (λ e. let k = occurs-past y x l e in omega (arith, k, p)) (equal? y x))))
+    (first-path f g l
+    (λ x p. h x (⊎-elim (λ e. let k = occurs-here y x l e in omega (arith, k)) (λ e. let k = occurs-past y x l e in omega (arith, k, p)) (equal? y x))))
 
 -- a row of the tour ends where the top is left
 pub row-ends : (c : Contents) (l : List ℕ) → Row c l → Ends l
@@ -69,7 +70,8 @@ module _ (m : List ℕ) (xs : List Item) (r : Represents m xs) where
       is-left e = skip x e refl
 
       go : (b : Bool) → ltb x 128 ≡ b
-          → either (ltb x 128) (either (eqb (x - 128) 0) (occupied (viewIn m q CHILDREN (x - 128)))) ≡ either (ltb x 128) (either (eqb (x - 128) 0) (occupied (queueMemory m q .children (x - 128))))
+          → either (ltb x 128) (either (eqb (x - 128) 0) (occupied (viewIn m q CHILDREN (x - 128))))
+          ≡ either (ltb x 128) (either (eqb (x - 128) 0) (occupied (queueMemory m q .children (x - 128))))
       go true e = unfold either in halt _ _ e ∙ sym (halt _ _ e)
       go false e =
           ap (λ (v : Extent). either (ltb x 128) (either (eqb (x - 128) 0) (occupied v)))

@@ -51,7 +51,8 @@ vacant-returned M q holder t e f g =
 
 module _ (m : List ℕ) (ys zs : List Item) (s : Task) (r : Represents m (ys ++ spot s ∷ zs)) (barren : hasChild m (numberOf s) ≡ false)
     (n : List ℕ) (holder : ℕ → ℕ) (line : ℕ → Line) (way : Way m n holder line) (q : ℕ) (small : q < 4)
-    (stands : Standing n (ys ++ spot s ∷ zs) (r .tour) q (holder q) (line q)) (no-right : usesIn m q (numberOf s) ≡ false) (no-use : uses (rightsOf s) q ≡ false) where
+    (stands : Standing n (ys ++ spot s ∷ zs) (r .tour) q (holder q) (line q)) (no-right : usesIn m q (numberOf s) ≡ false)
+    (no-use : uses (rightsOf s) q ≡ false) where
   abbrev t : ℕ
   t = numberOf s
 
@@ -115,7 +116,8 @@ module _ (m : List ℕ) (ys zs : List Item) (s : Task) (r : Represents m (ys ++ 
   -- the paper has these reductions
   pub past-allowed : finishes n t q ≡ true
   past-allowed =
-      none-allowed n t q below small (subst Headless (sym C) tt) (subst Headless (sym U) tt) (subst Headless (sym no-inner) tt) (reductions .user-tailed) (reductions .right-tailed)
+      none-allowed n t q below small (subst Headless (sym C) tt) (subst Headless (sym U) tt) (subst Headless (sym no-inner) tt) (reductions .user-tailed)
+      (reductions .right-tailed)
       (ap (λ (x : Extent). reduces x (viewIn n q USER t)) C) (ap (λ (x : Extent). reduces x (viewIn n q RIGHT t)) no-inner) no-whole
 
   other : t ≡ h → ⊥
@@ -132,7 +134,8 @@ module _ (m : List ℕ) (ys zs : List Item) (s : Task) (r : Represents m (ys ++ 
   unfolding finishedQueue
   done = becomes-at (sym (queue-kept (viewsReturned n t q) t q (same .sized) below small no-head)) same
 
-  module _ (b a : Line) (parts : line q ≡ b ++ (pass t ∷ (pass (128 + t) ∷ a))) (later : marks b ≡ leaf m ys zs s r barren .later) (earlier : marks a ≡ leaf m ys zs s r barren .earlier) where
+  module _ (b a : Line) (parts : line q ≡ b ++ (pass t ∷ (pass (128 + t) ∷ a))) (later : marks b ≡ leaf m ys zs s r barren .later)
+      (earlier : marks a ≡ leaf m ys zs s r barren .earlier) where
     row : After own (Q .store) Q h (b ++ a) (timeline (contentsIn n) (line q))
     unfolding queueMemory ofTasks
     row =

@@ -144,5 +144,6 @@ module _ (m : List ℕ) (ys zs : List Item) (s : Task) (r : Represents m (ys ++ 
             way = turn m n (A .holder) (A .line) (A .way) q small n′ (turned .heir) c;
             stands = at-queue (λ p x l. Now n′ (put yet q false p) p x l) (A .holder) (A .line) q (turned .heir) (c .line)
                 (subst (λ (b : Bool). Now n′ b q (turned .heir) (c .line)) (sym (put-same yet q false)) here-now)
-                (λ p i k. subst (λ (b : Bool). Now n′ b p (A .holder p) (A .line p)) (sym (put-other yet q false p k)) (other-now p i k (yet p) (A .stands p i)));
+                (λ p i k.
+                subst (λ (b : Bool). Now n′ b p (A .holder p) (A .line p)) (sym (put-other yet q false p k)) (other-now p i k (yet p) (A .stands p i)));
           }

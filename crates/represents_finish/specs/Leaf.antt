@@ -50,7 +50,8 @@ module _ (m : List ℕ) (ys zs : List Item) (s : Task) (r : Represents m (ys ++ 
       }
 
   -- A LINE with the marks of the tour parts there
-  module _ {children user right : ℕ → Extent} {n : Mode} (q : ℕ) (l : Line) (views : Views children user right l n) (fits : All (Fits (usesIn m q)) l) (marked : marks l ≡ r .tour) where
+  module _ {children user right : ℕ → Extent} {n : Mode} (q : ℕ) (l : Line) (views : Views children user right l n) (fits : All (Fits (usesIn m q)) l)
+      (marked : marks l ≡ r .tour) where
     pub with-right : usesIn m q t ≡ true
         → (b : Line) × (c : List ℕ) × (a : Line) × (l ≡ b ++ (met t c ∷ (left t ∷ a))) × (marks b ≡ leaf .later) × (marks a ≡ leaf .earlier)
     with-right u =

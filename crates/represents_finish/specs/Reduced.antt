@@ -135,7 +135,9 @@ module _ (m : List ℕ) (ys zs : List Item) (s : Task) (r : Represents m (ys ++ 
   user-apart = subst₂ (λ (x y : Extent). Apart x y) (sym children-is) (sym user-is) (views .user-apart)
 
   user-tailed : Tailed (viewIn n q USER t)
-  user-tailed = tails-tailed (λ x. 0 < occurrences x (segments Line-t)) not-none (viewIn n q USER t) (subst (Tails (λ x. 0 < occurrences x (segments Line-t))) (sym user-is) (views .user-held))
+  user-tailed =
+      tails-tailed (λ x. 0 < occurrences x (segments Line-t)) not-none (viewIn n q USER t)
+      (subst (Tails (λ x. 0 < occurrences x (segments Line-t))) (sym user-is) (views .user-held))
 
   user-links : Links n q h (viewIn n q CHILDREN t) (viewIn n q USER t)
   user-links = meets-links (λ x y. ⊥) n q h (λ x y z. absurd z) (viewIn n q CHILDREN t) (viewIn n q USER t) user-apart
@@ -167,7 +169,9 @@ module _ (m : List ℕ) (ys zs : List Item) (s : Task) (r : Represents m (ys ++ 
         right-tailed = tails-tailed (λ x. 0 < occurrences x (segments Line-t)) not-none (viewIn n q RIGHT t)
             (subst (Tails (λ x. 0 < occurrences x (segments Line-t))) (sym right-is) (views .right-held));
         right-links = meets-links (Link Q Line-t) (words1 n t q) q h
-            (λ z x k. linkable (words1 n t q) (merged .kept) (ap (λ (N : Meaning). N .contents) means-merged) (ap (λ (N : Meaning). N .free) means-merged) z x k (names-merged z))
+            (λ z x k.
+            linkable (words1 n t q) (merged .kept) (ap (λ (N : Meaning). N .contents) means-merged) (ap (λ (N : Meaning). N .free) means-merged) z x k
+            (names-merged z))
             (inner M q h t) (viewIn n q RIGHT t)
             (subst₂ (λ (x y : Extent). Meets (Link Q Line-t) x y) (sym inner-is) (sym right-is) (views .right-meets));
       }

@@ -52,7 +52,8 @@ module _ (m : List ℕ) (ys zs : List Item) (s : Task) (r : Represents m (ys ++ 
   abbrev Old : List Item
   Old = ys ++ spot s ∷ zs
 
-  module _ (n : List ℕ) (holder : ℕ → ℕ) (line : ℕ → Line) (way : Way m n holder line) (q : ℕ) (small : q < 4) (stands : Standing n Old (r .tour) q (holder q) (line q)) where
+  module _ (n : List ℕ) (holder : ℕ → ℕ) (line : ℕ → Line) (way : Way m n holder line) (q : ℕ) (small : q < 4)
+      (stands : Standing n Old (r .tour) q (holder q) (line q)) where
     abbrev Q : Memory
     Q = queueMemory n q
 
@@ -83,7 +84,9 @@ module _ (m : List ℕ) (ys zs : List Item) (s : Task) (r : Represents m (ys ++ 
       syncable =
           record {
             tailed = tails-tailed _
-                (λ x l e. let k = held-local m Old r n holder line way q small x (subst (λ (k : Line). 0 < occurrences x (segments k)) (sym parts) l) in omega (arith, k, e))
+                (λ x l e.
+                let k = held-local m Old r n holder line way q small x (subst (λ (k : Line). 0 < occurrences x (segments k)) (sym parts) l) in
+                omega (arith, k, e))
                 (viewIn n q USER t) (subst (Tails _) (sym U) (views .user-held));
             links = meets-links (λ x y. ⊥) n q (holder q) (λ x y z. absurd z) (viewIn n q CHILDREN t) (viewIn n q USER t)
                 (subst₂ (λ (x y : Extent). Apart x y) (sym C) (sym U) (views .user-apart));
@@ -104,7 +107,8 @@ module _ (m : List ℕ) (ys zs : List Item) (s : Task) (r : Represents m (ys ++ 
       here : ofTasks (alive n) (memoryOf (syncedIn (meaningOf n) q (holder q) t) q) ≡ synced (holder q) t Q
       here = ap (ofTasks (alive n)) (memory-synced (meaningOf n) q (holder q) t) ∙ live
 
-      others : (p : ℕ) → p < 4 → (p ≡ q → ⊥) → ofTasks (alive n) (memoryOf (syncedIn (meaningOf n) q (holder q) t) p) ≡ shared (synced (holder q) t Q .store) (queueMemory n p)
+      others : (p : ℕ) → p < 4 → (p ≡ q → ⊥)
+          → ofTasks (alive n) (memoryOf (syncedIn (meaningOf n) q (holder q) t) p) ≡ shared (synced (holder q) t Q .store) (queueMemory n p)
       unfolding queueMemory synced
       others p i k =
           ap (ofTasks (alive n)) (memory-synced-elsewhere (meaningOf n) q (holder q) t p k)
@@ -210,7 +214,8 @@ module _ (m : List ℕ) (ys zs : List Item) (s : Task) (r : Represents m (ys ++ 
         let p = with-right m ys zs s r barren q (line q) (way .laids .laid q small .views) (way .fits q small) (st .marked) u in
         let after = row n holder line way q small st (p .0) (p .1) (p .2) (p .3) in (
           allowed n holder line way q small st (p .0) (p .1) (p .2) (p .3),
-          turn-same m n holder line way q small (syncedQueue n t q) (holder q) (turned n holder line way q small st (p .0) (p .1) (p .2) (p .3) u) Old (r .tour) (A .stands)
+          turn-same m n holder line way q small (syncedQueue n t q) (holder q) (turned n holder line way q small st (p .0) (p .1) (p .2) (p .3) u) Old (r .tour)
+              (A .stands)
               (after-marks after) refl (after .points),
         )
 
@@ -218,7 +223,8 @@ module _ (m : List ℕ) (ys zs : List Item) (s : Task) (r : Represents m (ys ++ 
     unfolding queueMemory ofTasks vacant-turned
     without-views u = (
       vacant-allowed n holder line way q small st u,
-      turn-same m n holder line way q small (syncedQueue n t q) (holder q) (vacant-turned n holder line way q small st u) Old (r .tour) (A .stands) refl refl refl,
+      turn-same m n holder line way q small (syncedQueue n t q) (holder q) (vacant-turned n holder line way q small st u) Old (r .tour) (A .stands) refl refl
+          refl,
     )
 
     pub sync-turn : Turned

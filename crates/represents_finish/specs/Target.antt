@@ -55,7 +55,8 @@ mets-use uses (pass x ∷ l) h = mets-use uses l (h .1)
 
 module _ (m : List ℕ) (ys zs : List Item) (s : Task) (r : Represents m (ys ++ spot s ∷ zs)) (barren : hasChild m (numberOf s) ≡ false) (above : 0 < numberOf s)
     (n : List ℕ) (holder : ℕ → ℕ) (line : ℕ → Line) (way : Way m n holder line) (q : ℕ) (small : q < 4)
-    (b : Line) (c : List ℕ) (a : Line) (parts : line q ≡ b ++ (met (numberOf s) c ∷ (left (numberOf s) ∷ a))) (earlier : marks a ≡ leaf m ys zs s r barren .earlier) where
+    (b : Line) (c : List ℕ) (a : Line) (parts : line q ≡ b ++ (met (numberOf s) c ∷ (left (numberOf s) ∷ a)))
+    (earlier : marks a ≡ leaf m ys zs s r barren .earlier) where
   abbrev t : ℕ
   t = numberOf s
 
@@ -99,7 +100,9 @@ module _ (m : List ℕ) (ys zs : List Item) (s : Task) (r : Represents m (ys ++ 
   returned-at w (extent nonlocal y) e some =
       returned-nonlocal n q t w y e ∙ back-part m ys zs s r barren above n holder line way q small ∙ ap (firstOf (partTaken (usesIn m q))) (sym earlier)
   returned-at w (extent (local x) y) e some =
-      returned-local n q t w x y e ∙ back-stand m ys zs s r barren above n holder line way q small ∙ ap (firstOf (viewStands (usesIn m q) (Q .children))) (sym earlier)
+      returned-local n q t w x y e
+      ∙ back-stand m ys zs s r barren above n holder line way q small
+      ∙ ap (firstOf (viewStands (usesIn m q) (Q .children))) (sym earlier)
 
   inside : (v : Extent) → (v ≡ vacant → ⊥) → In (placeAt (markOf v)) a
   inside vacant some = absurd (some refl)
@@ -133,7 +136,8 @@ module _ (m : List ℕ) (ys zs : List Item) (s : Task) (r : Represents m (ys ++ 
 
   left-other : (u : ℕ) → 0 < occurrences u (lefts a) → Other u
   left-other u p =
-      let k = subst (Unfinished (decode m)) (task-left u) (marked m Old r (128 + u) (in-earlier (128 + u) (let k = left-marks u a in omega (arith, k, p))) .1) in
+      let k = subst (Unfinished (decode m)) (task-left u) (marked m Old r (128 + u) (in-earlier (128 + u) (let k = left-marks u a in omega (arith, k, p))) .1)
+      in
       record {
         range = uses-small m q u (all-at (λ x. usesIn m q x ≡ true) (lefts a) u (lefts-use (usesIn m q) a fits) p);
         other = λ e.
@@ -166,7 +170,8 @@ module _ (m : List ℕ) (ys zs : List Item) (s : Task) (r : Represents m (ys ++ 
       rest vacant x e = (refl, refl)
       rest (extent g y) x e = (
         refl,
-        put-other (Q .right) u _ x (λ d. false≢true (sym e ∙ ap (usesIn m q) d ∙ all-at (λ x. usesIn m q x ≡ true) (mets a) u (mets-use (usesIn m q) a fits) p)),
+        put-other (Q .right) u _ x
+            (λ d. false≢true (sym e ∙ ap (usesIn m q) d ∙ all-at (λ x. usesIn m q x ≡ true) (mets a) u (mets-use (usesIn m q) a fits) p)),
       )
 
   at-children : (u : ℕ) → 0 < occurrences u (lefts a) → At u CHILDREN (childrenOf u)
@@ -178,7 +183,8 @@ module _ (m : List ℕ) (ys zs : List Item) (s : Task) (r : Represents m (ys ++ 
       rest : Rest (childrenOf u)
       rest vacant x e = (refl, refl)
       rest (extent g y) x e = (
-        put-other (Q .children) u _ x (λ d. false≢true (sym e ∙ ap (usesIn m q) d ∙ all-at (λ x. usesIn m q x ≡ true) (lefts a) u (lefts-use (usesIn m q) a fits) p)),
+        put-other (Q .children) u _ x
+            (λ d. false≢true (sym e ∙ ap (usesIn m q) d ∙ all-at (λ x. usesIn m q x ≡ true) (lefts a) u (lefts-use (usesIn m q) a fits) p)),
         refl,
       )
 
@@ -186,7 +192,8 @@ module _ (m : List ℕ) (ys zs : List Item) (s : Task) (r : Represents m (ys ++ 
   unfolding taskAt kindAt placeAt pick
   at-place x i = go (ltb x 128) i
     where
-      go : (y : Bool) → In (pick y (rightOf x) (childrenOf (x - 128))) a → At (pick y x (x - 128)) (pick y RIGHT CHILDREN) (pick y (rightOf x) (childrenOf (x - 128)))
+      go : (y : Bool) → In (pick y (rightOf x) (childrenOf (x - 128))) a
+          → At (pick y x (x - 128)) (pick y RIGHT CHILDREN) (pick y (rightOf x) (childrenOf (x - 128)))
       go true j = at-right x j
       go false j = at-children (x - 128) j
 

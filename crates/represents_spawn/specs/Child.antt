@@ -42,7 +42,8 @@ use Rattle.meaning.specs.Spawn.{spawnedIn, child-made}
 use Rattle.represents.specs.Represents.{alive, usesIn, Represents}
 use Rattle.represents.specs.At.{mine-spot, task-unfinished, single-spot, where-it-stands}
 
-module _ (m : List ℕ) (ys zs : List Item) (s : Task) (r : Represents m (ys ++ spot s ∷ zs)) (u : ℕ) (sub : subset u (rightsOf s) ≡ true) (some : read m freeTasks ≡ 0 → ⊥) where
+module _ (m : List ℕ) (ys zs : List Item) (s : Task) (r : Represents m (ys ++ spot s ∷ zs)) (u : ℕ) (sub : subset u (rightsOf s) ≡ true)
+    (some : read m freeTasks ≡ 0 → ⊥) where
   abbrev t : ℕ
   t = numberOf s
 
@@ -138,7 +139,8 @@ module _ (m : List ℕ) (ys zs : List Item) (s : Task) (r : Represents m (ys ++ 
 
   pub child-unmarked : (occurrences child (r .tour) ≡ 0) × (occurrences (128 + child) (r .tour) ≡ 0)
   child-unmarked = unmarked m after t child u words (r .tour) Old (r .linked) small
-      (let e = ap (occurrences t) (stands .here) ∙ occurs-append t (stands .later) (t ∷ stands .earlier) in let f = occurs-first t (stands .earlier) in omega (arith, e, f))
+      (let e = ap (occurrences t) (stands .here) ∙ occurs-append t (stands .later) (t ∷ stands .earlier) in
+      let f = occurs-first t (stands .earlier) in omega (arith, e, f))
 
   pub new-is : New ≡ ys ++ (made s (spawns child u) ++ zs)
   new-is = advance-at ys zs s (spawns child u) (single-spot m ys zs s r)
@@ -179,7 +181,8 @@ module _ (m : List ℕ) (ys zs : List Item) (s : Task) (r : Represents m (ys ++ 
 
   pub same-number : read after numberWord ≡ read m numberWord
   same-number =
-      made-only (write m freeTasks h) t u child (was-meant .sized .words) small child-small apart youngest-task .same numberWord (omega arith, λ e. omega (arith, e))
+      made-only (write m freeTasks h) t u child (was-meant .sized .words) small child-small apart youngest-task .same numberWord
+      (omega arith, λ e. omega (arith, e))
       ∙ idle-height-only m h .same numberWord (omega arith, λ e. omega (arith, e))
 
   -- WHO IS IN USE, and who has a right: as before, and the child besides

@@ -64,7 +64,8 @@ count-listed (suc j) a f e x =
     lower i d = ⊎-elim (λ p. let z : ⊥ = absurd (d (let h = e 0 in omega (arith, h, i, p))) in absurd z) (λ p. p) (below? x (suc a))
 
 -- a number below 4 is one of the four
-one-of-four : (x : ℕ) → (x < 4 → one (eqb 0 x) + one (eqb 1 x) + one (eqb 2 x) + one (eqb 3 x) ≡ 1) × (4 ≤ x → one (eqb 0 x) + one (eqb 1 x) + one (eqb 2 x) + one (eqb 3 x) ≡ 0)
+one-of-four : (x : ℕ)
+    → (x < 4 → one (eqb 0 x) + one (eqb 1 x) + one (eqb 2 x) + one (eqb 3 x) ≡ 1) × (4 ≤ x → one (eqb 0 x) + one (eqb 1 x) + one (eqb 2 x) + one (eqb 3 x) ≡ 0)
 unfolding one pick
 one-of-four x = (
   by-four (λ x. one (eqb 0 x) + one (eqb 1 x) + one (eqb 2 x) + one (eqb 3 x) ≡ 1) refl refl refl refl x,
@@ -141,7 +142,8 @@ module _ (l n : ℕ) (range : inRange l n ≡ true) where
     unfolding queueMemory ofTasks
     only-top x =
         ⊎-elim
-        (λ e. subst (λ (y : ℕ). after .store .heads y ≡ put (λ z. none) 0 (some q) y) (sym e) (halt _ _ alive-top ∙ own-head ∙ sym (put-same (λ z. none) 0 (some q))))
+        (λ e.
+        subst (λ (y : ℕ). after .store .heads y ≡ put (λ z. none) 0 (some q) y) (sym e) (halt _ _ alive-top ∙ own-head ∙ sym (put-same (λ z. none) 0 (some q))))
         (λ d. skip (headsIn m q x) (alive-free x d) refl ∙ sym (put-other (λ z. none) 0 (some q) x d))
         (equal? x 0)
 
@@ -215,10 +217,12 @@ module _ (l n : ℕ) (range : inRange l n ≡ true) where
       let d = number in
       let b = low in
       let a = high in
-      subst (Leads (read m numberWord)) (sym (skip none (le-ltb s 4 k) (halt (some 0) none (lt-ltb s 256 (omega (arith, h, d, b)))))) (let z : 0 < read m numberWord = omega (arith, d, a) in z))
+      subst (Leads (read m numberWord)) (sym (skip none (le-ltb s 4 k) (halt (some 0) none (lt-ltb s 256 (omega (arith, h, d, b))))))
+      (let z : 0 < read m numberWord = omega (arith, d, a) in z))
       (below? s 4))
 
 -- OPENING gives the invariant.
 pub open-represents : (l n : ℕ) → inRange l n ≡ true → Represents (openedWords l n) begin
 open-represents l n e =
-    of-rows (openedWords l n) (0 ∷ 128 ∷ []) begin (λ q x. one (eqb q x)) (open-queue l n e) (each-once l n e) (open-linked l n e) opens (means l n e .sized) (first-nexts l n e)
+    of-rows (openedWords l n) (0 ∷ 128 ∷ []) begin (λ q x. one (eqb q x)) (open-queue l n e) (each-once l n e) (open-linked l n e) opens (means l n e .sized)
+    (first-nexts l n e)

@@ -109,7 +109,9 @@ module _ (c : Contents) where
       (λ h.
       ⊎-elim
       (λ q. (omega (arith, q), rw q at h))
-      (λ q. more (from-some n (s + 1) t (let a = ap (occurrences t) (from-cons n s h) in let b = occurs-past s t (holdersFrom c n (s + 1)) q in omega (arith, a, b, p))))
+      (λ q.
+      more
+      (from-some n (s + 1) t (let a = ap (occurrences t) (from-cons n s h) in let b = occurs-past s t (holdersFrom c n (s + 1)) q in omega (arith, a, b, p))))
       (equal? s t))
       (λ h. more (from-some n (s + 1) t (let a = ap (occurrences t) (from-past n s h) in omega (arith, a, p))))
       (holds? s)

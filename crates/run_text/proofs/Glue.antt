@@ -87,7 +87,8 @@ module _ {m m1 : List ℕ} {p1 : ℕ} (e : End) where
   unfolding endLine
   end-refused k h l p = named (sym (halt _ _ (lt-ltb k 10 l)) ∙ ap endLine (sym h)) p
 
-  pub end-job : {ws m0 : List ℕ} {p0 : ℕ} (k : ℕ) → e ≡ Refused k → 10 ≤ k → ws ≡ ascii "job " → Puts m 0 ws m0 p0 → Puts m0 p0 (refusedLine k) m1 p1 → Puts m 0 (endLine e) m1 p1
+  pub end-job : {ws m0 : List ℕ} {p0 : ℕ} (k : ℕ) → e ≡ Refused k → 10 ≤ k → ws ≡ ascii "job " → Puts m 0 ws m0 p0 → Puts m0 p0 (refusedLine k) m1 p1
+      → Puts m 0 (endLine e) m1 p1
   unfolding endLine
   end-job k h l f p q = named (sym (pass _ (le-ltb k 10 l) refl) ∙ ap endLine (sym h)) (puts-then (named f p) q)
 

@@ -52,18 +52,21 @@ module _ (q x i r : ℕ) (qs us : List (List ℕ)) where
   unfolding operationAt operationOf rowOf effect coded numberOf queuesAfter
   push-does e h = subst (λ (k : ℕ). Does k q x i r qs (gives 1 x r (i + 1)) us) (sym e) (record { made = refl; lists = h })
 
-  pub push-sum-does : {k v : ℕ} → 1 ≤ k → k ≤ 2 → (k ≡ 1 → ⊥) → v ≡ (r + x) % 4294967296 → us ≡ set qs q (queue qs q ++ (v ∷ [])) → Does k q x i r qs (gives 1 v r (i + 1)) us
+  pub push-sum-does : {k v : ℕ} → 1 ≤ k → k ≤ 2 → (k ≡ 1 → ⊥) → v ≡ (r + x) % 4294967296 → us ≡ set qs q (queue qs q ++ (v ∷ []))
+      → Does k q x i r qs (gives 1 v r (i + 1)) us
   push-sum-does {k} {v} a b n ev h = subst (λ (k : ℕ). Does k q x i r qs (gives 1 v r (i + 1)) us) (let z : 2 ≡ k = omega (arith, a, b, n) in z) here
     where
       here : Does 2 q x i r qs (gives 1 v r (i + 1)) us
       here = unfold operationAt operationOf rowOf effect coded numberOf queuesAfter sum in record { made = ap (λ (y : ℕ). gives 1 y r (i + 1)) ev; lists = h }
 
-  pub pop-takes : {v : ℕ} (f : Front) → frontOf f ≡ front (queue qs q) → f ≡ Value v → us ≡ set qs q (drop 1 (queue qs q)) → Does 3 q x i r qs (gives 2 v v (i + 1)) us
+  pub pop-takes : {v : ℕ} (f : Front) → frontOf f ≡ front (queue qs q) → f ≡ Value v → us ≡ set qs q (drop 1 (queue qs q))
+      → Does 3 q x i r qs (gives 2 v v (i + 1)) us
   unfolding operationAt operationOf rowOf effect coded numberOf queuesAfter frontOf
   pop-takes {v} f e g h =
       record { made = ap (λ (o : Option ℕ). coded (effect (operationAt 3) i r x o)) (ap frontOf (sym g) ∙ e); lists = h }
 
-  pub pop-none : (f : Front) → frontOf f ≡ front (queue qs q) → OneOf (1 ∷ []) (tagOf the-type f) → us ≡ set qs q (drop 1 (queue qs q)) → Does 3 q x i r qs (gives 5 0 r (i + 1)) us
+  pub pop-none : (f : Front) → frontOf f ≡ front (queue qs q) → OneOf (1 ∷ []) (tagOf the-type f) → us ≡ set qs q (drop 1 (queue qs q))
+      → Does 3 q x i r qs (gives 5 0 r (i + 1)) us
   unfolding operationAt operationOf rowOf effect coded numberOf queuesAfter frontOf
   pop-none (Value v) e g h = let z : ⊥ = omega (arith, g) in absurd z
   pop-none Nothing e g h = record { made = ap (λ (o : Option ℕ). coded (effect (operationAt 3) i r x o)) e; lists = h }
@@ -78,7 +81,9 @@ module _ (q x i r : ℕ) (qs : List (List ℕ)) {n : ℕ} (en : n ≡ length (qu
     where
       there : (vs : List ℕ) → queue qs q ≡ vs → (length vs ≡ 0 → ⊥) → Does 4 q x i r qs (gives 6 0 r (i + 1)) qs
       there [] p z = absurd (z refl)
-      there (v ∷ vs) p z = unfold operationAt operationOf rowOf effect coded numberOf queuesAfter front in record { made = ap (λ (xs : List ℕ). coded (effect (operationAt 4) i r x (front xs))) (sym p); lists = refl }
+      there (v ∷ vs) p z =
+          unfold operationAt operationOf rowOf effect coded numberOf queuesAfter front in record
+          { made = ap (λ (xs : List ℕ). coded (effect (operationAt 4) i r x (front xs))) (sym p); lists = refl }
 
 module _ (x i r : ℕ) where
   pub go-moves : {k : ℕ} → k ≡ 5 → Moves k x i r (gives 3 0 r x)

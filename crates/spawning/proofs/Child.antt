@@ -147,13 +147,18 @@ module _ (t r c o : ℕ) (m m1 m2 m3 m4 : List ℕ) (e0 : o ≡ read m (task t Y
   views-now =
       views-same t r m m1 (λ k a b. ap (λ (x : List ℕ). read x (task t k)) e1 ∙ others-stay m c 0 t k 6 _ refl (omega arith) b (inr (omega (arith, a))))
 
-  first-made : m2 ≡ storeAll (storeAll m (address (task c 0)) (UNFINISHED ∷ r ∷ t ∷ read m (task t YOUNGEST) ∷ NONE ∷ NONE ∷ [])) (address (task c 16)) (childViews m t r)
+  -- the links of the child, and then its views
+  abbrev made : List ℕ
+  made = storeAll (storeAll m (address (task c 0)) (UNFINISHED ∷ r ∷ t ∷ read m (task t YOUNGEST) ∷ NONE ∷ NONE ∷ [])) (address (task c 16)) (childViews m t r)
+
+  first-made : m2 ≡ made
   first-made =
       e2
       ∙ ap (storeAll m1 (address (task c 16))) views-now
-      ∙ ap (λ (x : List ℕ). storeAll x (address (task c 16)) (childViews m t r)) (e1 ∙ ap (λ (w : ℕ). storeAll m (address (task c 0)) (UNFINISHED ∷ r ∷ t ∷ w ∷ NONE ∷ NONE ∷ [])) e0)
+      ∙ ap (λ (x : List ℕ). storeAll x (address (task c 16)) (childViews m t r))
+      (e1 ∙ ap (λ (w : ℕ). storeAll m (address (task c 0)) (UNFINISHED ∷ r ∷ t ∷ w ∷ NONE ∷ NONE ∷ [])) e0)
 
-  then-made : m4 ≡ write (passedOn (storeAll (storeAll m (address (task c 0)) (UNFINISHED ∷ r ∷ t ∷ read m (task t YOUNGEST) ∷ NONE ∷ NONE ∷ [])) (address (task c 16)) (childViews m t r)) t r) (task t YOUNGEST) c
+  then-made : m4 ≡ write (passedOn made t r) (task t YOUNGEST) c
   then-made = e4 ∙ ap (λ (x : List ℕ). write x (task t YOUNGEST) c) (e3 ∙ ap (λ (x : List ℕ). passedOn x t r) first-made)
 
   pub first-child : o ≡ NONE → m4 ≡ childMade m t r c

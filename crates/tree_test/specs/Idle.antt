@@ -80,7 +80,8 @@ module _ (m : List ℕ) where
       let t = load m (320 + i) in
       ap
       (λ (b : Bool). both (leb 1 t) (both (leb t 127) (both (eqb (load d t) 0) (both (eqb (load m (1472 + t * 48)) 0) b))))
-      (idle-parts k (i + 1) (store d t 1) (omega arith) ∙ ap (λ (a : ℕ). Parts (take k (drop a m)) (store d t 1)) (let z : 320 + (i + 1) ≡ 320 + i + 1 = omega arith in z))
+      (idle-parts k (i + 1) (store d t 1) (omega arith)
+      ∙ ap (λ (a : ℕ). Parts (take k (drop a m)) (store d t 1)) (let z : 320 + (i + 1) ≡ 320 + i + 1 = omega arith in z))
       ∙ parts-cons t (take k (drop (320 + i + 1) m)) d
       ∙ ap (λ (l : List ℕ). Parts l d) (sym (take-more k (320 + i) m (omega arith)))
 

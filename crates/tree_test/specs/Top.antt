@@ -45,10 +45,13 @@ module _ (l n : ℕ) where
 -- the top has all rights, no parent and no siblings
 unfoldable pub topAlone : List ℕ → Bool
 topAlone m =
-    both (eqb (read m (task 0 RIGHTS)) 255) (both (eqb (read m (task 0 PARENT)) NONE) (both (eqb (read m (task 0 OLDER)) NONE) (eqb (read m (task 0 YOUNGER)) NONE)))
+    both (eqb (read m (task 0 RIGHTS)) 255)
+    (both (eqb (read m (task 0 PARENT)) NONE) (both (eqb (read m (task 0 OLDER)) NONE) (eqb (read m (task 0 YOUNGER)) NONE)))
 
 module _ (m : List ℕ) where
-  alone : topAlone m ≡ both (eqb (word (decode m) 0 RIGHTS) 255) (both (eqb (word (decode m) 0 PARENT) NONE) (both (eqb (word (decode m) 0 OLDER) NONE) (eqb (word (decode m) 0 YOUNGER) NONE)))
+  alone : topAlone m
+      ≡ both (eqb (word (decode m) 0 RIGHTS) 255)
+      (both (eqb (word (decode m) 0 PARENT) NONE) (both (eqb (word (decode m) 0 OLDER) NONE) (eqb (word (decode m) 0 YOUNGER) NONE)))
   unfolding topAlone word
   alone = rw (record-word m 0 RIGHTS, record-word m 0 PARENT, record-word m 0 OLDER, record-word m 0 YOUNGER) refl
 

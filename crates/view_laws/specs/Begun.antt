@@ -107,6 +107,10 @@ module _ (m xs : List ℕ) (b : Begun m xs) where
       unfolding coded store
       all-views d e p =
           ap (λ (l : List ℕ). run (decode m) (events (decode m) xs) l l (set (replicate 12 0) 8 (getD m 2 0))) p
-          ∙ ap (λ (k : ℕ). run (decode m) (events (decode m) xs) (marking (decode m .free) (replicate 256 0)) (marking (decode m .free) (replicate 256 0)) (set (replicate 12 0) 8 k)) (sym free-length)
+          ∙ ap
+          (λ (k : ℕ).
+          run (decode m) (events (decode m) xs) (marking (decode m .free) (replicate 256 0)) (marking (decode m .free) (replicate 256 0))
+          (set (replicate 12 0) 8 k))
+          (sym free-length)
           ∙ sym (both-on (first ∙ good) ∙ both-on (sym free ∙ e))
           ∙ law

@@ -63,7 +63,8 @@ module _ (c : Contents) (t : ℕ) where
         let b = both-true _ _ (a .1) in
         ((may-says _ _ (a .0), eqb-false _ _ (not-true _ (b .0))), b .1)
 
-    allowed-queue : (q : ℕ) → (uses r q ≡ false → word c t (16 + q) ≡ NONE) → (word c t (16 + q) ≡ NL → ⊥) → allowed es ≡ true → allowed (queueAt c t q es) ≡ true
+    allowed-queue : (q : ℕ) → (uses r q ≡ false → word c t (16 + q) ≡ NONE) → (word c t (16 + q) ≡ NL → ⊥) → allowed es ≡ true
+        → allowed (queueAt c t q es) ≡ true
     unfolding queueAt allowed
     allowed-queue q a b e = true-both (says-may _ _ a) (true-both (ap not (ne-eqb _ _ b)) e)
 

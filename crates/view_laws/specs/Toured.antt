@@ -25,7 +25,8 @@ use Rattle.view_events.specs.Events.{events}
 use Rattle.view_laws.specs.Good.{allowed, tailsOf, headsOf}
 use Rattle.view_laws.specs.Tasks.{MayKind, MayQueues}
 use Rattle.view_laws.specs.Counts.{heads-count, tails-count}
-use Rattle.view_laws.specs.Marks.{lefts, lefts-here, lefts-past, headsMet, headsLeft, tailsMet, tailsLeft, heads-marks, tails-marks, Allowed, allowed-marks, marks-allowed}
+use Rattle.view_laws.specs.Marks.{lefts, lefts-here, lefts-past, headsMet, headsLeft, tailsMet, tailsLeft, heads-marks, tails-marks, Allowed}
+use Rattle.view_laws.specs.Marks.{allowed-marks, marks-allowed}
 
 lefts-count : (xs : List ℕ) (t : ℕ) → occurrences t (lefts xs) ≡ occurrences (128 + t) xs
 lefts-count [] t = unfold lefts in occurs-nil t ∙ sym (occurs-nil (128 + t))
@@ -85,7 +86,8 @@ module _ (c : Contents) (xs : List ℕ) (v : Toured c xs) (once : (y : ℕ) → 
       heads-marks c s xs
       ∙ ap (λ (k : ℕ). over (met xs) (headsMet c s) + k) (over-left (headsLeft c s))
       ∙ sym (over-plus (met xs) (headsMet c s) (headsLeft c s))
-      ∙ over-ext (met xs) (λ t. headsMet c s t + headsLeft c s t) (λ t. occurrences s (locals 16 (drop 16 (c .recs t)))) (λ t. let a = heads-count s c t in omega (arith, a))
+      ∙ over-ext (met xs) (λ t. headsMet c s t + headsLeft c s t) (λ t. occurrences s (locals 16 (drop 16 (c .recs t))))
+      (λ t. let a = heads-count s c t in omega (arith, a))
       ∙ sym (over-heads c s (met xs))
 
   pub tails-same : (s : ℕ) → occurrences s (tailsOf (events c xs)) ≡ occurrences s (tails c (met xs))
@@ -93,7 +95,8 @@ module _ (c : Contents) (xs : List ℕ) (v : Toured c xs) (once : (y : ℕ) → 
       tails-marks c s xs
       ∙ ap (λ (k : ℕ). over (met xs) (tailsMet c s) + k) (over-left (tailsLeft c s))
       ∙ sym (over-plus (met xs) (tailsMet c s) (tailsLeft c s))
-      ∙ over-ext (met xs) (λ t. tailsMet c s t + tailsLeft c s t) (λ t. occurrences s (locals 12 (drop 32 (c .recs t)))) (λ t. let a = tails-count s c t in omega (arith, a))
+      ∙ over-ext (met xs) (λ t. tailsMet c s t + tailsLeft c s t) (λ t. occurrences s (locals 12 (drop 32 (c .recs t))))
+      (λ t. let a = tails-count s c t in omega (arith, a))
       ∙ sym (over-tails c s (met xs))
 
   -- WORDS

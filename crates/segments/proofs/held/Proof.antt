@@ -39,7 +39,9 @@ free-segment-requires : tie.Need-free-segment-requires Inv-loop μ-loop
 free-segment-requires c κs = search needs
 
 returns-2 : tie.Need-returns-2 Inv-loop μ-loop
-returns-2 c = held-found _ _ _ _ _ (c .before .before .before .loop-test .taken) (c .before .before .if1 .left) (c .before .free-segment .ensures) (c .if2 .taken) ∙ c .before .before .before .before .loop .inv .2
+returns-2 c =
+    held-found _ _ _ _ _ (c .before .before .before .loop-test .taken) (c .before .before .if1 .left) (c .before .free-segment .ensures) (c .if2 .taken)
+    ∙ c .before .before .before .before .loop .inv .2
 
 add-i : tie.Need-add-i Inv-loop μ-loop
 add-i c = omega arith
@@ -48,7 +50,12 @@ loop-less : tie.Need-loop-less Inv-loop μ-loop
 loop-less c = omega arith
 
 loop-again : tie.Need-loop-again Inv-loop μ-loop
-loop-again c = (omega arith, omega arith, held-next _ _ _ _ _ (c .before .before .before .loop-test .taken) (c .before .before .if1 .left) (c .before .free-segment .ensures) (c .if2 .left) ∙ c .before .before .before .before .loop .inv .2)
+loop-again c = (
+  omega arith,
+  omega arith,
+  held-next _ _ _ _ _ (c .before .before .before .loop-test .taken) (c .before .before .if1 .left) (c .before .free-segment .ensures) (c .if2 .left)
+      ∙ c .before .before .before .before .loop .inv .2,
+)
 
 returns-3 : tie.Need-returns-3 Inv-loop μ-loop
 returns-3 c = held-none _ _ _ _ (rest-end _ _ _ (c .loop-test .left)) ∙ c .before .loop .inv .2

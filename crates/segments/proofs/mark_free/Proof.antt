@@ -52,7 +52,14 @@ loop-less : tie.Need-loop-less Inv-loop μ-loop
 loop-less c = omega arith
 
 loop-again : tie.Need-loop-again Inv-loop μ-loop
-loop-again c = (omega arith, omega arith, c .before .before .mark .kept .0 ∙ c .before .before .before .before .before .before .before .loop .inv .2, marks-next _ _ _ _ _ _ (c .before .before .before .before .before .before .loop-test .taken) (c .before .before .before .before .before .if1 .left) (c .before .before .before .free-segment .ensures) (c .before .before .mark .ensures) ∙ c .before .before .before .before .before .before .before .loop .inv .3)
+loop-again c = (
+  omega arith,
+  omega arith,
+  c .before .before .mark .kept .0 ∙ c .before .before .before .before .before .before .before .loop .inv .2,
+  marks-next _ _ _ _ _ _ (c .before .before .before .before .before .before .loop-test .taken) (c .before .before .before .before .before .if1 .left)
+      (c .before .before .before .free-segment .ensures) (c .before .before .mark .ensures)
+      ∙ c .before .before .before .before .before .before .before .loop .inv .3,
+)
 
 same-length-2 : tie.Need-same-length-2 Inv-loop μ-loop
 same-length-2 c = c .before .loop .inv .2

@@ -20,7 +20,9 @@ pushes-requires c κs = c .before .before .before .pre
 
 returns : tie.Need-returns
 unfolding rightsOf
-returns c = both-so (lt-ltb _ _ (c .before .before .if1 .taken)) (c .pushes .ensures ∙ ap (λ (w : ℕ). pushes w (c .before .before .before .before .args .q)) (c .before .task .ensures))
+returns c =
+    both-so (lt-ltb _ _ (c .before .before .if1 .taken))
+    (c .pushes .ensures ∙ ap (λ (w : ℕ). pushes w (c .before .before .before .before .args .q)) (c .before .task .ensures))
 
 returns-2 : tie.Need-returns-2
 returns-2 c = sym (both-off _ (le-ltb _ _ (c .if1 .left)))
