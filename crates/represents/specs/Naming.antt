@@ -1,18 +1,13 @@
 -- WHAT NAMES A SEGMENT, by the meaning of the words: the head of one queue view, and nothing else.
 use mathlib.Core.Path.{_≡_, ap, sym, _∙_}
-use mathlib.Core.Bool.{false}
 use mathlib.Core.Option.{some}
 use mathlib.Core.List.{List}
 use mathlib.Core.Logic.{_⊎_, inl, inr, ⊎-elim}
 use Prim.Native.Nat.{ℕ, _+_, _-_, _*_, _/_, _%_, _<_}
 use native.Mathlib.Omega.{arith}
-use lib.Dec.{eqb}
-use borrow.Author.Tests.{ne-eqb}
-use Rattle.words.specs.Words.{both-off}
 use Rattle.lists.specs.Counting.{occurrences, equal?, below?}
-use Rattle.layout.specs.Layout.{NL, task, head, tail, queueHead, read, NONE}
-use Rattle.rules.specs.Views.{view}
-use Rattle.calls.specs.Views.{viewOf, isEmpty}
+use Rattle.layout.specs.Layout.{NL, task, head, tail, queueHead, read}
+use Rattle.calls.specs.Views.{viewOf, not-empty}
 use Rattle.gaps.specs.Maps.{put, put-same, put-other}
 use Rattle.gaps.specs.Line.{End, local, Extent, extent}
 use Rattle.order.specs.Steps.{Item}
@@ -63,11 +58,6 @@ names-view M T g h q p k t v n w =
       views = λ x p′ k′ l i a b y e. ⊎-elim (λ d. n y (sym d ∙ e)) (λ d. w .views x p′ k′ l i a b y (sym d ∙ e)) (written (M .views) p k t v p′ k′ x);
     }
 
--- a view with a head is not empty
-not-empty-head : (h e : ℕ) → (h ≡ NONE → ⊥) → isEmpty (view h e) ≡ false
-unfolding isEmpty
-not-empty-head h e n = both-off (eqb e NONE) (ne-eqb h NONE n)
-
 -- BY THE WORDS
 module _ (n : List ℕ) (T : List ℕ) (g h q : ℕ) (small : h < 128) (queue : q < 4) (low : g < NL) (there : 0 < occurrences h T)
     (w : Names (meaningOf n) T g h q) where
@@ -76,7 +66,7 @@ module _ (n : List ℕ) (T : List ℕ) (g h q : ℕ) (small : h < 128) (queue : 
   none-word x k p l i a b e =
       w .views x p k l i b a (endOf (read n (tail k x p)))
       (view-at n p k x b a l
-      ∙ filled-extent (read n (head k x p)) (read n (tail k x p)) (not-empty-head (read n (head k x p)) (read n (tail k x p)) (λ z. omega (arith, z, e, low)))
+      ∙ filled-extent (read n (head k x p)) (read n (tail k x p)) (not-empty (read n (head k x p)) (read n (tail k x p)) (λ z. omega (arith, z, e, low)))
       ∙ ap (λ (y : End). extent y (endOf (read n (tail k x p)))) (end-local (read n (head k x p)) (λ z. omega (arith, z, e, low)) ∙ ap local e))
 
   by-word : (x i : ℕ) → x < 128 → 0 < occurrences x T → i < 16 → read n (task x (16 + i)) ≡ g → (x ≡ h) × (i ≡ q)

@@ -12,9 +12,9 @@ use Rattle.tree.specs.Tour.{MARKS, tour}
 use Rattle.calls.specs.Segments.{taken, nextFree}
 use Rattle.order.specs.Steps.{Task, Item, spot, numberOf}
 use Rattle.gaps.specs.Maps.{put-other, lastOf, last-in, all-behind}
-use Rattle.gaps.specs.Line.{Line, met, base, left, pass, segments, firstChain}
+use Rattle.gaps.specs.Line.{Line, met, segments, firstChain}
 use Rattle.gaps.specs.Store.{Chain, Laid}
-use Rattle.gaps.specs.Chains.{Gap, Sole, count-gap}
+use Rattle.gaps.specs.Chains.{Gap, count-gap, sole-first}
 use Rattle.gaps.specs.Joins.{is-sole}
 use Rattle.gaps.specs.Lines.{count-segments, first-behind}
 use Rattle.gaps.specs.Frames.{no-base}
@@ -70,12 +70,6 @@ module _ (m : List ℕ) (ys zs : List Item) (s : Task) (r : Represents m (ys ++ 
       let k = occurs-append z (here .chain) (segments a) in
       omega (arith, e, f, k, p)
 
-  -- the first segment, where it is alone
-  sole-first : (l : Line) (z : ℕ) → Sole l z → firstChain l ≡ z ∷ []
-  sole-first (base c ∷ l) z Sole.at-base = refl
-  sole-first (left u ∷ l) z (Sole.on-left k) = sole-first l z k
-  sole-first (pass u ∷ l) z (Sole.on-pass k) = sole-first l z k
-
   abbrev n : List ℕ
   n = taken m v
 
@@ -130,7 +124,7 @@ module _ (m : List ℕ) (ys zs : List Item) (s : Task) (r : Represents m (ys ++ 
       let d : lastOf p c ≡ p = ap (lastOf p) (w .1) in
       ap firstChain (here .parts)
       ∙ first-behind (here .later) (met t (here .chain) ∷ a) (no-base (here .later) (met t (here .chain)) a (laid .views))
-      ∙ sole-first a p (w .0)
+      ∙ sole-first (w .0)
       ∙ ap (λ (y : ℕ). y ∷ []) (sym d)
 
   -- a link from the last segment of the gap before

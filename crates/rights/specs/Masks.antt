@@ -6,7 +6,7 @@ use native.Mathlib.Omega.{arith}
 use lib.Dec.{eqb}
 use lib.Bits.{bitAnd, and-zero-r, and-lt, and-block, and-shr, and-mod}
 use borrow.Author.Tests.{lt-ltb, le-ltb, eq-eqb, ne-eqb, eqb-true, eqb-false}
-use Rattle.words.specs.Words.{pick, both, both-right-on, either, pass, halt}
+use Rattle.words.specs.Words.{pick, both, both-right-on, either, pass, both-on}
 use Rattle.tree.specs.Rights.{bits, pushes, pops, eachQueue, someQueue, sharesPop, subset}
 use Rattle.tree.specs.Queues.{by-four}
 
@@ -167,10 +167,7 @@ subset-mask a b h =
     ∙ ap₂ both (covered-next a b 0 (omega arith)) (covered-from (a / 4 / 4) (b / 4 / 4)
     ∙ ap₂ both (covered-next (a / 4) (b / 4) 0 (omega arith) ∙ covered-next a b 1 (omega arith)) (covered-last (a / 4 / 4 / 4) (b / 4 / 4 / 4) (omega arith)
     ∙ covered-next (a / 4 / 4) (b / 4 / 4) 0 (omega arith) ∙ covered-next (a / 4) (b / 4) 1 (omega arith) ∙ covered-next a b 2 (omega arith))))
-    ∙ sym (true-first _ (lt-ltb a 256 h))
-  where
-    true-first : {x : Bool} (y : Bool) → x ≡ true → both x y ≡ y
-    true-first y e = unfold both in halt y false e
+    ∙ sym (both-on (lt-ltb a 256 h))
 
 pub subset-wide : (a b : ℕ) → 256 ≤ a → false ≡ subset a b
 unfolding subset both

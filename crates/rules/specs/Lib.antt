@@ -3,3 +3,4 @@ pub mod Stack
 pub mod Views
 pub mod Rules
 pub mod Test
+pub mod Passed

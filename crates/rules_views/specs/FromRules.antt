@@ -17,8 +17,9 @@ use Rattle.rules.specs.Contents.{Contents, word, heads, tails, owners}
 use Rattle.rules.specs.Views.{views, viewsOf}
 use Rattle.rules.specs.Rules.{Holder, Edge, ViewRules}
 use Rattle.rules.specs.Test.{viewsTest, orderOf, orderTest, ownersTest}
+use Rattle.rules.specs.Passed.{marked-yes}
 use Rattle.rules_views.specs.Toured.{Toured, same-owners}
-use Rattle.rules_views.specs.Order.{Pair, marked-yes, state, state-nil, joined-state}
+use Rattle.rules_views.specs.Order.{Pair, state, state-nil, joined-state}
 use Rattle.rules_views.specs.Marks.{PairAt, Fine, order-state}
 use Rattle.rules_views.specs.Ends.{Opened, Fit, fit-heads, fit-tails}
 use Rattle.rules_views.specs.Tested.{word-right, says-words}

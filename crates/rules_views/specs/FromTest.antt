@@ -19,10 +19,11 @@ use Rattle.rules.specs.Contents.{Contents, word, heads, tails, owners, holders}
 use Rattle.rules.specs.Views.{views, viewsOf, Joined}
 use Rattle.rules.specs.Rules.{Holder, Link, Edge, ViewRules}
 use Rattle.rules.specs.Test.{viewsTest, orderOf, orderTest, ownersTest}
+use Rattle.rules.specs.Passed.{marked-yes}
 use Rattle.rules_views.specs.Members.{met-mark}
 use Rattle.rules_tasks.specs.Holders.{holder-below}
 use Rattle.rules_views.specs.Toured.{Toured, same-owners, holder-met}
-use Rattle.rules_views.specs.Order.{Pair, marked-yes, state, state-nil, state-joined}
+use Rattle.rules_views.specs.Order.{Pair, state, state-nil, state-joined}
 use Rattle.rules_views.specs.Marks.{yes-no, PairAt, Fine, order-fine, order-state}
 use Rattle.rules_views.specs.Ends.{Opened, heads-fit, tails-fit}
 use Rattle.rules_views.specs.Tested.{word-none, word-head, words-say}

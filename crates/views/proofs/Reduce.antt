@@ -10,10 +10,6 @@ use Rattle.layout.specs.Layout.{NONE, NL, segment, read}
 use Rattle.rules.specs.Views.{View, view}
 use Rattle.calls.specs.Views.{isEmpty, headOf, tailOf, reducible, frees, behind, reduced}
 
-pub not-empty : (h e : ℕ) → (h ≡ NONE → ⊥) → false ≡ isEmpty (view h e)
-unfolding isEmpty both
-not-empty h e n = sym (pass _ (ne-eqb _ _ n) refl)
-
 pub empty-tail : (h e : ℕ) → h ≡ NONE → eqb e NONE ≡ isEmpty (view h e)
 unfolding isEmpty both
 empty-tail h e n = sym (halt _ _ (eq-eqb _ _ n))
