@@ -1,7 +1,7 @@
 -- How often a task stands among the holders, and among the tasks that are met.
 use mathlib.Core.Path.{_≡_, refl, ap, _∙_}
 use mathlib.Core.List.{List, [], _∷_}
-use mathlib.Core.Logic.{_⊎_, inl, inr, ⊎-elim, _↔_}
+use mathlib.Core.Logic.{_⊎_, inl, inr, ⊎-elim}
 use Prim.Native.Nat.{ℕ, zero, suc, _+_, _<_, _≤_}
 use native.Mathlib.Omega.{arith}
 use native.Mathlib.Nat.{eq-zero-or-pos}
@@ -133,9 +133,6 @@ module _ (c : Contents) where
       let l = w .0 in
       let m : t < 128 = omega (arith, l) in
       (m, ⊎-elim inl (λ q. inr (m, q)) (w .1))
-
-  pub holds-holder : (t : ℕ) → (0 < occurrences t (holders c)) ↔ ((t < 128) × Holder c t)
-  holds-holder t = (holders-hold t, λ w. let a = holder-once t (w .1) in omega (arith, a))
 
   pub holder? : (t : ℕ) → Holder c t ⊎ (Holder c t → ⊥)
   holder? t =

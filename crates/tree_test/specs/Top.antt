@@ -1,12 +1,12 @@
 -- The opening numbers and the top, test by test, as the code makes them.
 use mathlib.Core.Path.{_≡_, refl, sym, _∙_}
-use mathlib.Core.Bool.{Bool, true, false}
+use mathlib.Core.Bool.{Bool, false}
 use mathlib.Core.List.{List}
 use Prim.Native.Nat.{ℕ, _<_, _≤_, _*_}
 use native.Mathlib.Nat.{mul-le-mul}
 use lib.Dec.{leb, eqb}
-use borrow.Author.Tests.{leb-true, le-leb, lt-leb, ne-eqb, eq-eqb}
-use Rattle.words.specs.Words.{both, both-true, both-on, both-off, both-right-off, true-left, true-right, neither}
+use borrow.Author.Tests.{le-leb, lt-leb, ne-eqb, eq-eqb}
+use Rattle.words.specs.Words.{both, both-on, both-off, both-right-off, true-left, true-right, neither}
 use Rattle.layout.specs.Layout.{NONE, UNFINISHED, FINISHED, STATUS, RIGHTS, PARENT, OLDER, YOUNGER, YOUNGEST, task, read}
 use Rattle.layout.specs.Frame.{record-word}
 use Rattle.rules.specs.Contents.{decode, word}
@@ -33,10 +33,6 @@ module _ (l n : ℕ) where
   unfolding inRange within
   product a b c d =
       sym (both-on (both-on (le-leb 1 l a) ∙ le-leb l 64 b) ∙ both-on (both-on (le-leb 4 n c) ∙ le-leb n 256 d))
-
-  pub few-opened : inRange l n ≡ true → n ≤ 256
-  unfolding inRange within
-  few-opened e = leb-true n 256 (both-true _ _ (both-true _ _ (both-true _ _ e .1) .0) .1)
 
   -- their product is a word
   pub fits : l ≤ 64 → n ≤ 256 → l * n ≤ 16384

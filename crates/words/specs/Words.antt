@@ -69,11 +69,6 @@ pub load-other : (m : List ℕ) (a b v : ℕ) → (b ≡ a → ⊥) → load (st
 unfolding load store
 load-other m a b v n = getD-set-other m a b v 0 n
 
-pub size-pick : (b : Bool) (x y : List ℕ) → size x ≡ size y → size (pick b x y) ≡ size y
-unfolding pick
-size-pick true x y e = e
-size-pick false x y e = refl
-
 no : {A : Type 0} → false ≡ true → A
 no e = absurd (false≢true e)
 
