@@ -38,7 +38,7 @@ use Rattle.represents_finish.specs.Reductions.{Link, Leaving}
 use Rattle.represents_finish.specs.Queue.{single, held-below, held-local}
 use Rattle.represents_finish.specs.Target.{markOf, returns, returned-at, target-at}
 use Rattle.represents_finish.specs.Reduced.{children-is, user-is, right-is, inner-is, whole-is, views, held, names, reduces as reductions}
-use Rattle.represents_finish.specs.FinishTest.{frees-says, inner-extent, first-keeps, stays, none-allowed}
+use Rattle.represents_finish.specs.FinishTest.{frees-says, inner-reduced, first-keeps, stays, none-allowed}
 
 -- a view that begins with segment z
 begins : (p : View) (z : ℕ) → headOf p ≡ z → z < NL → extentOf p ≡ extent (local z) (endOf (tailOf p))
@@ -112,7 +112,7 @@ module _ (m : List ℕ) (ys zs : List Item) (s : Task) (r : Represents m (ys ++ 
   stay = stays n t q below small hc hu hi (tailed .user-tailed) (tailed .right-tailed)
 
   inner-view : extentOf (reducedView n (viewOf n q t CHILDREN) (viewOf n q t USER)) ≡ reduced (Q .children t) (Q .user t)
-  inner-view = inner-extent n t q below small hc hu hi (tailed .user-tailed) (tailed .right-tailed) ∙ I
+  inner-view = inner-reduced n t q below small hc hu hi (tailed .user-tailed) (tailed .right-tailed) ∙ I
 
   -- A SEGMENT THAT IS FREED in the second reduction is named by no view
   not-freed : (u k : ℕ) → u < 128 → 0 < occurrences u (r .tour) → k < 3 → (let A = reducedView n (viewOf n q t CHILDREN) (viewOf n q t USER) in
