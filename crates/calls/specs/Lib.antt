@@ -1,5 +1,6 @@
 pub mod Open
 pub mod Segments
+pub mod Places
 pub mod Views
 pub mod Waits
 pub mod Spawn

@@ -1,12 +1,13 @@
 -- spawn (task, rights)
-use mathlib.Core.Bool.{Bool, true, false, not}
+use mathlib.Core.Path.{_≡_, refl}
+use mathlib.Core.Bool.{not}
 use mathlib.Core.List.{List, [], _∷_, _++_}
-use Prim.Native.Nat.{ℕ, _+_, _-_}
+use Prim.Native.Nat.{ℕ, _-_}
 use lib.Dec.{eqb}
+use lib.ListN.{length}
 use Rattle.words.specs.Words.{pick}
 use Rattle.words.specs.Blocks.{storeAll}
 use Rattle.layout.specs.Layout.{NONE, UNFINISHED, YOUNGER, YOUNGEST, USER, freeTasks, freeTask, task, head, tail, queueHead, address, read, write}
-use Rattle.answers.specs.declared.Answer.{Answer}
 use Rattle.answers.specs.declared.Answer.the-variants.{Moved, Waits, Refused}
 use Rattle.answers.specs.Answers.{Outcome, outcome}
 use Rattle.tree.specs.Rights.{pops, uses, subset}
@@ -15,6 +16,10 @@ use Rattle.calls.specs.Waits.{tested, rightsOf, unfinished, blocked}
 -- four words, one for each queue
 unfoldable pub forQueues : (ℕ → ℕ) → List ℕ
 forQueues f = f 0 ∷ f 1 ∷ f 2 ∷ f 3 ∷ []
+
+pub queues-four : (f : ℕ → ℕ) → length (forQueues f) ≡ 4
+unfolding forQueues
+queues-four f = refl
 
 -- "The user view is passed to C" (003 section 4) for each queue that the child uses, the queue view for each that it pops
 unfoldable pub passedUser : ℕ → ℕ → ℕ → ℕ

@@ -1,9 +1,11 @@
 -- Views: what a view is, which reductions the paper has, reducing in memory, and the view just before.
-use mathlib.Core.Bool.{Bool, true, false, not}
-use mathlib.Core.List.{List, [], _∷_}
+use mathlib.Core.Path.{_≡_}
+use mathlib.Core.Bool.{Bool, false, not}
+use mathlib.Core.List.{List}
 use Prim.Native.Nat.{ℕ, _+_, _-_}
 use lib.Dec.{ltb, eqb}
-use Rattle.words.specs.Words.{pick, both, either}
+use borrow.Author.Tests.{ne-eqb}
+use Rattle.words.specs.Words.{pick, both, either, both-off}
 use Rattle.layout.specs.Layout.{NONE, NL, CHILDREN, RIGHT, RIGHTS, count, head, tail, task, read, write, recordOf}
 use Rattle.tree.specs.Rights.{uses}
 use Rattle.tree.specs.Tour.{MARKS, after, seek}
@@ -16,6 +18,10 @@ viewOf m q t k = view (read m (head k t q)) (read m (tail k t q))
 
 unfoldable pub isEmpty : View → Bool
 isEmpty (view h e) = both (eqb h NONE) (eqb e NONE)
+
+pub not-empty : (h e : ℕ) → (h ≡ NONE → ⊥) → isEmpty (view h e) ≡ false
+unfolding isEmpty
+not-empty h e n = both-off (eqb e NONE) (ne-eqb h NONE n)
 
 unfoldable pub headOf : View → ℕ
 headOf (view h e) = h

@@ -3,15 +3,15 @@ use mathlib.Core.Path.{_≡_, refl, ap, sym, _∙_}
 use mathlib.Core.Bool.{Bool, true, false, not}
 use mathlib.Core.List.{List, [], _∷_}
 use mathlib.Core.Logic.{⊎-elim}
-use Prim.Native.Nat.{ℕ, suc, _+_, _<_, _≤_}
+use Prim.Native.Nat.{ℕ, _+_, _<_, _≤_}
 use native.Mathlib.Omega.{arith}
-use lib.Dec.{leb, ltb, eqb}
+use lib.Dec.{leb, eqb}
 use types.Run.{OneOf}
 use denote.Enum.Declared.{tagOf}
 use Rattle.answers.proofs.Finding.{the-type}
 use borrow.Author.Tests.{lt-ltb, le-ltb, le-leb, lt-leb, leb-false, eqb-false, not-true, eq-eqb, ne-eqb}
-use Rattle.words.specs.Words.{pick, halt, pass, both, both-on, both-off, both-true, either, true-left, true-right}
-use Rattle.layout.specs.Layout.{NONE, NL, count, next, segment, task, queueHead, read, write}
+use Rattle.words.specs.Words.{pick, halt, pass, both-on, both-off, both-true, true-left, true-right, neither, rung}
+use Rattle.layout.specs.Layout.{NONE, NL, segment, task, read, write}
 use Rattle.answers.specs.declared.Answer.{Answer}
 use Rattle.answers.specs.declared.Answer.the-variants.{Moved, NotEmpty, Refused}
 use Rattle.answers.specs.Answers.{Outcome, outcome}
@@ -22,10 +22,6 @@ use Rattle.calls.specs.Segments.{valueAt, dropped, released}
 use Rattle.calls.specs.Waits.{rightsOf, unfinished, blocked, childPops, pusherBefore}
 use Rattle.calls.specs.Find.{hasValue, finding, popped, popGives, testGives, popAllowed, popTested, testTested}
 use Rattle.finding.specs.Nothing.{popNothing, testNothing, popRefusal}
-
-neither : {a b : Bool} → a ≡ false → b ≡ false → either a b ≡ false
-unfolding either pick
-neither e f = rw (e, f) refl
 
 module _ (m : List ℕ) (t q : ℕ) {s : ℕ} (es : s ≡ read m (task t (16 + q))) where
   pub no-head : NL ≤ s → false ≡ hasValue m t q
@@ -90,7 +86,8 @@ module _ (m m1 : List ℕ) (t q : ℕ) {s n : ℕ} (es : s ≡ read m (task t (1
     segment-freed m2 m3 f g h =
         h
         ∙ ap (released m2) es
-        ∙ ap (λ (x : List ℕ). released x H) (g ∙ ap (λ (x : List ℕ). write x (task t (16 + q)) n) drop-same ∙ ap (write (dropped m H) (task t (16 + q))) next-same)
+        ∙ ap (λ (x : List ℕ). released x H)
+        (g ∙ ap (λ (x : List ℕ). write x (task t (16 + q)) n) drop-same ∙ ap (write (dropped m H) (task t (16 + q))) next-same)
         ∙ sym (pass _ (neither (ne-eqb _ _ (λ e. f1 (next-same ∙ e))) (ap not (eq-eqb _ _ (sym count-same ∙ f)))) refl)
 
 pub head-count : (m : List ℕ) (t q : ℕ) {s : ℕ} → s ≡ read m (task t (16 + q)) → 0 < read m (segment (read m (task t (16 + q))) 1) → 0 < read m (segment s 1)
@@ -160,11 +157,6 @@ module _ (m : List ℕ) (t q : ℕ) {b1 : Bool} (e1 : b1 ≡ unfinished m t) whe
       refusal-0 f = sym (pass _ (ap not (sym e1) ∙ f1) (pass _ (lt-leb 4 q f2) (pass _ (ap not (ap (λ (x : ℕ). pops x q) (sym ew) ∙ sym e3) ∙ f) refl)))
 
 -- what the number says of the ladder, and of the queue
-rung : (a : Bool) (k x : ℕ) → pick a (suc k) x ≡ 0 → (a ≡ false) × (x ≡ 0)
-unfolding pick
-rung true k x e = let z : ⊥ = omega (arith, e) in absurd z
-rung false k x e = (refl, e)
-
 pub may-pop : (m : List ℕ) (t q : ℕ) (o : Outcome) {k : ℕ} → k ≡ popRefusal m t q → k ≡ 0 → (o ≡ popAllowed m t q o) × (q < 4)
 unfolding popAllowed popRefusal
 may-pop m t q o e z =

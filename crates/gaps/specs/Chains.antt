@@ -1,5 +1,5 @@
 -- THE CHAINS OF THE GAPS: what a change of other segments leaves alone, and a chain that is put behind another.
-use mathlib.Core.Path.{_≡_, _∙_}
+use mathlib.Core.Path.{_≡_, _∙_, refl}
 use mathlib.Core.Option.{Option}
 use mathlib.Core.List.{List, [], _∷_, _++_}
 use Prim.Native.Nat.{ℕ, _+_, _≤_}
@@ -7,7 +7,7 @@ use native.Mathlib.Omega.{arith}
 use lib.Dec.{eqb}
 use Rattle.lists.specs.Counting.{one, occurrences, occurs-append}
 use Rattle.gaps.specs.Maps.{All, Agree, all-front, all-behind}
-use Rattle.gaps.specs.Line.{base, left, met, pass, Line, segments}
+use Rattle.gaps.specs.Line.{base, left, met, pass, Line, segments, firstChain}
 use Rattle.gaps.specs.Store.{LinkedFrom, Linked, Filled, Start, sole, full, Chain}
 use Rattle.gaps.specs.Places.{grow}
 
@@ -60,6 +60,12 @@ pub data Sole : Line → ℕ → Type 0 where
   at-base : {p : ℕ} {l : Line} → Sole (base (p ∷ []) ∷ l) p
   on-left : {t p : ℕ} {l : Line} → Sole l p → Sole (left t ∷ l) p
   on-pass : {x p : ℕ} {l : Line} → Sole l p → Sole (pass x ∷ l) p
+
+-- a segment that is alone is the first
+pub sole-first : {a : Line} {p : ℕ} → Sole a p → firstChain a ≡ p ∷ []
+sole-first Sole.at-base = refl
+sole-first (Sole.on-left g) = sole-first g
+sole-first (Sole.on-pass g) = sole-first g
 
 -- how often a segment stands in a line whose latest gap grows by c
 pub count-link : {a : Line} {p : ℕ} {r : List ℕ} (x : ℕ) (c : List ℕ) → Gap a p r

@@ -1,6 +1,6 @@
 -- FRAMES: what is later and what is earlier than a stretch of the line is carried where the maps agree.
 use mathlib.Core.Path.{_≡_, refl, ap, _∙_}
-use mathlib.Core.List.{List, [], _∷_, _++_}
+use mathlib.Core.List.{List, [], _∷_, _++_, cons-ne-nil, append-ne-nil-of-right-ne-nil}
 use Prim.Native.Nat.{ℕ}
 use native.Mathlib.Omega.{arith}
 use Rattle.gaps.specs.Maps.{put, off, Agree, agree-refl, agree-put}
@@ -10,10 +10,6 @@ use Rattle.gaps.specs.Lines.{New, NoBase}
 -- a view is not both vacant and an extent
 pub clash : {h x : End} {A : Type 0} (v : Extent) → v ≡ vacant → v ≡ extent h x → A
 clash v p q = let z : _≡_ {A = ℕ} 0 1 = cc in absurd (omega (arith, z))
-
-no-nil : (b : Line) (x : Mark) (l : Line) → b ++ (x ∷ l) ≡ [] → ⊥
-no-nil [] x l e = let z : _≡_ {A = ℕ} 0 1 = cc in omega (arith, z)
-no-nil (y ∷ b) x l e = let z : _≡_ {A = ℕ} 0 1 = cc in omega (arith, z)
 
 module _ {children user right : ℕ → Extent} where
   -- the queue view is at the bottom
@@ -30,14 +26,14 @@ module _ {children user right : ℕ → Extent} where
   pub split : (b : Line) (x : Mark) (l : Line) {n : Mode} → Views children user right (b ++ (x ∷ l)) n
       → (m : Mode) × Views children user right (x ∷ l) m
   split [] x l {n} r = (n, r)
-  split (base c ∷ b) x l r = absurd (no-nil b x l (bottom r))
+  split (base c ∷ b) x l r = absurd (append-ne-nil-of-right-ne-nil b (cons-ne-nil x l) (bottom r))
   split (left t ∷ b) x l (leaving v e i r) = split b x l r
   split (met t c ∷ b) x l (meeting v w e i f g r) = split b x l r
   split (pass y ∷ b) x l (passing r) = split b x l r
 
   pub no-base : (b : Line) (x : Mark) (l : Line) {n : Mode} → Views children user right (b ++ (x ∷ l)) n → NoBase b
   no-base [] x l r = tt
-  no-base (base c ∷ b) x l r = absurd (no-nil b x l (bottom r))
+  no-base (base c ∷ b) x l r = absurd (append-ne-nil-of-right-ne-nil b (cons-ne-nil x l) (bottom r))
   no-base (left t ∷ b) x l (leaving v e i r) = no-base b x l r
   no-base (met t c ∷ b) x l (meeting v w e i f g r) = no-base b x l r
   no-base (pass y ∷ b) x l (passing r) = no-base b x l r
@@ -57,7 +53,7 @@ module _ {children user right children′ user′ right′ : ℕ → Extent} whe
       → ((m : Mode) → Views children user right (x ∷ l) m → Views children′ user′ right′ k m)
       → Views children user right (b ++ (x ∷ l)) n → Views children′ user′ right′ (b ++ k) n
   replace [] x l k {n} p q s f r = f n r
-  replace (base c ∷ b) x l k p q s f r = absurd (no-nil b x l (bottom r))
+  replace (base c ∷ b) x l k p q s f r = absurd (append-ne-nil-of-right-ne-nil b (cons-ne-nil x l) (bottom r))
   replace (left t ∷ b) x l k p q s f (leaving v e i r) = leaving v (p .0 ∙ e) i (replace b x l k (p .1) q s f r)
   replace (met t c ∷ b) x l k p q s f (meeting v w e i g y r) =
       meeting v w (q .0 ∙ e) i (s .0 ∙ g) y (replace b x l k p (q .1) (s .1) f r)

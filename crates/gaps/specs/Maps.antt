@@ -7,7 +7,7 @@ use native.Mathlib.Omega.{arith}
 use lib.Dec.{eqb}
 use borrow.Author.Tests.{eq-eqb, ne-eqb}
 use Rattle.words.specs.Words.{pick, pass, halt}
-use Rattle.lists.specs.Counting.{one-yes, occurrences, equal?, occurs-nil, occurs-cons, occurs-here, occurs-past}
+use Rattle.lists.specs.Counting.{one-yes, occurrences, equal?, occurs-nil, occurs-past, occurs-first, occurs-later}
 
 abbrev pub All : {A : Type 0} → (A → Type 0) → List A → Type 0
 All P [] = Unit {0}
@@ -68,13 +68,6 @@ module _ {A : Type 0} where
   pub agree-put : (f : ℕ → A) (k : ℕ) (x : A) (l : List ℕ) → Off k l → Agree f (put f k x) l
   agree-put f k x [] h = tt
   agree-put f k x (y ∷ l) h = (put-other f k x y (h .0), agree-put f k x l (h .1))
-
--- the members of y ∷ l
-pub occurs-first : (y : ℕ) (l : List ℕ) → 0 < occurrences y (y ∷ l)
-occurs-first y l = let a = occurs-here y y l refl in omega (arith, a)
-
-pub occurs-later : (y x : ℕ) (l : List ℕ) → 0 < occurrences x l → 0 < occurrences x (y ∷ l)
-occurs-later y x l p = let a = occurs-cons y x l in omega (arith, a, p)
 
 -- what holds of all numbers of a list holds of each that occurs in it, and the other way round
 module _ (P : ℕ → Type 0) where

@@ -3,7 +3,7 @@ use mathlib.Core.Path.{_≡_, refl, ap}
 use mathlib.Core.List.{List, [], _∷_, _++_}
 use Prim.Native.Nat.{ℕ, _≤_}
 use native.Mathlib.Omega.{arith}
-use Rattle.lists.specs.Counting.{one-yes, occurrences}
+use Rattle.lists.specs.Counting.{occurrences, occurs-first}
 use Rattle.gaps.specs.Maps.{off, Agree, agree-refl, agree-put}
 use Rattle.gaps.specs.Line.{End, nonlocal, local, Extent, vacant, extent, base, left, met, pass, Line, lefts, mets}
 use Rattle.gaps.specs.Store.{Once}
@@ -60,10 +60,6 @@ abbrev pub In : Place → Line → Type 0
 In (childrenOf t) l = 1 ≤ occurrences t (lefts l)
 In (rightOf t) l = 1 ≤ occurrences t (mets l)
 
-first-in : (t : ℕ) (l : List ℕ) → 1 ≤ occurrences t (t ∷ l)
-unfolding occurrences
-first-in t l = omega (arith, one-yes t t refl)
-
 in-left : (k : Place) (t : ℕ) (l : Line) → In k l → In k (left t ∷ l)
 unfolding occurrences
 in-left (childrenOf u) t l h = omega (arith, h)
@@ -74,15 +70,15 @@ in-pass (childrenOf u) x l h = h
 in-pass (rightOf u) x l h = h
 
 pub target-in : {children : ℕ → Extent} {l : Line} (k : Place) → Target children l k → In k l
-target-in (rightOf t) (at-met {l = l}) = first-in t (mets l)
-target-in (childrenOf t) (at-left {l = l} h x e) = first-in t (lefts l)
-target-in (childrenOf t) top = first-in t []
+target-in (rightOf t) (at-met {l = l}) = occurs-first t (mets l)
+target-in (childrenOf t) (at-left {l = l} h x e) = occurs-first t (lefts l)
+target-in (childrenOf t) top = occurs-first t []
 target-in k (up {t = t} {l = l} e o) = in-left k t l (target-in k o)
 target-in k (over {x = x} {l = l} o) = in-pass k x l (target-in k o)
 
 pub latest-in : {l : Line} (k : Place) → Latest l k → In k l
-latest-in (rightOf t) (at-met {l = l}) = first-in t (mets l)
-latest-in (childrenOf t) (at-left {l = l}) = first-in t (lefts l)
+latest-in (rightOf t) (at-met {l = l}) = occurs-first t (mets l)
+latest-in (childrenOf t) (at-left {l = l}) = occurs-first t (lefts l)
 latest-in k (over {x = x} {l = l} o) = in-pass k x l (latest-in k o)
 
 module _ (h x : End) (f : ℕ → Extent) (b l : Line) (d : Once (b ++ l)) where

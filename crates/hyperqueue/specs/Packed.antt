@@ -2,11 +2,11 @@
 use mathlib.Core.Path.{_≡_, refl, ap, sym, _∙_}
 use mathlib.Core.Bool.{Bool, true, false, not}
 use mathlib.Core.List.{List}
-use Prim.Native.Nat.{ℕ, suc, _+_, _*_}
+use Prim.Native.Nat.{ℕ, _+_, _*_}
 use native.Mathlib.Omega.{arith}
 use lib.Dec.{eqb}
 use borrow.Author.Tests.{eqb-true, eq-eqb, ne-eqb, not-false}
-use Rattle.words.specs.Words.{size, pick, halt, pass}
+use Rattle.words.specs.Words.{size, pick, halt, pass, rung}
 use Rattle.layout.specs.Layout.{WORDS}
 use Rattle.answers.specs.declared.Answer.{Answer}
 use Rattle.answers.specs.declared.Answer.the-variants.{Moved, Empty, NotEmpty, Waits, Refused}
@@ -46,11 +46,6 @@ module _ (m : List ℕ) where
   pub may-call : {b : Bool} → size m ≡ 16384 → b ≡ rulesHold m → not b ≡ false → 0 ≡ memoryRefusal m
   unfolding memoryRefusal
   may-call e eb f = sym (pass _ (ap not (eq-eqb _ _ e)) (pass _ (ap not (sym eb) ∙ f) refl))
-
-rung : (a : Bool) (k x : ℕ) → pick a (suc k) x ≡ 0 → (a ≡ false) × (x ≡ 0)
-unfolding pick
-rung true k x e = let z : ⊥ = omega (arith, e) in absurd z
-rung false k x e = (refl, e)
 
 module _ (m : List ℕ) (o : Outcome) (k : ℕ) (e : k ≡ memoryRefusal m) where
   -- a call that is turned down

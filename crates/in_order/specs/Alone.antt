@@ -1,7 +1,7 @@
 -- THE TOP ALONE: the tour meets and leaves it and nobody else, and each queue has all its segments in one chain.
 use mathlib.Core.Path.{_≡_, refl, ap, ap₂, sym, _∙_, subst}
 use mathlib.Core.Bool.{false, false≢true}
-use mathlib.Core.List.{List, [], _∷_}
+use mathlib.Core.List.{List, [], _∷_, cons-ne-nil, head-eq-of-cons-eq, tail-eq-of-cons-eq}
 use Prim.Native.Nat.{ℕ, _-_, _<_}
 use lib.Dec.{ltb}
 use native.Mathlib.Omega.{arith}
@@ -20,18 +20,6 @@ use Rattle.represents.specs.Represents.{queueMemory, usesIn, Represents}
 use Rattle.represents.specs.Parts.{parts-of}
 use Rattle.represents.specs.Views.{uses-small}
 use Rattle.represents.specs.Walks.{top-uses}
-
-no-cons : {A : Type 0} {x : ℕ} {l : List ℕ} → [] ≡ x ∷ l → A
-no-cons e = let z : _≡_ {A = ℕ} 0 1 = cc in absurd (omega (arith, z))
-
-cons-no : {A : Type 0} {x : ℕ} {l : List ℕ} → x ∷ l ≡ [] → A
-cons-no e = let z : _≡_ {A = ℕ} 0 1 = cc in absurd (omega (arith, z))
-
-first-same : {x y : ℕ} {l k : List ℕ} → x ∷ l ≡ y ∷ k → x ≡ y
-first-same e = cc
-
-rest-same : {x y : ℕ} {l k : List ℕ} → x ∷ l ≡ y ∷ k → l ≡ k
-rest-same e = cc
 
 module _ (m : List ℕ) (xs : List Item) (r : Represents m xs) (alone : read m (task 0 YOUNGEST) ≡ NONE) where
   abbrev c : Contents
@@ -61,19 +49,22 @@ module _ (m : List ℕ) (xs : List Item) (r : Represents m xs) (alone : read m (
 
     third : (l : Line) {n : Mode} → At l n → marks l ≡ [] → (g : ℕ) × (d : List ℕ) × (l ≡ base (g ∷ d) ∷ [])
     third l (queue {s = s} {c = d} e) k = (s, d, refl)
-    third l (leaves v e i w) k = cons-no k
-    third l (meeting v w e i f b u) k = cons-no k
-    third l (passing w) k = cons-no k
+    third l (leaves v e i w) k = absurd (cons-ne-nil _ _ k)
+    third l (meeting v w e i f b u) k = absurd (cons-ne-nil _ _ k)
+    third l (passing w) k = absurd (cons-ne-nil _ _ k)
 
     second : (l : Line) {n : Mode} → At l n → All (Fits (usesIn m q)) l → marks l ≡ 128 ∷ [] → (g : ℕ) × (d : List ℕ) × (l ≡ left 0 ∷ base (g ∷ d) ∷ [])
-    second l (queue e) f k = no-cons k
+    second l (queue e) f k = absurd (cons-ne-nil _ _ (sym k))
     second l (leaves {t = t} {l = b} v e i w) f k =
-        let z = third b w (rest-same k) in
-        let is : t ≡ 0 = (let h = first-same k in omega (arith, h)) in
+        let z = third b w (tail-eq-of-cons-eq k) in
+        let is : t ≡ 0 = (let h = head-eq-of-cons-eq k in omega (arith, h)) in
         (z .0, z .1, ap (λ (x : ℕ). left x ∷ b) is ∙ ap (λ (y : Line). left 0 ∷ y) (z .2))
-    second l (meeting {t = t} v w e i f0 b u) f k = let h = first-same k in let a = uses-small m q t (f .0) in let z : ⊥ = omega (arith, h, a) in absurd z
+    second l (meeting {t = t} v w e i f0 b u) f k =
+        let h = head-eq-of-cons-eq k in let a = uses-small m q t (f .0) in let z : ⊥ = omega (arith, h, a) in absurd z
     second l (passing {x = x} w) f k =
-        absurd (false≢true (sym (subst (λ (y : ℕ). usesIn m q (pick (ltb y 128) y (y - 128)) ≡ false) (first-same k) (f .0)) ∙ (unfold pick in top-uses m xs r q small)))
+        absurd
+        (false≢true
+        (sym (subst (λ (y : ℕ). usesIn m q (pick (ltb y 128) y (y - 128)) ≡ false) (head-eq-of-cons-eq k) (f .0)) ∙ (unfold pick in top-uses m xs r q small)))
 
     -- THE LINE of a queue: the top's spot, and one chain before it
     pub line-alone : (g : ℕ) × (d : List ℕ) × (r .line q ≡ met 0 [] ∷ left 0 ∷ base (g ∷ d) ∷ [])
@@ -81,10 +72,11 @@ module _ (m : List ℕ) (xs : List Item) (r : Represents m xs) (alone : read m (
         let p = parts-of m xs r in
         first (r .line q) (p .laids .laid q small .views) (p .laids .laid q small .closed) (p .fits q small) (p .marked q small ∙ tour-alone)
       where
-        first : (l : Line) {n : Mode} → At l n → Closed l → All (Fits (usesIn m q)) l → marks l ≡ 0 ∷ 128 ∷ [] → (g : ℕ) × (d : List ℕ) × (l ≡ met 0 [] ∷ left 0 ∷ base (g ∷ d) ∷ [])
+        first : (l : Line) {n : Mode} → At l n → Closed l → All (Fits (usesIn m q)) l → marks l ≡ 0 ∷ 128 ∷ []
+            → (g : ℕ) × (d : List ℕ) × (l ≡ met 0 [] ∷ left 0 ∷ base (g ∷ d) ∷ [])
         first l (queue e) z f k = absurd z
         first l (leaves v e i w) z f k = absurd z
         first l (passing w) z f k = absurd z
         first l (meeting {t = t} {c = d} {l = b} v w e i f0 b0 u) z f k =
-            let y = second b u (f .1) (rest-same k) in
-            (y .0, y .1, ap₂ (λ (x : ℕ) (s : List ℕ). met x s ∷ b) (first-same k) z ∙ ap (λ (x : Line). met 0 [] ∷ x) (y .2))
+            let y = second b u (f .1) (tail-eq-of-cons-eq k) in
+            (y .0, y .1, ap₂ (λ (x : ℕ) (s : List ℕ). met x s ∷ b) (head-eq-of-cons-eq k) z ∙ ap (λ (x : Line). met 0 [] ∷ x) (y .2))

@@ -3,7 +3,7 @@ use mathlib.Core.Path.{_≡_, refl, ap, ap₂, sym, _∙_}
 use mathlib.Core.Bool.{Bool, true, false}
 use mathlib.Core.List.{List, [], _∷_, _++_}
 use Prim.Native.Nat.{ℕ, _<_}
-use Rattle.words.specs.Words.{pick, either}
+use Rattle.words.specs.Words.{pick, either, neither-true}
 use Rattle.layout.specs.Layout.{queueHead, read}
 use Rattle.answers.specs.declared.Finding.{Finding}
 use Rattle.answers.specs.declared.Finding.the-variants.{Value as Found, Empty as Nothing, Waits as Later}
@@ -18,7 +18,7 @@ use Rattle.links.specs.Waits.{same-childPops}
 use Rattle.represents.specs.Represents.{Represents}
 use Rattle.represents.specs.At.{mine-spot}
 use Rattle.represents.specs.Pop.{finds-same}
-use Rattle.in_order.specs.Ladder.{neither-true, blocked-same}
+use Rattle.in_order.specs.Ladder.{blocked-same}
 
 module _ (m : List ℕ) (ys zs : List Item) (s : Task) (r : Represents m (ys ++ spot s ∷ zs)) (q : ℕ) (small : q < 4) (may : mayPop (rightsOf s) q ≡ true) where
   abbrev t : ℕ

@@ -1,12 +1,12 @@
 -- THE REFUSALS that many calls share, by the words and by program order: 4, then 5 and 6.
 use mathlib.Core.Path.{_≡_, refl, sym, _∙_, subst}
-use mathlib.Core.Bool.{Bool, true, false, not, false≢true}
+use mathlib.Core.Bool.{Bool, true, not}
 use mathlib.Core.List.{List, _∷_, _++_}
 use Prim.Native.Nat.{ℕ, _<_}
 use native.Mathlib.Omega.{arith}
 use lib.Dec.{leb}
 use borrow.Author.Tests.{leb-false}
-use Rattle.words.specs.Words.{pick, either}
+use Rattle.words.specs.Words.{pick}
 use Rattle.answers.specs.declared.Answer.{Answer}
 use Rattle.answers.specs.declared.Answer.the-variants.{Refused}
 use Rattle.answers.specs.Answers.{Outcome, outcome}
@@ -23,16 +23,11 @@ use Rattle.represents.specs.Represents.{Represents}
 use Rattle.represents.specs.At.{mine-spot}
 use Rattle.in_order.specs.Does.{Does, refuses, chooses, chooses-not}
 
--- a test that fails has both parts failing
-pub neither-true : (a b : Bool) → either a b ≡ false → (a ≡ false) × (b ≡ false)
-unfolding either pick
-neither-true true b e = absurd (false≢true (sym e))
-neither-true false b e = (refl, e)
-
 module _ (P : List ℕ → List Item → Type 0) (runs : (m : List ℕ) (xs : List Item) → Represents m xs → P m xs) where
   -- 4, and where it is not refused the caller has a spot
   pub for-task : (c : ℕ → Call) (o : ℕ → Outcome) (a : ℕ → List Item → Answer) (m : List ℕ)
-      → ((ys zs : List Item) (s : Task) → Represents m (ys ++ spot s ∷ zs) → Does P (ys ++ spot s ∷ zs) (c (numberOf s)) (o (numberOf s)) (a (numberOf s) (ys ++ spot s ∷ zs)))
+      → ((ys zs : List Item) (s : Task) → Represents m (ys ++ spot s ∷ zs)
+      → Does P (ys ++ spot s ∷ zs) (c (numberOf s)) (o (numberOf s)) (a (numberOf s) (ys ++ spot s ∷ zs)))
       → (xs : List Item) (t : ℕ) → Represents m xs → Does P xs (c t) (pick (not (unfinishedIn m t)) (outcome (Refused 4) m) (o t)) (forTask t xs (a t xs))
   unfolding forTask
   for-task c o a m f xs t r =
@@ -46,7 +41,8 @@ module _ (P : List ℕ → List Item → Type 0) (runs : (m : List ℕ) (xs : Li
       (λ e. refuses P m xs (c t) 4 (runs m xs r))
 
   -- 5 and 6
-  pub for-queue : {xs : List Item} {c : Call} {o : Outcome} {a : Answer} (m : List ℕ) (q : ℕ) (x y : Bool) → x ≡ y → P m xs → (q < 4 → y ≡ true → Does P xs c o a)
+  pub for-queue : {xs : List Item} {c : Call} {o : Outcome} {a : Answer} (m : List ℕ) (q : ℕ) (x y : Bool) → x ≡ y → P m xs
+      → (q < 4 → y ≡ true → Does P xs c o a)
       → Does P xs c (pick (leb 4 q) (outcome (Refused 5) m) (pick (not x) (outcome (Refused 6) m) o)) (forQueue q y a)
   unfolding forQueue
   for-queue {xs} {c} m q x y e h f =

@@ -3,7 +3,7 @@ use mathlib.Core.Path.{_≡_, refl, ap, ap₂, _∙_}
 use mathlib.Core.Bool.{Bool, true, false, not}
 use mathlib.Core.List.{List, _∷_, _++_}
 use Prim.Native.Nat.{ℕ}
-use Rattle.words.specs.Words.{pick, either}
+use Rattle.words.specs.Words.{pick, either, neither-true}
 use Rattle.answers.specs.declared.Answer.the-variants.{Moved, Waits, Refused}
 use Rattle.answers.specs.Answers.{outcome, answerOf, wordsOf}
 use Rattle.answers.specs.Calls.{Call, sync-call}
@@ -21,14 +21,15 @@ use Rattle.represents.specs.Represents.{Represents}
 use Rattle.represents.specs.At.{mine-spot}
 use Rattle.represents_finish.specs.Sync.{sync-allowed, sync-represents}
 use Rattle.in_order.specs.Does.{Does, waits, chooses, never}
-use Rattle.in_order.specs.Ladder.{neither-true, for-task, blocked-same}
+use Rattle.in_order.specs.Ladder.{for-task, blocked-same}
 
 -- the waits of sync and finish, by the words and by program order
 module _ (m : List ℕ) (ys zs : List Item) (s : Task) (r : Represents m (ys ++ spot s ∷ zs)) where
   pub child-same : hasChildIn m (numberOf s) ≡ hasChild (numberOf s) (ys ++ spot s ∷ zs)
   child-same = same-hasChild m (r .tour) (ys ++ spot s ∷ zs) (r .played) (r .linked) s (mine-spot m ys zs s r)
 
-  pub waits-same : either (blockedIn m (numberOf s)) (hasChildIn m (numberOf s)) ≡ either (blocked (numberOf s) (ys ++ spot s ∷ zs)) (hasChild (numberOf s) (ys ++ spot s ∷ zs))
+  pub waits-same : either (blockedIn m (numberOf s)) (hasChildIn m (numberOf s))
+      ≡ either (blocked (numberOf s) (ys ++ spot s ∷ zs)) (hasChild (numberOf s) (ys ++ spot s ∷ zs))
   waits-same = ap₂ either (blocked-same m ys zs s r) child-same
 
   -- the list once the task has synced
@@ -43,7 +44,8 @@ module _ (m : List ℕ) (ys zs : List Item) (s : Task) (r : Represents m (ys ++ 
 module _ (P : List ℕ → List Item → Type 0) (holds-of : (m : List ℕ) (xs : List Item) → Represents m xs → P m xs) where
   -- 4, the waits, and no 2: what sync and finish share
   pub when-reduced : (c : ℕ → Call) (allowed : ℕ → Bool) (n : ℕ → List ℕ) (m : List ℕ)
-      → ((ys zs : List Item) (s : Task) → Represents m (ys ++ spot s ∷ zs) → blocked (numberOf s) (ys ++ spot s ∷ zs) ≡ false → hasChild (numberOf s) (ys ++ spot s ∷ zs) ≡ false
+      → ((ys zs : List Item) (s : Task) → Represents m (ys ++ spot s ∷ zs) → blocked (numberOf s) (ys ++ spot s ∷ zs) ≡ false
+      → hasChild (numberOf s) (ys ++ spot s ∷ zs) ≡ false
       → (allowed (numberOf s) ≡ true) × Does P (ys ++ spot s ∷ zs) (c (numberOf s)) (outcome (Moved 0) (n (numberOf s))) (Moved 0))
       → (xs : List Item) (t : ℕ) → Represents m xs
       → Does P xs (c t) (whenReduced m t (allowed t) (outcome (Moved 0) (n t))) (forTask t xs (pick (either (blocked t xs) (hasChild t xs)) Waits (Moved 0)))
@@ -53,7 +55,8 @@ module _ (P : List ℕ → List Item → Type 0) (holds-of : (m : List ℕ) (xs 
       (λ t. pick (either (blockedIn m t) (hasChildIn m t)) (outcome Waits m) (pick (not (allowed t)) (outcome (Refused 2) m) (outcome (Moved 0) (n t))))
       (λ t xs. pick (either (blocked t xs) (hasChild t xs)) Waits (Moved 0)) m
       (λ ys zs s r.
-      chooses P (either (blockedIn m (numberOf s)) (hasChildIn m (numberOf s))) (either (blocked (numberOf s) (ys ++ spot s ∷ zs)) (hasChild (numberOf s) (ys ++ spot s ∷ zs))) (waits-same m ys zs s r)
+      chooses P (either (blockedIn m (numberOf s)) (hasChildIn m (numberOf s)))
+      (either (blocked (numberOf s) (ys ++ spot s ∷ zs)) (hasChild (numberOf s) (ys ++ spot s ∷ zs))) (waits-same m ys zs s r)
       (λ e. waits P m (ys ++ spot s ∷ zs) (c (numberOf s)) (holds-of m (ys ++ spot s ∷ zs) r))
       (λ e.
       let w = neither-true _ _ e in

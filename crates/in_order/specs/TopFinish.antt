@@ -1,12 +1,12 @@
 -- THE TOP'S FINISH: a sync, and the top's status.
 use mathlib.Core.Path.{_≡_, refl, ap, sym, _∙_, subst}
-use mathlib.Core.Bool.{Bool, true, false, not}
+use mathlib.Core.Bool.{true, false}
 use mathlib.Core.List.{List, [], _∷_, _++_}
 use Prim.Native.Nat.{ℕ, _+_, _<_}
 use native.Mathlib.Omega.{arith}
 use lib.Dec.{ltb}
 use lib.ListN.{length}
-use borrow.Author.Tests.{eqb-true}
+use borrow.Author.Tests.{eqb-true, not-false}
 use Rattle.words.specs.Words.{pick, both-true}
 use Rattle.layout.specs.Layout.{NONE, YOUNGEST, task, read}
 use Rattle.tree.specs.Rights.{uses}
@@ -60,11 +60,7 @@ module _ (m : List ℕ) (ys zs : List Item) (s : Task) (r : Represents m (ys ++ 
   -- it has no children
   alone : read m (task 0 YOUNGEST) ≡ NONE
   unfolding hasChildIn
-  alone = subst (λ (x : ℕ). read m (task x YOUNGEST) ≡ NONE) top (eqb-true _ _ (go _ (child-same m ys zs s r ∙ barren)))
-    where
-      go : (b : Bool) → not b ≡ false → b ≡ true
-      go true e = refl
-      go false e = sym e
+  alone = subst (λ (x : ℕ). read m (task x YOUNGEST) ≡ NONE) top (eqb-true _ _ (not-false _ (child-same m ys zs s r ∙ barren)))
 
   one-spot : spots Old ≡ 1
   unfolding met pick

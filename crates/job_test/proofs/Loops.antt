@@ -2,46 +2,40 @@
 use mathlib.Core.Path.{_≡_, ap, sym, _∙_}
 use mathlib.Core.Bool.{Bool, true, false}
 use mathlib.Core.List.{List}
-use Prim.Native.Nat.{ℕ, suc, _+_, _-_, _*_, _<_, _≤_}
+use Prim.Native.Nat.{ℕ, _+_, _-_, _*_, _<_, _≤_}
 use native.Mathlib.Omega.{arith}
 use lib.Dec.{eqb}
 use Rattle.words.specs.Words.{size, both-on, both-off}
-use Rattle.lists.specs.Tests.{upto}
+use Rattle.lists.specs.Tests.{upto, turn-left, turns-over}
 use Rattle.job.specs.Fields.{count}
 use Rattle.job.specs.Test.{entryHolds, entriesHold}
-
-left : (n i : ℕ) → i < n → n - i ≡ suc (n - (i + 1))
-left n i h = omega arith
-
-gone : (n i : ℕ) → n ≤ i → n - i ≡ 0
-gone n i h = omega arith
 
 module _ (f : ℕ → Bool) (n i : ℕ) where
   pub upto-next : i < n → f i ≡ true → upto f (n - (i + 1)) (i + 1) ≡ upto f (n - i) i
   unfolding upto
-  upto-next h e = sym (ap (λ (k : ℕ). upto f k i) (left n i h) ∙ both-on e)
+  upto-next h e = sym (ap (λ (k : ℕ). upto f k i) (turn-left n i h) ∙ both-on e)
 
   pub upto-stop : i < n → f i ≡ false → false ≡ upto f (n - i) i
   unfolding upto
-  upto-stop h e = sym (ap (λ (k : ℕ). upto f k i) (left n i h) ∙ both-off _ e)
+  upto-stop h e = sym (ap (λ (k : ℕ). upto f k i) (turn-left n i h) ∙ both-off _ e)
 
   pub upto-end : n ≤ i → true ≡ upto f (n - i) i
   unfolding upto
-  upto-end h = sym (ap (λ (k : ℕ). upto f k i) (gone n i h))
+  upto-end h = sym (ap (λ (k : ℕ). upto f k i) (turns-over n i h))
 
 -- the same for entries, each of which says where the next body begins
 module _ (j : List ℕ) (n p a : ℕ) where
   pub entries-next : p < n → entryHolds j p a ≡ true → entriesHold j (n - (p + 1)) (p + 1) (a + count j p * 6) ≡ entriesHold j (n - p) p a
   unfolding entriesHold
-  entries-next h e = sym (ap (λ (k : ℕ). entriesHold j k p a) (left n p h) ∙ both-on e)
+  entries-next h e = sym (ap (λ (k : ℕ). entriesHold j k p a) (turn-left n p h) ∙ both-on e)
 
   pub entries-stop : p < n → entryHolds j p a ≡ false → false ≡ entriesHold j (n - p) p a
   unfolding entriesHold
-  entries-stop h e = sym (ap (λ (k : ℕ). entriesHold j k p a) (left n p h) ∙ both-off _ e)
+  entries-stop h e = sym (ap (λ (k : ℕ). entriesHold j k p a) (turn-left n p h) ∙ both-off _ e)
 
   pub entries-end : n ≤ p → eqb a (size j) ≡ entriesHold j (n - p) p a
   unfolding entriesHold
-  entries-end h = sym (ap (λ (k : ℕ). entriesHold j k p a) (gone n p h))
+  entries-end h = sym (ap (λ (k : ℕ). entriesHold j k p a) (turns-over n p h))
 
 whole : (n : ℕ) → n - 0 ≡ n
 whole n = omega arith

@@ -1,27 +1,17 @@
--- THE TREE AFTER A FINISH: the two marks of the task, which stand side by side, are gone.
-use mathlib.Core.Path.{_≡_, refl, ap, ap₂, sym, _∙_, subst}
-use mathlib.Core.Bool.{true}
-use mathlib.Core.List.{List, [], _∷_, _++_, head-eq-of-cons-eq}
+-- THE WORDS OF THE TREE AFTER A FINISH: which of them stay.
+use mathlib.Core.Path.{_≡_, ap, sym, _∙_, subst}
+use mathlib.Core.List.{List}
 use mathlib.Core.Logic.{_⊎_, inl, inr, ⊎-elim}
-use Prim.Native.Nat.{ℕ, suc, _+_, _-_, _*_, _<_, _≤_}
+use Prim.Native.Nat.{ℕ, _+_, _<_, _≤_}
 use native.Mathlib.Omega.{arith}
-use lib.ListN.{length, drop, take, length-append}
 use Rattle.words.specs.Words.{size}
-use Rattle.lists.specs.Counting.{occurrences, equal?, occurs-here, occurs-past, occurs-append, occurs-nil}
-use Rattle.layout.specs.Layout.{WORDS, NONE, FREE, STATUS, RIGHTS, PARENT, OLDER, YOUNGER, YOUNGEST, task, freeTasks, freeTask, read}
-use Rattle.tree.specs.Rights.{subset}
+use Rattle.lists.specs.Counting.{occurrences, equal?}
+use Rattle.layout.specs.Layout.{WORDS, NONE, FREE, STATUS, PARENT, OLDER, YOUNGER, YOUNGEST, task, freeTasks, freeTask, read}
 use Rattle.rules.specs.Contents.{Contents, decode, word}
 use Rattle.rules.specs.Rules.{Unfinished, Child, TaskRules}
-use Rattle.rules.specs.Test.{topTest, idleTest}
-use Rattle.rules_tasks.specs.Marks.{Kin}
-use Rattle.rules_tasks.specs.Tested.{Top, Idle, top-says, says-top, idle-says, says-idle}
-use Rattle.rules_tasks.specs.Visits.{busy}
 use Rattle.order.specs.Steps.{Item}
-use Rattle.links.specs.Row.{Leads, childless, child, oldest, older, Row}
-use Rattle.links.specs.Linked.{Linked, word-is, rules, tree}
-use Rattle.links.specs.Idle.{idle-height, idle-length, idle-last, same-stack}
-use Rattle.links.specs.Marks.{mark-once, unfinished-met, unfinished-left}
-use Rattle.gaps.specs.Maps.{occurs-first, occurs-later}
+use Rattle.links.specs.Linked.{Linked, word-is, rules}
+use Rattle.links.specs.Marks.{unfinished-met}
 
 -- n is m without task t, which leaves the list of its siblings, and whose record is free
 pub record Finished (m n : List ℕ) (t : ℕ) : Type 0 where
@@ -39,8 +29,8 @@ pub record Finished (m n : List ℕ) (t : ℕ) : Type 0 where
   pub given : read n (freeTask (read m freeTasks)) ≡ t
   pub stack : (i : ℕ) → i < read m freeTasks → read n (freeTask i) ≡ read m (freeTask i)
 
-module _ (m n : List ℕ) (T : List ℕ) (xs : List Item) (h : Linked m T xs) (t : ℕ) (w : Finished m n t)
-    (b a : List ℕ) (here : T ≡ b ++ t ∷ (128 + t) ∷ a) (small : t < 128) (above : 0 < t) (barren : (z : ℕ) → Child (decode m) t z → ⊥) where
+-- What is known of the words then: the parent and the older sibling of t, and the words of the other tasks that stay.
+module _ (m n : List ℕ) (t : ℕ) where
   abbrev c : Contents
   c = decode m
 
@@ -50,387 +40,90 @@ module _ (m n : List ℕ) (T : List ℕ) (xs : List Item) (h : Linked m T xs) (t
   abbrev o : ℕ
   o = read m (task t OLDER)
 
-  abbrev y : ℕ
-  y = read m (task t YOUNGER)
-
   abbrev p : ℕ
   p = read m (task t PARENT)
 
-  law : TaskRules c
-  law = rules m T xs h
+  pub record AfterFinish : Type 0 where
+    pub there : Unfinished c t
+    pub parent-there : Unfinished c p
+    pub older-is : (o ≡ NONE) ⊎ (Child c p o × (word c o YOUNGER ≡ t))
+    -- a word that is no link between siblings, nor to a youngest child
+    pub fixed : (x k : ℕ) → x < 128 → k ≤ 2 → (x ≡ t → ⊥) → word d x k ≡ word c x k
+    pub younger-stays : (z : ℕ) → z < 128 → (z ≡ t → ⊥) → (z ≡ o → ⊥) → word d z YOUNGER ≡ word c z YOUNGER
+    pub youngest-stays : (z : ℕ) → z < 128 → (z ≡ t → ⊥) → (word c z YOUNGEST ≡ t → ⊥) → word d z YOUNGEST ≡ word c z YOUNGEST
+    pub older-stays : (z : ℕ) → z < 128 → (z ≡ t → ⊥) → (word c z OLDER ≡ t → ⊥) → word d z OLDER ≡ word c z OLDER
+    -- the older sibling of a task: as before, or that of t where t was it
+    pub older-now : (x : ℕ) → x < 128 → (x ≡ t → ⊥)
+        → (read n (task x OLDER) ≡ read m (task x OLDER)) ⊎ ((read m (task x OLDER) ≡ t) × (read n (task x OLDER) ≡ o))
 
-  counted : (x : ℕ) → occurrences x T ≡ occurrences x b + occurrences x (t ∷ (128 + t) ∷ a)
-  counted x = ap (occurrences x) here ∙ occurs-append x b (t ∷ (128 + t) ∷ a)
+  -- the first words of the tasks that stay
+  pub cut-word : AfterFinish → (x k : ℕ) → x < 128 → k ≤ 2 → (x ≡ t → ⊥) → read n (task x k) ≡ read m (task x k)
+  cut-word s x k l i ne = sym (word-is n x k) ∙ s .fixed x k l i ne ∙ word-is m x k
 
-  mine : 0 < occurrences t T
-  mine = let e = counted t in let f = occurs-here t t ((128 + t) ∷ a) refl in omega (arith, e, f)
+  module _ (w : Finished m n t) (T : List ℕ) (xs : List Item) (h : Linked m T xs) (small : t < 128) (above : 0 < t) (mine : 0 < occurrences t T) where
+    abbrev y : ℕ
+    y = read m (task t YOUNGER)
 
-  task-there : Unfinished c t
-  task-there = unfinished-met m T xs h t small mine
+    law : TaskRules c
+    law = rules m T xs h
 
-  as-child : Child c p t
-  as-child = ((λ e. omega (arith, e, above)), (task-there, word-is m t PARENT))
+    task-there : Unfinished c t
+    task-there = unfinished-met m T xs h t small mine
 
-  pub parent-there : Unfinished c p
-  parent-there = law .parents t p as-child
+    as-child : Child c p t
+    as-child = ((λ e. omega (arith, e, above)), (task-there, word-is m t PARENT))
 
-  -- the younger sibling, or that t is the youngest
-  younger-is : ((y ≡ NONE) × (word c p YOUNGEST ≡ t)) ⊎ (Child c p y × (word c y OLDER ≡ t))
-  younger-is =
-      let e = word-is m t YOUNGER in
-      subst (λ (x : ℕ). ((x ≡ NONE) × (word c p YOUNGEST ≡ t)) ⊎ (Child c p x × (word c x OLDER ≡ t))) e (law .younger-linked t p as-child)
+    -- the younger sibling, or that t is the youngest
+    younger-is : ((y ≡ NONE) × (word c p YOUNGEST ≡ t)) ⊎ (Child c p y × (word c y OLDER ≡ t))
+    younger-is =
+        let e = word-is m t YOUNGER in
+        subst (λ (x : ℕ). ((x ≡ NONE) × (word c p YOUNGEST ≡ t)) ⊎ (Child c p x × (word c x OLDER ≡ t))) e (law .younger-linked t p as-child)
 
-  -- the older sibling
-  older-is : (o ≡ NONE) ⊎ (Child c p o × (word c o YOUNGER ≡ t))
-  older-is =
-      let e = word-is m t OLDER in
-      subst (λ (x : ℕ). (x ≡ NONE) ⊎ (Child c p x × (word c x YOUNGER ≡ t))) e (law .older-linked t p as-child)
+    -- the older sibling
+    older-is : (o ≡ NONE) ⊎ (Child c p o × (word c o YOUNGER ≡ t))
+    older-is =
+        let e = word-is m t OLDER in
+        subst (λ (x : ℕ). (x ≡ NONE) ⊎ (Child c p x × (word c x YOUNGER ≡ t))) e (law .older-linked t p as-child)
 
-  -- WORDS THAT STAY
-  stays : (x k : ℕ) → x < 128 → k < 6 → (x ≡ t → ⊥) → (k ≡ YOUNGER → x ≡ o → ⊥) → (k ≡ YOUNGEST → y ≡ NONE → x ≡ p → ⊥) → (k ≡ OLDER → x ≡ y → ⊥) → word d x k ≡ word c x k
-  stays x k l i ne f g j =
-      word-is n x k ∙ w .others x k l i ne (λ e. f (e .1) (e .0)) (λ e. g (e .2) (e .0) (e .1)) (λ e. j (e .1) (e .0)) ∙ sym (word-is m x k)
+    -- words that stay
+    stays : (x k : ℕ) → x < 128 → k < 6 → (x ≡ t → ⊥) → (k ≡ YOUNGER → x ≡ o → ⊥) → (k ≡ YOUNGEST → y ≡ NONE → x ≡ p → ⊥) → (k ≡ OLDER → x ≡ y → ⊥)
+        → word d x k ≡ word c x k
+    stays x k l i ne f g j =
+        word-is n x k ∙ w .others x k l i ne (λ e. f (e .1) (e .0)) (λ e. g (e .2) (e .0) (e .1)) (λ e. j (e .1) (e .0)) ∙ sym (word-is m x k)
 
-  -- a word that is no link between siblings, nor to a youngest child
-  fixed : (x k : ℕ) → x < 128 → k ≤ 2 → (x ≡ t → ⊥) → word d x k ≡ word c x k
-  fixed x k l i ne =
-      stays x k l (omega (arith, i)) ne (λ e. let z : ⊥ = omega (arith, e, i) in absurd z) (λ e. let z : ⊥ = omega (arith, e, i) in absurd z) (λ e. let z : ⊥ = omega (arith, e, i) in absurd z)
-
-  -- the links of a task z with parent q, whose younger sibling is v
-  kin-with : (z q v v' : ℕ) → (z ≡ t → ⊥) → q < 128 → (q ≡ t → ⊥) → word d z YOUNGER ≡ v' → Kin c z q v → Kin d z q v'
-  kin-with z q v v' nz l nq e k =
-      record {
-        above = k .above;
-        below = k .below;
-        status = fixed z STATUS (k .below) (omega arith) nz ∙ k .status;
-        parent = fixed z PARENT (k .below) (omega arith) nz ∙ k .parent;
-        younger = e;
-        rights = ap₂ subset (fixed z RIGHTS (k .below) (omega arith) nz) (fixed q RIGHTS l (omega arith) nq) ∙ k .rights;
-      }
-
-  younger-stays : (z : ℕ) → z < 128 → (z ≡ t → ⊥) → (z ≡ o → ⊥) → word d z YOUNGER ≡ word c z YOUNGER
-  younger-stays z l nz ns =
-      stays z YOUNGER l (omega arith) nz (λ e. ns) (λ e. let f : ⊥ = omega (arith, e) in absurd f) (λ e. let f : ⊥ = omega (arith, e) in absurd f)
-
-  youngest-stays : (z : ℕ) → z < 128 → (z ≡ t → ⊥) → (word c z YOUNGEST ≡ t → ⊥) → word d z YOUNGEST ≡ word c z YOUNGEST
-  youngest-stays z l nz ns =
-      stays z YOUNGEST l (omega arith) nz (λ e. let f : ⊥ = omega (arith, e) in absurd f)
-      (λ e f g. ⊎-elim (λ v. ns (ap (λ (x : ℕ). word c x YOUNGEST) g ∙ v .1)) (λ v. let q = v .0 .1 .0 .0 in omega (arith, f, q)) younger-is)
-      (λ e. let f : ⊥ = omega (arith, e) in absurd f)
-
-  older-stays : (z : ℕ) → z < 128 → (z ≡ t → ⊥) → (word c z OLDER ≡ t → ⊥) → word d z OLDER ≡ word c z OLDER
-  older-stays z l nz ns =
-      stays z OLDER l (omega arith) nz (λ e. let f : ⊥ = omega (arith, e) in absurd f) (λ e. let f : ⊥ = omega (arith, e) in absurd f)
-      (λ e g. ⊎-elim (λ v. let q = v .0 in omega (arith, g, q, l)) (λ v. ns (ap (λ (x : ℕ). word c x OLDER) g ∙ v .1)) younger-is)
-
-  -- MARKS THAT LEAD ON: x is no mark of t, and does not lead to t
-  leads-stay : (x z : ℕ) → 0 < occurrences x T → (x ≡ t → ⊥) → (x ≡ 128 + t → ⊥) → (z ≡ t → ⊥) → Leads c x z → Leads d x z
-  leads-stay x z q n1 n2 n3 (childless {t = v} l e) = childless l (youngest-stays v l n1 (λ f. omega (arith, e, f, small)) ∙ e)
-  leads-stay x z q n1 n2 n3 (child {t = v} l e k) =
-      child l (youngest-stays v l n1 (λ f. n3 (sym e ∙ f)) ∙ e)
-      (kin-with z v NONE NONE n3 l n1 (younger-stays z (k .below) n3 not-older ∙ k .younger) k)
-    where
-      not-older : z ≡ o → ⊥
-      not-older f =
-          ⊎-elim
-          (λ g. let i = k .below in omega (arith, f, g, i))
-          (λ g. let i = k .younger in let j = g .1 in let s = ap (λ (x : ℕ). word c x YOUNGER) f in omega (arith, i, j, s, small))
-          older-is
-  leads-stay x z q n1 n2 n3 (oldest {t = v} {p = r} g l e i f) =
-      let nv : v ≡ t → ⊥ = λ s. n2 (ap (λ (x : ℕ). 128 + x) s) in
-      oldest g l (fixed v PARENT l (omega arith) nv ∙ e) i (older-stays v l nv (λ s. omega (arith, s, f, small)) ∙ f)
-  leads-stay x z q n1 n2 n3 (older {t = v} {p = r} g l e i f k) =
-      let nv : v ≡ t → ⊥ = λ s. n2 (ap (λ (x : ℕ). 128 + x) s) in
-      older g l (fixed v PARENT l (omega arith) nv ∙ e) i (older-stays v l nv (λ s. n3 (sym f ∙ s)) ∙ f)
-      (kin-with z r v v n3 i
-      (λ s. barren v ((λ j. omega (arith, j, g)), (unfinished-left m T xs h v q, e ∙ s)))
-      (younger-stays z (k .below) n3 (not-older nv) ∙ k .younger) k)
-    where
-      not-older : (v ≡ t → ⊥) → z ≡ o → ⊥
-      not-older nv s =
-          ⊎-elim
-          (λ j. let i = k .below in omega (arith, s, j, i))
-          (λ j. nv (sym (k .younger) ∙ ap (λ (x : ℕ). word c x YOUNGER) s ∙ j .1))
-          older-is
-
-  not-self : (q : ℕ) → word c t PARENT ≡ q → q ≡ t → ⊥
-  not-self q e f = barren t ((λ z. omega (arith, z, above)), (task-there, e ∙ f))
-
-  -- what led to t leads to what came after t was left
-  abbrev After : ℕ → Type 0
-  After z = ((o ≡ NONE) × (z ≡ 128 + p)) ⊎ ((z ≡ o) × (o ≡ NONE → ⊥) × Kin c o p t)
-
-  after-left : (x z : ℕ) → x ≡ 128 + t → Leads c x z → After z
-  after-left x z is (childless l e) = let f : ⊥ = omega (arith, is, l) in absurd f
-  after-left x z is (child l e k) = let f : ⊥ = omega (arith, is, l) in absurd f
-  after-left x z is (oldest {t = v} {p = q} g l e i f) =
-      let s : v ≡ t = omega (arith, is) in
-      inl (sym (word-is m t OLDER) ∙ ap (λ (u : ℕ). word c u OLDER) (sym s) ∙ f, ap (λ (u : ℕ). 128 + u) (sym e ∙ ap (λ (u : ℕ). word c u PARENT) s ∙ word-is m t PARENT))
-  after-left x z is (older {t = v} {p = q} g l e i f k) =
-      let s : v ≡ t = omega (arith, is) in
-      let r : z ≡ o = sym f ∙ ap (λ (u : ℕ). word c u OLDER) s ∙ word-is m t OLDER in
-      let b = k .below in
-      let pq : q ≡ p = sym e ∙ ap (λ (u : ℕ). word c u PARENT) s ∙ word-is m t PARENT in
-      inr (r, (λ n. omega (arith, n, r, b)), subst (λ (u : ℕ). Kin c o p u) s (subst (λ (u : ℕ). Kin c o u v) pq (subst (λ (u : ℕ). Kin c u q v) r k)))
-
-  -- the older sibling is another task, since the tour goes on to it
-  other-older : (z : ℕ) → 0 < occurrences z a → z ≡ t → ⊥
-  other-older z q e =
-      let f = counted z in
-      let g = occurs-here t z ((128 + t) ∷ a) (sym e) in
-      let i = occurs-past (128 + t) z a (λ s. omega (arith, s, e)) in
-      let j = mark-once m T xs h z in
-      omega (arith, f, g, i, j, q)
-
-  -- with the younger sibling of t as its own
-  older-kin : Kin c o p t → (o ≡ NONE → ⊥) → (o ≡ t → ⊥) → (v : ℕ) → y ≡ v → Kin d o p v
-  older-kin k ne nt v e = kin-with o p t v nt (parent-there .0) (not-self p (word-is m t PARENT)) (word-is n o YOUNGER ∙ w .older-younger ne ∙ e) k
-
-  joins : (x u z : ℕ) → u ≡ t → (x ≡ 128 + t → ⊥) → (z ≡ o → o ≡ t → ⊥) → Leads c x u → After z → Leads d x z
-  joins x u z is nx no-t (childless l e) k = let f : ⊥ = omega (arith, is, small) in absurd f
-  joins x u z is nx no-t (oldest g l e i f) k = let j : ⊥ = omega (arith, is, small) in absurd j
-  joins x u z is nx no-t (child {t = v} l e kin) k = go k
-    where
-      up : v ≡ p
-      up = sym (kin .parent) ∙ ap (λ (s : ℕ). word c s PARENT) is ∙ word-is m t PARENT
-
-      last : y ≡ NONE
-      last = sym (word-is m t YOUNGER) ∙ ap (λ (s : ℕ). word c s YOUNGER) (sym is) ∙ kin .younger
-
-      now : word d v YOUNGEST ≡ o
-      now = word-is n v YOUNGEST ∙ ap (λ (s : ℕ). read n (task s YOUNGEST)) up ∙ w .parents-youngest last
-
-      go : After z → Leads d v z
-      go (inl s) = subst (Leads d v) (ap (λ (q : ℕ). 128 + q) up ∙ sym (s .1)) (childless l (now ∙ s .0))
-      go (inr s) =
-          subst (Leads d v) (sym (s .0))
-          (child l now (subst (λ (q : ℕ). Kin d o q NONE) (sym up) (older-kin (s .2) (s .1) (no-t (s .0)) NONE last)))
-  joins x u z is nx no-t (older {t = v} {p = q} g l e i f kin) k = go k
-    where
-      up : q ≡ p
-      up = sym (kin .parent) ∙ ap (λ (s : ℕ). word c s PARENT) is ∙ word-is m t PARENT
-
-      young : y ≡ v
-      young = sym (word-is m t YOUNGER) ∙ ap (λ (s : ℕ). word c s YOUNGER) (sym is) ∙ kin .younger
-
-      some : y ≡ NONE → ⊥
-      some s = let j = young in omega (arith, s, j, l)
-
-      apart : v ≡ t → ⊥
-      apart s = nx (ap (λ (r : ℕ). 128 + r) s)
-
-      now : word d v OLDER ≡ o
-      now = word-is n v OLDER ∙ ap (λ (s : ℕ). read n (task s OLDER)) (sym young) ∙ w .younger-older some
-
-      go : After z → Leads d (128 + v) z
-      go (inl s) = subst (Leads d (128 + v)) (ap (λ (r : ℕ). 128 + r) up ∙ sym (s .1)) (oldest g l (fixed v PARENT l (omega arith) apart ∙ e) i (now ∙ s .0))
-      go (inr s) =
-          subst (Leads d (128 + v)) (sym (s .0))
-          (older g l (fixed v PARENT l (omega arith) apart ∙ e) i now (subst (λ (r : ℕ). Kin d o r v) (sym up) (older-kin (s .2) (s .1) (no-t (s .0)) v young)))
-
-  -- THE ROW without the two marks
-  each : (x : ℕ) → 0 < occurrences x b → (0 < occurrences x T) × (x ≡ t → ⊥) × (x ≡ 128 + t → ⊥)
-  each x q = (
-    (let e = counted x in omega (arith, e, q)),
-    (λ s. let e = counted x in let f = occurs-here t x ((128 + t) ∷ a) (sym s) in let g = mark-once m T xs h x in omega (arith, e, f, g, q)),
-    (λ s.
-        let e = counted x in
-        let f = occurs-past t x ((128 + t) ∷ a) (λ r. omega (arith, r, s)) in
-        let i = occurs-here (128 + t) x a (sym s) in
-        let g = mark-once m T xs h x in
-        omega (arith, e, f, i, g, q)),
-  )
-
-  abbrev Behind : List ℕ
-  Behind = t ∷ (128 + t) ∷ a
-
-  behind-counts : (x : ℕ) → (occurrences x a ≤ occurrences x Behind) × (x ≡ t → occurrences x a + 1 ≤ occurrences x Behind) × (x ≡ 128 + t → occurrences x a + 1 ≤ occurrences x Behind)
-  behind-counts x =
-      ⊎-elim
-      (λ e.
-      let f = occurs-here t x ((128 + t) ∷ a) e in
-      let g = occurs-past (128 + t) x a (λ s. omega (arith, s, e)) in
-      (omega (arith, f, g), (λ s. omega (arith, f, g)), (λ s. omega (arith, f, g))))
-      (λ e.
-      let f = occurs-past t x ((128 + t) ∷ a) e in
-      ⊎-elim
-      (λ s. let g = occurs-here (128 + t) x a s in (omega (arith, f, g), (λ r. omega (arith, f, g)), (λ r. omega (arith, f, g))))
-      (λ s. let g = occurs-past (128 + t) x a s in (omega (arith, f, g), (λ r. absurd (e (sym r))), (λ r. absurd (s (sym r)))))
-      (equal? (128 + t) x))
-      (equal? t x)
-
-  each-behind : (x : ℕ) → 0 < occurrences x a → (0 < occurrences x T) × (x ≡ t → ⊥) × (x ≡ 128 + t → ⊥)
-  each-behind x q =
-      let e = counted x in
-      let g = mark-once m T xs h x in
-      let f = behind-counts x in
-      let f0 = f .0 in (
-        omega (arith, e, f0, q),
-        (λ s. let r = f .1 s in omega (arith, e, g, r, q)),
-        (λ s. let r = f .2 s in omega (arith, e, g, r, q)),
-      )
-
-  -- what stands behind keeps its row
-  rest-row : (l : List ℕ) → ((x : ℕ) → 0 < occurrences x l → 0 < occurrences x a) → Row c l → Row d l
-  rest-row [] f k = absurd k
-  rest-row (x ∷ []) f k = k
-  rest-row (x ∷ z ∷ l) f k =
-      let e = each-behind x (f x (occurs-first x (z ∷ l))) in
-      let g = each-behind z (f z (occurs-later x z (z ∷ l) (occurs-first z l))) in
-      (leads-stay x z (e .0) (e .1) (e .2) (g .1) (k .0), rest-row (z ∷ l) (λ u q. f u (occurs-later x u (z ∷ l) q)) (k .1))
-
-  last-part : (x : ℕ) (a' : List ℕ) → a ≡ a' → (0 < occurrences x T) × (x ≡ t → ⊥) × (x ≡ 128 + t → ⊥) → Leads c x t → Row c ((128 + t) ∷ a') → Row d (x ∷ a')
-  last-part x [] s e k r = let z : ⊥ = omega (arith, r, above) in absurd z
-  last-part x (z ∷ l) s e k r =
-      let inside : (u : ℕ) → 0 < occurrences u (z ∷ l) → 0 < occurrences u a = λ u q. subst (λ (i : List ℕ). 0 < occurrences u i) (sym s) q in
-      let there = inside z (occurs-first z l) in (
-        joins x t z refl (e .2) (λ q f. other-older z there (q ∙ f)) k (after-left (128 + t) z refl (r .0)),
-        rest-row (z ∷ l) inside (r .1),
-      )
-
-  cut : (l : List ℕ) → ((x : ℕ) → 0 < occurrences x l → 0 < occurrences x b) → (l ≡ [] → ⊥) → Row c (l ++ t ∷ (128 + t) ∷ a) → Row d (l ++ a)
-  cut [] f ne k = absurd (ne refl)
-  cut (x ∷ []) f ne k = last-part x a refl (each x (f x (occurs-first x []))) (k .0) (k .1 .1)
-  cut (x ∷ z ∷ l) f ne k =
-      let e = each x (f x (occurs-first x (z ∷ l))) in
-      let g = each z (f z (occurs-later x z (z ∷ l) (occurs-first z l))) in
-      (leads-stay x z (e .0) (e .1) (e .2) (g .1) (k .0), cut (z ∷ l) (λ u q. f u (occurs-later x u (z ∷ l) q)) no-nil (k .1))
-    where
-      no-nil : z ∷ l ≡ [] → ⊥
-      no-nil q = let s : _≡_ {A = ℕ} 0 1 = cc in omega (arith, s)
-
-  in-front : b ≡ [] → ⊥
-  in-front e =
-      let f : t ∷ (128 + t) ∷ a ≡ 0 ∷ h .first .0 = ap (λ (l : List ℕ). l ++ t ∷ (128 + t) ∷ a) (sym e) ∙ sym here ∙ h .first .1 in
-      let g = head-eq-of-cons-eq f in
-      omega (arith, g, above)
-
-  pub cut-row : Row d (b ++ a)
-  cut-row = cut b (λ x q. q) in-front (subst (Row c) here (h .row))
-
-  free : Idle c
-  free = idle-says c (h .idle)
-
-  few : length (c .idle) ≤ 126
-  few =
-      let e = h .many in
-      let f = ap length here in
-      let g = length-append b Behind in
-      let i = in-front' b refl in
-      omega (arith, e, f, g, i)
-    where
-      in-front' : (l : List ℕ) → b ≡ l → 1 ≤ length b
-      in-front' [] e = absurd (in-front e)
-      in-front' (x ∷ l) e = let f = ap length e in omega (arith, f)
-
-  high : read m freeTasks ≡ length (c .idle)
-  high =
-      let l = few in
-      let k = idle-height m (h .sized) (omega (arith, l)) in
-      sym (idle-length m (h .sized) (omega (arith, k)))
-
-  -- the stack, with the freed record last
-  stacked : d .idle ≡ c .idle ++ (t ∷ [])
-  stacked =
-      let e = w .height in
-      let k = high in
-      let l = few in
-      ap (λ (i : ℕ). take i (drop 320 n)) (e ∙ (let z : read m freeTasks + 1 ≡ suc (read m freeTasks) = omega arith in z))
-      ∙ idle-last n (w .sized) (read m freeTasks) (omega (arith, k, l))
-      ∙ ap₂ (λ (i : List ℕ) (x : ℕ). i ++ (x ∷ [])) (same-stack m n (h .sized) (w .sized) (read m freeTasks) (omega (arith, k, l)) (w .stack)) (w .given)
-
-  more : (x : ℕ) → occurrences x (d .idle) ≡ occurrences x (c .idle) + occurrences x (t ∷ [])
-  more x = ap (occurrences x) stacked ∙ occurs-append x (c .idle) (t ∷ [])
-
-  -- a record of the stack is t, or was there
-  either-way : (x : ℕ) → 0 < occurrences x (d .idle) → (x ≡ t) ⊎ ((x ≡ t → ⊥) × (0 < occurrences x (c .idle)))
-  either-way x q =
-      ⊎-elim
-      (λ e. inl (sym e))
-      (λ e. let f = more x in let g = occurs-past t x [] e in let i = occurs-nil x in inr ((λ s. e (sym s)), omega (arith, f, g, i, q)))
-      (equal? t x)
-
-  not-idle : occurrences t (c .idle) ≡ 0
-  not-idle = busy c free (tree m T xs h) t (inr task-there)
-
-  idle-grows : Idle d
-  idle-grows =
-      record {
-        few = let e = ap length stacked ∙ length-append (c .idle) (t ∷ []) in let l = few in omega (arith, e, l);
-        apart = record {
-          below = λ x q. ⊎-elim (λ e. omega (arith, e, small)) (λ v. free .apart .below x (v .1)) (either-way x q);
-          once = λ x.
-              let e = more x in
-              let f = free .apart .once x in
-              let i = occurs-nil x in
+    pub after-finish : AfterFinish
+    after-finish =
+        record {
+          there = task-there;
+          parent-there = law .parents t p as-child;
+          older-is = older-is;
+          fixed = λ x k l i ne.
+              stays x k l (omega (arith, i)) ne
+              (λ e. let z : ⊥ = omega (arith, e, i) in absurd z) (λ e. let z : ⊥ = omega (arith, e, i) in absurd z)
+              (λ e. let z : ⊥ = omega (arith, e, i) in absurd z);
+          younger-stays = λ z l nz ns.
+              stays z YOUNGER l (omega arith) nz (λ e. ns) (λ e. let f : ⊥ = omega (arith, e) in absurd f) (λ e. let f : ⊥ = omega (arith, e) in absurd f);
+          youngest-stays = λ z l nz ns.
+              stays z YOUNGEST l (omega arith) nz (λ e. let f : ⊥ = omega (arith, e) in absurd f)
+              (λ e f g. ⊎-elim (λ v. ns (ap (λ (x : ℕ). word c x YOUNGEST) g ∙ v .1)) (λ v. let q = v .0 .1 .0 .0 in omega (arith, f, q)) younger-is)
+              (λ e. let f : ⊥ = omega (arith, e) in absurd f);
+          older-stays = λ z l nz ns.
+              stays z OLDER l (omega arith) nz (λ e. let f : ⊥ = omega (arith, e) in absurd f) (λ e. let f : ⊥ = omega (arith, e) in absurd f)
+              (λ e g. ⊎-elim (λ v. let q = v .0 in omega (arith, g, q, l)) (λ v. ns (ap (λ (x : ℕ). word c x OLDER) g ∙ v .1)) younger-is);
+          older-now = λ x l ne.
               ⊎-elim
-              (λ s. let g = occurs-here t x [] s in let j = not-idle in let k = ap (λ (u : ℕ). occurrences u (c .idle)) s in omega (arith, e, g, i, j, k))
-              (λ s. let g = occurs-past t x [] s in omega (arith, e, f, g, i))
-              (equal? t x);
-        };
-        above = λ x q. ⊎-elim (λ e. omega (arith, e, above)) (λ v. free .above x (v .1)) (either-way x q);
-        free = λ x q.
-            ⊎-elim
-            (λ e. ap (λ (u : ℕ). word d u STATUS) e ∙ word-is n t STATUS ∙ w .status)
-            (λ v. fixed x STATUS (free .apart .below x (v .1)) (omega arith) (v .0) ∙ free .free x (v .1))
-            (either-way x q);
-      }
-
-  top-stays : Top d
-  top-stays =
-      let k = top-says c (h .top) in
-      let z : 0 ≡ t → ⊥ = λ e. omega (arith, e, above) in
-      record {
-        status = inl (fixed 0 STATUS (omega arith) (omega arith) z ∙ word-is m 0 STATUS ∙ h .running);
-        rights = fixed 0 RIGHTS (omega arith) (omega arith) z ∙ k .rights;
-        parent = fixed 0 PARENT (omega arith) (omega arith) z ∙ k .parent;
-        older = older-stays 0 (omega arith) z (λ e. let f = k .older in omega (arith, e, f, small)) ∙ k .older;
-        younger = younger-stays 0 (omega arith) z
-            (λ e. ⊎-elim (λ f. omega (arith, e, f)) (λ f. f .0 .0 (sym e)) older-is) ∙ k .younger;
-      }
-
-  pub cut-top : topTest d ≡ true
-  cut-top = says-top d top-stays
-
-  pub cut-idle : idleTest d ≡ true
-  cut-idle = says-idle d idle-grows
-
-  pub cut-first : (l : List ℕ) × (b ++ a ≡ 0 ∷ l)
-  cut-first = go b (sym here ∙ h .first .1) in-front
-    where
-      go : (b : List ℕ) → b ++ t ∷ (128 + t) ∷ a ≡ 0 ∷ h .first .0 → (b ≡ [] → ⊥) → (l : List ℕ) × (b ++ a ≡ 0 ∷ l)
-      go [] e f = absurd (f refl)
-      go (x ∷ b) e f = (b ++ a, ap (λ (u : ℕ). u ∷ (b ++ a)) (head-eq-of-cons-eq e))
-
-  pub cut-many : length (b ++ a) ≡ 2 * (128 - length (d .idle))
-  cut-many =
-      let e = h .many in
-      let f = ap length here in
-      let g = length-append b Behind in
-      let i = length-append b a in
-      let j = ap length stacked ∙ length-append (c .idle) (t ∷ []) in
-      let k = few in
-      omega (arith, e, f, g, i, j, k)
-
-  -- words of the tasks that stay
-  pub cut-word : (x k : ℕ) → x < 128 → k ≤ 2 → (x ≡ t → ⊥) → read n (task x k) ≡ read m (task x k)
-  cut-word x k l i ne = sym (word-is n x k) ∙ fixed x k l i ne ∙ word-is m x k
-
-  -- the older sibling of a task: as before, or that of t where t was it
-  pub cut-older : (x : ℕ) → x < 128 → (x ≡ t → ⊥) → (read n (task x OLDER) ≡ read m (task x OLDER)) ⊎ ((read m (task x OLDER) ≡ t) × (read n (task x OLDER) ≡ read m (task t OLDER)))
-  cut-older x l ne =
-      ⊎-elim
-      (λ e.
-      ⊎-elim
-      (λ v. let q = v .0 in let z : ⊥ = omega (arith, e, q, l) in absurd z)
-      (λ v.
-      inr (
-        sym (word-is m x OLDER) ∙ ap (λ (u : ℕ). word c u OLDER) e ∙ v .1,
-        ap (λ (u : ℕ). read n (task u OLDER)) e ∙ w .younger-older (λ q. let i = v .0 .1 .0 .0 in omega (arith, q, i)),
-      ))
-      younger-is)
-      (λ e.
-      inl (sym (word-is n x OLDER)
-      ∙ stays x OLDER l (omega arith) ne (λ f. let g : ⊥ = omega (arith, f) in absurd g) (λ f. let g : ⊥ = omega (arith, f) in absurd g) (λ f. e)
-      ∙ word-is m x OLDER))
-      (equal? x y)
+              (λ e.
+              ⊎-elim
+              (λ v. let q = v .0 in let z : ⊥ = omega (arith, e, q, l) in absurd z)
+              (λ v.
+              inr (
+                sym (word-is m x OLDER) ∙ ap (λ (u : ℕ). word c u OLDER) e ∙ v .1,
+                ap (λ (u : ℕ). read n (task u OLDER)) e ∙ w .younger-older (λ q. let i = v .0 .1 .0 .0 in omega (arith, q, i)),
+              ))
+              younger-is)
+              (λ e.
+              inl (sym (word-is n x OLDER)
+              ∙ stays x OLDER l (omega arith) ne (λ f. let g : ⊥ = omega (arith, f) in absurd g) (λ f. let g : ⊥ = omega (arith, f) in absurd g) (λ f. e)
+              ∙ word-is m x OLDER))
+              (equal? x y);
+        }

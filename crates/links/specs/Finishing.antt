@@ -2,7 +2,7 @@
 use mathlib.Core.Path.{_≡_, refl, ap, ap₂, sym, _∙_}
 use mathlib.Core.Bool.{true, false, false≢true}
 use mathlib.Core.List.{List, [], _∷_, _++_}
-use mathlib.Core.Logic.{_⊎_, inl, ⊎-elim}
+use mathlib.Core.Logic.{inl, ⊎-elim}
 use Prim.Native.Nat.{ℕ, _+_, _<_, _≤_}
 use native.Mathlib.Omega.{arith}
 use Rattle.lists.specs.Counting.{occurrences, occurs-append, occurs-here}
@@ -22,7 +22,9 @@ use Rattle.links.specs.Places.{met-append}
 use Rattle.links.specs.Marks.{mark-once}
 use Rattle.rules_tasks.specs.Holders.{met-count}
 use Rattle.links.specs.Family.{link-child, older-trans}
-use Rattle.links.specs.Finish.{Finished, cut-row, cut-top, cut-idle, cut-first, cut-many, cut-word, cut-older}
+use Rattle.links.specs.Finish.{Finished, cut-word, AfterFinish, after-finish}
+use Rattle.links.specs.FinishRow.{cut-row, cut-first}
+use Rattle.links.specs.FinishStack.{cut-top, cut-idle, cut-many}
 
 back-finish : (ys zs : List Item) (s : Task) → numbersBack (ys ++ (made s finishes ++ zs)) ≡ numbersBack zs ++ numbersBack ys
 unfolding numbersBack made
@@ -30,7 +32,8 @@ back-finish ys zs (taskOf p t q k) = back-append ys _
 
 module _ (m n : List ℕ) (T : List ℕ) (ys zs : List Item) (s : Task) (play : Played (ys ++ spot s ∷ zs)) (next : Played (ys ++ (made s finishes ++ zs)))
     (h : Linked m T (ys ++ spot s ∷ zs)) (w : Finished m n (numberOf s)) (b a : List ℕ) (here : T ≡ b ++ numberOf s ∷ (128 + numberOf s) ∷ a)
-    (later : met b ≡ numbersBack zs) (earlier : met a ≡ numbersBack ys) (above : 0 < numberOf s) (none : hasChild (numberOf s) (ys ++ spot s ∷ zs) ≡ false) where
+    (later : met b ≡ numbersBack zs) (earlier : met a ≡ numbersBack ys) (above : 0 < numberOf s)
+    (none : hasChild (numberOf s) (ys ++ spot s ∷ zs) ≡ false) where
   abbrev t : ℕ
   t = numberOf s
 
@@ -45,6 +48,13 @@ module _ (m n : List ℕ) (T : List ℕ) (ys zs : List Item) (s : Task) (play : 
 
   small : t < 128
   small = spot-unfinished m T Old h s mine .0
+
+  stay : AfterFinish m n t
+  stay =
+      after-finish m n t w T Old h small above
+      (let e = ap (occurrences t) here ∙ occurs-append t b (t ∷ (128 + t) ∷ a) in
+      let f = occurs-here t t ((128 + t) ∷ a) refl in
+      omega (arith, e, f))
 
   barren : (z : ℕ) → Child (decode m) t z → ⊥
   barren z v =
@@ -70,10 +80,11 @@ module _ (m n : List ℕ) (T : List ℕ) (ys zs : List Item) (s : Task) (play : 
       let b4 = occurs-here t t [] refl in
       omega (arith, a0, a1, a2, b0, b1, b2, b3, b4)
 
-  stays : (o : Task) (v : (o' : Task) × In (spot o') Old × Like o o') → In (spot o) New → (k : ℕ) → k ≤ 2 → read n (task (numberOf o) k) ≡ read m (task (numberOf (v .0)) k)
+  stays : (o : Task) (v : (o' : Task) × In (spot o') Old × Like o o') → In (spot o) New → (k : ℕ) → k ≤ 2
+      → read n (task (numberOf o) k) ≡ read m (task (numberOf (v .0)) k)
   stays o v i k l =
       ap (λ (x : ℕ). read n (task x k)) (v .2 .number)
-      ∙ cut-word m n T Old h t w b a here small above barren (numberOf (v .0)) k (spot-unfinished m T Old h (v .0) (v .1) .0) l (λ e. gone o i (v .2 .number ∙ e))
+      ∙ cut-word m n t stay (numberOf (v .0)) k (spot-unfinished m T Old h (v .0) (v .1) .0) l (λ e. gone o i (v .2 .number ∙ e))
 
   rights-are : (o : Task) → In (spot o) New → read n (task (numberOf o) RIGHTS) ≡ rightsOf o
   rights-are o i = let v = was o i in stays o v i RIGHTS (omega arith) ∙ h .rights (v .0) (v .1) ∙ sym (v .2 .rights)
@@ -96,18 +107,18 @@ module _ (m n : List ℕ) (T : List ℕ) (ys zs : List Item) (s : Task) (play : 
       (λ g. h .ages (v .0) (x .0) (v .1) (x .1) (sym g ∙ f))
       (λ g.
       older-trans (nameOf (x .0)) (nameOf s) (nameOf (v .0)) (h .ages s (x .0) mine (x .1) (sym (g .1) ∙ f)) (h .ages (v .0) s (v .1) mine (g .0)))
-      (cut-older m n T Old h t w b a here small above barren (numberOf (v .0)) (spot-unfinished m T Old h (v .0) (v .1) .0) (λ q. gone o i (v .2 .number ∙ q)))
+      (stay .older-now (numberOf (v .0)) (spot-unfinished m T Old h (v .0) (v .1) .0) (λ q. gone o i (v .2 .number ∙ q)))
 
   pub finish-linked : Linked n (b ++ a) New
   finish-linked =
       record {
         sized = w .sized;
-        top = cut-top m n T Old h t w b a here small above barren;
-        idle = cut-idle m n T Old h t w b a here small above barren;
-        first = cut-first m n T Old h t w b a here small above barren;
-        row = cut-row m n T Old h t w b a here small above barren;
-        many = cut-many m n T Old h t w b a here small above barren;
-        running = cut-word m n T Old h t w b a here small above barren 0 STATUS (omega arith) (omega arith) (λ e. omega (arith, e, above)) ∙ h .running;
+        top = cut-top m n T Old h t w stay b a here small above;
+        idle = cut-idle m n T Old h t w stay b a here small above;
+        first = cut-first m n T Old h t w stay b a here small above barren;
+        row = cut-row m n T Old h t w stay b a here small above barren;
+        many = cut-many m n T Old h t w stay b a here small above;
+        running = cut-word m n t stay 0 STATUS (omega arith) (omega arith) (λ e. omega (arith, e, above)) ∙ h .running;
         spots = met-append b a ∙ ap₂ (λ (k l : List ℕ). k ++ l) later earlier ∙ sym (back-finish ys zs s);
         rights = rights-are;
         parents = parents-are;

@@ -9,10 +9,14 @@ pub mod Idle
 pub mod Frame
 pub mod Marks
 pub mod Spawn
+pub mod SpawnRow
+pub mod SpawnStack
 pub mod Spawning
 pub mod Blocks
 pub mod SpawnWords
 pub mod Finish
+pub mod FinishRow
+pub mod FinishStack
 pub mod Finishing
 pub mod FinishWords
 pub mod Many

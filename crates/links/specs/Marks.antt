@@ -1,5 +1,5 @@
 -- The marks of the tour: each stands in it once, and they are where unfinished tasks are met and left.
-use mathlib.Core.Path.{_≡_, sym, _∙_, subst}
+use mathlib.Core.Path.{_≡_, sym, _∙_, subst, ap}
 use mathlib.Core.List.{List}
 use mathlib.Core.Logic.{_⊎_, inl, inr, ⊎-elim}
 use Prim.Native.Nat.{ℕ, _+_, _-_, _*_, _<_, _≤_}
@@ -8,14 +8,15 @@ use native.Mathlib.Omega.{arith}
 use lib.ListN.{length}
 use Rattle.lists.specs.Counting.{occurrences}
 use Rattle.layout.specs.Layout.{FREE, STATUS, recordOf}
-use Rattle.tree.specs.Tour.{tour}
+use Rattle.tree.specs.Tour.{tour, met}
 use Rattle.rules.specs.Contents.{Contents, decode, word}
 use Rattle.rules.specs.Rules.{Unfinished}
 use Rattle.rules_tasks.specs.Tested.{idle-says}
 use Rattle.rules_tasks.specs.Visits.{marks-once}
 use Rattle.rules_tasks.specs.Tasks.{tour-whole, marks-held, holders-left}
-use Rattle.order.specs.Steps.{Item}
-use Rattle.links.specs.Linked.{Linked, tree, tour-is, holder-unfinished}
+use Rattle.rules_tasks.specs.Holders.{met-count}
+use Rattle.order.specs.Steps.{Item, numberOf}
+use Rattle.links.specs.Linked.{Linked, tree, tour-is, holder-unfinished, unfinished-spot, says-back}
 
 module _ (m : List ℕ) (T : List ℕ) (xs : List Item) (h : Linked m T xs) where
   abbrev c : Contents
@@ -55,6 +56,15 @@ module _ (m : List ℕ) (T : List ℕ) (xs : List Item) (h : Linked m T xs) wher
       busy : Unfinished c t → ⊥
       busy u = let f = u .1 in omega (arith, e, f)
 
-  -- an unfinished task is left too
+  -- an unfinished task is met, and left too
+  pub mark-met : (t : ℕ) → Unfinished c t → 0 < occurrences t T
+  mark-met t u =
+      let w = unfinished-spot m T xs h t u in
+      let a = says-back (w .0) xs (w .1) in
+      let b = ap (occurrences (numberOf (w .0))) (h .spots) in
+      let d = met-count T t (u .0) in
+      let e = subst (λ (x : ℕ). 0 < occurrences x (met T)) (w .2) (omega (arith, a, b)) in
+      omega (arith, d, e)
+
   pub mark-left : (t : ℕ) → Unfinished c t → 0 < occurrences (128 + t) T
   mark-left t u = subst (λ (l : List ℕ). 0 < occurrences (128 + t) l) (sym whole) (holders-left c (h .top) (h .idle) (tree m T xs h) t (inr u))

@@ -1,20 +1,20 @@
 -- WHERE A TASK STANDS in the tour: what the tour meets behind it are the spots before its own.
 use mathlib.Core.Path.{_≡_, refl, ap, ap₂, sym, _∙_, subst}
 use mathlib.Core.Bool.{Bool, true, false}
-use mathlib.Core.List.{List, [], _∷_, _++_, head-eq-of-cons-eq, tail-eq-of-cons-eq, append-assoc}
-use mathlib.Core.Logic.{_⊎_, inl, inr, ⊎-elim}
-use Prim.Native.Nat.{ℕ, zero, suc, _+_, _-_, _<_, _≤_}
+use mathlib.Core.List.{List, [], _∷_, _++_, head-eq-of-cons-eq, tail-eq-of-cons-eq, append-assoc, cons-ne-nil, append-ne-nil-of-right-ne-nil}
+use mathlib.Core.Logic.{inl, inr, ⊎-elim}
+use Prim.Native.Nat.{ℕ, zero, suc, _+_, _<_, _≤_}
 use native.Mathlib.Omega.{arith}
 use lib.Dec.{ltb, leb}
 use lib.ListN.{length, length-append}
-use borrow.Author.Tests.{lt-ltb, le-ltb}
-use Rattle.words.specs.Words.{pick, pass, halt}
+use Rattle.words.specs.Words.{pick}
+use Rattle.lists.specs.Counting.{below?}
 use Rattle.layout.specs.Layout.{NONE, YOUNGEST, task, read, recordOf}
 use Rattle.tree.specs.Tour.{END, MARKS, after, tour, met, seek}
 use Rattle.rules.specs.Contents.{Contents, decode}
-use Rattle.rules_tasks.specs.Holders.{below?}
 use Rattle.rules_tasks.specs.Marks.{after-top, after-childless, tour-past}
 use Rattle.rules_tasks.specs.Tested.{top-says}
+use Rattle.rules_tasks.specs.Holders.{met-here, met-past}
 use Rattle.gaps.specs.Search.{firstOf}
 use Rattle.order.specs.Steps.{Task, Item, spot, numberOf}
 use Rattle.order_laws.specs.Items.{In}
@@ -42,23 +42,12 @@ met-append (x ∷ a) b = go (ltb x 128) (met-append a b)
     go true e = ap (λ (l : List ℕ). x ∷ l) e
     go false e = e
 
-pub met-here : (x : ℕ) (l : List ℕ) → x < 128 → met (x ∷ l) ≡ x ∷ met l
-unfolding met
-met-here x l h = halt _ _ (lt-ltb x 128 h)
-
-pub met-past : (x : ℕ) (l : List ℕ) → 128 ≤ x → met (x ∷ l) ≡ met l
-unfolding met
-met-past x l h = pass _ (le-ltb x 128 h) refl
-
 -- a place among the tasks met is a place among the marks
 met-parts : (T l r : List ℕ) (t : ℕ) → met T ≡ l ++ t ∷ r → (b : List ℕ) × (a : List ℕ) × (T ≡ b ++ t ∷ a) × (met b ≡ l) × (met a ≡ r)
 unfolding met
-met-parts [] l r t e = absurd (no l (sym e))
-  where
-    no : (l : List ℕ) → l ++ t ∷ r ≡ [] → ⊥
-    no [] d = let z : _≡_ {A = ℕ} 0 1 = cc in omega (arith, z)
-    no (x ∷ l) d = let z : _≡_ {A = ℕ} 0 1 = cc in omega (arith, z)
-met-parts (x ∷ T) l r t e = ⊎-elim (λ h. on l (sym (met-here x T h) ∙ e) h (λ k d. met-parts T k r t d)) (λ h. over h (met-parts T l r t (sym (met-past x T h) ∙ e))) (below? x 128)
+met-parts [] l r t e = absurd (append-ne-nil-of-right-ne-nil l (cons-ne-nil t r) (sym e))
+met-parts (x ∷ T) l r t e =
+    ⊎-elim (λ h. on l (sym (met-here x T h) ∙ e) h (λ k d. met-parts T k r t d)) (λ h. over h (met-parts T l r t (sym (met-past x T h) ∙ e))) (below? x 128)
   where
     on : (l : List ℕ) → x ∷ met T ≡ l ++ t ∷ r → x < 128
         → ((k : List ℕ) → met T ≡ k ++ t ∷ r → (b : List ℕ) × (a : List ℕ) × (T ≡ b ++ t ∷ a) × (met b ≡ k) × (met a ≡ r))

@@ -3,12 +3,12 @@ use mathlib.Core.Path.{_≡_, refl, ap, sym, _∙_, subst}
 use mathlib.Core.Bool.{Bool, true, false, not, false≢true}
 use mathlib.Core.List.{List, [], _∷_, _++_}
 use mathlib.Core.Logic.{_⊎_, inl, inr, ⊎-elim}
-use Prim.Native.Nat.{ℕ, _+_, _<_}
+use Prim.Native.Nat.{ℕ, _<_}
 use native.Mathlib.Omega.{arith}
 use lib.Dec.{eqb, ltb}
 use borrow.Author.Tests.{lt-ltb, ltb-true, eq-eqb, ne-eqb}
 use Rattle.words.specs.Words.{load, pass, halt, both, both-true, true-both, same-test}
-use Rattle.lists.specs.Counting.{occurrences, occurs-nil, occurs-here, occurs-past, equal?}
+use Rattle.lists.specs.Counting.{occurrences, occurs-nil, occurs-here, occurs-past, equal?, occurs-later}
 use Rattle.layout.specs.Layout.{PARENT, OLDER, YOUNGEST, task, read, recordOf}
 use Rattle.layout.specs.Frame.{record-word}
 use Rattle.tree.specs.Rights.{pushes, pops, subset}
@@ -16,7 +16,6 @@ use Rattle.tree.specs.Tour.{END, oldest}
 use Rattle.rules.specs.Rules.{walk}
 use Rattle.rules_tasks.specs.Holders.{met-count}
 use Rattle.gaps.specs.Search.{firstOf}
-use Rattle.gaps.specs.Maps.{occurs-later}
 use Rattle.calls.specs.Waits.{rightsOf as rightsIn, pusherBefore}
 use Rattle.calls.specs.Finish.{heir}
 use Rattle.order.specs.Steps.{Name, Task, Item, spot, nameOf, numberOf, rightsOf}
@@ -38,7 +37,8 @@ unfolding firstOf
 first-says f [] n = absurd (n refl)
 first-says f (y ∷ l) n = go (f y) refl (first-says f l)
   where
-    go : (b : Bool) → f y ≡ b → ((firstOf f l ≡ END → ⊥) → (x : ℕ) × (0 < occurrences x l) × (f x ≡ true)) → (x : ℕ) × (0 < occurrences x (y ∷ l)) × (f x ≡ true)
+    go : (b : Bool) → f y ≡ b → ((firstOf f l ≡ END → ⊥) → (x : ℕ) × (0 < occurrences x l) × (f x ≡ true))
+        → (x : ℕ) × (0 < occurrences x (y ∷ l)) × (f x ≡ true)
     go true e rest = (y, (let a = occurs-here y y l refl in omega (arith, a)), e)
     go false e rest =
         let w = rest (λ d. n (pass _ e d)) in
@@ -105,7 +105,8 @@ module _ (m : List ℕ) (T : List ℕ) (xs : List Item) (play : Played xs) (h : 
   SiblingHeir q s n w = (o : Task) × (j : ℕ) × Spot o × (numberOf o ≡ w) × (nameOf o ≡ j ∷ n) × (numberOf o ≡ numberOf s → ⊥) × (pops (rightsOf o) q ≡ true)
       × ((u : Task) (i : ℕ) → Spot u → nameOf u ≡ i ∷ n → i < j → (numberOf u ≡ numberOf s → ⊥) → pops (rightsOf u) q ≡ true → ⊥)
 
-  pub heir-is : (q : ℕ) (s : Task) (k : ℕ) (n : Name) → Spot s → nameOf s ≡ k ∷ n → ParentHeir q s n (heir m (numberOf s) q) ⊎ SiblingHeir q s n (heir m (numberOf s) q)
+  pub heir-is : (q : ℕ) (s : Task) (k : ℕ) (n : Name) → Spot s → nameOf s ≡ k ∷ n
+      → ParentHeir q s n (heir m (numberOf s) q) ⊎ SiblingHeir q s n (heir m (numberOf s) q)
   unfolding heir
   heir-is q s k n i e = go (kinship play .parent s k n i e)
     where
@@ -132,11 +133,13 @@ module _ (m : List ℕ) (T : List ℕ) (xs : List Item) (play : Played xs) (h : 
             d,
             (λ u x l g a b.
                 v .1 (numberOf u)
-                (subst (λ (y : ℕ). On (recordOf m) y (numberOf u)) (record-word m (numberOf o) YOUNGEST) (child-on m T xs play h o u x j l (g ∙ ap (λ (y : Name). x ∷ y) (sym d))))
+                (subst (λ (y : ℕ). On (recordOf m) y (numberOf u)) (record-word m (numberOf o) YOUNGEST)
+                (child-on m T xs play h o u x j l (g ∙ ap (λ (y : Name). x ∷ y) (sym d))))
                 (holds u l a b)),
           )
       by o j d (inr v) =
-          let w = on-child m T xs play h o (found (numberOf o)) j (subst (λ (y : ℕ). On (recordOf m) y (found (numberOf o))) (sym (record-word m (numberOf o) YOUNGEST)) (v .0)) in
+          let w = on-child m T xs play h o (found (numberOf o)) j
+          (subst (λ (y : ℕ). On (recordOf m) y (found (numberOf o))) (sym (record-word m (numberOf o) YOUNGEST)) (v .0)) in
           let c = both-true _ _ (v .1) in
           let named = w .4 ∙ ap (λ (y : Name). w .1 ∷ y) d in
           inr (
@@ -151,7 +154,8 @@ module _ (m : List ℕ) (T : List ℕ) (xs : List Item) (play : Played xs) (h : 
                 v .2 (numberOf u)
                 (subst (λ (y : ℕ). On (recordOf m) (load (recordOf m y) OLDER) (numberOf u)) (w .3)
                 (older-on m T xs play h (w .0) u (w .2) l
-                (subst (λ (y : Name). isOlder y (nameOf (w .0)) ≡ true) (sym g) (subst (λ (y : Name). isOlder (x ∷ n) y ≡ true) (sym named) (says-older x (w .1) n lt)))))
+                (subst (λ (y : Name). isOlder y (nameOf (w .0)) ≡ true) (sym g)
+                (subst (λ (y : Name). isOlder (x ∷ n) y ≡ true) (sym named) (says-older x (w .1) n lt)))))
                 (holds u l a b)),
           )
 

@@ -8,10 +8,10 @@ use native.Mathlib.Nat.{le-of-suc-le-suc}
 use native.Mathlib.Omega.{arith}
 use borrow.Author.Tests.{le-leb, lt-leb}
 use Rattle.words.specs.Words.{load, pick, pass, halt}
+use Rattle.lists.specs.Counting.{below?}
 use Rattle.layout.specs.Layout.{NONE, OLDER}
 use Rattle.tree.specs.Tour.{sibling, oldest}
 use Rattle.rules.specs.Rules.{walk}
-use Rattle.rules_tasks.specs.Holders.{below?}
 
 module _ (recs : ℕ → List ℕ) where
   abbrev older : ℕ → ℕ

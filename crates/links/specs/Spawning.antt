@@ -3,13 +3,15 @@ use mathlib.Core.Path.{_≡_, refl, ap, ap₂, sym, _∙_}
 use mathlib.Core.Bool.{true}
 use mathlib.Core.List.{List, [], _∷_, _++_, append-assoc, tail-eq-of-cons-eq}
 use mathlib.Core.Logic.{_⊎_, inl, inr, ⊎-elim}
-use Prim.Native.Nat.{ℕ, _+_, _-_, _<_}
+use Prim.Native.Nat.{ℕ, _+_, _<_}
 use native.Mathlib.Omega.{arith}
 use Rattle.layout.specs.Layout.{STATUS, RIGHTS, PARENT, OLDER, YOUNGER, YOUNGEST, task, read, recordOf}
 use Rattle.layout.specs.Frame.{record-word}
 use Rattle.words.specs.Words.{load}
+use Rattle.lists.specs.Counting.{occurrences, occurs-append, occurs-first}
 use Rattle.tree.specs.Rights.{subset}
 use Rattle.tree.specs.Tour.{met}
+use Rattle.rules_tasks.specs.Holders.{met-here, met-past}
 use Rattle.order.specs.Steps.{Name, Task, Item, spot, task as taskOf, spawns, nameOf, numberOf, rightsOf, made}
 use Rattle.order.specs.Waits.{isOlder}
 use Rattle.order_laws.specs.Items.{In}
@@ -18,10 +20,12 @@ use Rattle.order_waits.specs.Played.{Played, played-reached, kidsOf, Like, chil
 use Rattle.order_waits.specs.Changes.{in-right, back, spawner}
 use Rattle.order_waits.specs.Kinship.{kinship}
 use Rattle.links.specs.Linked.{numbersBack, back-append, Linked, word-is, spot-unfinished}
-use Rattle.links.specs.Places.{met-append, met-here, met-past}
+use Rattle.links.specs.Places.{met-append}
 use Rattle.links.specs.Siblings.{On}
 use Rattle.links.specs.Family.{on-older, on-child}
-use Rattle.links.specs.Spawn.{Spawned, apart, child-below, new-row, new-first, new-many, top-is, idle-is, kept-word}
+use Rattle.links.specs.Spawn.{Spawned, kept-word, AfterSpawn, after-spawn}
+use Rattle.links.specs.SpawnRow.{new-row, new-first}
+use Rattle.links.specs.SpawnStack.{new-many, top-is, idle-is}
 
 back-spawn : (ys zs : List Item) (s : Task) (u r : ℕ)
     → numbersBack (ys ++ (made s (spawns u r) ++ zs)) ≡ numbersBack zs ++ numberOf s ∷ u ∷ numbersBack ys
@@ -31,7 +35,8 @@ back-spawn ys zs (taskOf p t q k) u r =
     ∙ ap (λ (l : List ℕ). l ++ numbersBack ys) (append-assoc (numbersBack zs) (t ∷ []) (u ∷ []))
     ∙ append-assoc (numbersBack zs) (t ∷ u ∷ []) (numbersBack ys)
 
-module _ (m n : List ℕ) (T : List ℕ) (ys zs : List Item) (s : Task) (r u : ℕ) (play : Played (ys ++ spot s ∷ zs)) (next : Played (ys ++ (made s (spawns u r) ++ zs)))
+module _ (m n : List ℕ) (T : List ℕ) (ys zs : List Item) (s : Task) (r u : ℕ) (play : Played (ys ++ spot s ∷ zs))
+    (next : Played (ys ++ (made s (spawns u r) ++ zs)))
     (h : Linked m T (ys ++ spot s ∷ zs)) (w : Spawned m n (numberOf s) r u) (b a : List ℕ) (here : T ≡ b ++ numberOf s ∷ a)
     (later : met b ≡ numbersBack zs) (earlier : met a ≡ numbersBack ys) (sub : subset r (read m (task (numberOf s) RIGHTS)) ≡ true) where
   abbrev t : ℕ
@@ -52,8 +57,13 @@ module _ (m n : List ℕ) (T : List ℕ) (ys zs : List Item) (s : Task) (r u : �
   small : t < 128
   small = spot-unfinished m T Old h s mine .0
 
+  stay : AfterSpawn m n t u
+  stay =
+      after-spawn m n t u r w T Old h small
+      (let e = ap (occurrences t) here ∙ occurs-append t b (t ∷ a) in let f = occurs-first t a in omega (arith, e, f))
+
   below-child : u < 128
-  below-child = child-below m n T Old h t r u w b a here small sub
+  below-child = stay .child-below
 
   spots-are : met T' ≡ numbersBack New
   spots-are =
@@ -80,10 +90,11 @@ module _ (m n : List ℕ) (T : List ℕ) (ys zs : List Item) (s : Task) (r u : �
   which : (o : Task) → In (spot o) New → Was o ⊎ IsChild o
   which o i = ⊎-elim inl (λ v. inr (child-is o v)) (back ys zs s (spawns u r) o i)
 
-  word-stays : (o : Task) (v : Was o) (k : ℕ) → k < 6 → (k ≡ YOUNGEST → ⊥) → (k ≡ YOUNGER → ⊥) → read n (task (numberOf o) k) ≡ read m (task (numberOf (v .0)) k)
+  word-stays : (o : Task) (v : Was o) (k : ℕ) → k < 6 → (k ≡ YOUNGEST → ⊥) → (k ≡ YOUNGER → ⊥)
+      → read n (task (numberOf o) k) ≡ read m (task (numberOf (v .0)) k)
   word-stays o v k l f g =
       ap (λ (x : ℕ). read n (task x k)) (v .2 .number)
-      ∙ kept-word m n T Old h t r u w b a here small sub (numberOf (v .0)) k (spot-unfinished m T Old h (v .0) (v .1)) l f g
+      ∙ kept-word m n t u stay (numberOf (v .0)) k (spot-unfinished m T Old h (v .0) (v .1)) l f g
 
   rights-are : (o : Task) → In (spot o) New → read n (task (numberOf o) RIGHTS) ≡ rightsOf o
   rights-are o i =
@@ -133,11 +144,14 @@ module _ (m n : List ℕ) (T : List ℕ) (ys zs : List Item) (s : Task) (r u : �
     where
       -- nobody had the child's number
       nobody : (o : Task) → In (spot o) Old → numberOf o ≡ u → ⊥
-      nobody o i e = apart m n T Old h t r u w b a here small sub (numberOf o) (spot-unfinished m T Old h o i) e
+      nobody o i e = stay .apart (numberOf o) (spot-unfinished m T Old h o i) e
 
       not-new : (o : Task) → In (spot o) Old → read m (task (numberOf o) OLDER) ≡ u → ⊥
       not-new o i e =
-          let v = on-older m T Old play h o _ u i refl (On.here {c = load (recordOf m (numberOf o)) OLDER} (let l = below-child in let f = record-word m (numberOf o) OLDER in omega (arith, e, f, l)) (record-word m (numberOf o) OLDER ∙ e)) in
+          let v = on-older m T Old play h o _ u i refl
+          (On.here {c = load (recordOf m (numberOf o)) OLDER} (let l = below-child in let f = record-word m (numberOf o) OLDER in omega (arith, e, f, l))
+          (record-word m (numberOf o) OLDER ∙ e))
+          in
           nobody (v .0) (v .1) (v .2)
 
       youngest-on : (x : ℕ) → x < 128 → read m (task t YOUNGEST) ≡ x → On (recordOf m) (load (recordOf m t) YOUNGEST) x
@@ -160,12 +174,14 @@ module _ (m n : List ℕ) (T : List ℕ) (ys zs : List Item) (s : Task) (r u : �
   spawn-linked =
       record {
         sized = w .sized;
-        top = top-is m n T Old h t r u w b a here small sub;
-        idle = idle-is m n T Old h t r u w b a here small sub;
-        first = new-first m n T Old h t r u w b a here small sub;
-        row = new-row m n T Old h t r u w b a here small sub;
-        many = new-many m n T Old h t r u w b a here small sub;
-        running = kept-word m n T Old h t r u w b a here small sub 0 STATUS (omega arith, word-is m 0 STATUS ∙ h .running) (omega arith) (λ q. omega (arith, q)) (λ q. omega (arith, q)) ∙ h .running;
+        top = top-is m n T Old h t r u w stay b a here;
+        idle = idle-is m n T Old h t r u w stay b a here;
+        first = new-first m n T Old h t r u w stay b a here small sub;
+        row = new-row m n T Old h t r u w stay b a here small sub;
+        many = new-many m n T Old h t r u w stay b a here;
+        running =
+            kept-word m n t u stay 0 STATUS (omega arith, word-is m 0 STATUS ∙ h .running) (omega arith) (λ q. omega (arith, q)) (λ q. omega (arith, q))
+            ∙ h .running;
         spots = spots-are;
         rights = rights-are;
         parents = parents-are;
@@ -174,4 +190,4 @@ module _ (m n : List ℕ) (T : List ℕ) (ys zs : List Item) (s : Task) (r u : �
 
   -- the number is new
   pub fresh-number : (o : Task) → In (spot o) Old → numberOf o ≡ u → ⊥
-  fresh-number o i e = apart m n T Old h t r u w b a here small sub (numberOf o) (spot-unfinished m T Old h o i) e
+  fresh-number o i e = stay .apart (numberOf o) (spot-unfinished m T Old h o i) e

@@ -6,9 +6,9 @@ use mathlib.Core.Logic.{_⊎_, inl, inr, ⊎-elim}
 use Prim.Native.Nat.{ℕ, zero, suc, _+_, _*_, _<_, _≤_}
 use native.Mathlib.Omega.{arith}
 use native.Mathlib.Nat.{le-of-suc-le-suc, eq-or-lt-of-le, add-mul, zero-mul}
-use lib.Dec.{eqb}
+use lib.Dec.{ltb, eqb}
 use lib.ListN.{length}
-use borrow.Author.Tests.{eq-eqb, ne-eqb, eqb-true}
+use borrow.Author.Tests.{eq-eqb, ne-eqb, eqb-true, ltb-true, ltb-false}
 use Rattle.words.specs.Words.{pick, pass, halt}
 
 -- 1 where b holds
@@ -38,6 +38,14 @@ equal? x y = go (eqb x y) refl
     go true e = inl (eqb-true x y e)
     go false e = inr (λ q. false≢true (sym e ∙ eq-eqb x y q))
 
+-- a number is below a limit or not
+pub below? : (x n : ℕ) → (x < n) ⊎ (n ≤ x)
+below? x n = go (ltb x n) refl
+  where
+    go : (b : Bool) → ltb x n ≡ b → (x < n) ⊎ (n ≤ x)
+    go true e = inl (ltb-true x n e)
+    go false e = inr (ltb-false x n e)
+
 pub one-yes : (x y : ℕ) → x ≡ y → one (eqb x y) ≡ 1
 unfolding one
 one-yes x y e = halt _ _ (eq-eqb x y e)
@@ -59,6 +67,21 @@ occurs-here x s xs e = occurs-cons x s xs ∙ ap (λ (k : ℕ). k + occurrences 
 
 pub occurs-past : (x s : ℕ) (xs : List ℕ) → (x ≡ s → ⊥) → occurrences s (x ∷ xs) ≡ occurrences s xs
 occurs-past x s xs e = let a = occurs-cons x s xs in let b = one-no x s e in omega (arith, a, b)
+
+-- the members of y ∷ l
+pub occurs-first : (y : ℕ) (l : List ℕ) → 0 < occurrences y (y ∷ l)
+occurs-first y l = let a = occurs-here y y l refl in omega (arith, a)
+
+pub occurs-later : (y x : ℕ) (l : List ℕ) → 0 < occurrences x l → 0 < occurrences x (y ∷ l)
+occurs-later y x l p = let a = occurs-cons y x l in omega (arith, a, p)
+
+-- a number that is no member is not the first, and no member of the rest
+pub occurs-not : (y x : ℕ) (l : List ℕ) → occurrences x (y ∷ l) ≡ 0 → (y ≡ x → ⊥) × (occurrences x l ≡ 0)
+occurs-not y x l e =
+    ⊎-elim
+    (λ d. let a = occurs-here y x l d in let z : ⊥ = omega (arith, a, e) in absurd z)
+    (λ n. let a = occurs-past y x l n in (n, omega (arith, a, e)))
+    (equal? y x)
 
 pub occurs-append : (s : ℕ) (xs ys : List ℕ) → occurrences s (xs ++ ys) ≡ occurrences s xs + occurrences s ys
 occurs-append s [] ys = let a = occurs-nil s in omega (arith, a)
@@ -118,16 +141,10 @@ pub exchange : (n : ℕ) (xs : List ℕ) (g : ℕ → ℕ) → ((s : ℕ) → 0 
 unfolding over
 exchange n [] g h = sym (total-zero n (λ y. occurrences y [] * g y) (λ y l. ap (λ (k : ℕ). k * g y) (occurs-nil y) ∙ zero-mul (g y)))
 exchange n (x ∷ xs) g h =
-    ap (λ (k : ℕ). g x + k) (exchange n xs g (λ s p. h s (grow s p)))
-    ∙ ap (λ (k : ℕ). k + total n (λ y. occurrences y xs * g y)) (sym (total-at n x g (h x mine)))
+    ap (λ (k : ℕ). g x + k) (exchange n xs g (λ s p. h s (occurs-later x s xs p)))
+    ∙ ap (λ (k : ℕ). k + total n (λ y. occurrences y xs * g y)) (sym (total-at n x g (h x (occurs-first x xs))))
     ∙ sym (total-plus n (λ y. one (eqb x y) * g y) (λ y. occurrences y xs * g y))
     ∙ total-ext n _ _ (λ y l. sym (ap (λ (k : ℕ). k * g y) (occurs-cons x y xs) ∙ add-mul (one (eqb x y)) (occurrences y xs) (g y)))
-  where
-    grow : (s : ℕ) → 0 < occurrences s xs → 0 < occurrences s (x ∷ xs)
-    grow s p = let q = occurs-cons x s xs in omega (arith, q, p)
-
-    mine : 0 < occurrences x (x ∷ xs)
-    mine = let q = occurs-here x x xs refl in omega (arith, q)
 
 -- a list's length is how often all numbers stand there, together
 pub length-total : (n : ℕ) (xs : List ℕ) → ((s : ℕ) → 0 < occurrences s xs → s < n) → length xs ≡ total n (λ y. occurrences y xs)

@@ -1,15 +1,15 @@
 -- The test that the numbers of a list are below a limit and none stands there twice, by marks in a scratch list.
 use mathlib.Core.Path.{_≡_, refl, ap, sym, _∙_}
-use mathlib.Core.Bool.{Bool, true, false}
+use mathlib.Core.Bool.{Bool, true}
 use mathlib.Core.List.{List, [], _∷_, _++_}
-use mathlib.Core.Logic.{_⊎_, ⊎-elim}
+use mathlib.Core.Logic.{⊎-elim}
 use Prim.Native.Nat.{ℕ, zero, suc, _+_, _<_, _≤_}
 use native.Mathlib.Omega.{arith}
 use lib.Dec.{ltb, eqb}
 use lib.ListN.{replicate, length-replicate}
 use borrow.Author.Tests.{ltb-true, eqb-true, eq-eqb, lt-ltb}
 use Rattle.words.specs.Words.{load, store, size, size-store, load-same, load-other, both, both-true, true-both}
-use Rattle.lists.specs.Counting.{occurrences, equal?, occurs-nil, occurs-here, occurs-past, occurs-append}
+use Rattle.lists.specs.Counting.{occurrences, equal?, occurs-nil, occurs-here, occurs-past, occurs-append, occurs-later}
 use Rattle.lists.specs.Marks.{zeros}
 
 -- the numbers of a list are below n, none stands in it twice, and none was marked in d
@@ -58,7 +58,8 @@ module _ (n : ℕ) where
   unfolding fresh
   says-fresh [] d g below once = refl
   says-fresh (x ∷ xs) d g below once =
-      true-both (lt-ltb x n here) (true-both (eq-eqb _ _ clear) (says-fresh xs (store d x 1) (rw (size-store d x 1) g) (λ s p. below s (grow s p)) once1))
+      true-both (lt-ltb x n here)
+      (true-both (eq-eqb _ _ clear) (says-fresh xs (store d x 1) (rw (size-store d x 1) g) (λ s p. below s (occurs-later x s xs p)) once1))
     where
       mine : occurrences x (x ∷ xs) ≡ 1 + occurrences x xs
       mine = occurs-here x x xs refl
@@ -69,25 +70,27 @@ module _ (n : ℕ) where
       clear : load d x ≡ 0
       clear = let q = mine in let r = once x in omega (arith, q, r)
 
-      grow : (s : ℕ) → 0 < occurrences s xs → 0 < occurrences s (x ∷ xs)
-      grow s p =
-          ⊎-elim (λ e. let q = occurs-here x s xs e in omega (arith, q)) (λ e. let q = occurs-past x s xs e in omega (arith, q, p)) (equal? x s)
-
       once1 : (s : ℕ) → load (store d x 1) s + occurrences s xs ≤ 1
       once1 s =
           ⊎-elim
-          (λ e. let a = ap (load (store d x 1)) (sym e) ∙ load-same d x 1 (omega (arith, here, g)) in let q = occurs-here x s xs e in let r = once s in omega (arith, a, q, r))
+          (λ e.
+          let a = ap (load (store d x 1)) (sym e) ∙ load-same d x 1 (omega (arith, here, g)) in
+          let q = occurs-here x s xs e in let r = once s in omega (arith, a, q, r))
           (λ e. let a = load-other d x s 1 (λ w. e (sym w)) in let q = occurs-past x s xs e in let r = once s in omega (arith, a, q, r))
           (equal? x s)
 
   pub distinct-says : (xs : List ℕ) → n ≤ 256 → distinct n xs ≡ true → Distinct xs
   unfolding distinct size
   distinct-says xs g e =
-      record { below = λ s h. fresh-says xs (replicate 256 0) (rw length-replicate g) e s .0 h .0; once = λ s. fresh-says xs (replicate 256 0) (rw length-replicate g) e s .1 }
+      record {
+        below = λ s h. fresh-says xs (replicate 256 0) (rw length-replicate g) e s .0 h .0;
+        once = λ s. fresh-says xs (replicate 256 0) (rw length-replicate g) e s .1;
+      }
 
   pub says-distinct : (xs : List ℕ) → n ≤ 256 → Distinct xs → distinct n xs ≡ true
   unfolding distinct size
-  says-distinct xs g h = says-fresh xs (replicate 256 0) (rw length-replicate g) (h .below) (λ s. let a = zeros 256 s in let b = h .once s in omega (arith, a, b))
+  says-distinct xs g h =
+      says-fresh xs (replicate 256 0) (rw length-replicate g) (h .below) (λ s. let a = zeros 256 s in let b = h .once s in omega (arith, a, b))
 
   -- two lists, one behind the other
   pub distinct-append : (xs ys : List ℕ) → ((s : ℕ) → 0 < occurrences s xs → s < n) → ((s : ℕ) → 0 < occurrences s ys → s < n)

@@ -1,14 +1,14 @@
 -- Tests over lists and ranges of numbers, and what each says.
 use mathlib.Core.Path.{_≡_, refl, ap, sym, _∙_}
-use mathlib.Core.Bool.{Bool, true, false}
+use mathlib.Core.Bool.{Bool, true}
 use mathlib.Core.List.{List, [], _∷_}
-use mathlib.Core.Logic.{_⊎_, inl, inr, ⊎-elim, _↔_}
-use Prim.Native.Nat.{ℕ, zero, suc, _+_, _<_, _≤_}
+use mathlib.Core.Logic.{⊎-elim}
+use Prim.Native.Nat.{ℕ, zero, suc, _+_, _-_, _<_, _≤_}
 use native.Mathlib.Omega.{arith}
 use lib.ListN.{drop}
 use lib.Seq.{getD-drop}
 use Rattle.words.specs.Words.{load, both, both-true, true-both}
-use Rattle.lists.specs.Counting.{occurrences, equal?, occurs-nil, occurs-here, occurs-past}
+use Rattle.lists.specs.Counting.{occurrences, equal?, occurs-nil, occurs-past, occurs-first, occurs-later}
 
 -- f holds of each number of a list
 unfoldable pub each : (ℕ → Bool) → List ℕ → Bool
@@ -37,14 +37,7 @@ each-says f (y ∷ ys) e x h =
 pub says-each : (f : ℕ → Bool) (xs : List ℕ) → ((x : ℕ) → 0 < occurrences x xs → f x ≡ true) → each f xs ≡ true
 unfolding each
 says-each f [] h = refl
-says-each f (y ∷ ys) h = true-both (h y (let a = occurs-here y y ys refl in omega (arith, a))) (says-each f ys (λ x p. h x (grow x p)))
-  where
-    grow : (x : ℕ) → 0 < occurrences x ys → 0 < occurrences x (y ∷ ys)
-    grow x p =
-        ⊎-elim
-        (λ q. let a = occurs-here y x ys q in omega (arith, a))
-        (λ n. let a = occurs-past y x ys n in omega (arith, a, p))
-        (equal? y x)
+says-each f (y ∷ ys) h = true-both (h y (occurs-first y ys)) (says-each f ys (λ x p. h x (occurs-later y x ys p)))
 
 pub upto-says : (f : ℕ → Bool) (n i : ℕ) → upto f n i ≡ true → (x : ℕ) → i ≤ x → x < i + n → f x ≡ true
 unfolding upto
@@ -62,6 +55,13 @@ pub says-upto : (f : ℕ → Bool) (n i : ℕ) → ((x : ℕ) → i ≤ x → x 
 unfolding upto
 says-upto f zero i h = refl
 says-upto f (suc n) i h = true-both (h i (omega arith) (omega arith)) (says-upto f n (i + 1) (λ x a b. h x (omega arith) (omega arith)))
+
+-- a loop over the numbers below n has come to i: one more turn, or none
+pub turn-left : (n i : ℕ) → i < n → n - i ≡ suc (n - (i + 1))
+turn-left n i h = omega arith
+
+pub turns-over : (n i : ℕ) → n ≤ i → n - i ≡ 0
+turns-over n i h = omega arith
 
 drop-one : (r : List ℕ) (j : ℕ) → load (drop 1 r) j ≡ load r (suc j)
 unfolding load

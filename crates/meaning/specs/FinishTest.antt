@@ -128,6 +128,18 @@ module _ (m : List ℕ) (t q : ℕ) (ht : t < 128) (hq : q < 4) where
   abbrev R : View
   R = viewOf m q t RIGHT
 
+  pub children-is : viewIn m q CHILDREN t ≡ extentOf C
+  children-is = view-at m q CHILDREN t hq (omega arith) ht
+
+  pub user-is : viewIn m q USER t ≡ extentOf U
+  user-is = view-at m q USER t hq (omega arith) ht
+
+  pub right-is : viewIn m q RIGHT t ≡ extentOf R
+  right-is = view-at m q RIGHT t hq (omega arith) ht
+
+  pub inner-extent : behind m C U C ≡ C → Tailed (viewIn m q USER t) → extentOf (reduced m C U) ≡ reduceTo (viewIn m q CHILDREN t) (viewIn m q USER t)
+  inner-extent e f = reduced-extent m C U e (subst Tailed user-is f) ∙ sym (ap₂ reduceTo children-is user-is)
+
   -- the views of t stay
   pub record Stays : Type 0 where
     pub children : behind m C U C ≡ C
@@ -137,24 +149,15 @@ module _ (m : List ℕ) (t q : ℕ) (ht : t < 128) (hq : q < 4) where
     pub right-tailed : Tailed (viewIn m q RIGHT t)
 
   module _ (s : Stays) where
-    ec : viewIn m q CHILDREN t ≡ extentOf C
-    ec = view-at m q CHILDREN t hq (omega arith) ht
-
-    eu : viewIn m q USER t ≡ extentOf U
-    eu = view-at m q USER t hq (omega arith) ht
-
-    er : viewIn m q RIGHT t ≡ extentOf R
-    er = view-at m q RIGHT t hq (omega arith) ht
-
-    inner-extent : extentOf (reduced m C U) ≡ reduceTo (viewIn m q CHILDREN t) (viewIn m q USER t)
-    inner-extent = reduced-extent m C U (s .children) (subst Tailed eu (s .user-tailed)) ∙ sym (ap₂ reduceTo ec eu)
+    inner : extentOf (reduced m C U) ≡ reduceTo (viewIn m q CHILDREN t) (viewIn m q USER t)
+    inner = inner-extent (s .children) (s .user-tailed)
 
     pub returned-whole : extentOf (returned m t q) ≡ reduceTo (reduceTo (viewIn m q CHILDREN t) (viewIn m q USER t)) (viewIn m q RIGHT t)
     unfolding returned
     returned-whole =
         ap (λ (r : View). extentOf (reduced m (reduced m C U) r)) (s .right)
-        ∙ reduced-extent m (reduced m C U) R (s .both-reduced) (subst Tailed er (s .right-tailed))
-        ∙ ap₂ reduceTo inner-extent (sym er)
+        ∙ reduced-extent m (reduced m C U) R (s .both-reduced) (subst Tailed right-is (s .right-tailed))
+        ∙ ap₂ reduceTo inner (sym right-is)
 
     -- x is the mark where the returned view goes
     pub finish-test : (x : ℕ) → returnedTo m q t (returned m t q) ≡ x → taskAt x < 128
@@ -167,9 +170,9 @@ module _ (m : List ℕ) (t q : ℕ) (ht : t < 128) (hq : q < 4) where
     unfolding finishes
     finish-test x ex hx hp =
         ap₂ both
-        (reducible-extents C U ∙ sym (ap₂ reduces ec eu))
+        (reducible-extents C U ∙ sym (ap₂ reduces children-is user-is))
         (ap₂ both
-        (ap (reducible (reduced m C U)) (s .right) ∙ reducible-extents (reduced m C U) R ∙ ap₂ reduces inner-extent (sym er))
+        (ap (reducible (reduced m C U)) (s .right) ∙ reducible-extents (reduced m C U) R ∙ ap₂ reduces inner (sym right-is))
         (ap₂ either
         (not-back _ _ (not-empty (returned m t q)) ∙ ap (λ (v : Extent). not (occupied v)) returned-whole)
         (ap (λ (i : ℕ). target (behind m C U R) i) ex

@@ -14,13 +14,14 @@ use Rattle.words.specs.Blocks.{storeAll, store-more, store-none}
 use Rattle.layout.specs.Layout.{WORDS, NONE, lengthWord, numberWord, freeSegments, freeSegment, segment, value, first, count, next, address, read, write}
 use Rattle.layout.specs.Frame.{read-same, size-write}
 use Rattle.calls.specs.Segments.{valueAt, nextFree, taken, released}
+use Rattle.calls.specs.Places.{place-low}
 use Rattle.meaning.specs.Meaning.{optional, listed, stack, freeIn, meaningOf, Sized}
 use Rattle.meaning.specs.Update.{withNext, withContents, withFree}
 use Rattle.meaning.specs.Reads.{stack-path, contents-at, value-word, next-same, contents-same}
 use Rattle.meaning.specs.Kept.{Becomes, becomes-then, becomes-at, read-away}
 use Rattle.meaning.specs.SegmentsOnly.{SegmentsOnly, segments-then, height-only, place-only, segments-sized, segments-become}
-use Rattle.meaning.specs.Ring.{place-low}
-use Rattle.meaning.specs.Segment.{OnlySegment, segment-then, segment-other, record-written, value-written, same-length, value-inside, number-below, segment-sized, next-changed, values-changed, free-kept}
+use Rattle.meaning.specs.Segment.{OnlySegment, segment-then, segment-other, record-written, value-written, same-length, value-inside, number-below}
+use Rattle.meaning.specs.Segment.{segment-sized, next-changed, values-changed, free-kept}
 
 -- a link by its word
 pub optional-none : optional NONE ≡ none

@@ -12,6 +12,7 @@ use borrow.Author.Tests.{lt-ltb, le-ltb, ltb-true}
 use Rattle.words.specs.Words.{pick, both, true-both, both-off, both-right-off, pass, halt}
 use Rattle.words.specs.Blocks.{storeAll}
 use Rattle.lists.specs.Marks.{zeros}
+use Rattle.lists.specs.Counting.{below?}
 use Rattle.layout.specs.Layout.{freeTasks, freeTask, task, address, read, write}
 use Rattle.rules.specs.Views.{view}
 use Rattle.calls.specs.Views.{viewOf}
@@ -23,7 +24,6 @@ use Rattle.meaning.specs.Maps.{put-path}
 use Rattle.meaning.specs.Reads.{head-at, view-at, head-same-at, view-same-at}
 use Rattle.meaning.specs.Kept.{Means, read-away}
 use Rattle.meaning.specs.TasksOnly.{TasksOnly, tasks-then, block-only, idle-only, idle-height-only, tasks-mean}
-use Rattle.meaning.specs.Ring.{below?}
 use Rattle.meaning.specs.Free.{optional-some}
 use Rattle.meaning.specs.Extents.{end-local, tailed-extent}
 use Rattle.meaning.specs.Records.{record-same, record-other}

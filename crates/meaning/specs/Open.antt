@@ -8,8 +8,9 @@ use native.Mathlib.Omega.{arith}
 use lib.Dec.{ltb, eqb}
 use borrow.Author.Tests.{eq-eqb, ne-eqb, lt-ltb, le-ltb, ltb-true}
 use Rattle.words.specs.Words.{load, pick, both, both-true, pass, halt}
-use Rattle.lists.specs.Counting.{equal?}
+use Rattle.lists.specs.Counting.{equal?, below?}
 use Rattle.layout.specs.Layout.{NONE, NL, USER, numberWord, freeSegment, first, count, next, task, queueHead, read}
+use Rattle.tree.specs.Queues.{by-four}
 use Rattle.rules.specs.Views.{view}
 use Rattle.calls.specs.Segments.{valueAt}
 use Rattle.calls.specs.Views.{viewOf}
@@ -19,12 +20,11 @@ use Rattle.meaning.specs.Meaning.{Meaning, optional, extentOf, listed, s
 use Rattle.meaning.specs.Update.{meaning-path}
 use Rattle.meaning.specs.Reads.{pick-path}
 use Rattle.meaning.specs.Kept.{Means}
-use Rattle.meaning.specs.Ring.{below?}
 use Rattle.meaning.specs.Free.{optional-none, optional-some}
 use Rattle.meaning.specs.Extents.{end-nonlocal, end-local, tailed-extent, no-view}
-use Rattle.meaning.specs.Records.{by-four}
 use Rattle.meaning.specs.Freed.{zeroView, zero-view}
-use Rattle.meaning.specs.OpenWords.{core, opened-core, size-core, core-length, core-number, core-height, core-stack, core-first, core-other, core-top, core-free}
+use Rattle.meaning.specs.OpenWords.{core, opened-core, size-core, core-length, core-number, core-height}
+use Rattle.meaning.specs.OpenWords.{core-stack, core-first, core-other, core-top, core-free}
 
 -- view k of the top, of queue q
 abbrev pub topView : ℕ → ℕ → Extent

@@ -5,15 +5,16 @@ use Prim.Native.Nat.{ℕ, zero, suc, _+_, _-_, _*_, _<_, _≤_}
 use native.Mathlib.Omega.{arith}
 use lib.ListN.{length, replicate, length-replicate}
 use Rattle.words.specs.Words.{load, size}
-use Rattle.words.specs.Blocks.{storeAll, block-other, size-storeAll}
+use Rattle.words.specs.Blocks.{storeAll, block-other, size-storeAll, block-same}
 use Rattle.lists.specs.Marks.{zeros}
 use Rattle.layout.specs.Layout.{WORDS, NONE, header, freeSegment, segment, task, address, read, lengthWord, numberWord, freeSegments, first, count, next}
+use Rattle.tree.specs.Queues.{by-four}
 use Rattle.calls.specs.Open.{down, emptySegment, topLinks, topViews, stacked, segmented, topped, opened}
 use Rattle.meaning.specs.SegmentsOnly.{SegmentsOnly, segments-then}
 use Rattle.meaning.specs.TasksOnly.{TasksOnly, tasks-then, block-only}
 use Rattle.meaning.specs.Segment.{OnlySegment}
 use Rattle.meaning.specs.Free.{recordSet, record-set, set-only, set-first, set-count, set-next}
-use Rattle.meaning.specs.Records.{by-four, block-same, record-same, record-other}
+use Rattle.meaning.specs.Records.{record-same, record-other}
 
 -- NUMBERS FROM x DOWN
 pub down-length : (n x : ℕ) → length (down n x) ≡ n
@@ -48,7 +49,7 @@ module _ (l n : ℕ) (hn : 4 ≤ n) (hn' : n ≤ 256) where
   size-headed : size headed ≡ WORDS
   size-headed = size-storeAll (replicate WORDS 0) 0 _ ∙ (unfold size in length-replicate {A = ℕ} WORDS 0)
 
-  size-stacked : size stacked1 ≡ WORDS
+  pub size-stacked : size stacked1 ≡ WORDS
   size-stacked = size-storeAll headed _ _ ∙ size-headed
 
   size-bare : size bare ≡ WORDS

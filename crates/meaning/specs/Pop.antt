@@ -1,6 +1,6 @@
 -- pop: the first value of a queue is gone, and a segment that it leaves empty and that has a next is freed.
 use mathlib.Core.Path.{_≡_, refl, ap, sym, _∙_}
-use mathlib.Core.Bool.{Bool, true, false, not}
+use mathlib.Core.Bool.{true, not}
 use mathlib.Core.Option.{Option, none, some}
 use mathlib.Core.List.{List, [], _∷_}
 use Prim.Native.Nat.{ℕ, suc, _<_}
@@ -8,7 +8,7 @@ use native.Mathlib.Omega.{arith}
 use lib.Dec.{eqb}
 use lib.ListN.{length}
 use borrow.Author.Tests.{eq-eqb, ne-eqb}
-use Rattle.words.specs.Words.{pick, either, true-left, true-right, pass, halt}
+use Rattle.words.specs.Words.{pick, either, true-left, true-right, pass, halt, neither}
 use Rattle.layout.specs.Layout.{NONE, numberWord, count, next, queueHead, read, write}
 use Rattle.calls.specs.Segments.{dropped, released}
 use Rattle.calls.specs.Find.{popped}
@@ -88,15 +88,12 @@ module _ (m : List ℕ) (t q s w : ℕ) (r : List ℕ) (z : Sized m) (ht : t < 1
       let c = segment-released m2 s (ab .sized) (rw (ab .kept .number) hs) (rw (ap (λ N. length (N .free)) (ab .means), ab .kept .number) room) in
       let all = becomes-then (λ N. withFree (withContents (withNext N s (some 0)) s []) (s ∷ N .free)) ab c in
       becomes-at
-      (sym (words ∙ pass _ (both-no (ne-eqb (read m (next s)) NONE (some-word (read m (next s)) h link)) (ap not (eq-eqb _ _ (left ∙ ap length er)))) refl))
+      (sym (words ∙ pass _ (neither (ne-eqb (read m (next s)) NONE (some-word (read m (next s)) h link)) (ap not (eq-eqb _ _ (left ∙ ap length er)))) refl))
       (becomes-as
       (meaning-path _
       (withStore M q (record { next = put (M .next) s (some 0); contents = put (M .contents) s []; heads = put (M .heads q) t (some h); free = s ∷ M .free }))
       refl (put-twice (contentsIn m) s [] []) refl refl refl)
       all)
-    where
-      both-no : {x y : Bool} → x ≡ false → y ≡ false → either x y ≡ false
-      both-no p o = unfold either in pass _ p o
 
   -- THE FIRST VALUE IS GONE. Where a segment is freed, the stack of free segments has room.
   pub value-popped : (r ≡ [] → (h : ℕ) → nextIn m s ≡ some h → length (freeIn m) < read m numberWord) → Becomes m (popped m t q) (poppedIn M q t s r)

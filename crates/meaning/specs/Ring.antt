@@ -1,51 +1,23 @@
 -- The ring of values of a segment: its places, the words of two segments, and the values of all segments where those of
 -- one have changed.
 use mathlib.Core.Path.{_≡_, refl, ap, sym, _∙_}
-use mathlib.Core.Bool.{Bool, true, false}
-use mathlib.Core.Logic.{_⊎_, inl, inr, ⊎-elim}
+use mathlib.Core.Logic.{⊎-elim}
 use mathlib.Core.List.{List}
 use Prim.Native.Nat.{ℕ, zero, suc, _+_, _-_, _*_, _<_, _≤_}
 use native.Mathlib.Omega.{arith}
 use native.Mathlib.Nat.{mul-le-mul-right}
-use lib.Dec.{ltb}
 use lib.ListN.{length}
-use borrow.Author.Tests.{lt-ltb, le-ltb, ltb-true, ltb-false}
-use Rattle.words.specs.Words.{pass, halt}
+use Rattle.lists.specs.Counting.{below?}
 use Rattle.layout.specs.Layout.{lengthWord, value, first, count, address, read, write}
 use Rattle.calls.specs.Segments.{place, valueAt}
+use Rattle.calls.specs.Places.{place-low, place-high, place-below}
 use Rattle.gaps.specs.Maps.{put}
 use Rattle.meaning.specs.Meaning.{listed, contentsIn}
 use Rattle.meaning.specs.Maps.{put-path}
 use Rattle.meaning.specs.Reads.{contents-at, contents-same-at}
 use Rattle.meaning.specs.Kept.{read-away}
 
-pub below? : (x n : ℕ) → (x < n) ⊎ (n ≤ x)
-below? x n = go (ltb x n) refl
-  where
-    go : (b : Bool) → ltb x n ≡ b → (x < n) ⊎ (n ≤ x)
-    go true e = inl (ltb-true x n e)
-    go false e = inr (ltb-false x n e)
-
 -- PLACES, from the first place f on
-pub place-low : (l f k : ℕ) → f + k < l → place l f k ≡ f + k
-unfolding place
-place-low l f k h = halt _ _ (lt-ltb _ _ h)
-
-place-high : (l f k : ℕ) → l ≤ f + k → f + k - l < l → place l f k ≡ f + k - l
-unfolding place
-place-high l f k h g = pass _ (le-ltb _ _ h) (halt _ _ (lt-ltb _ _ g))
-
-place-past : (l f k : ℕ) → l ≤ f + k → l ≤ f + k - l → place l f k ≡ 0
-unfolding place
-place-past l f k h g = pass _ (le-ltb _ _ h) (pass _ (le-ltb _ _ g) refl)
-
-pub place-below : (l f k : ℕ) → 1 ≤ l → place l f k < l
-place-below l f k h =
-    ⊎-elim
-    (λ a. let e = place-low l f k a in omega (arith, e, a))
-    (λ a. ⊎-elim (λ b. let e = place-high l f k a b in omega (arith, e, b)) (λ b. let e = place-past l f k a b in omega (arith, e, h)) (below? (f + k - l) l))
-    (below? (f + k) l)
-
 -- two values of a segment have two places
 pub place-apart : (l f j k : ℕ) → f < l → j < k → k < l → place l f j ≡ place l f k → ⊥
 place-apart l f j k hf hj hk e =

@@ -9,7 +9,7 @@ use native.Mathlib.Omega.{arith}
 use lib.Dec.{ltb}
 use borrow.Author.Tests.{lt-ltb, le-ltb}
 use Rattle.words.specs.Words.{load, pick, pass, halt}
-use Rattle.lists.specs.Counting.{equal?}
+use Rattle.lists.specs.Counting.{equal?, below?}
 use Rattle.layout.specs.Layout.{NONE, YOUNGEST, CHILDREN, USER, RIGHT, task, head, tail, queueHead, read}
 use Rattle.tree.specs.Rights.{pops, uses}
 use Rattle.rules.specs.Views.{view}
@@ -22,10 +22,10 @@ use Rattle.meaning.specs.Maps.{put-path, three-path}
 use Rattle.meaning.specs.Reads.{head-at, view-at, head-same-at, view-same-at}
 use Rattle.meaning.specs.Kept.{Means}
 use Rattle.meaning.specs.TasksOnly.{tasks-mean}
-use Rattle.meaning.specs.Ring.{below?}
 use Rattle.meaning.specs.Free.{optional-none}
 use Rattle.meaning.specs.Extents.{no-view}
-use Rattle.meaning.specs.SpawnWords.{child-queue, child-heads, child-tails, made-only, made-other, made-child, made-kept, made-queue, made-head, made-tail}
+use Rattle.meaning.specs.SpawnWords.{child-queue, child-heads, child-tails, made-only, made-other, made-child, made-kept, made-queue, made-head}
+use Rattle.meaning.specs.SpawnWords.{made-tail}
 
 -- the queue heads of one queue, where b says that the child may pop from it
 abbrev pub spawnedHeads : Bool → ℕ → ℕ → (ℕ → Option ℕ) → ℕ → Option ℕ

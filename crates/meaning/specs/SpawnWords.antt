@@ -11,10 +11,11 @@ use borrow.Author.Tests.{eqb-false}
 use Rattle.words.specs.Words.{load, size, pick}
 use Rattle.words.specs.Blocks.{storeAll, size-storeAll}
 use Rattle.layout.specs.Layout.{WORDS, NONE, UNFINISHED, YOUNGER, YOUNGEST, USER, task, head, tail, queueHead, address, read, write}
-use Rattle.calls.specs.Spawn.{forQueues, passedUser, passedQueue, keptUser, keptQueue, noWords, childViews, passedOn, childMade}
+use Rattle.tree.specs.Queues.{by-four}
+use Rattle.calls.specs.Spawn.{forQueues, passedUser, passedQueue, keptUser, keptQueue, noWords, childViews, passedOn, childMade, queues-four}
 use Rattle.meaning.specs.TasksOnly.{TasksOnly, tasks-then, word-only, block-only}
 use Rattle.meaning.specs.Views.{task-other}
-use Rattle.meaning.specs.Records.{by-four, record-same, record-other}
+use Rattle.meaning.specs.Records.{record-same, record-other}
 
 -- FOUR WORDS, one for each queue, with others behind them
 four-here : (f : ℕ → ℕ) (r : List ℕ) (q : ℕ) → q < 4 → load (forQueues f ++ r) q ≡ f q
@@ -28,10 +29,6 @@ four-past f r i = getD-append-add (forQueues f) r i 0
 four-only : (f : ℕ → ℕ) (q : ℕ) → q < 4 → load (forQueues f) q ≡ f q
 unfolding forQueues load
 four-only f q h = by-four (λ p. load (forQueues f) p ≡ f p) refl refl refl refl q h
-
-four-length : (f : ℕ → ℕ) → length (forQueues f) ≡ 4
-unfolding forQueues
-four-length f = refl
 
 -- four times the mark for none
 none-here : (l : List ℕ) (q : ℕ) → q < 4 → load (noWords ++ l) q ≡ NONE
@@ -90,7 +87,7 @@ module _ (m : List ℕ) (t r : ℕ) (z : size m ≡ WORDS) (ht : t < 128) where
   heads2 = storeAll heads1 (address (head USER t 0)) (forQueues (λ q. keptUser r (read m (head USER t q)) q))
 
   four-fits : (f : ℕ → ℕ) (k : ℕ) → k ≤ 36 → k + length (forQueues f) ≤ 48
-  four-fits f k h = let e = four-length f in omega (arith, e, h)
+  four-fits f k h = let e = queues-four f in omega (arith, e, h)
 
   size1 : size heads1 ≡ WORDS
   size1 = size-storeAll m _ _ ∙ z
@@ -100,12 +97,12 @@ module _ (m : List ℕ) (t r : ℕ) (z : size m ≡ WORDS) (ht : t < 128) where
 
   -- one block of four words, at place k of the record
   four-word : (n : List ℕ) (f : ℕ → ℕ) (k q : ℕ) → size n ≡ WORDS → k ≤ 36 → q < 4 → read (storeAll n (address (task t k)) (forQueues f)) (task t (k + q)) ≡ f q
-  four-word n f k q s h hq = record-same n t k (forQueues f) ht (four-fits f k h) s q (let e = four-length f in omega (arith, e, hq)) ∙ four-only f q hq
+  four-word n f k q s h hq = record-same n t k (forQueues f) ht (four-fits f k h) s q (let e = queues-four f in omega (arith, e, hq)) ∙ four-only f q hq
 
   four-other : (n : List ℕ) (f : ℕ → ℕ) (k u j : ℕ) → k ≤ 36 → j < 48 → (u ≡ t → k ≤ j → j < k + 4 → ⊥)
       → read (storeAll n (address (task t k)) (forQueues f)) (task u j) ≡ read n (task u j)
   four-other n f k u j h l d =
-      record-other n t k (forQueues f) ht (four-fits f k h) u j l (λ e a b. d e a (let c = four-length f in omega (arith, b, c)))
+      record-other n t k (forQueues f) ht (four-fits f k h) u j l (λ e a b. d e a (let c = queues-four f in omega (arith, b, c)))
 
   pub passed-only : TasksOnly m (passedOn m t r)
   unfolding passedOn

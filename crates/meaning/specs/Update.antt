@@ -121,9 +121,6 @@ module _ (M : Meaning) (q t : ℕ) where
     pub head-here : withHead M q t x .heads q ≡ put (M .heads q) t x
     head-here = put-same (M .heads) q _
 
-    pub head-queue : (p : ℕ) → (p ≡ q → ⊥) → withHead M q t x .heads p ≡ M .heads p
-    head-queue p n = put-other (M .heads) q _ p n
-
 -- TWO VIEWS CHANGED: the same one twice, and two kinds of one queue
 module _ (M : Meaning) (q k t : ℕ) (x : Extent) where
   pub view-twice : (y : Extent) → withView (withView M q k t x) q k t y ≡ withView M q k t y

@@ -8,13 +8,15 @@ use lib.ListN.{length}
 use Rattle.layout.specs.Layout.{lengthWord, numberWord, segment, value, first, count, address, read, write}
 use Rattle.layout.specs.Frame.{read-same, size-write}
 use Rattle.calls.specs.Segments.{place, valueAt, stored, dropped}
+use Rattle.calls.specs.Places.{place-below}
 use Rattle.meaning.specs.Meaning.{listed, contentsIn, meaningOf, Sized}
 use Rattle.meaning.specs.Update.{withContents}
 use Rattle.meaning.specs.Reads.{listed-path, listed-last, contents-at, value-word, value-same, next-same}
 use Rattle.meaning.specs.Kept.{Becomes, read-away}
 use Rattle.meaning.specs.SegmentsOnly.{segments-become}
-use Rattle.meaning.specs.Ring.{place-below, place-apart, place-next, count-length}
-use Rattle.meaning.specs.Segment.{OnlySegment, segment-then, segment-other, record-written, value-written, same-length, value-inside, number-below, segment-sized, values-changed, free-kept}
+use Rattle.meaning.specs.Ring.{place-apart, place-next, count-length}
+use Rattle.meaning.specs.Segment.{OnlySegment, segment-then, segment-other, record-written, value-written, same-length, value-inside, number-below}
+use Rattle.meaning.specs.Segment.{segment-sized, values-changed, free-kept}
 
 -- A VALUE STORED at the end of segment s
 pub value-stored : (m : List ℕ) (s v : ℕ) → Sized m → s < read m numberWord → read m (count s) < read m lengthWord

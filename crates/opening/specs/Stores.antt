@@ -1,12 +1,12 @@
 -- Stores in a row, as the code makes them.
-use mathlib.Core.Path.{_≡_, refl, ap, sym, _∙_}
-use mathlib.Core.List.{List, [], _∷_, _++_}
-use Prim.Native.Nat.{ℕ, zero, suc, _+_, _-_, _*_, _<_, _≤_}
+use mathlib.Core.Path.{_≡_, ap, sym, _∙_}
+use mathlib.Core.List.{List, [], _∷_}
+use Prim.Native.Nat.{ℕ, suc, _+_, _-_, _*_, _<_, _≤_}
 use native.Mathlib.Omega.{arith}
 use lib.ListN.{length, replicate}
 use Rattle.words.specs.Words.{store}
-use Rattle.words.specs.Blocks.{storeAll, store-none, store-more, store-append}
-use Rattle.layout.specs.Layout.{WORDS, NONE, NL, UNFINISHED, segment, task, freeSegment, freeTask, address, write}
+use Rattle.words.specs.Blocks.{storeAll, store-none, store-more, store-append, store-three}
+use Rattle.layout.specs.Layout.{NONE, NL, UNFINISHED, segment, task, address, write}
 use Rattle.calls.specs.Open.{down, emptySegment, topLinks, topViews, stacked, segmented, topped, opened}
 
 pub down-start : (m : List ℕ) (a n x : ℕ) → storeAll m (a + 0) (down (n - 0) (x - 0)) ≡ storeAll m a (down n x)
@@ -30,21 +30,6 @@ pub down-done : (m : List ℕ) (a n x i : ℕ) → n ≤ i → storeAll m (a + i
 unfolding down
 down-done m a n x i l = ap (λ (k : ℕ). storeAll m (a + i) (down k (x - i))) (let z : n - i ≡ 0 = omega arith in z) ∙ store-none m (a + i)
 
--- three words, and six
-pub three : (m m1 m2 m3 : List ℕ) (a u v w : ℕ) → m1 ≡ store m a u → m2 ≡ store m1 (a + 1) v → m3 ≡ store m2 (a + 2) w
-    → m3 ≡ storeAll m a (u ∷ v ∷ w ∷ [])
-three m m1 m2 m3 a u v w e1 e2 e3 =
-    sym
-    (store-more m a u (v ∷ w ∷ [])
-    ∙ step (store m a u) m1 (suc a) v (w ∷ []) (sym e1)
-    ∙ step (store m1 (suc a) v) m2 (suc (suc a)) w [] (ap (λ (b : ℕ). store m1 b v) (let z : suc a ≡ a + 1 = omega arith in z) ∙ sym e2)
-    ∙ store-none _ _
-    ∙ ap (λ (b : ℕ). store m2 b w) (let z : suc (suc a) ≡ a + 2 = omega arith in z)
-    ∙ sym e3)
-  where
-    step : (x y : List ℕ) (b w : ℕ) (ws : List ℕ) → x ≡ y → storeAll x b (w ∷ ws) ≡ storeAll (store y b w) (suc b) ws
-    step x y b w ws e = ap (λ (l : List ℕ). storeAll l b (w ∷ ws)) e ∙ store-more y b w ws
-
 -- four words in front of others
 pub four-more : (m m' : List ℕ) (a w0 w1 w2 w3 : ℕ) (ws : List ℕ) → m' ≡ storeAll m a (w0 ∷ w1 ∷ w2 ∷ w3 ∷ [])
     → storeAll m a (w0 ∷ w1 ∷ w2 ∷ w3 ∷ ws) ≡ storeAll m' (a + 4) ws
@@ -62,7 +47,9 @@ segments-made m m1 m2 m3 m4 e1 e2 e3 e4 =
 pub one-made : (m m1 m2 m3 : List ℕ) (s : ℕ) → m1 ≡ write m (segment s 0) 0 → m2 ≡ write m1 (segment s 1) 0 → m3 ≡ write m2 (segment s 2) NONE
     → m3 ≡ storeAll m (address (segment s 0)) emptySegment
 unfolding write address
-one-made m m1 m2 m3 s e1 e2 e3 = three m m1 m2 m3 (448 + s * 4 + 0) 0 0 NONE e1 (e2 ∙ ap (λ (b : ℕ). store m1 b 0) (let z : 448 + s * 4 + 1 ≡ 448 + s * 4 + 0 + 1 = omega arith in z)) (e3 ∙ ap (λ (b : ℕ). store m2 b NONE) (let z : 448 + s * 4 + 2 ≡ 448 + s * 4 + 0 + 2 = omega arith in z))
+one-made m m1 m2 m3 s e1 e2 e3 =
+    store-three m m1 m2 m3 (448 + s * 4 + 0) 0 0 NONE e1 (e2 ∙ ap (λ (b : ℕ). store m1 b 0) (let z : 448 + s * 4 + 1 ≡ 448 + s * 4 + 0 + 1 = omega arith in z))
+    (e3 ∙ ap (λ (b : ℕ). store m2 b NONE) (let z : 448 + s * 4 + 2 ≡ 448 + s * 4 + 0 + 2 = omega arith in z))
 
 -- the links of the top
 links-made : (m m1 m2 m3 : List ℕ) → m1 ≡ storeAll m 1472 (UNFINISHED ∷ 255 ∷ NONE ∷ NONE ∷ []) → m2 ≡ store m1 1476 NONE → m3 ≡ store m2 1477 NONE
@@ -93,7 +80,8 @@ views-made m m1 m2 m3 m4 m5 m6 m7 e1 e2 e3 e4 e5 e6 e7 =
     ∙ four-more m5 m6 1508 0 1 2 3 _ e6
     ∙ sym e7)
 
-pub top-made : (m m1 m2 m3 m4 m5 m6 m7 m8 m9 m10 : List ℕ) → m1 ≡ storeAll m 1472 (UNFINISHED ∷ 255 ∷ NONE ∷ NONE ∷ []) → m2 ≡ store m1 1476 NONE → m3 ≡ store m2 1477 NONE
+pub top-made : (m m1 m2 m3 m4 m5 m6 m7 m8 m9 m10 : List ℕ) → m1 ≡ storeAll m 1472 (UNFINISHED ∷ 255 ∷ NONE ∷ NONE ∷ []) → m2 ≡ store m1 1476 NONE
+    → m3 ≡ store m2 1477 NONE
     → m4 ≡ storeAll m3 1488 (0 ∷ 1 ∷ 2 ∷ 3 ∷ []) → m5 ≡ storeAll m4 1492 (NONE ∷ NONE ∷ NONE ∷ NONE ∷ [])
     → m6 ≡ storeAll m5 1496 (NL ∷ NL ∷ NL ∷ NL ∷ []) → m7 ≡ storeAll m6 1500 (NONE ∷ NONE ∷ NONE ∷ NONE ∷ [])
     → m8 ≡ storeAll m7 1504 (NONE ∷ NONE ∷ NONE ∷ NONE ∷ []) → m9 ≡ storeAll m8 1508 (0 ∷ 1 ∷ 2 ∷ 3 ∷ [])

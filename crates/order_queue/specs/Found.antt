@@ -1,9 +1,9 @@
 -- WHAT A TASK FINDS that has no popper before it is read off the front of the timeline.
 use mathlib.Core.Path.{_≡_, refl, ap, sym, _∙_, subst}
 use mathlib.Core.Bool.{Bool, true, false}
-use mathlib.Core.List.{List, [], _∷_, _++_, tail-eq-of-cons-eq}
+use mathlib.Core.List.{List, [], _∷_, _++_, tail-eq-of-cons-eq, cons-ne-nil}
 use mathlib.Core.Logic.{⊎-elim}
-use Prim.Native.Nat.{ℕ, _+_}
+use Prim.Native.Nat.{ℕ}
 use lib.Dec.{eqb}
 use lib.ListN.{length, drop}
 use Rattle.words.specs.Words.{pick, pass, halt, either}
@@ -49,9 +49,6 @@ behind-pusher q (spot s ∷ xs) = behind-pusher q xs
 cons-apart : {v t : ℕ} {ps rs : List Point} → value v ∷ ps ≡ user t ∷ rs → ⊥
 cons-apart e = let z : _≡_ {A = ℕ} 0 1 = cc in omega native.Mathlib.Omega.arith
 
-nil-apart : {x : Point} {ps : List Point} → x ∷ ps ≡ [] → ⊥
-nil-apart e = let z : _≡_ {A = ℕ} 0 1 = cc in omega native.Mathlib.Omega.arith
-
 same-value : {v w : ℕ} {ps rs : List Point} → value v ∷ ps ≡ value w ∷ rs → (v ≡ w) × (ps ≡ rs)
 same-value e = (cc, tail-eq-of-cons-eq e)
 
@@ -65,8 +62,8 @@ pub front : (q : ℕ) (xs : List Item) (popped : List ℕ) (ps : List Point) →
     → Front ps (run (flagAfter q false xs) (drop (length popped) (flagged q false xs)))
 unfolding along flagged flagAfter flags either pick
 front q [] [] [] n e = nothing
-front q [] [] (x ∷ ps) n e = absurd (nil-apart (sym e))
-front q [] (w ∷ popped) ps n e = absurd (nil-apart (sym e))
+front q [] [] (x ∷ ps) n e = absurd (cons-ne-nil _ _ (sym e))
+front q [] (w ∷ popped) ps n e = absurd (cons-ne-nil _ _ (sym e))
 front q (step p a ∷ xs) popped ps n e = ⊎-elim (none (front q xs popped ps n)) (one (λ vs rs. front q xs vs rs n)) (added-one q a)
   where
     none : (along q xs ≡ values popped ++ ps → Says q xs popped ps false) → added q a ≡ []
@@ -75,23 +72,25 @@ front q (step p a ∷ xs) popped ps n e = ⊎-elim (none (front q xs popped ps n
 
     by : More q xs → (v : ℕ) (popped : List ℕ) (ps : List Point) → value v ∷ along q xs ≡ values popped ++ ps
         → Front ps (run (flagAfter q false xs) (drop (length popped) (pending v false ∷ flagged q false xs)))
-    by rest v [] [] d = absurd (nil-apart d)
+    by rest v [] [] d = absurd (cons-ne-nil _ _ d)
     by rest v [] (value w ∷ ps) d = rw (sym (same-value d .0)) first
     by rest v [] (user t ∷ ps) d = absurd (cons-apart d)
     by rest v (w ∷ popped) ps d = rest popped ps (same-value d .1)
 
-    one : More q xs → (v : ℕ) × (added q a ≡ value v ∷ []) → Front ps (run (flagAfter q false xs) (drop (length popped) (flags false (added q a) ++ flagged q false xs)))
+    one : More q xs → (v : ℕ) × (added q a ≡ value v ∷ [])
+        → Front ps (run (flagAfter q false xs) (drop (length popped) (flags false (added q a) ++ flagged q false xs)))
     one rest w = rw (w .1) (by rest (w .0) popped ps (ap (λ (l : List Point). l ++ along q xs) (sym (w .1)) ∙ e))
 front q (spot s ∷ xs) popped ps n e = go (front q xs popped ps (n .1)) (uses (rightsOf s) q) refl
   where
     user-first : (popped : List ℕ) (ps : List Point) → user (numberOf s) ∷ along q xs ≡ values popped ++ ps
         → Front ps (run (flagAfter q true xs) (drop (length popped) (flagged q true xs)))
-    user-first [] [] d = absurd (nil-apart d)
+    user-first [] [] d = absurd (cons-ne-nil _ _ d)
     user-first [] (value w ∷ ps) d = absurd (cons-apart (sym d))
     user-first [] (user t ∷ ps) d = let w = behind-pusher q xs in rw (w .1) (held (w .0))
     user-first (w ∷ popped) ps d = absurd (cons-apart (sym d))
 
-    go : (along q xs ≡ values popped ++ ps → Says q xs popped ps false) → (b : Bool) → uses (rightsOf s) q ≡ b → Says q xs popped ps (either false (mayPush (rightsOf s) q))
+    go : (along q xs ≡ values popped ++ ps → Says q xs popped ps false) → (b : Bool) → uses (rightsOf s) q ≡ b
+        → Says q xs popped ps (either false (mayPush (rightsOf s) q))
     go rest true u =
         subst (Says q xs popped ps) (sym (uses-pushes (rightsOf s) q u (n .0)))
         (user-first popped ps (sym (halt (user (numberOf s) ∷ along q xs) (along q xs) u) ∙ e))

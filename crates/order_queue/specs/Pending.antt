@@ -7,7 +7,7 @@ use Prim.Native.Nat.{ℕ, zero, suc, _+_, _-_, _≤_}
 use native.Mathlib.Nat.{le-of-suc-le-suc}
 use native.Mathlib.Omega.{arith}
 use lib.Dec.{eqb}
-use lib.ListN.{length, drop, length-append}
+use lib.ListN.{length, drop, length-append, length-drop}
 use lib.Seq.{drop-drop}
 use Rattle.words.specs.Words.{pick, either}
 use Rattle.tree.specs.Rights.{pushes as mayPush}
@@ -39,11 +39,6 @@ drop-front : {A : Type 0} (n : ℕ) (xs ys : List A) → n ≤ length xs → dro
 drop-front zero xs ys h = refl
 drop-front (suc n) [] ys h = let z : ⊥ = omega (arith, h) in absurd z
 drop-front (suc n) (x ∷ xs) ys h = drop-front n xs ys (le-of-suc-le-suc h)
-
-drop-length : {A : Type 0} (n : ℕ) (xs : List A) → length (drop n xs) ≡ length xs - n
-drop-length zero xs = omega arith
-drop-length (suc n) [] = omega arith
-drop-length (suc n) (x ∷ xs) = let e = drop-length n xs in omega (arith, e)
 
 flags-length : (b : Bool) (q : ℕ) (a : Act) → length (flags b (added q a)) ≡ length (added q a)
 unfolding flags added pick
@@ -90,7 +85,7 @@ runs-is q (step p a ∷ xs) b vs h =
     let e = flags-length b q a in
     let d = length-append vs g in
     let t = h .0 in
-    let l = drop-length k (vs ++ g) in
+    let l = length-drop k (vs ++ g) in
     let same : length (drop k (vs ++ g)) ≡ length vs + length (added q a) - k = omega (arith, e, d, l) in
     ap (runs q xs) (stepped-is q a b vs)
     ∙ runs-is q xs b (drop k (vs ++ g)) (rw same (h .1))

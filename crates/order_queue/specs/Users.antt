@@ -1,30 +1,18 @@
 -- The rights to one queue: a task that uses it pushes or pops, one that does not does neither.
 use mathlib.Core.Path.{_≡_, refl, sym, _∙_}
-use mathlib.Core.Bool.{Bool, true, false, not, false≢true}
+use mathlib.Core.Bool.{Bool, true, false, false≢true}
 use Prim.Native.Nat.{ℕ, zero, suc, _/_, _%_, _<_}
 use native.Mathlib.Omega.{arith}
-use borrow.Author.Tests.{eqb-true, eqb-false, eq-eqb, ne-eqb}
+use borrow.Author.Tests.{eqb-true, eqb-false, eq-eqb, ne-eqb, not-true, not-false}
 use Rattle.tree.specs.Rights.{bits, pushes, pops, uses}
-
-bits-few : (r q : ℕ) → bits r q < 4
-unfolding bits
-bits-few r q = omega arith
-
-not-false : (b : Bool) → not b ≡ true → b ≡ false
-not-false true e = absurd (false≢true e)
-not-false false e = refl
-
-not-true : (b : Bool) → not b ≡ false → b ≡ true
-not-true true e = refl
-not-true false e = absurd (false≢true (sym e))
 
 -- by the two bits of the queue
 module _ (r q : ℕ) where
   pub uses-pushes : uses r q ≡ true → pops r q ≡ false → pushes r q ≡ true
   unfolding uses pops pushes
   uses-pushes u p =
-      let l = bits-few r q in
-      let n = eqb-false (bits r q) 0 (not-false _ u) in
+      let l : bits r q < 4 = unfold bits in omega arith in
+      let n = eqb-false (bits r q) 0 (not-true _ u) in
       let m = eqb-false (bits r q / 2) 1 p in
       eq-eqb (bits r q % 2) 1 (go (bits r q) l n m)
     where
@@ -37,11 +25,11 @@ module _ (r q : ℕ) where
 
   pub useless-pushes : uses r q ≡ false → pushes r q ≡ false
   unfolding uses pushes
-  useless-pushes u = let e = eqb-true (bits r q) 0 (not-true _ u) in ne-eqb (bits r q % 2) 1 (λ d. omega (arith, d, e))
+  useless-pushes u = let e = eqb-true (bits r q) 0 (not-false _ u) in ne-eqb (bits r q % 2) 1 (λ d. omega (arith, d, e))
 
   pub useless-pops : uses r q ≡ false → pops r q ≡ false
   unfolding uses pops
-  useless-pops u = let e = eqb-true (bits r q) 0 (not-true _ u) in ne-eqb (bits r q / 2) 1 (λ d. omega (arith, d, e))
+  useless-pops u = let e = eqb-true (bits r q) 0 (not-false _ u) in ne-eqb (bits r q / 2) 1 (λ d. omega (arith, d, e))
 
   pub pops-uses : pops r q ≡ true → uses r q ≡ true
   pops-uses p = go (uses r q) refl

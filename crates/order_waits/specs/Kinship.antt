@@ -1,8 +1,8 @@
 -- What the waits keep true of the spots: parents stay, a blocked task has no children.
 use mathlib.Core.Path.{_≡_, refl, ap, ap₂, sym, _∙_, subst}
 use mathlib.Core.Bool.{true, false, false≢true}
-use mathlib.Core.List.{List, [], _∷_, _++_, head-eq-of-cons-eq, tail-eq-of-cons-eq}
-use mathlib.Core.Logic.{_⊎_, inl, inr, ⊎-elim}
+use mathlib.Core.List.{List, [], _∷_, _++_, head-eq-of-cons-eq, tail-eq-of-cons-eq, cons-ne-nil}
+use mathlib.Core.Logic.{inl, inr, ⊎-elim}
 use Prim.Native.Nat.{ℕ, _+_, _<_}
 use native.Mathlib.Omega.{arith}
 use lib.ListN.{length}
@@ -29,15 +29,13 @@ module _ (xs : List Item) where
     -- children are numbered below the number of children made
     pub below : (s o : Task) (j : ℕ) → Stands s → Stands o → nameOf o ≡ j ∷ nameOf s → j < kidsOf s
     -- "an unfinished task other than the top has an unfinished parent", with all its rights
-    pub parent : (s : Task) (k : ℕ) (p : Name) → Stands s → nameOf s ≡ k ∷ p → (o : Task) × Stands o × (nameOf o ≡ p) × (subset (rightsOf s) (rightsOf o) ≡ true)
+    pub parent : (s : Task) (k : ℕ) (p : Name) → Stands s → nameOf s ≡ k ∷ p
+        → (o : Task) × Stands o × (nameOf o ≡ p) × (subset (rightsOf s) (rightsOf o) ≡ true)
     -- a blocked task has no children
     pub idle : (o s c : Task) (k : ℕ) → Blocks o s → Stands s → Stands c → nameOf c ≡ k ∷ nameOf s → ⊥
 
 cons-same : {i j : ℕ} {p q : Name} → i ∷ p ≡ j ∷ q → (i ≡ j) × (p ≡ q)
 cons-same e = (head-eq-of-cons-eq e, tail-eq-of-cons-eq e)
-
-no-cons : {i : ℕ} {p : Name} {A : Type 0} → i ∷ p ≡ [] → A
-no-cons e = let z : _≡_ {A = ℕ} 0 1 = cc in absurd (omega (arith, z))
 
 top-alone : (s : Task) → In (spot s) begin → nameOf s ≡ []
 unfolding begin nameOf
@@ -46,9 +44,9 @@ top-alone s (inr i) = absurd i
 
 begin-kinship : Kinship begin
 begin-kinship = record {
-  below = λ s o j a b e. no-cons (sym e ∙ top-alone o b);
-  parent = λ s k p a e. no-cons (sym e ∙ top-alone s a);
-  idle = λ o s c k b i j e. no-cons (sym e ∙ top-alone c j);
+  below = λ s o j a b e. absurd (cons-ne-nil _ _ (sym e ∙ top-alone o b));
+  parent = λ s k p a e. absurd (cons-ne-nil _ _ (sym e ∙ top-alone s a));
+  idle = λ o s c k b i j e. absurd (cons-ne-nil _ _ (sym e ∙ top-alone c j));
 }
 
 pub says-blocked : (xs : List Item) → Reached xs → (o s : Task) → Blocks xs o s → In (spot s) xs → blocked (numberOf s) xs ≡ true
@@ -62,7 +60,8 @@ blocked-says xs h s i e =
     let b = both-true _ _ (w .2) in
     (w .0, (w .1, b .0, b .1))
 
-pub says-child-there : (xs : List Item) → Reached xs → (s c : Task) (k : ℕ) → In (spot s) xs → In (spot c) xs → nameOf c ≡ k ∷ nameOf s → hasChild (numberOf s) xs ≡ true
+pub says-child-there : (xs : List Item) → Reached xs → (s c : Task) (k : ℕ) → In (spot s) xs → In (spot c) xs → nameOf c ≡ k ∷ nameOf s
+    → hasChild (numberOf s) xs ≡ true
 unfolding hasChild
 says-child-there xs h s c k i j e = pair-is xs h _ s i ∙ says-some _ xs c j (ap (λ (n : Name). isChild n (nameOf s)) e ∙ says-child k (nameOf s))
 
@@ -203,7 +202,8 @@ module _ (ys zs : List Item) (s : Task) (a : Act) where
     pub step-kinship : Kinship New
     step-kinship = record { below = below-after; parent = parent-after; idle = idle-after }
 
-moved-kinship : {xs : List Item} (t : ℕ) (a : Act) → Reached xs → Reached (advance t a xs) → unfinished t xs ≡ true → blocked t xs ≡ false → Asked t a xs → Kinship xs
+moved-kinship : {xs : List Item} (t : ℕ) (a : Act) → Reached xs → Reached (advance t a xs) → unfinished t xs ≡ true → blocked t xs ≡ false → Asked t a xs
+    → Kinship xs
     → Kinship (advance t a xs)
 moved-kinship {xs} t a old new u b c kin = go (stands-at xs old t u)
   where

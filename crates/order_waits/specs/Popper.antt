@@ -5,10 +5,11 @@ use mathlib.Core.Bool.{Bool, true}
 use mathlib.Core.List.{List, [], _∷_, _++_}
 use mathlib.Core.Logic.{_⊎_, inl, inr, ⊎-elim}
 use mathlib.Core.Option.{Option, none, some}
-use Prim.Native.Nat.{ℕ, zero, suc, _+_, _<_}
+use Prim.Native.Nat.{ℕ, zero, suc, _<_}
 use native.Mathlib.Omega.{arith}
 use Rattle.words.specs.Words.{pick, halt, both, both-true, true-left, true-right}
-use Rattle.tree.specs.Rights.{pops, pushes, subset, eachQueue, someQueue, sharesPop}
+use Rattle.tree.specs.Rights.{pops, pushes, subset, someQueue, sharesPop}
+use Rattle.tree.specs.Queues.{each-queue}
 use Rattle.order.specs.Steps.{Name, Task, Item, step, spot, nameOf, numberOf, rightsOf}
 use Rattle.order.specs.Waits.{isOlder}
 use Rattle.order_laws.specs.Names.{Under}
@@ -26,17 +27,6 @@ firstPopper q (step p a ∷ xs) = firstPopper q xs
 firstPopper q (spot s ∷ xs) = pick (pops (rightsOf s) q) (some (numberOf s)) (firstPopper q xs)
 
 -- RIGHTS, queue by queue
-each-says : (f : ℕ → Bool) (q : ℕ) → q < 4 → eachQueue f ≡ true → f q ≡ true
-unfolding eachQueue
-each-says f q l e = go q l
-  where
-    go : (q : ℕ) → q < 4 → f q ≡ true
-    go zero l = both-true _ _ e .0
-    go (suc zero) l = both-true _ _ (both-true _ _ e .1) .0
-    go (suc (suc zero)) l = both-true _ _ (both-true _ _ (both-true _ _ e .1) .1) .0
-    go (suc (suc (suc zero))) l = both-true _ _ (both-true _ _ (both-true _ _ e .1) .1) .1
-    go (suc (suc (suc (suc q)))) l = let z : ⊥ = omega (arith, l) in absurd z
-
 says-someQueue : (f : ℕ → Bool) (q : ℕ) → q < 4 → f q ≡ true → someQueue f ≡ true
 unfolding someQueue
 says-someQueue f zero l e = true-left _ e
@@ -47,11 +37,11 @@ says-someQueue f (suc (suc (suc (suc q)))) l e = let z : ⊥ = omega (arith, l) 
 
 pub subset-pops : (a b q : ℕ) → q < 4 → subset a b ≡ true → pops a q ≡ true → pops b q ≡ true
 unfolding subset
-subset-pops a b q l e p = sym (halt _ _ p) ∙ both-true _ _ (each-says _ q l (both-true _ _ e .1)) .1
+subset-pops a b q l e p = sym (halt _ _ p) ∙ both-true _ _ (each-queue _ (both-true _ _ e .1) q l) .1
 
 pub subset-pushes : (a b q : ℕ) → q < 4 → subset a b ≡ true → pushes a q ≡ true → pushes b q ≡ true
 unfolding subset
-subset-pushes a b q l e p = sym (halt _ _ p) ∙ both-true _ _ (each-says _ q l (both-true _ _ e .1)) .0
+subset-pushes a b q l e p = sym (halt _ _ p) ∙ both-true _ _ (each-queue _ (both-true _ _ e .1) q l) .0
 
 pub both-share : (a b q : ℕ) → q < 4 → pops a q ≡ true → pops b q ≡ true → sharesPop a b ≡ true
 unfolding sharesPop both

@@ -3,8 +3,8 @@ use mathlib.Core.Path.{_≡_, refl, ap, sym, _∙_}
 use mathlib.Core.Bool.{Bool, true, false, false≢true}
 use mathlib.Core.List.{List, [], _∷_, _++_}
 use mathlib.Core.Logic.{inl, inr}
-use mathlib.Core.Option.{Option, none, some}
-use Prim.Native.Nat.{ℕ, _+_, _<_}
+use mathlib.Core.Option.{Option, none, some, Option·some-injective, Option·none-ne-some}
+use Prim.Native.Nat.{ℕ, _<_}
 use native.Mathlib.Omega.{arith}
 use Rattle.words.specs.Words.{pick, pass, halt, true-both}
 use Rattle.tree.specs.Rights.{pops as mayPop}
@@ -47,33 +47,28 @@ popper-none q (spot s ∷ xs) h = go (mayPop (rightsOf s) q) refl (popper-none q
     go true e f = absurd (h s (inl refl) e)
     go false e f = pass _ e f
 
-same-some : {m n : ℕ} → some m ≡ some n → m ≡ n
-same-some e = cc
-
-none-some : {n : ℕ} {A : Type 0} → none ≡ some n → A
-none-some e = let z : _≡_ {A = ℕ} 0 1 = cc in absurd (omega (arith, z))
-
 -- it has a spot
 pub popper-says : (q : ℕ) (xs : List Item) (n : ℕ) → firstPopper q xs ≡ some n → (s : Task) × In (spot s) xs × (numberOf s ≡ n) × (mayPop (rightsOf s) q ≡ true)
 unfolding firstPopper
-popper-says q [] n e = none-some e
+popper-says q [] n e = absurd (Option·none-ne-some _ e)
 popper-says q (step p a ∷ xs) n e = let w = popper-says q xs n e in (w .0, inr (w .1), w .2, w .3)
 popper-says q (spot s ∷ xs) n e = go (mayPop (rightsOf s) q) refl (popper-says q xs n)
   where
     go : (b : Bool) → mayPop (rightsOf s) q ≡ b → (firstPopper q xs ≡ some n → (o : Task) × In (spot o) xs × (numberOf o ≡ n) × (mayPop (rightsOf o) q ≡ true))
         → (o : Task) × In (spot o) (spot s ∷ xs) × (numberOf o ≡ n) × (mayPop (rightsOf o) q ≡ true)
-    go true b rest = (s, inl refl, same-some (sym (halt _ _ b) ∙ e), b)
+    go true b rest = (s, inl refl, Option·some-injective _ _ (sym (halt _ _ b) ∙ e), b)
     go false b rest = let w = rest (sym (pass _ b refl) ∙ e) in (w .0, inr (w .1), w .2, w .3)
 
 -- the task with this number is not among the spots before its own
-pub none-before : (ys zs : List Item) (s : Task) (q : ℕ) → Reached (ys ++ spot s ∷ zs) → firstPopper q (ys ++ spot s ∷ zs) ≡ some (numberOf s) → firstPopper q ys ≡ none
+pub none-before : (ys zs : List Item) (s : Task) (q : ℕ) → Reached (ys ++ spot s ∷ zs) → firstPopper q (ys ++ spot s ∷ zs) ≡ some (numberOf s)
+    → firstPopper q ys ≡ none
 unfolding orElse count
 none-before ys zs s q h e = go (firstPopper q ys) refl (sym (popper-append q ys (spot s ∷ zs)) ∙ e)
   where
     go : (o : Option ℕ) → firstPopper q ys ≡ o → orElse (firstPopper q ys) (firstPopper q (spot s ∷ zs)) ≡ some (numberOf s) → firstPopper q ys ≡ none
     go none d f = d
     go (some n) d f =
-        let m : n ≡ numberOf s = same-some (ap (λ (o : Option ℕ). orElse o (firstPopper q (spot s ∷ zs))) (sym d) ∙ f) in
+        let m : n ≡ numberOf s = Option·some-injective _ _ (ap (λ (o : Option ℕ). orElse o (firstPopper q (spot s ∷ zs))) (sym d) ∙ f) in
         let w = popper-says q ys n d in
         let t = numberOf s in
         let a = count-in (spotNumbered t) (spot (w .0)) ys (w .1) (numbered (w .0) t (w .2 ∙ m)) in
@@ -92,7 +87,7 @@ all-none q (spot s ∷ ys) o e i = go (mayPop (rightsOf s) q) refl i (all-none q
   where
     go : (b : Bool) → mayPop (rightsOf s) q ≡ b → In (spot o) (spot s ∷ ys) → (firstPopper q ys ≡ none → In (spot o) ys → mayPop (rightsOf o) q ≡ false)
         → mayPop (rightsOf o) q ≡ false
-    go true b i rest = none-some (sym e ∙ halt _ _ b)
+    go true b i rest = absurd (Option·none-ne-some _ (sym e ∙ halt _ _ b))
     go false b (inl d) rest = ap (λ (x : Task). mayPop (rightsOf x) q) (same-spot d) ∙ b
     go false b (inr i) rest = rest (sym (pass _ b refl) ∙ e) i
 
@@ -102,7 +97,8 @@ pub first-says : (ys zs : List Item) (s : Task) (q : ℕ) → Reached (ys ++ spo
 first-says ys zs s q h e o i = all-none q ys o (none-before ys zs s q h e) i
 
 -- and where none pops before it, it is the first
-pub first-is : (ys zs : List Item) (s : Task) (q : ℕ) → mayPop (rightsOf s) q ≡ true → firstPopper q ys ≡ none → firstPopper q (ys ++ spot s ∷ zs) ≡ some (numberOf s)
+pub first-is : (ys zs : List Item) (s : Task) (q : ℕ) → mayPop (rightsOf s) q ≡ true → firstPopper q ys ≡ none
+    → firstPopper q (ys ++ spot s ∷ zs) ≡ some (numberOf s)
 unfolding firstPopper orElse
 first-is ys zs s q m e = popper-append q ys (spot s ∷ zs) ∙ ap (λ (o : Option ℕ). orElse o (firstPopper q (spot s ∷ zs))) e ∙ halt _ _ m
 
@@ -156,9 +152,18 @@ module _ (ys zs : List Item) (s : Task) (q : ℕ) where
   other-first a h e n f = go (firstPopper q ys) refl (mayPop (rightsOf s) q) refl
     where
       go : (o : Option ℕ) → firstPopper q ys ≡ o → (b : Bool) → mayPop (rightsOf s) q ≡ b → firstPopper q (New a) ≡ some h
-      go (some m) d b c = new-is a ∙ ap (λ (x : Option ℕ). orElse x (orElse (firstPopper q (made s a)) Rest)) d ∙ sym (ap (λ (x : Option ℕ). orElse x (pick (mayPop (rightsOf s) q) (some (numberOf s)) Rest)) d) ∙ sym old-is ∙ e
+      go (some m) d b c =
+          new-is a
+          ∙ ap (λ (x : Option ℕ). orElse x (orElse (firstPopper q (made s a)) Rest)) d
+          ∙ sym (ap (λ (x : Option ℕ). orElse x (pick (mayPop (rightsOf s) q) (some (numberOf s)) Rest)) d)
+          ∙ sym old-is
+          ∙ e
       go none d true c =
-          absurd (n (sym (same-some (sym (old-is ∙ ap (λ (x : Option ℕ). orElse x (pick (mayPop (rightsOf s) q) (some (numberOf s)) Rest)) d ∙ halt _ _ c) ∙ e))))
+          absurd
+          (n
+          (sym
+          (Option·some-injective _ _
+          (sym (old-is ∙ ap (λ (x : Option ℕ). orElse x (pick (mayPop (rightsOf s) q) (some (numberOf s)) Rest)) d ∙ halt _ _ c) ∙ e))))
       go none d false c =
           new-is a
           ∙ ap (λ (x : Option ℕ). orElse (firstPopper q ys) (orElse x Rest)) (f c)

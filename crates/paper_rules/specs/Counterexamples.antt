@@ -22,6 +22,7 @@ use Rattle.gaps.specs.Line.{End, nonlocal, local, extent}
 use Rattle.links.specs.Linked.{word-is}
 use Rattle.meaning.specs.Meaning.{optional, endOf, extentOf, viewIn}
 use Rattle.meaning.specs.Reads.{next-at, head-at, view-at}
+use Rattle.meaning.specs.Free.{optional-none}
 use Rattle.paper_rules.specs.Order.{ViewName, queue, user, right, behind, placeIn, place, Before}
 use Rattle.paper_rules.specs.Words.{viewAt, headOnly, taskOf, NotQueue, Current, LinkedList}
 
@@ -91,7 +92,8 @@ rule-6-false m e rule =
     let s2 : read m (task 2 STATUS) ≡ UNFINISHED = cc in
     let r1 : read m (task 1 RIGHTS) ≡ 1 = cc in
     let w = rule (right 1) (user 2) 4 nonlocal nonlocal (busy m 1 (omega arith) s1) (busy m 2 (omega arith) s2)
-    (view-of m RIGHT 1 4 NL (omega arith) (omega arith) hr tr ∙ head-four) (view-of m USER 2 NL 4 (omega arith) (omega arith) hu tu ∙ tail-four) (λ z. omega (arith, z)) in
+    (view-of m RIGHT 1 4 NL (omega arith) (omega arith) hr tr ∙ head-four) (view-of m USER 2 NL 4 (omega arith) (omega arith) hu tu ∙ tail-four)
+    (λ z. omega (arith, z)) in
     false≢true (sym no-pop ∙ ap (λ (x : ℕ). pops x 0) (sym r1) ∙ w .0)
   where
     head-four : extentOf (view 4 NL) ≡ extent (local 4) nonlocal
@@ -133,7 +135,7 @@ rule-7-false m e rule =
     (record {
       start = 4;
       rest = [];
-      linked = next-at m 4 (omega arith) ∙ ap optional n4 ∙ none-there;
+      linked = next-at m 4 (omega arith) ∙ ap optional n4 ∙ optional-none;
       headEnd = local 4;
       tailEnd = local 4;
       head-in = v;
@@ -145,9 +147,6 @@ rule-7-false m e rule =
   where
     both-four : extentOf (view 4 4) ≡ extent (local 4) (local 4)
     both-four = unfold extentOf isEmpty endOf pick both in refl
-
-    none-there : optional NONE ≡ none
-    none-there = unfold optional pick in refl
 
 pub rule-7-case : (m : List ℕ) × (tried youngerFinished lent ≡ some m)
 rule-7-case = moves youngerFinished (unfold computed isSome in refl)
@@ -183,7 +182,7 @@ rule-8-false m e rule =
     (record {
       start = 0;
       rest = [];
-      linked = next-at m 0 (omega arith) ∙ ap optional n0 ∙ none-there;
+      linked = next-at m 0 (omega arith) ∙ ap optional n0 ∙ optional-none;
       headEnd = nonlocal;
       tailEnd = nonlocal;
       head-in = ap headOnly (head-at m 0 1 (omega arith) (omega arith) ∙ ap optional hq ∙ zero-there);
@@ -194,9 +193,6 @@ rule-8-false m e rule =
     (ap (λ (x : ℕ). both (pushes x 0) (pops x 0)) r1 ∙ pop-only) in
     omega (arith, w, pq, pu)
   where
-    none-there : optional NONE ≡ none
-    none-there = unfold optional pick in refl
-
     zero-there : optional 0 ≡ some 0
     zero-there = unfold optional pick in refl
 

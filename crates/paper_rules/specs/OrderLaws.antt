@@ -25,13 +25,13 @@ use Rattle.order.specs.Waits.{isOlder}
 use Rattle.order_laws.specs.Items.{In}
 use Rattle.links.specs.Row.{Row, row-behind, row-tree}
 use Rattle.links.specs.Linked.{tree, rules, spot-unfinished}
-use Rattle.links.specs.Marks.{mark-once, mark-left}
+use Rattle.links.specs.Marks.{mark-once, mark-left, mark-met}
 use Rattle.links.specs.Siblings.{On, here}
 use Rattle.links.specs.Siblings.On.{behind as further}
 use Rattle.links.specs.Family.{older-on, child-link}
 use Rattle.represents.specs.Represents.{Represents}
 use Rattle.paper_rules.specs.Order.{queue, children, user, right, behind, behind-at, placeIn, place, Before}
-use Rattle.paper_rules.specs.Words.{same-place, task-met}
+use Rattle.paper_rules.specs.Words.{same-place}
 
 -- a list parts at each number that stands in it
 parts-at : (x : ℕ) (l : List ℕ) → 0 < occurrences x l → (a : List ℕ) × (e : List ℕ) × (l ≡ a ++ x ∷ e)
@@ -70,7 +70,9 @@ module _ (m : List ℕ) (xs : List Item) (r : Represents m xs) where
     visit = holder-visit c idle whole t (inr u)
 
     met-at : suc (behind t T) ≡ visit .met
-    met-at = tree-same c (suc (behind t T)) (visit .met) t (mark-tree t (task-met m xs r t u)) (reached-tree c (count c) (visit .met) t (visit .reached))
+    met-at =
+        tree-same c (suc (behind t T)) (visit .met) t (mark-tree t (mark-met m (r .tour) xs (r .linked) t u))
+        (reached-tree c (count c) (visit .met) t (visit .reached))
 
     left-at : suc (behind (128 + t) T) ≡ visit .left
     left-at = tree-same c (suc (behind (128 + t) T)) (visit .left) (128 + t) (mark-tree (128 + t) (mark-left m T xs (r .linked) t u)) (visit .leaves)
@@ -98,7 +100,7 @@ module _ (m : List ℕ) (xs : List Item) (r : Represents m xs) where
             let l = v .0 in
             let g = tree-rest c j (128 + t) (λ z. top-none z) f in
             let h : after (c .recs) (128 + t) ≡ o = after-younger c t (omega (arith, e, l)) ∙ e in
-            let k = tree-same c (suc (behind o T)) j o (mark-tree o (task-met m xs r o v)) (ap (treeTest c j) (sym h) ∙ g) in
+            let k = tree-same c (suc (behind o T)) j o (mark-tree o (mark-met m (r .tour) xs (r .linked) o v)) (ap (treeTest c j) (sym h) ∙ g) in
             omega (arith, i, k)
           where
             l : o < 128

@@ -6,8 +6,7 @@ use mathlib.Core.List.{List, [], _∷_, _++_, append-assoc}
 use mathlib.Core.Logic.{_⊎_, inl, inr, ⊎-elim}
 use Prim.Native.Nat.{ℕ, _<_}
 use native.Mathlib.Omega.{arith}
-use Rattle.lists.specs.Counting.{occurrences, occurs-here, equal?}
-use Rattle.rules_tasks.specs.Holders.{below?}
+use Rattle.lists.specs.Counting.{occurrences, occurs-here, equal?, below?}
 use Rattle.order.specs.Steps.{Item}
 use Rattle.gaps.specs.Maps.{All, all-append}
 use Rattle.gaps.specs.Line.{End, local, extent, firstChain, segments}
@@ -112,12 +111,14 @@ module _ (m : List ℕ) (xs : List Item) (r : Represents m xs) where
       none-before z [] h = tt
       none-before z (slot u c ∷ a) h = (λ y e l. h .0 y e, none-before z a (h .1))
 
-      not-before : (v : ViewName) (z : ℕ) (x y : End) → Stands v S → viewHere m xs r q small v ≡ extent x (local z) → viewHere m xs r q small w ≡ extent y (local z)
+      not-before : (v : ViewName) (z : ℕ) (x y : End) → Stands v S → viewHere m xs r q small v ≡ extent x (local z)
+          → viewHere m xs r q small w ≡ extent y (local z)
           → placeIn T v < placeIn T w → ⊥
       not-before v z x y o e f =
           slot-at (NotBefore z) v S
           (subst (All (NotBefore z)) (sym (p .here))
-          (all-append (NotBefore z) (p .later) (slot w (p .chain) ∷ p .earlier) (none-after z (p .later) (falling-after T (p .later) w (p .chain) (p .earlier) falls))
+          (all-append (NotBefore z) (p .later) (slot w (p .chain) ∷ p .earlier)
+          (none-after z (p .later) (falling-after T (p .later) w (p .chain) (p .earlier) falls))
           (λ k i l. omega (arith, l), none-before z (p .earlier) (only z y f))))
           o x e
         where
@@ -143,7 +144,8 @@ module _ (m : List ℕ) (xs : List Item) (r : Represents m xs) where
       same-there v o =
           slot-at SameIfThere v S
           (subst (All SameIfThere) (sym (p .here))
-          (all-append SameIfThere (p .later) (slot w (p .chain) ∷ p .earlier) (same-after (p .later) (falling-after T (p .later) w (p .chain) (p .earlier) falls))
+          (all-append SameIfThere (p .later) (slot w (p .chain) ∷ p .earlier)
+          (same-after (p .later) (falling-after T (p .later) w (p .chain) (p .earlier) falls))
           (λ e. refl, same-before (p .earlier) (falling-before T (p .later) w (p .chain) (p .earlier) falls))))
           o
 

@@ -2,7 +2,7 @@
 use mathlib.Core.Path.{_≡_, refl, ap, sym, _∙_, subst}
 use mathlib.Core.Bool.{true, false}
 use mathlib.Core.Option.{Option, none, some, Option·some-injective}
-use mathlib.Core.List.{List, [], _∷_, _++_}
+use mathlib.Core.List.{List, _∷_}
 use mathlib.Core.Logic.{_⊎_, inl, inr, ⊎-elim}
 use Prim.Native.Nat.{ℕ, _<_}
 use native.Mathlib.Omega.{arith}
@@ -15,7 +15,7 @@ use Rattle.rules.specs.Rules.{Unfinished, Held}
 use Rattle.calls.specs.Waits.{rightsOf as rightsIn, blocked, childPops}
 use Rattle.order.specs.Steps.{Task, Item, spot, numberOf, rightsOf}
 use Rattle.order.specs.Waits.{blocked as orderBlocked, childPops as orderChildPops}
-use Rattle.order_laws.specs.Items.{In}
+use Rattle.order_laws.specs.Items.{In, in-split}
 use Rattle.order_waits.specs.Played.{Played}
 use Rattle.order_waits.specs.Popper.{firstPopper}
 use Rattle.order_waits.specs.Poppers.{popper-says, free-first}
@@ -35,12 +35,6 @@ use Rattle.paper_rules.specs.Order.{queue, user}
 use Rattle.paper_rules.specs.Slots.{slots, each-user}
 use Rattle.paper_rules.specs.Along.{Stands, slot-at}
 use Rattle.paper_rules.specs.Words.{viewAt, headOnly, same-head, same-view, empty-or-stands}
-
--- a list parts at each of its items
-parts-at : (x : Item) (xs : List Item) → In x xs → (ys : List Item) × (zs : List Item) × (xs ≡ ys ++ x ∷ zs)
-parts-at x [] i = absurd i
-parts-at x (y ∷ xs) (inl e) = ([], xs, ap (λ (z : Item). z ∷ xs) (sym e))
-parts-at x (y ∷ xs) (inr i) = let w = parts-at x xs i in (y ∷ w .0, w .1, ap (λ (l : List Item). y ∷ l) (w .2))
 
 module _ (m : List ℕ) (xs : List Item) (r : Represents m xs) (q : ℕ) (small : q < 4) where
   -- what the words have as queue heads
@@ -121,7 +115,7 @@ module _ (m : List ℕ) (xs : List Item) (r : Represents m xs) (q : ℕ) (small 
   free-holds : (s : Task) → In (spot s) xs → mayPop (rightsIn m (numberOf s)) q ≡ true → blocked m (numberOf s) ≡ false → childPops m (numberOf s) q ≡ false
       → numberOf s ≡ holder m xs r q small
   free-holds s i p b d =
-      let w = parts-at (spot s) xs i in
+      let w = in-split (spot s) xs i in
       let e = w .2 in
       let first =
       free-first (w .0) (w .1) s q small (subst Played e (r .played)) (ap (λ (x : ℕ). mayPop x q) (sym (rights-of s i)) ∙ p)

@@ -9,18 +9,17 @@ use native.Mathlib.Omega.{arith}
 use Rattle.words.specs.Words.{halt}
 use Rattle.lists.specs.Counting.{occurrences}
 use Rattle.layout.specs.Layout.{CHILDREN, USER, RIGHT}
-use Rattle.tree.specs.Tour.{tour, met}
+use Rattle.tree.specs.Tour.{tour}
 use Rattle.rules.specs.Contents.{decode}
 use Rattle.rules.specs.Rules.{Unfinished}
-use Rattle.rules_tasks.specs.Holders.{met-count}
-use Rattle.order.specs.Steps.{Item, numberOf}
+use Rattle.order.specs.Steps.{Item}
 use Rattle.gaps.specs.Line.{End, nonlocal, local, Extent, vacant, extent, firstChain}
 use Rattle.gaps.specs.Maps.{lastOf}
 use Rattle.gaps.specs.Store.{LinkedFrom, Memory}
 use Rattle.gaps.specs.Names.{count-parts}
 use Rattle.gaps.specs.Splits.{small-mets}
-use Rattle.links.specs.Linked.{unfinished-spot, says-back, tour-is}
-use Rattle.links.specs.Marks.{mark-once, mark-left}
+use Rattle.links.specs.Linked.{tour-is}
+use Rattle.links.specs.Marks.{mark-once, mark-left, mark-met}
 use Rattle.meaning.specs.Meaning.{nextIn, headsIn, viewIn}
 use Rattle.represents.specs.Represents.{queueMemory, ofTasks, usesIn, Represents}
 use Rattle.represents.specs.Parts.{parts-of}
@@ -79,16 +78,6 @@ module _ (m : List ℕ) (xs : List Item) (r : Represents m xs) where
   unfolding place
   same-place v = ap (λ (T : List ℕ). placeIn T v) (tour-is m (r .tour) xs (r .linked))
 
-  -- an unfinished task is met by it
-  pub task-met : (t : ℕ) → Unfinished (decode m) t → 0 < occurrences t (r .tour)
-  task-met t u =
-      let w = unfinished-spot m (r .tour) xs (r .linked) t u in
-      let a = says-back (w .0) xs (w .1) in
-      let b = ap (occurrences (numberOf (w .0))) (r .linked .spots) in
-      let d = met-count (r .tour) t (u .0) in
-      let e = subst (λ (x : ℕ). 0 < occurrences x (met (r .tour))) (w .2) (omega (arith, a, b)) in
-      omega (arith, d, e)
-
   module _ (q : ℕ) (small : q < 4) where
     abbrev M : Memory
     M = queueMemory m q
@@ -113,7 +102,7 @@ module _ (m : List ℕ) (xs : List Item) (r : Represents m xs) where
         let Q = parts-of m xs r in
         met-stands t (r .line q)
         (met-in (usesIn m q) (r .line q) (Q .fits q small) t (u .0) b
-        (subst (λ (l : List ℕ). 0 < occurrences t l) (sym (Q .marked q small)) (task-met t u)))
+        (subst (λ (l : List ℕ). 0 < occurrences t l) (sym (Q .marked q small)) (mark-met m (r .tour) xs (r .linked) t u)))
 
     -- the views of a task with a right to the queue stand in the line
     pub stands : (v : ViewName) → NotQueue v → Current m v → usesIn m q (taskOf v) ≡ true → Stands v (slots (r .line q))

@@ -1,17 +1,17 @@
 -- THE FOUR QUEUES OVER ONE STORE: a call on one of them leaves the others laid out as they were.
 use mathlib.Core.Path.{_≡_, refl, sym, subst}
 use mathlib.Core.List.{List, [], _∷_, _++_}
-use mathlib.Core.Logic.{_⊎_, ⊎-elim}
-use Prim.Native.Nat.{ℕ, zero, suc, _+_, _<_, _≤_}
+use mathlib.Core.Logic.{⊎-elim}
+use Prim.Native.Nat.{ℕ, _+_, _<_, _≤_}
 use native.Mathlib.Omega.{arith}
 use Rattle.words.specs.Words.{pick}
 use Rattle.lists.specs.Counting.{occurrences, equal?, occurs-append}
+use Rattle.tree.specs.Queues.{by-four}
 use Rattle.gaps.specs.Maps.{All, put, put-same, put-other, all-in}
 use Rattle.gaps.specs.Line.{Line, segments}
 use Rattle.gaps.specs.Store.{Store, Memory, Laid, Segments, timeline}
 use Rattle.gaps.specs.Stores.{Kept}
 use Rattle.gaps.specs.Pool.{Pool, mine, laid-mine, pool-row, other-queue}
-use Rattle.meaning.specs.Records.{by-four}
 use Rattle.meaning.specs.Update.{shared}
 
 -- the four lines
@@ -41,10 +41,18 @@ module _ (own : ℕ → ℕ) (single : (x : ℕ) → own x ≤ 1) (st : Store) (
   pub apart : (p q : ℕ) → p < 4 → q < 4 → (p ≡ q → ⊥) → (x : ℕ) → held x p + (held x q + occurrences x (st .free)) ≤ 1
   apart p q i j n x =
       by-four (λ p. (p ≡ q → ⊥) → held x p + (held x q + occurrences x (st .free)) ≤ 1)
-      (λ n. by-four (λ q. (0 ≡ q → ⊥) → held x 0 + (held x q + occurrences x (st .free)) ≤ 1) (λ n. absurd (n refl)) (λ n. omega (arith, sum)) (λ n. omega (arith, sum)) (λ n. omega (arith, sum)) q j n)
-      (λ n. by-four (λ q. (1 ≡ q → ⊥) → held x 1 + (held x q + occurrences x (st .free)) ≤ 1) (λ n. omega (arith, sum)) (λ n. absurd (n refl)) (λ n. omega (arith, sum)) (λ n. omega (arith, sum)) q j n)
-      (λ n. by-four (λ q. (2 ≡ q → ⊥) → held x 2 + (held x q + occurrences x (st .free)) ≤ 1) (λ n. omega (arith, sum)) (λ n. omega (arith, sum)) (λ n. absurd (n refl)) (λ n. omega (arith, sum)) q j n)
-      (λ n. by-four (λ q. (3 ≡ q → ⊥) → held x 3 + (held x q + occurrences x (st .free)) ≤ 1) (λ n. omega (arith, sum)) (λ n. omega (arith, sum)) (λ n. omega (arith, sum)) (λ n. absurd (n refl)) q j n)
+      (λ n.
+      by-four (λ q. (0 ≡ q → ⊥) → held x 0 + (held x q + occurrences x (st .free)) ≤ 1) (λ n. absurd (n refl)) (λ n. omega (arith, sum))
+      (λ n. omega (arith, sum)) (λ n. omega (arith, sum)) q j n)
+      (λ n.
+      by-four (λ q. (1 ≡ q → ⊥) → held x 1 + (held x q + occurrences x (st .free)) ≤ 1) (λ n. omega (arith, sum)) (λ n. absurd (n refl))
+      (λ n. omega (arith, sum)) (λ n. omega (arith, sum)) q j n)
+      (λ n.
+      by-four (λ q. (2 ≡ q → ⊥) → held x 2 + (held x q + occurrences x (st .free)) ≤ 1) (λ n. omega (arith, sum)) (λ n. omega (arith, sum))
+      (λ n. absurd (n refl)) (λ n. omega (arith, sum)) q j n)
+      (λ n.
+      by-four (λ q. (3 ≡ q → ⊥) → held x 3 + (held x q + occurrences x (st .free)) ≤ 1) (λ n. omega (arith, sum)) (λ n. omega (arith, sum))
+      (λ n. omega (arith, sum)) (λ n. absurd (n refl)) q j n)
       p i n
     where
       sum : held x 0 + held x 1 + held x 2 + held x 3 + occurrences x (st .free) ≤ 1
@@ -78,7 +86,8 @@ module _ (own : ℕ → ℕ) (single : (x : ℕ) → own x ≤ 1) (st : Store) (
       q i k g
 
 -- A CALL ON QUEUE q took its memory to M, its line to l, its queue view to h.
-module _ (own : ℕ → ℕ) (single : (x : ℕ) → own x ≤ 1) (st : Store) (memory : ℕ → Memory) (holder : ℕ → ℕ) (line : ℕ → Line) (all : Laids own st memory holder line)
+module _ (own : ℕ → ℕ) (single : (x : ℕ) → own x ≤ 1) (st : Store) (memory : ℕ → Memory) (holder : ℕ → ℕ) (line : ℕ → Line)
+    (all : Laids own st memory holder line)
     (q : ℕ) (small : q < 4) (M : Memory) (h : ℕ) (l : Line) (kept : Kept (mine (memory q .store) (line q)) (memory q .store) (M .store))
     (row : Laid (mine (memory q .store) (line q)) M h l) where
   abbrev Then : ℕ → Memory
@@ -94,7 +103,8 @@ module _ (own : ℕ → ℕ) (single : (x : ℕ) → own x ≤ 1) (st : Store) (
   other : (p : ℕ) → p < 4 → (p ≡ q → ⊥) → Laid (mine (shared (M .store) (memory p) .store) (line p)) (shared (M .store) (memory p)) (holder p) (line p)
   other p i n =
       let m = memory p in
-      other-queue (mine st (line q)) (mine (m .store) (line p)) (mine (M .store) (line p)) (m .children) (m .user) (m .right) (m .store .heads) st (M .store) (holder p) (line p)
+      other-queue (mine st (line q)) (mine (m .store) (line p)) (mine (M .store) (line p)) (m .children) (m .user) (m .right) (m .store .heads) st (M .store)
+      (holder p) (line p)
       kept-shared (others-apart own single st line (all .pool) p q i small n) (λ x. refl)
       (subst (λ (w : Memory). Laid (mine (m .store) (line p)) w (holder p) (line p)) (all .shares p i) (all .laid p i)) .0
 
@@ -119,6 +129,7 @@ module _ (own : ℕ → ℕ) (single : (x : ℕ) → own x ≤ 1) (st : Store) (
   pub other-timeline : (p : ℕ) → p < 4 → (p ≡ q → ⊥) → timeline (M .store .contents) (line p) ≡ timeline (st .contents) (line p)
   other-timeline p i n =
       let m = memory p in
-      other-queue (mine st (line q)) (mine (m .store) (line p)) (mine (M .store) (line p)) (m .children) (m .user) (m .right) (m .store .heads) st (M .store) (holder p) (line p)
+      other-queue (mine st (line q)) (mine (m .store) (line p)) (mine (M .store) (line p)) (m .children) (m .user) (m .right) (m .store .heads) st (M .store)
+      (holder p) (line p)
       kept-shared (others-apart own single st line (all .pool) p q i small n) (λ x. refl)
       (subst (λ (w : Memory). Laid (mine (m .store) (line p)) w (holder p) (line p)) (all .shares p i) (all .laid p i)) .1

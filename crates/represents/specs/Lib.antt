@@ -6,12 +6,17 @@ pub mod Nexts
 pub mod Plain
 pub mod Views
 pub mod Named
+pub mod Covered
+pub mod Naming
+pub mod FirstNames
 pub mod FirstNamed
 pub mod Room
 pub mod At
 pub mod Push
 pub mod Walks
 pub mod Found
+pub mod JustBefore
+pub mod NewLink
 pub mod PushApart
 pub mod Pop
 pub mod Test

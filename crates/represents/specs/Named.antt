@@ -2,21 +2,20 @@
 use mathlib.Core.Path.{_≡_, refl, ap, sym, _∙_}
 use mathlib.Core.Bool.{Bool, true, false, false≢true}
 use mathlib.Core.List.{List, [], _∷_}
-use mathlib.Core.Logic.{_⊎_, ⊎-elim}
-use Prim.Native.Nat.{ℕ, zero, suc, _+_, _-_, _<_}
+use mathlib.Core.Logic.{⊎-elim}
+use Prim.Native.Nat.{ℕ, zero, suc, _+_, _<_}
 use native.Mathlib.Omega.{arith}
 use lib.Dec.{ltb}
 use lib.ListN.{drop}
 use lib.Seq.{getD-drop}
 use borrow.Author.Tests.{lt-ltb, ltb-true, eq-eqb, ne-eqb}
 use Rattle.words.specs.Words.{load, pick, halt, pass, both, true-both, both-true}
-use Rattle.lists.specs.Counting.{occurrences, occurs-nil, occurs-here, occurs-past, equal?}
+use Rattle.lists.specs.Counting.{occurrences, occurs-nil, occurs-here, occurs-past, equal?, occurs-later}
 use Rattle.layout.specs.Layout.{task, queueHead, read, recordOf}
 use Rattle.layout.specs.Frame.{record-word}
 use Rattle.tree.specs.Tour.{MARKS, tour}
 use Rattle.calls.specs.Segments.{indexOf, headIndex}
 use Rattle.gaps.specs.Search.{firstOf}
-use Rattle.gaps.specs.Maps.{occurs-later}
 use Rattle.links.specs.Places.{seek-first}
 use Rattle.meaning.specs.Links.{NamedBy}
 
@@ -44,7 +43,8 @@ unfolding indexOf load
 index-none g zero r f = refl
 index-none g (suc n) r f =
     pass _ (ne-eqb _ g (f 0 (omega arith)))
-    (let h = index-none g n (drop 1 r) (λ j i d. f (suc j) (omega (arith, i)) (ap (load r) (let z : suc j ≡ 1 + j = omega arith in z) ∙ sym (getD-drop 1 r j 0) ∙ d)) in
+    (let h = index-none g n (drop 1 r)
+    (λ j i d. f (suc j) (omega (arith, i)) (ap (load r) (let z : suc j ≡ 1 + j = omega arith in z) ∙ sym (getD-drop 1 r j 0) ∙ d)) in
     omega (arith, h))
 
 -- the first mark that a test holds of, where it holds of one only
@@ -69,7 +69,10 @@ named-by m T g h q is w =
       task =
           seek-first MARKS f (recordOf m) 0
           ∙ ap (firstOf f) is
-          ∙ first-only f T h (w .there) (true-both (lt-ltb h 128 (w .task-range)) (lt-ltb (indexOf g 16 (drop 16 (recordOf m h))) 16 (let e = index in let l = w .queue-range in omega (arith, e, l)))) only;
+          ∙ first-only f T h (w .there)
+          (true-both (lt-ltb h 128 (w .task-range))
+          (lt-ltb (indexOf g 16 (drop 16 (recordOf m h))) 16 (let e = index in let l = w .queue-range in omega (arith, e, l))))
+          only;
       index = index;
     }
   where

@@ -11,6 +11,7 @@ use Rattle.words.specs.Words.{pick, both}
 use Rattle.lists.specs.Counting.{one}
 use Rattle.layout.specs.Layout.{FREE, STATUS, RIGHTS, numberWord, task, read}
 use Rattle.tree.specs.Rights.{uses}
+use Rattle.tree.specs.Queues.{by-four}
 use Rattle.calls.specs.Waits.{rightsOf as rightsIn}
 use Rattle.order.specs.Steps.{Item}
 use Rattle.order_waits.specs.Played.{Played}
@@ -23,7 +24,6 @@ use Rattle.gaps.specs.Pool.{mine}
 use Rattle.links.specs.Linked.{Linked}
 use Rattle.meaning.specs.Meaning.{nextIn, contentsIn, storeIn, Sized}
 use Rattle.meaning.specs.Kept.{Kept}
-use Rattle.meaning.specs.Records.{by-four}
 use Rattle.represents.specs.Represents.{alive, ofTasks, queueMemory, usesIn, opened, Represents}
 use Rattle.represents.specs.Nexts.{Nexts, nexts-words}
 use Rattle.represents.specs.Laids.{Laids}
@@ -71,7 +71,8 @@ module _ (m : List ℕ) (xs : List Item) (r : Represents m xs) where
         bare = λ q i. r .queue q i .bare;
       }
 
-pub of-parts : (m : List ℕ) (T : List ℕ) (xs : List Item) (line : ℕ → Line) (holder : ℕ → ℕ) → Linked m T xs → Played xs → Sized m → Nexts (read m numberWord) (nextIn m) → Parts m T xs line holder → Represents m xs
+pub of-parts : (m : List ℕ) (T : List ℕ) (xs : List Item) (line : ℕ → Line) (holder : ℕ → ℕ) → Linked m T xs → Played xs → Sized m
+    → Nexts (read m numberWord) (nextIn m) → Parts m T xs line holder → Represents m xs
 of-parts m T xs line holder l p s n a =
     record {
       tour = T;

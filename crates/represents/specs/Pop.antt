@@ -4,7 +4,7 @@ use mathlib.Core.Bool.{Bool, true, false, false≢true}
 use mathlib.Core.Option.{none, some}
 use mathlib.Core.List.{List, [], _∷_, _++_}
 use mathlib.Core.Logic.{inl, inr}
-use Prim.Native.Nat.{ℕ, suc, _+_, _<_}
+use Prim.Native.Nat.{ℕ, _<_}
 use native.Mathlib.Omega.{arith}
 use borrow.Author.Tests.{ne-eqb}
 use Rattle.words.specs.Words.{pick, halt, pass as skip}
@@ -47,10 +47,11 @@ use Rattle.represents.specs.Nexts.{Nexts, nexts-popped, words-nexts}
 use Rattle.represents.specs.Parts.{holders, parts-of}
 use Rattle.represents.specs.Live.{live-popping}
 use Rattle.represents.specs.Plain.{queue-represents}
-use Rattle.represents.specs.FirstNamed.{one-mine, segment-below, first-in}
+use Rattle.represents.specs.FirstNamed.{one-mine, segment-below}
 use Rattle.represents.specs.Room.{room}
 use Rattle.represents.specs.At.{task-unfinished, task-alive, single-spot, where-it-stands}
 use Rattle.represents.specs.Push.{queue-memory, masked-share}
+use Rattle.represents.specs.FirstNames.{first-in}
 
 quiet : (q p : ℕ) → (p ≡ q → ⊥) → (added p (pops q) ≡ []) × (takes p (pops q) ≡ 0)
 unfolding added takes
@@ -141,11 +142,14 @@ module _ (m : List ℕ) (ys zs : List Item) (s : Task) (r : Represents m (ys ++ 
       go c (full f) = let w = f .0 .2 in let z : _≡_ {A = ℕ} 0 1 = cc in absurd (omega (arith, z))
 
   -- what the words find
-  pub finds-same : found (runs q (before t Old) (run false [])) ≡ pick (hasValue m t q) (Found (valueAt m (read m (queueHead t q)) 0)) (pick (pusherBefore m t q) Later Nothing)
+  pub finds-same : found (runs q (before t Old) (run false []))
+      ≡ pick (hasValue m t q) (Found (valueAt m (read m (queueHead t q)) 0)) (pick (pusherBefore m t q) Later Nothing)
   unfolding firstOf
   finds-same = finds q ys zs s (single-spot m ys zs s r) may none-before (parts-of m Old r .time q small) ∙ go (contentsIn m g) refl
     where
-      go : (vs : List ℕ) → contentsIn m g ≡ vs → firstOf t (timeline (contentsIn m) (r .line q)) ≡ pick (hasValue m t q) (Found (valueAt m (read m (queueHead t q)) 0)) (pick (pusherBefore m t q) Later Nothing)
+      go : (vs : List ℕ) → contentsIn m g ≡ vs
+          → firstOf t (timeline (contentsIn m) (r .line q))
+          ≡ pick (hasValue m t q) (Found (valueAt m (read m (queueHead t q)) 0)) (pick (pusherBefore m t q) Later Nothing)
       go (w ∷ ws) e =
           let k = value-there m t q (task-unfinished m ys zs s r .0) small g (r .sized) g-below head-is w ws e in
           ap (firstOf t) (line-time ∙ ap (λ (l : List ℕ). (values l ++ valuesIn (contentsIn m) c) ++ timeline (contentsIn m) b) e)
@@ -206,14 +210,16 @@ module _ (m : List ℕ) (ys zs : List Item) (s : Task) (r : Represents m (ys ++ 
     pop-represents play =
         queue-represents m ys zs s r (pops q) (plain-pop q) (popped m t q) (becomes .kept) (becomes .sized) play q small Rest nexts
         (subst (λ (x : Memory). After (mine (queueMemory m q .store) (r .line q)) (queueMemory m q .store) x (holders m Old r q) (r .line q) Rest) (sym same)
-        (subst (λ (l : Line). After (mine (queueMemory m q .store) (r .line q)) (queueMemory m q .store) after (holders m Old r q) l Rest) (sym (bottom .3)) (row .1)))
+        (subst (λ (l : Line). After (mine (queueMemory m q .store) (r .line q)) (queueMemory m q .store) after (holders m Old r q) l Rest) (sym (bottom .3))
+        (row .1)))
         others bare new-time (λ p i k. quiet q p k)
       where
         nexts : Nexts (read m numberWord) (nextIn (popped m t q))
         nexts =
             subst (λ (x : Memory). Nexts (read m numberWord) (x .store .next)) (sym same)
             (unfold memoryPopped in
-            nexts-popped (read m numberWord) (let l = r .sized .number-range .0 in omega (arith, l)) ws (nextIn m g) (holders m Old r q) g (queueMemory m q .store) (words-nexts m (r .sized) (r .nexts)))
+            nexts-popped (read m numberWord) (let l = r .sized .number-range .0 in omega (arith, l)) ws (nextIn m g) (holders m Old r q) g
+            (queueMemory m q .store) (words-nexts m (r .sized) (r .nexts)))
 
         others : (p : ℕ) → p < 4 → (p ≡ q → ⊥) → queueMemory (popped m t q) p ≡ shared (queueMemory (popped m t q) q .store) (queueMemory m p)
         others p i k =
@@ -223,5 +229,8 @@ module _ (m : List ℕ) (ys zs : List Item) (s : Task) (r : Represents m (ys ++ 
             ∙ ap (λ (x : Memory). shared (x .store) (queueMemory m p)) (sym (queue-memory q becomes))
 
         bare : (x : ℕ) → usesIn m q x ≡ false
-            → (queueMemory (popped m t q) q .children x ≡ vacant) × (queueMemory (popped m t q) q .user x ≡ vacant) × (queueMemory (popped m t q) q .right x ≡ vacant)
-        bare x e = subst (λ (u : Memory). (u .children x ≡ vacant) × (u .user x ≡ vacant) × (u .right x ≡ vacant)) (sym same) (unfold memoryPopped in parts-of m Old r .bare q small x e)
+            → (queueMemory (popped m t q) q .children x ≡ vacant) × (queueMemory (popped m t q) q .user x ≡ vacant)
+            × (queueMemory (popped m t q) q .right x ≡ vacant)
+        bare x e =
+            subst (λ (u : Memory). (u .children x ≡ vacant) × (u .user x ≡ vacant) × (u .right x ≡ vacant)) (sym same)
+            (unfold memoryPopped in parts-of m Old r .bare q small x e)

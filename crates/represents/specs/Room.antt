@@ -2,15 +2,14 @@
 use mathlib.Core.Path.{_≡_, refl, ap, subst}
 use mathlib.Core.List.{List, _∷_}
 use mathlib.Core.Logic.{⊎-elim}
-use Prim.Native.Nat.{ℕ, suc, _+_, _<_, _≤_}
+use Prim.Native.Nat.{ℕ, _+_, _<_, _≤_}
 use native.Mathlib.Omega.{arith}
 use lib.ListN.{length}
 use borrow.Author.Tests.{le-ltb}
 use Rattle.words.specs.Words.{pass}
-use Rattle.lists.specs.Counting.{one, occurrences, occurs-here, occurs-past, equal?, length-total, total-ones}
+use Rattle.lists.specs.Counting.{one, occurrences, occurs-here, occurs-past, equal?, length-total, total-ones, below?}
 use Rattle.lists.specs.Sums.{total-le}
 use Rattle.layout.specs.Layout.{numberWord, read}
-use Rattle.rules_tasks.specs.Holders.{below?}
 use Rattle.order.specs.Steps.{Item}
 use Rattle.gaps.specs.Line.{segments}
 use Rattle.meaning.specs.Meaning.{freeIn, storeIn}

@@ -2,20 +2,21 @@
 use mathlib.Core.Path.{_≡_, ap, sym, _∙_}
 use mathlib.Core.Bool.{Bool, true, not, false≢true}
 use mathlib.Core.List.{List, [], _∷_}
-use mathlib.Core.Logic.{_⊎_, ⊎-elim}
-use Prim.Native.Nat.{ℕ, zero, suc, _+_, _-_, _<_}
+use mathlib.Core.Logic.{⊎-elim}
+use Prim.Native.Nat.{ℕ, _+_, _<_}
 use native.Mathlib.Omega.{arith}
 use borrow.Author.Tests.{lt-ltb, ltb-true, ne-eqb}
-use Rattle.words.specs.Words.{true-both, both-true}
-use Rattle.lists.specs.Counting.{occurrences, occurs-nil, occurs-here, occurs-past, equal?}
-use Rattle.layout.specs.Layout.{FREE, STATUS, task, read}
+use Rattle.words.specs.Words.{true-both, both-true, halt}
+use Rattle.lists.specs.Counting.{occurrences, occurs-nil, occurs-here, occurs-past, equal?, occurs-later}
+use Rattle.layout.specs.Layout.{FREE, STATUS, task, read, CHILDREN, USER, RIGHT}
 use Rattle.rules.specs.Contents.{decode}
 use Rattle.rules.specs.Rules.{Unfinished}
-use Rattle.gaps.specs.Maps.{All, occurs-later}
+use Rattle.gaps.specs.Maps.{All}
 use Rattle.gaps.specs.Line.{base, left, met, pass, Line, marks, lefts, mets, Fits}
 use Rattle.gaps.specs.Search.{taskAt, task-met, task-left}
 use Rattle.links.specs.Linked.{word-is}
-use Rattle.represents.specs.Represents.{alive, usesIn}
+use Rattle.meaning.specs.Meaning.{headsIn, viewIn}
+use Rattle.represents.specs.Represents.{alive, usesIn, ofTasks, queueMemory}
 
 -- a task with a right is met, and left, in the line where the tour meets and leaves it
 module _ (uses : ℕ → Bool) where
@@ -36,14 +37,17 @@ module _ (uses : ℕ → Bool) where
       (λ n. let e = occurs-past y x (marks l) n in met-in l (f .1) x s u (omega (arith, e, p)))
       (equal? y x)
 
-  pub left-in : (l : Line) → All (Fits uses) l → All (λ t. t < 128) (mets l) → (x : ℕ) → uses x ≡ true → 0 < occurrences (128 + x) (marks l) → 0 < occurrences x (lefts l)
+  pub left-in : (l : Line) → All (Fits uses) l → All (λ t. t < 128) (mets l) → (x : ℕ) → uses x ≡ true → 0 < occurrences (128 + x) (marks l)
+      → 0 < occurrences x (lefts l)
   unfolding taskAt
   left-in [] f s x u p = let e = occurs-nil (128 + x) in let z : ⊥ = omega (arith, e, p) in absurd z
   left-in (base c ∷ l) f s x u p = left-in l (f .1) s x u p
   left-in (left t ∷ l) f s x u p =
       ⊎-elim
       (λ e. let g = occurs-here t x (lefts l) e in omega (arith, g))
-      (λ n. let e = occurs-past (128 + t) (128 + x) (marks l) (λ q. n (omega (arith, q))) in occurs-later t x (lefts l) (left-in l (f .1) s x u (omega (arith, e, p))))
+      (λ n.
+      let e = occurs-past (128 + t) (128 + x) (marks l) (λ q. n (omega (arith, q))) in
+      occurs-later t x (lefts l) (left-in l (f .1) s x u (omega (arith, e, p))))
       (equal? t x)
   left-in (met t c ∷ l) f s x u p =
       let b = s .0 in
@@ -64,3 +68,21 @@ unfinished-alive m t u =
 pub uses-small : (m : List ℕ) (q t : ℕ) → usesIn m q t ≡ true → t < 128
 unfolding usesIn
 uses-small m q t e = ltb-true t 128 (both-true _ _ e .0)
+
+-- the views of a task in use, and its queue head, by the words
+module _ (n : List ℕ) (q x : ℕ) (live : alive n x ≡ true) where
+  pub children-word : viewIn n q CHILDREN x ≡ queueMemory n q .children x
+  unfolding queueMemory ofTasks
+  children-word = sym (halt _ _ live)
+
+  pub user-word : viewIn n q USER x ≡ queueMemory n q .user x
+  unfolding queueMemory ofTasks
+  user-word = sym (halt _ _ live)
+
+  pub right-word : viewIn n q RIGHT x ≡ queueMemory n q .right x
+  unfolding queueMemory ofTasks
+  right-word = sym (halt _ _ live)
+
+  pub head-word : headsIn n q x ≡ queueMemory n q .store .heads x
+  unfolding queueMemory ofTasks
+  head-word = sym (halt _ _ live)

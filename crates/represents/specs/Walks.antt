@@ -2,8 +2,8 @@
 use mathlib.Core.Path.{_≡_, refl, ap, ap₂, sym, _∙_, subst}
 use mathlib.Core.Bool.{Bool, true, false}
 use mathlib.Core.List.{List, [], _∷_}
-use mathlib.Core.Logic.{_⊎_, ⊎-elim}
-use Prim.Native.Nat.{ℕ, zero, suc, _-_, _<_}
+use mathlib.Core.Logic.{⊎-elim}
+use Prim.Native.Nat.{ℕ, _-_, _<_}
 use native.Mathlib.Omega.{arith}
 use lib.Dec.{ltb, eqb}
 use borrow.Author.Tests.{lt-ltb, le-ltb}
@@ -11,6 +11,7 @@ use Rattle.words.specs.Words.{pick, halt, pass as skip, both, either, both-on}
 use Rattle.lists.specs.Counting.{occurrences, occurs-here, occurs-past, equal?}
 use Rattle.layout.specs.Layout.{CHILDREN, RIGHTS}
 use Rattle.tree.specs.Rights.{uses, bits}
+use Rattle.tree.specs.Queues.{by-four}
 use Rattle.rules.specs.Contents.{Contents, decode}
 use Rattle.rules.specs.Rules.{Unfinished}
 use Rattle.rules_tasks.specs.Tested.{top-says}
@@ -24,7 +25,6 @@ use Rattle.links.specs.Linked.{word-is}
 use Rattle.links.specs.Marks.{mark-held}
 use Rattle.meaning.specs.Meaning.{viewIn}
 use Rattle.meaning.specs.Find.{part-taken, view-stands}
-use Rattle.meaning.specs.Records.{by-four}
 use Rattle.represents.specs.Represents.{ofTasks, queueMemory, usesIn, Represents}
 use Rattle.represents.specs.Views.{unfinished-alive}
 
@@ -34,7 +34,8 @@ unfolding firstOf
 first-path f g [] h = refl
 first-path f g (y ∷ l) h =
     ap₂ (λ (b : Bool) (k : ℕ). pick b y k) (h y (let e = occurs-here y y l refl in omega (arith, e)))
-    (first-path f g l (λ x p. h x (⊎-elim (λ e. let k = occurs-here y x l e in omega (arith, k)) (λ e. let k = occurs-past y x l e in omega (arith, k, p)) (equal? y x))))
+    (first-path f g l
+    (λ x p. h x (⊎-elim (λ e. let k = occurs-here y x l e in omega (arith, k)) (λ e. let k = occurs-past y x l e in omega (arith, k, p)) (equal? y x))))
 
 -- a row of the tour ends where the top is left
 pub row-ends : (c : Contents) (l : List ℕ) → Row c l → Ends l
@@ -69,7 +70,8 @@ module _ (m : List ℕ) (xs : List Item) (r : Represents m xs) where
       is-left e = skip x e refl
 
       go : (b : Bool) → ltb x 128 ≡ b
-          → either (ltb x 128) (either (eqb (x - 128) 0) (occupied (viewIn m q CHILDREN (x - 128)))) ≡ either (ltb x 128) (either (eqb (x - 128) 0) (occupied (queueMemory m q .children (x - 128))))
+          → either (ltb x 128) (either (eqb (x - 128) 0) (occupied (viewIn m q CHILDREN (x - 128))))
+          ≡ either (ltb x 128) (either (eqb (x - 128) 0) (occupied (queueMemory m q .children (x - 128))))
       go true e = unfold either in halt _ _ e ∙ sym (halt _ _ e)
       go false e =
           ap (λ (v : Extent). either (ltb x 128) (either (eqb (x - 128) 0) (occupied v)))

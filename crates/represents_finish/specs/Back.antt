@@ -23,11 +23,13 @@ use Rattle.meaning.specs.Meaning.{viewIn}
 use Rattle.meaning.specs.Find.{part-taken, view-stands}
 use Rattle.represents.specs.Represents.{queueMemory, usesIn, Represents}
 use Rattle.represents.specs.Walks.{first-path, tour-ends, marked}
+use Rattle.represents.specs.Views.{children-word}
 use Rattle.represents_finish.specs.Leaf.{Leaf, leaf}
 use Rattle.represents_finish.specs.Way.{Way}
-use Rattle.represents_finish.specs.Queue.{way-linked, children-word, unfinished-live}
+use Rattle.represents_finish.specs.Queue.{way-linked, unfinished-live}
 
-module _ (m : List ℕ) (ys zs : List Item) (s : Task) (r : Represents m (ys ++ spot s ∷ zs)) (barren : hasChild m (numberOf s) ≡ false) (above : 0 < numberOf s) where
+module _ (m : List ℕ) (ys zs : List Item) (s : Task) (r : Represents m (ys ++ spot s ∷ zs)) (barren : hasChild m (numberOf s) ≡ false)
+    (above : 0 < numberOf s) where
   abbrev t : ℕ
   t = numberOf s
 
@@ -65,11 +67,13 @@ module _ (m : List ℕ) (ys zs : List Item) (s : Task) (r : Represents m (ys ++ 
         ∙ ap₂ (λ (a b : Bool). both a b) (sym (part-taken n q x) ∙ same-part x p) (go (ltb x 128) refl)
       where
         go : (b : Bool) → ltb x 128 ≡ b
-            → either (ltb x 128) (either (eqb (x - 128) 0) (occupied (viewIn n q CHILDREN (x - 128)))) ≡ either (ltb x 128) (either (eqb (x - 128) 0) (occupied (queueMemory n q .children (x - 128))))
+            → either (ltb x 128) (either (eqb (x - 128) 0) (occupied (viewIn n q CHILDREN (x - 128))))
+            ≡ either (ltb x 128) (either (eqb (x - 128) 0) (occupied (queueMemory n q .children (x - 128))))
         go true e = unfold either in halt _ _ e ∙ sym (halt _ _ e)
         go false e =
             ap (λ (v : Extent). either (ltb x 128) (either (eqb (x - 128) 0) (occupied v)))
-            (children-word m Old r n holder line way q (x - 128) (unfinished-live m Old r n holder line way (x - 128) (subst (Unfinished (decode m)) (skip x e refl) (marked m Old r x p .1))))
+            (children-word n q (x - 128)
+            (unfinished-live m Old r n holder line way (x - 128) (subst (Unfinished (decode m)) (skip x e refl) (marked m Old r x p .1))))
 
     -- a search from behind t
     search : (f : ℕ → Bool) → seek MARKS f (recordOf n) (after (recordOf n) (t + 128)) ≡ firstOf f (here .earlier)
@@ -82,5 +86,8 @@ module _ (m : List ℕ) (ys zs : List Item) (s : Task) (r : Represents m (ys ++ 
     pub back-part : seek MARKS (takesPart n q) (recordOf n) (after (recordOf n) (t + 128)) ≡ firstOf (partTaken (usesIn m q)) (here .earlier)
     back-part = search (takesPart n q) ∙ first-path (takesPart n q) (partTaken (usesIn m q)) (here .earlier) (λ x p. same-part x (earlier-marks x p))
 
-    pub back-stand : seek MARKS (standsAt n q) (recordOf n) (after (recordOf n) (t + 128)) ≡ firstOf (viewStands (usesIn m q) (queueMemory n q .children)) (here .earlier)
-    back-stand = search (standsAt n q) ∙ first-path (standsAt n q) (viewStands (usesIn m q) (queueMemory n q .children)) (here .earlier) (λ x p. same-stand x (earlier-marks x p))
+    pub back-stand : seek MARKS (standsAt n q) (recordOf n) (after (recordOf n) (t + 128))
+        ≡ firstOf (viewStands (usesIn m q) (queueMemory n q .children)) (here .earlier)
+    back-stand =
+        search (standsAt n q)
+        ∙ first-path (standsAt n q) (viewStands (usesIn m q) (queueMemory n q .children)) (here .earlier) (λ x p. same-stand x (earlier-marks x p))

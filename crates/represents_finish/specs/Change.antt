@@ -13,7 +13,8 @@ use Rattle.gaps.specs.Line.{Line, marks}
 use Rattle.gaps.specs.Store.{timeline}
 use Rattle.represents.specs.Represents.{Represents}
 use Rattle.represents.specs.At.{single-spot}
-use Rattle.represents_finish.specs.Way.{Vacant, Turn}
+use Rattle.represents.specs.Covered.{Vacant}
+use Rattle.represents_finish.specs.Way.{Turn}
 
 -- In the turn of queue q, whose line was l, t leaves it. Program order is xs then, the tour T.
 pub record Change (m n n′ : List ℕ) (t q : ℕ) (l : Line) (h : ℕ) (xs : List Item) (T : List ℕ) : Type 0 where
@@ -30,6 +31,7 @@ pub record Turned (m n : List ℕ) (t q : ℕ) (l : Line) (xs : List Item) (T : 
   pub change : Change m n (finishedQueue n t q) t q l heir xs T
 
 -- a holder that does not finish stays the first popper
-pub first-stays : (m : List ℕ) (ys zs : List Item) (s : Task) → Represents m (ys ++ spot s ∷ zs) → (q h : ℕ) → firstPopper q (ys ++ spot s ∷ zs) ≡ some h → (h ≡ numberOf s → ⊥)
+pub first-stays : (m : List ℕ) (ys zs : List Item) (s : Task) → Represents m (ys ++ spot s ∷ zs) → (q h : ℕ) → firstPopper q (ys ++ spot s ∷ zs) ≡ some h
+    → (h ≡ numberOf s → ⊥)
     → firstPopper q (advance (numberOf s) finishes (ys ++ spot s ∷ zs)) ≡ some h
 first-stays m ys zs s r q h e n = ap (firstPopper q) (advance-at ys zs s finishes (single-spot m ys zs s r)) ∙ finish-other ys zs s q h e n

@@ -9,6 +9,7 @@ use native.Mathlib.Omega.{arith}
 use Rattle.words.specs.Words.{pick, true-both}
 use Rattle.lists.specs.Counting.{occurrences, occurs-append, occurs-here, occurs-past, equal?}
 use Rattle.tree.specs.Rights.{eachQueue}
+use Rattle.tree.specs.Queues.{by-four}
 use Rattle.calls.specs.Waits.{hasChild}
 use Rattle.calls.specs.Finish.{finishes as allows, finishedQueue, unlinked, finished}
 use Rattle.order.specs.Steps.{Task, Item, spot, finishes, numberOf, advance}
@@ -25,21 +26,23 @@ use Rattle.links.specs.Marks.{mark-once}
 use Rattle.links.specs.Finish.{Finished}
 use Rattle.meaning.specs.Meaning.{storeIn}
 use Rattle.meaning.specs.Tree.{LinksOnly}
-use Rattle.meaning.specs.Records.{by-four}
 use Rattle.represents.specs.Represents.{queueMemory, usesIn, opened, Represents}
 use Rattle.represents.specs.Nexts.{Nexts}
 use Rattle.represents.specs.Laids.{Laids}
 use Rattle.represents.specs.Parts.{of-parts}
 use Rattle.represents.specs.Plain.{laids-as}
 use Rattle.represents.specs.At.{task-unfinished, single-spot}
+use Rattle.represents.specs.Covered.{Vacant}
 use Rattle.represents_finish.specs.Leaf.{Leaf, leaf}
-use Rattle.represents_finish.specs.Way.{Vacant, Way, Standing, all-begin, laids-over}
+use Rattle.represents_finish.specs.Way.{Way, Standing, all-begin, laids-over}
 use Rattle.represents_finish.specs.Heir.{gone}
 use Rattle.represents_finish.specs.FinishTurn.{Rest, Stage, turn-allowed, finish-turn}
 use Rattle.represents_finish.specs.Unlinked.{freed, words, links-only, tree-after}
-use Rattle.represents_finish.specs.Freed.{fits-without, freed-sized, freed-number, freed-next, freed-contents, freed-free, freed-opened, freed-uses, freed-memory}
+use Rattle.represents_finish.specs.Freed.{fits-without, freed-sized, freed-number, freed-next, freed-contents, freed-free, freed-opened, freed-uses}
+use Rattle.represents_finish.specs.Freed.{freed-memory}
 
-module _ (m : List ℕ) (ys zs : List Item) (s : Task) (r : Represents m (ys ++ spot s ∷ zs)) (barren : hasChild m (numberOf s) ≡ false) (above : 0 < numberOf s) where
+module _ (m : List ℕ) (ys zs : List Item) (s : Task) (r : Represents m (ys ++ spot s ∷ zs)) (barren : hasChild m (numberOf s) ≡ false)
+    (above : 0 < numberOf s) where
   abbrev t : ℕ
   t = numberOf s
 
@@ -68,7 +71,8 @@ module _ (m : List ℕ) (ys zs : List Item) (s : Task) (r : Represents m (ys ++ 
 
   module _ (free : blocked (numberOf s) Old ≡ false) (play : Played New) where
     -- ALL FOUR QUEUES HAVE HAD THEIR TURN
-    next : (n : List ℕ) (yet : ℕ → Bool) → Stage m ys zs s r barren n yet → (q : ℕ) → q < 4 → yet q ≡ true → Stage m ys zs s r barren (finishedQueue n t q) (put yet q false)
+    next : (n : List ℕ) (yet : ℕ → Bool) → Stage m ys zs s r barren n yet → (q : ℕ) → q < 4 → yet q ≡ true
+        → Stage m ys zs s r barren (finishedQueue n t q) (put yet q false)
     next n yet A q i e = finish-turn m ys zs s r barren above n yet A q i e free play
 
     abbrev n : List ℕ
@@ -77,7 +81,8 @@ module _ (m : List ℕ) (ys zs : List Item) (s : Task) (r : Represents m (ys ++ 
     all-turned : Stage m ys zs s r barren n (put (put (put (put (λ p. true) 0 false) 1 false) 2 false) 3 false)
     unfolding put pick
     all-turned =
-        next _ _ (next _ _ (next _ _ (next m (λ p. true) (all-begin m Old r) 0 (omega arith) refl) 1 (omega arith) refl) 2 (omega arith) refl) 3 (omega arith) refl
+        next _ _ (next _ _ (next _ _ (next m (λ p. true) (all-begin m Old r) 0 (omega arith) refl) 1 (omega arith) refl) 2 (omega arith) refl) 3 (omega arith)
+        refl
 
     abbrev holder : ℕ → ℕ
     holder = all-turned .holder
@@ -118,7 +123,8 @@ module _ (m : List ℕ) (ys zs : List Item) (s : Task) (r : Represents m (ys ++ 
     laids : Laids (opened f) (storeIn f 0) (queueMemory f) holder line
     laids =
         subst (λ (own : ℕ → ℕ). Laids own (storeIn f 0) (queueMemory f) holder line) (sym (freed-opened m n t below (way .kept) (way .sized) links w))
-        (laids-over (opened m) (storeIn n 0) f holder line (freed-next m n t below (way .kept) (way .sized) links w) (freed-contents m n t below (way .kept) (way .sized) links w)
+        (laids-over (opened m) (storeIn n 0) f holder line (freed-next m n t below (way .kept) (way .sized) links w)
+        (freed-contents m n t below (way .kept) (way .sized) links w)
         (freed-free m n t below (way .kept) (way .sized) links w)
         (laids-as (opened m) (storeIn n 0) (queueMemory n) (queueMemory f) holder line same-memory (way .laids)))
 
@@ -145,16 +151,19 @@ module _ (m : List ℕ) (ys zs : List Item) (s : Task) (r : Represents m (ys ++ 
     unfolding finished
     finish-represents =
         of-parts f T New line holder (tree-after m ys zs s r barren above n (way .kept) play) play (freed-sized m n t below (way .kept) (way .sized) links w)
-        (subst₂ Nexts (sym (freed-number m n t below (way .kept) (way .sized) links w)) (sym (freed-next m n t below (way .kept) (way .sized) links w)) (way .nexts))
+        (subst₂ Nexts (sym (freed-number m n t below (way .kept) (way .sized) links w)) (sym (freed-next m n t below (way .kept) (way .sized) links w))
+        (way .nexts))
         (record {
           laids = laids;
           first = λ q i. done q i .0 .first;
           marked = λ q i. done q i .0 .marked;
           fits = λ q i.
               fits-without (usesIn m q) (usesIn f q) t (λ x k. freed-uses m n t below (way .kept) (way .sized) links w q x k) (line q)
-              (ap (occurrences t) (done q i .0 .marked) ∙ unmarked t (inl refl)) (ap (occurrences (128 + t)) (done q i .0 .marked) ∙ unmarked (128 + t) (inr refl)) (way .fits q i);
+              (ap (occurrences t) (done q i .0 .marked) ∙ unmarked t (inl refl))
+              (ap (occurrences (128 + t)) (done q i .0 .marked) ∙ unmarked (128 + t) (inr refl)) (way .fits q i);
           time = λ q i.
-              subst (λ (c : ℕ → List ℕ). Timeline q New (timeline c (line q))) (sym (freed-contents m n t below (way .kept) (way .sized) links w)) (done q i .0 .time);
+              subst (λ (c : ℕ → List ℕ). Timeline q New (timeline c (line q))) (sym (freed-contents m n t below (way .kept) (way .sized) links w))
+              (done q i .0 .time);
           bare = λ q i x e.
               subst (λ (v : Memory). Vacant v x) (sym (same-memory q i))
               (⊎-elim

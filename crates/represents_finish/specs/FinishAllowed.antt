@@ -30,15 +30,15 @@ use Rattle.meaning.specs.Finish.{Reduces, kind-below}
 use Rattle.meaning.specs.FinishTest.{behind-same, Stays, returned-whole, finish-test}
 use Rattle.represents.specs.Represents.{ofTasks, queueMemory, Represents}
 use Rattle.represents.specs.At.{task-unfinished}
+use Rattle.represents.specs.Covered.{Covered}
 use Rattle.represents_finish.specs.Leaf.{leaf}
 use Rattle.represents_finish.specs.Way.{Way}
 use Rattle.represents_finish.specs.Meets.{Meets, Headless, meets-reduces}
 use Rattle.represents_finish.specs.Reductions.{Link, Leaving}
 use Rattle.represents_finish.specs.Queue.{single, held-below, held-local}
-use Rattle.represents_finish.specs.FirstNames.{Covered}
 use Rattle.represents_finish.specs.Target.{markOf, returns, returned-at, target-at}
 use Rattle.represents_finish.specs.Reduced.{children-is, user-is, right-is, inner-is, whole-is, views, held, names, reduces as reductions}
-use Rattle.represents_finish.specs.FinishTest.{frees-says, inner-extent, first-keeps, stays, none-allowed}
+use Rattle.represents_finish.specs.FinishTest.{frees-says, inner-reduced, first-keeps, stays, none-allowed}
 
 -- a view that begins with segment z
 begins : (p : View) (z : ℕ) → headOf p ≡ z → z < NL → extentOf p ≡ extent (local z) (endOf (tailOf p))
@@ -54,7 +54,8 @@ no-values m z l e = contents-at m z l ∙ ap (listed (valueAt m z)) e
 module _ (m : List ℕ) (ys zs : List Item) (s : Task) (r : Represents m (ys ++ spot s ∷ zs)) (barren : hasChild m (numberOf s) ≡ false) (above : 0 < numberOf s)
     (n : List ℕ) (holder : ℕ → ℕ) (line : ℕ → Line) (way : Way m n holder line) (covered : (p : ℕ) → p < 4 → Covered (queueMemory n p) (r .tour) (line p))
     (q : ℕ) (small : q < 4) (first : firstPopper q (ys ++ spot s ∷ zs) ≡ some (holder q))
-    (b : Line) (c : List ℕ) (a : Line) (parts : line q ≡ b ++ (met (numberOf s) c ∷ (left (numberOf s) ∷ a))) (earlier : marks a ≡ leaf m ys zs s r barren .earlier) where
+    (b : Line) (c : List ℕ) (a : Line) (parts : line q ≡ b ++ (met (numberOf s) c ∷ (left (numberOf s) ∷ a)))
+    (earlier : marks a ≡ leaf m ys zs s r barren .earlier) where
   abbrev t : ℕ
   t = numberOf s
 
@@ -111,7 +112,7 @@ module _ (m : List ℕ) (ys zs : List Item) (s : Task) (r : Represents m (ys ++ 
   stay = stays n t q below small hc hu hi (tailed .user-tailed) (tailed .right-tailed)
 
   inner-view : extentOf (reducedView n (viewOf n q t CHILDREN) (viewOf n q t USER)) ≡ reduced (Q .children t) (Q .user t)
-  inner-view = inner-extent n t q below small hc hu hi (tailed .user-tailed) (tailed .right-tailed) ∙ I
+  inner-view = inner-reduced n t q below small hc hu hi (tailed .user-tailed) (tailed .right-tailed) ∙ I
 
   -- A SEGMENT THAT IS FREED in the second reduction is named by no view
   not-freed : (u k : ℕ) → u < 128 → 0 < occurrences u (r .tour) → k < 3 → (let A = reducedView n (viewOf n q t CHILDREN) (viewOf n q t USER) in
@@ -122,14 +123,16 @@ module _ (m : List ℕ) (ys zs : List Item) (s : Task) (r : Represents m (ys ++ 
       let z = tailOf A in
       let w = frees-says n A (viewOf n q t RIGHT) f in
       let link : Link Q Line-t z (headOf (viewOf n q t RIGHT)) =
-      subst₂ (λ (x y : Extent). Meets (Link Q Line-t) x y) (sym inner-view ∙ w .from) (sym R ∙ view-at n q RIGHT t small (omega arith) below ∙ w .to) (v .right-meets) in
+      subst₂ (λ (x y : Extent). Meets (Link Q Line-t) x y) (sym inner-view ∙ w .from) (sym R ∙ view-at n q RIGHT t small (omega arith) below ∙ w .to)
+      (v .right-meets) in
       let h = held m ys zs s r n holder line way covered q small first b c a parts z (link .from) in
       let d = no-values n z (number-below (way .sized) (held-below m Old r n holder line way q small z h)) (w .empty) in
       names m ys zs s r n holder line way covered q small first b c a parts z (link .alone d) .views u q k l i small j (endOf (tailOf (viewOf n q u k)))
       (view-at n q k u small j l ∙ begins (viewOf n q u k) z e (held-local m Old r n holder line way q small z h))
 
   kept-view : (u k : ℕ) → u < 128 → 0 < occurrences u (r .tour) → k < 3
-      → (let A = reducedView n (viewOf n q t CHILDREN) (viewOf n q t USER) in behind n A (viewOf n q t RIGHT) (behind n (viewOf n q t CHILDREN) (viewOf n q t USER) (viewOf n q u k)) ≡ viewOf n q u k)
+      → (let A = reducedView n (viewOf n q t CHILDREN) (viewOf n q t USER) in
+      behind n A (viewOf n q t RIGHT) (behind n (viewOf n q t CHILDREN) (viewOf n q t USER) (viewOf n q u k)) ≡ viewOf n q u k)
   kept-view u k l i j =
       let A = reducedView n (viewOf n q t CHILDREN) (viewOf n q t USER) in
       ap (behind n A (viewOf n q t RIGHT)) (first-keeps n t q below small hc hu hi (tailed .user-tailed) (tailed .right-tailed) (viewOf n q u k))
@@ -143,7 +146,8 @@ module _ (m : List ℕ) (ys zs : List Item) (s : Task) (r : Represents m (ys ++ 
       let o = target-at m ys zs s r barren above n holder line way q small b c a parts earlier result some in
       let to = returns m ys zs s r barren above n holder line way q small b c a parts earlier result in
       finish-test n t q below small stay x
-      (returned-at m ys zs s r barren above n holder line way q small b c a parts earlier (returnedView n t q) result (returned-whole n t q below small stay ∙ W) some)
+      (returned-at m ys zs s r barren above n holder line way q small b c a parts earlier (returnedView n t q) result
+      (returned-whole n t q below small stay ∙ W) some)
       (o .task .range)
       (kept-view (taskAt x) (kindAt x) (o .task .range) (o .task .there) (kind-below x))
       ∙ true-both first-ok

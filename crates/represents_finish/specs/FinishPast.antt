@@ -29,11 +29,13 @@ use Rattle.meaning.specs.Finish.{words1, Reduces, none-returned}
 use Rattle.meaning.specs.Return.{queue-kept}
 use Rattle.represents.specs.Represents.{alive, ofTasks, queueMemory, usesIn, Represents}
 use Rattle.represents.specs.At.{mine-spot, task-unfinished, single-spot}
+use Rattle.represents.specs.Views.{children-word, user-word, right-word, head-word}
+use Rattle.represents.specs.Covered.{Vacant}
 use Rattle.represents_finish.specs.Leaf.{leaf, without-right}
-use Rattle.represents_finish.specs.Way.{Vacant, Way, Standing}
+use Rattle.represents_finish.specs.Way.{Way, Standing}
 use Rattle.represents_finish.specs.Meets.{Headless}
 use Rattle.represents_finish.specs.FinishTest.{none-allowed}
-use Rattle.represents_finish.specs.Queue.{spot-alive, children-word, user-word, right-word, head-word, not-holder}
+use Rattle.represents_finish.specs.Queue.{spot-alive, not-holder}
 use Rattle.represents_finish.specs.Change.{Turned, first-stays}
 
 -- nothing is written where all three views are vacant
@@ -49,7 +51,8 @@ vacant-returned M q holder t e f g =
 
 module _ (m : List ℕ) (ys zs : List Item) (s : Task) (r : Represents m (ys ++ spot s ∷ zs)) (barren : hasChild m (numberOf s) ≡ false)
     (n : List ℕ) (holder : ℕ → ℕ) (line : ℕ → Line) (way : Way m n holder line) (q : ℕ) (small : q < 4)
-    (stands : Standing n (ys ++ spot s ∷ zs) (r .tour) q (holder q) (line q)) (no-right : usesIn m q (numberOf s) ≡ false) (no-use : uses (rightsOf s) q ≡ false) where
+    (stands : Standing n (ys ++ spot s ∷ zs) (r .tour) q (holder q) (line q)) (no-right : usesIn m q (numberOf s) ≡ false)
+    (no-use : uses (rightsOf s) q ≡ false) where
   abbrev t : ℕ
   t = numberOf s
 
@@ -84,13 +87,13 @@ module _ (m : List ℕ) (ys zs : List Item) (s : Task) (r : Represents m (ys ++ 
   gone = way .bare q small t no-right
 
   C : viewIn n q CHILDREN t ≡ vacant
-  C = children-word m Old r n holder line way q t live-t ∙ gone .0
+  C = children-word n q t live-t ∙ gone .0
 
   U : viewIn n q USER t ≡ vacant
-  U = user-word m Old r n holder line way q t live-t ∙ gone .1
+  U = user-word n q t live-t ∙ gone .1
 
   R : viewIn n q RIGHT t ≡ vacant
-  R = right-word m Old r n holder line way q t live-t ∙ gone .2
+  R = right-word n q t live-t ∙ gone .2
 
   no-inner : inner M q h t ≡ vacant
   no-inner = ap₂ (λ (x y : Extent). reduced x y) C U
@@ -113,7 +116,8 @@ module _ (m : List ℕ) (ys zs : List Item) (s : Task) (r : Represents m (ys ++ 
   -- the paper has these reductions
   pub past-allowed : finishes n t q ≡ true
   past-allowed =
-      none-allowed n t q below small (subst Headless (sym C) tt) (subst Headless (sym U) tt) (subst Headless (sym no-inner) tt) (reductions .user-tailed) (reductions .right-tailed)
+      none-allowed n t q below small (subst Headless (sym C) tt) (subst Headless (sym U) tt) (subst Headless (sym no-inner) tt) (reductions .user-tailed)
+      (reductions .right-tailed)
       (ap (λ (x : Extent). reduces x (viewIn n q USER t)) C) (ap (λ (x : Extent). reduces x (viewIn n q RIGHT t)) no-inner) no-whole
 
   other : t ≡ h → ⊥
@@ -122,7 +126,7 @@ module _ (m : List ℕ) (ys zs : List Item) (s : Task) (r : Represents m (ys ++ 
   no-head : headsIn (viewsReturned n t q) q t ≡ none
   no-head =
       ap (λ (N : Meaning). N .heads q t) (same .means)
-      ∙ head-word m Old r n holder line way q t live-t
+      ∙ head-word n q t live-t
       ∙ way .laids .laid q small .held .head t
       ∙ put-other (λ y. none) h (headOf (firstChain (line q))) t other
 
@@ -130,7 +134,8 @@ module _ (m : List ℕ) (ys zs : List Item) (s : Task) (r : Represents m (ys ++ 
   unfolding finishedQueue
   done = becomes-at (sym (queue-kept (viewsReturned n t q) t q (same .sized) below small no-head)) same
 
-  module _ (b a : Line) (parts : line q ≡ b ++ (pass t ∷ (pass (128 + t) ∷ a))) (later : marks b ≡ leaf m ys zs s r barren .later) (earlier : marks a ≡ leaf m ys zs s r barren .earlier) where
+  module _ (b a : Line) (parts : line q ≡ b ++ (pass t ∷ (pass (128 + t) ∷ a))) (later : marks b ≡ leaf m ys zs s r barren .later)
+      (earlier : marks a ≡ leaf m ys zs s r barren .earlier) where
     row : After own (Q .store) Q h (b ++ a) (timeline (contentsIn n) (line q))
     unfolding queueMemory ofTasks
     row =

@@ -28,12 +28,12 @@ use Rattle.represents.specs.Represents.{alive, ofTasks, queueMemory, usesIn, Re
 use Rattle.represents.specs.Nexts.{Nexts, HeadBelow, nexts-joined}
 use Rattle.represents.specs.Push.{masked-share}
 use Rattle.represents.specs.At.{single-spot}
+use Rattle.represents.specs.Covered.{Covered, Vacant}
 use Rattle.represents_finish.specs.Leaf.{leaf, with-right}
-use Rattle.represents_finish.specs.Way.{Vacant, Way, Standing}
+use Rattle.represents_finish.specs.Way.{Way, Standing}
 use Rattle.represents_finish.specs.Queue.{single, held-below}
 use Rattle.represents_finish.specs.Reductions.{Leaving, leaving-views}
 use Rattle.represents_finish.specs.HeadsBelow.{headless-below, reduced-below, right-below}
-use Rattle.represents_finish.specs.FirstNames.{Covered}
 use Rattle.represents_finish.specs.LiveFinish.{live-finish}
 use Rattle.represents_finish.specs.Reduced.{alive-t, alive-h, was}
 use Rattle.represents_finish.specs.Returned.{Back, views-back}
@@ -63,7 +63,8 @@ module _ (m : List ℕ) (ys zs : List Item) (s : Task) (r : Represents m (ys ++ 
   abbrev Rest : List ℕ
   Rest = leaf m ys zs s r barren .later ++ leaf m ys zs s r barren .earlier
 
-  module _ (y : Mark) (b : Line) (c : List ℕ) (a : Line) (parts : line q ≡ (y ∷ b) ++ (met t c ∷ (left t ∷ a))) (later : marks (y ∷ b) ≡ leaf m ys zs s r barren .later)
+  module _ (y : Mark) (b : Line) (c : List ℕ) (a : Line) (parts : line q ≡ (y ∷ b) ++ (met t c ∷ (left t ∷ a)))
+      (later : marks (y ∷ b) ≡ leaf m ys zs s r barren .later)
       (earlier : marks a ≡ leaf m ys zs s r barren .earlier) (right : usesIn m q t ≡ true) (may : uses (rightsOf s) q ≡ true) where
     live-t : alive n t ≡ true
     live-t = alive-t m ys zs s r n holder line way covered q small (stands .first) (y ∷ b) c a parts
@@ -122,7 +123,8 @@ module _ (m : List ℕ) (ys zs : List Item) (s : Task) (r : Represents m (ys ++ 
     nexts : Nexts (read m numberWord) (W .store .next)
     unfolding queueMemory ofTasks finished finishedWith
     nexts =
-        nexts-joined N some-opened h (viewAt (Q .children) (Q .right) (back .place)) (reduced inner (Q .right t)) (joined h inner (Q .right t) (joined h (Q .children t) (Q .user t) (Q .store)))
+        nexts-joined N some-opened h (viewAt (Q .children) (Q .right) (back .place)) (reduced inner (Q .right t))
+        (joined h inner (Q .right t) (joined h (Q .children t) (Q .user t) (Q .store)))
         (reduced-below N some-opened inner (Q .right t) (views .inner-headless) right-head)
         (nexts-joined N some-opened h inner (Q .right t) (joined h (Q .children t) (Q .user t) (Q .store)) right-head
         (nexts-joined N some-opened h (Q .children t) (Q .user t) (Q .store) (headless-below N some-opened (Q .user t) (views .user-headless)) (way .nexts)))
@@ -183,10 +185,12 @@ module _ (m : List ℕ) (ys zs : List Item) (s : Task) (r : Represents m (ys ++ 
   pub views-turn : usesIn m q t ≡ true → uses (rightsOf s) q ≡ true → Change m n (viewsReturned n t q) t q (line q) h New Rest
   views-turn u v = go (with-right m ys zs s r barren q (line q) (way .laids .laid q small .views) (way .fits q small) (stands .marked) u)
     where
-      go : (b : Line) × (c : List ℕ) × (a : Line) × (line q ≡ b ++ (met t c ∷ (left t ∷ a))) × (marks b ≡ leaf m ys zs s r barren .later) × (marks a ≡ leaf m ys zs s r barren .earlier)
+      go : (b : Line) × (c : List ℕ) × (a : Line) × (line q ≡ b ++ (met t c ∷ (left t ∷ a))) × (marks b ≡ leaf m ys zs s r barren .later)
+          × (marks a ≡ leaf m ys zs s r barren .earlier)
           → Change m n (viewsReturned n t q) t q (line q) h New Rest
       go ([], c, a, p, e, f) =
-          let d = head-eq-of-cons-eq (sym (r .linked .first .1) ∙ leaf m ys zs s r barren .here ∙ ap (λ (k : List ℕ). k ++ t ∷ (128 + t) ∷ leaf m ys zs s r barren .earlier) (sym e)) in
+          let d = head-eq-of-cons-eq
+          (sym (r .linked .first .1) ∙ leaf m ys zs s r barren .here ∙ ap (λ (k : List ℕ). k ++ t ∷ (128 + t) ∷ leaf m ys zs s r barren .earlier) (sym e)) in
           let z : ⊥ = omega (arith, d, above) in
           absurd z
       go (y ∷ b, c, a, p, e, f) = views-change y b c a p e f u v

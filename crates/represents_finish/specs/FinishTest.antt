@@ -13,10 +13,9 @@ use Rattle.calls.specs.Finish.{returned, finishes}
 use Rattle.gaps.specs.Line.{End, nonlocal, local, Extent, vacant, extent}
 use Rattle.gaps.specs.Moves.{reduced as reduceTo}
 use Rattle.meaning.specs.Meaning.{endOf, extentOf, viewIn}
-use Rattle.meaning.specs.Reads.{view-at}
 use Rattle.meaning.specs.Extents.{end-local, filled-extent, vacant-empty, reduces, reducible-extents}
 use Rattle.meaning.specs.Reduce.{Tailed}
-use Rattle.meaning.specs.FinishTest.{behind-same, behind-vacant, behind-nonlocal, reduced-extent, Stays, returned-whole}
+use Rattle.meaning.specs.FinishTest.{behind-same, behind-vacant, behind-nonlocal, Stays, returned-whole, children-is, user-is, right-is, inner-extent}
 use Rattle.represents_finish.specs.Meets.{Headless}
 
 -- a view whose head is not local stays as it is
@@ -47,7 +46,8 @@ frees-says m (view h x) (view g y) e =
       first = endOf h;
       last = endOf y;
       from = filled-extent h x (not-true _ (q .0)) ∙ ap (extent (endOf h)) (end-local x (λ d. let l = ltb-true x NL (v .0) in omega (arith, l, d)));
-      to = filled-extent g y (not-true _ (q .1)) ∙ ap (λ (z : End). extent z (endOf y)) (end-local g (λ d. let l = ltb-true g NL (v .1) in omega (arith, l, d)));
+      to =
+          filled-extent g y (not-true _ (q .1)) ∙ ap (λ (z : End). extent z (endOf y)) (end-local g (λ d. let l = ltb-true g NL (v .1) in omega (arith, l, d)));
       empty = eqb-true _ _ (w .1);
     }
 
@@ -60,7 +60,8 @@ kept-headless m a b w h = behind-same m a b w (λ s f. frees-headless m a b h f)
 
 -- THE VIEWS OF t: no head of children and user view is local
 module _ (m : List ℕ) (t q : ℕ) (ht : t < 128) (hq : q < 4) (children : Headless (viewIn m q CHILDREN t)) (user : Headless (viewIn m q USER t))
-    (inner : Headless (reduceTo (viewIn m q CHILDREN t) (viewIn m q USER t))) (user-tailed : Tailed (viewIn m q USER t)) (right-tailed : Tailed (viewIn m q RIGHT t)) where
+    (inner : Headless (reduceTo (viewIn m q CHILDREN t) (viewIn m q USER t))) (user-tailed : Tailed (viewIn m q USER t))
+    (right-tailed : Tailed (viewIn m q RIGHT t)) where
   abbrev C : View
   C = viewOf m q t CHILDREN
 
@@ -70,40 +71,33 @@ module _ (m : List ℕ) (t q : ℕ) (ht : t < 128) (hq : q < 4) (children : Head
   abbrev R : View
   R = viewOf m q t RIGHT
 
-  ec : viewIn m q CHILDREN t ≡ extentOf C
-  ec = view-at m q CHILDREN t hq (omega arith) ht
-
-  eu : viewIn m q USER t ≡ extentOf U
-  eu = view-at m q USER t hq (omega arith) ht
-
-  er : viewIn m q RIGHT t ≡ extentOf R
-  er = view-at m q RIGHT t hq (omega arith) ht
-
   same-children : behind m C U C ≡ C
-  same-children = behind-headless m C U C (subst Headless ec children)
+  same-children = behind-headless m C U C (subst Headless (children-is m t q ht hq) children)
 
-  pub inner-extent : extentOf (reduced m C U) ≡ reduceTo (viewIn m q CHILDREN t) (viewIn m q USER t)
-  inner-extent = reduced-extent m C U same-children (subst Tailed eu user-tailed) ∙ sym (ap₂ reduceTo ec eu)
+  pub inner-reduced : extentOf (reduced m C U) ≡ reduceTo (viewIn m q CHILDREN t) (viewIn m q USER t)
+  inner-reduced = inner-extent m t q ht hq same-children user-tailed
 
   -- any view stays in the first reduction
   pub first-keeps : (w : View) → behind m C U w ≡ w
-  first-keeps w = kept-headless m C U w (subst Headless eu user)
+  first-keeps w = kept-headless m C U w (subst Headless (user-is m t q ht hq) user)
 
   pub stays : Stays m t q ht hq
   stays =
       record {
         children = same-children;
         right = first-keeps R;
-        both-reduced = behind-headless m (reduced m C U) R (reduced m C U) (subst Headless (sym inner-extent) inner);
+        both-reduced = behind-headless m (reduced m C U) R (reduced m C U) (subst Headless (sym inner-reduced) inner);
         user-tailed = user-tailed;
         right-tailed = right-tailed;
       }
 
   -- nothing is returned
-  pub none-allowed : reduces (viewIn m q CHILDREN t) (viewIn m q USER t) ≡ true → reduces (reduceTo (viewIn m q CHILDREN t) (viewIn m q USER t)) (viewIn m q RIGHT t) ≡ true
+  pub none-allowed : reduces (viewIn m q CHILDREN t) (viewIn m q USER t) ≡ true
+      → reduces (reduceTo (viewIn m q CHILDREN t) (viewIn m q USER t)) (viewIn m q RIGHT t) ≡ true
       → reduceTo (reduceTo (viewIn m q CHILDREN t) (viewIn m q USER t)) (viewIn m q RIGHT t) ≡ vacant → finishes m t q ≡ true
   unfolding finishes
   none-allowed a b e =
-      true-both (reducible-extents C U ∙ sym (ap₂ reduces ec eu) ∙ a)
-      (true-both (ap (reducible (reduced m C U)) (first-keeps R) ∙ reducible-extents (reduced m C U) R ∙ ap₂ reduces inner-extent (sym er) ∙ b)
+      true-both (reducible-extents C U ∙ sym (ap₂ reduces (children-is m t q ht hq) (user-is m t q ht hq)) ∙ a)
+      (true-both
+      (ap (reducible (reduced m C U)) (first-keeps R) ∙ reducible-extents (reduced m C U) R ∙ ap₂ reduces inner-reduced (sym (right-is m t q ht hq)) ∙ b)
       (true-left _ (vacant-empty (returned m t q) (returned-whole m t q ht hq stays ∙ e))))

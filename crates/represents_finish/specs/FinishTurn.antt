@@ -2,7 +2,7 @@
 use mathlib.Core.Path.{_≡_, refl, ap, sym, _∙_, subst}
 use mathlib.Core.Bool.{Bool, true, false}
 use mathlib.Core.List.{List, _∷_, _++_}
-use mathlib.Core.Logic.{_⊎_, inl, inr, ⊎-elim}
+use mathlib.Core.Logic.{inr, ⊎-elim}
 use Prim.Native.Nat.{ℕ, _+_, _<_}
 use native.Mathlib.Omega.{arith}
 use borrow.Author.Tests.{lt-ltb}
@@ -14,18 +14,16 @@ use Rattle.calls.specs.Finish.{finishes as allows, finishedQueue}
 use Rattle.order.specs.Steps.{Task, Item, spot, finishes, numberOf, rightsOf, advance}
 use Rattle.order.specs.Waits.{blocked}
 use Rattle.order_waits.specs.Played.{Played}
-use Rattle.gaps.specs.Maps.{All, put, put-same, put-other}
-use Rattle.gaps.specs.Line.{Line, marks, lefts, mets, Fits}
-use Rattle.gaps.specs.Splits.{small-mets}
+use Rattle.gaps.specs.Maps.{put, put-same, put-other}
+use Rattle.gaps.specs.Line.{Line, marks}
 use Rattle.links.specs.Waits.{same-rights}
 use Rattle.represents.specs.Represents.{queueMemory, usesIn, Represents}
-use Rattle.represents.specs.Views.{met-in, left-in, uses-small}
 use Rattle.represents.specs.Walks.{marked}
 use Rattle.represents.specs.At.{mine-spot, task-unfinished}
 use Rattle.represents.specs.FirstNamed.{task-left}
+use Rattle.represents.specs.Covered.{Covered, Vacant, AllOrNone, by-marks}
 use Rattle.represents_finish.specs.Leaf.{Leaf, leaf, with-right}
-use Rattle.represents_finish.specs.Way.{Vacant, Way, Standing, AllStand, at-queue, Turn, turn, turn-other, turn-here, turn-gone, turn-vacant}
-use Rattle.represents_finish.specs.FirstNames.{Covered}
+use Rattle.represents_finish.specs.Way.{Standing, AllStand, at-queue, Turn, turn, turn-other, turn-here, turn-gone, turn-vacant}
 use Rattle.represents_finish.specs.Change.{Turned}
 use Rattle.represents_finish.specs.FinishRight.{views-turn}
 use Rattle.represents_finish.specs.QueueView.{queue-turn}
@@ -69,33 +67,22 @@ module _ (m : List ℕ) (ys zs : List Item) (s : Task) (r : Represents m (ys ++ 
       let k = occurs-append x (here .later) (here .earlier) in
       omega (arith, e, f, g, k, p)
 
-  -- by the marks T of the line
-  by-marks : (n : List ℕ) (holder : ℕ → ℕ) (line : ℕ → Line) → Way m n holder line → (p : ℕ) → p < 4 → (T : List ℕ) → marks (line p) ≡ T → (x : ℕ) → x < 128
-      → 0 < occurrences x T → 0 < occurrences (128 + x) T → ((0 < occurrences x (mets (line p))) × (0 < occurrences x (lefts (line p)))) ⊎ Vacant (queueMemory n p) x
-  by-marks n holder line way p i T e x l a b = go (usesIn m p x) refl
-    where
-      f : All (Fits (usesIn m p)) (line p)
-      f = way .fits p i
-
-      go : (c : Bool) → usesIn m p x ≡ c → ((0 < occurrences x (mets (line p))) × (0 < occurrences x (lefts (line p)))) ⊎ Vacant (queueMemory n p) x
-      go false u = inr (way .bare p i x u)
-      go true u =
-          inl (
-            met-in (usesIn m p) (line p) f x l u (subst (λ (k : List ℕ). 0 < occurrences x k) (sym e) a),
-            left-in (usesIn m p) (line p) f (small-mets (usesIn m p) (line p) (uses-small m p) f) x u (subst (λ (k : List ℕ). 0 < occurrences (128 + x) k) (sym e) b),
-          )
-
   covered : (n : List ℕ) (yet : ℕ → Bool) (A : Stage n yet) (p : ℕ) → p < 4 → Covered (queueMemory n p) (r .tour) (A .line p)
   covered n yet A p i x l k = go (yet p) (A .stands p i)
     where
-      go : (c : Bool) → Now n c p (A .holder p) (A .line p) → ((0 < occurrences x (mets (A .line p))) × (0 < occurrences x (lefts (A .line p)))) ⊎ Vacant (queueMemory n p) x
-      go true w = by-marks n (A .holder) (A .line) (A .way) p i (r .tour) (w .marked) x l k (task-left m Old r x l k)
+      marked : (T : List ℕ) → marks (A .line p) ≡ T → 0 < occurrences x T → 0 < occurrences (128 + x) T → AllOrNone (queueMemory n p) (A .line p) x
+      marked T e a b =
+          by-marks m p (queueMemory n p) (A .line p) (A .way .fits p i) (A .way .bare p i) x l
+          (subst (λ (j : List ℕ). 0 < occurrences x j) (sym e) a) (subst (λ (j : List ℕ). 0 < occurrences (128 + x) j) (sym e) b)
+
+      go : (c : Bool) → Now n c p (A .holder p) (A .line p) → AllOrNone (queueMemory n p) (A .line p) x
+      go true w = marked (r .tour) (w .marked) k (task-left m Old r x l k)
       go false w =
           ⊎-elim
           (λ e. inr (subst (Vacant (queueMemory n p)) (sym e) (w .1)))
           (λ e.
           let b = below in
-          by-marks n (A .holder) (A .line) (A .way) p i Rest (w .0 .marked) x l
+          marked Rest (w .0 .marked)
           (in-rest x e (λ d. omega (arith, d, l)) k)
           (in-rest (128 + x) (λ d. omega (arith, d, b)) (λ d. e (omega (arith, d))) (task-left m Old r x l k)))
           (equal? x t)
@@ -157,5 +144,6 @@ module _ (m : List ℕ) (ys zs : List Item) (s : Task) (r : Represents m (ys ++ 
             way = turn m n (A .holder) (A .line) (A .way) q small n′ (turned .heir) c;
             stands = at-queue (λ p x l. Now n′ (put yet q false p) p x l) (A .holder) (A .line) q (turned .heir) (c .line)
                 (subst (λ (b : Bool). Now n′ b q (turned .heir) (c .line)) (sym (put-same yet q false)) here-now)
-                (λ p i k. subst (λ (b : Bool). Now n′ b p (A .holder p) (A .line p)) (sym (put-other yet q false p k)) (other-now p i k (yet p) (A .stands p i)));
+                (λ p i k.
+                subst (λ (b : Bool). Now n′ b p (A .holder p) (A .line p)) (sym (put-other yet q false p k)) (other-now p i k (yet p) (A .stands p i)));
           }

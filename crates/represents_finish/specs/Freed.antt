@@ -9,7 +9,7 @@ use native.Mathlib.Omega.{arith}
 use lib.Dec.{ltb, eqb}
 use borrow.Author.Tests.{ltb-true, ltb-false, eq-eqb}
 use Rattle.words.specs.Words.{pick, halt, pass as skip, both, both-right-off}
-use Rattle.lists.specs.Counting.{one, occurrences, occurs-here, occurs-past, equal?}
+use Rattle.lists.specs.Counting.{one, occurrences, equal?, occurs-not}
 use Rattle.layout.specs.Layout.{FREE, STATUS, RIGHTS, CHILDREN, USER, RIGHT, numberWord, task, read}
 use Rattle.tree.specs.Rights.{uses}
 use Rattle.calls.specs.Waits.{rightsOf as rightsIn}
@@ -23,15 +23,7 @@ use Rattle.meaning.specs.Kept.{Kept, Means}
 use Rattle.meaning.specs.Tree.{LinksOnly, links-mean}
 use Rattle.meaning.specs.Freed.{freedIn, freed-only, other-word, record-freed}
 use Rattle.represents.specs.Represents.{alive, ofTasks, queueMemory, usesIn, opened}
-use Rattle.represents_finish.specs.Way.{Vacant}
-
--- a number that does not stand in a list is no member of it
-apart-first : (x y : ℕ) (l : List ℕ) → occurrences y (x ∷ l) ≡ 0 → (x ≡ y → ⊥) × (occurrences y l ≡ 0)
-apart-first x y l e =
-    ⊎-elim
-    (λ d. let k = occurs-here x y l d in let z : ⊥ = omega (arith, k, e) in absurd z)
-    (λ d. (d, sym (occurs-past x y l d) ∙ e))
-    (equal? x y)
+use Rattle.represents.specs.Covered.{Vacant}
 
 -- the task of a mark that is none of t's
 other-task : (x t : ℕ) → (x ≡ t → ⊥) → (x ≡ 128 + t → ⊥) → pick (ltb x 128) x (x - 128) ≡ t → ⊥
@@ -42,25 +34,27 @@ other-task x t a b e = go (ltb x 128) refl
     go false d = let l = ltb-false x 128 d in let f = sym (skip x d refl) ∙ e in b (omega (arith, l, f))
 
 -- A LINE WITHOUT MARKS OF t fits where only t's rights are others.
-pub fits-without : (u w : ℕ → Bool) (t : ℕ) → ((x : ℕ) → (x ≡ t → ⊥) → w x ≡ u x) → (l : Line) → occurrences t (marks l) ≡ 0 → occurrences (128 + t) (marks l) ≡ 0
+pub fits-without : (u w : ℕ → Bool) (t : ℕ) → ((x : ℕ) → (x ≡ t → ⊥) → w x ≡ u x) → (l : Line) → occurrences t (marks l) ≡ 0
+    → occurrences (128 + t) (marks l) ≡ 0
     → All (Fits u) l → All (Fits w) l
 fits-without u w t same [] a b h = tt
 fits-without u w t same (base c ∷ l) a b h = (tt, fits-without u w t same l a b (h .1))
 fits-without u w t same (left x ∷ l) a b h =
-    let i = apart-first (128 + x) t (marks l) a in
-    let j = apart-first (128 + x) (128 + t) (marks l) b in
+    let i = occurs-not (128 + x) t (marks l) a in
+    let j = occurs-not (128 + x) (128 + t) (marks l) b in
     (same x (λ e. j .0 (ap (λ (y : ℕ). 128 + y) e)) ∙ h .0, fits-without u w t same l (i .1) (j .1) (h .1))
 fits-without u w t same (met x c ∷ l) a b h =
-    let i = apart-first x t (marks l) a in
-    let j = apart-first x (128 + t) (marks l) b in
+    let i = occurs-not x t (marks l) a in
+    let j = occurs-not x (128 + t) (marks l) b in
     (same x (i .0) ∙ h .0, fits-without u w t same l (i .1) (j .1) (h .1))
 fits-without u w t same (pass x ∷ l) a b h =
-    let i = apart-first x t (marks l) a in
-    let j = apart-first x (128 + t) (marks l) b in
+    let i = occurs-not x t (marks l) a in
+    let j = occurs-not x (128 + t) (marks l) b in
     (same (pick (ltb x 128) x (x - 128)) (other-task x t (i .0) (j .0)) ∙ h .0, fits-without u w t same l (i .1) (j .1) (h .1))
 
 -- THE WORDS n, which have the tree of m, and those where the record of t is free
-module _ (m n : List ℕ) (t : ℕ) (small : t < 128) (kept : Kept m n) (sized : Sized n) (only : LinksOnly n (unlinked n t)) (w : Finished m (recordFreed (unlinked n t) t) t) where
+module _ (m n : List ℕ) (t : ℕ) (small : t < 128) (kept : Kept m n) (sized : Sized n) (only : LinksOnly n (unlinked n t))
+    (w : Finished m (recordFreed (unlinked n t) t) t) where
   abbrev u : List ℕ
   u = unlinked n t
 
@@ -88,7 +82,9 @@ module _ (m n : List ℕ) (t : ℕ) (small : t < 128) (kept : Kept m n) (sized :
 
   pub freed-number : read f numberWord ≡ read m numberWord
   freed-number =
-      freed-only u t (halfway .sized) small .same numberWord (omega arith, λ q. omega (arith, q)) ∙ only .only .same numberWord (omega arith, λ q. omega (arith, q)) ∙ kept .number
+      freed-only u t (halfway .sized) small .same numberWord (omega arith, λ q. omega (arith, q))
+      ∙ only .only .same numberWord (omega arith, λ q. omega (arith, q))
+      ∙ kept .number
 
   pub freed-opened : opened f ≡ opened m
   unfolding opened
@@ -103,12 +99,14 @@ module _ (m n : List ℕ) (t : ℕ) (small : t < 128) (kept : Kept m n) (sized :
 
   same-view : (q j x : ℕ) → q < 4 → j < 3 → (x ≡ t → ⊥) → viewIn f q j x ≡ viewIn n q j x
   same-view q j x i l k =
-      view-same-at n f q j x (λ a b d. (view-word x (20 + j * 4 + q) d k (omega arith) (omega (arith, i, l)), view-word x (32 + j * 4 + q) d k (omega arith) (omega (arith, i, l))))
+      view-same-at n f q j x
+      (λ a b d. (view-word x (20 + j * 4 + q) d k (omega arith) (omega (arith, i, l)), view-word x (32 + j * 4 + q) d k (omega arith) (omega (arith, i, l))))
 
   -- status and rights of the other tasks
   fixed : (x k : ℕ) → x < 128 → k < 2 → (x ≡ t → ⊥) → read f (task x k) ≡ read m (task x k)
   fixed x k l i d =
-      w .others x k l (omega (arith, i)) d (λ e. let g = e .1 in omega (arith, g, i)) (λ e. let g = e .2 in omega (arith, g, i)) (λ e. let g = e .1 in omega (arith, g, i))
+      w .others x k l (omega (arith, i)) d (λ e. let g = e .1 in omega (arith, g, i)) (λ e. let g = e .2 in omega (arith, g, i))
+      (λ e. let g = e .1 in omega (arith, g, i))
 
   same-alive : (x : ℕ) → (x ≡ t → ⊥) → alive f x ≡ alive n x
   unfolding alive both pick
@@ -149,5 +147,11 @@ module _ (m n : List ℕ) (t : ℕ) (small : t < 128) (kept : Kept m n) (sized :
       children = masked (viewIn f q CHILDREN) (viewIn n q CHILDREN) vacant (λ x d. same-view q CHILDREN x i (omega arith) d) (gone .0) j;
       user = masked (viewIn f q USER) (viewIn n q USER) vacant (λ x d. same-view q USER x i (omega arith) d) (gone .1) j;
       right = masked (viewIn f q RIGHT) (viewIn n q RIGHT) vacant (λ x d. same-view q RIGHT x i (omega arith) d) (gone .2) j;
-      store = record { next = freed-next j; contents = freed-contents j; heads = masked (headsIn f q) (headsIn n q) none (λ x d. same-head q x i d) no-head j; free = freed-free j };
+      store =
+          record {
+            next = freed-next j;
+            contents = freed-contents j;
+            heads = masked (headsIn f q) (headsIn n q) none (λ x d. same-head q x i d) no-head j;
+            free = freed-free j;
+          };
     }

@@ -12,8 +12,9 @@ use Rattle.gaps.specs.Line.{Extent, left, met, pass, Line, marks, Fits, Mode, V
 use Rattle.gaps.specs.Splits.{all-proper, small-mets, met-leaf, pass-leaf}
 use Rattle.tree.specs.Tour.{met as metIn}
 use Rattle.links.specs.Linked.{numbersBack}
-use Rattle.links.specs.Places.{Place, childless, met-past}
+use Rattle.links.specs.Places.{Place, childless}
 use native.Mathlib.Omega.{arith}
+use Rattle.rules_tasks.specs.Holders.{met-past}
 use Rattle.represents.specs.Represents.{usesIn, Represents}
 use Rattle.represents.specs.Views.{uses-small}
 use Rattle.represents.specs.At.{task-unfinished, where-it-stands}
@@ -49,7 +50,8 @@ module _ (m : List ℕ) (ys zs : List Item) (s : Task) (r : Represents m (ys ++ 
       }
 
   -- A LINE with the marks of the tour parts there
-  module _ {children user right : ℕ → Extent} {n : Mode} (q : ℕ) (l : Line) (views : Views children user right l n) (fits : All (Fits (usesIn m q)) l) (marked : marks l ≡ r .tour) where
+  module _ {children user right : ℕ → Extent} {n : Mode} (q : ℕ) (l : Line) (views : Views children user right l n) (fits : All (Fits (usesIn m q)) l)
+      (marked : marks l ≡ r .tour) where
     pub with-right : usesIn m q t ≡ true
         → (b : Line) × (c : List ℕ) × (a : Line) × (l ≡ b ++ (met t c ∷ (left t ∷ a))) × (marks b ≡ leaf .later) × (marks a ≡ leaf .earlier)
     with-right u =

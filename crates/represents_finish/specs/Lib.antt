@@ -6,8 +6,6 @@ pub mod Queue
 pub mod HeadsBelow
 pub mod SyncTurn
 pub mod Sync
-pub mod Naming
-pub mod FirstNames
 pub mod LiveFinish
 pub mod Back
 pub mod Target

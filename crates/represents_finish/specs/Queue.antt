@@ -6,13 +6,11 @@ use mathlib.Core.List.{List}
 use Prim.Native.Nat.{ℕ, _+_, _<_, _≤_}
 use native.Mathlib.Omega.{arith}
 use lib.ListN.{length}
-use Rattle.words.specs.Words.{halt}
 use Rattle.lists.specs.Counting.{occurrences}
-use Rattle.layout.specs.Layout.{NL, CHILDREN, USER, RIGHT, numberWord, read}
+use Rattle.layout.specs.Layout.{NL, numberWord, read}
 use Rattle.tree.specs.Rights.{uses, pops as mayPop}
 use Rattle.rules.specs.Contents.{decode}
 use Rattle.rules.specs.Rules.{Unfinished}
-use Rattle.rules_tasks.specs.Holders.{met-count}
 use Rattle.order.specs.Steps.{Task, Item, spot, numberOf, rightsOf}
 use Rattle.order_laws.specs.Items.{In}
 use Rattle.order_waits.specs.Played.{played-reached}
@@ -22,9 +20,9 @@ use Rattle.order_waits.specs.Poppers.{popper-says}
 use Rattle.order_queue.specs.Users.{pops-uses}
 use Rattle.gaps.specs.Line.{Line, segments}
 use Rattle.gaps.specs.Pool.{mine}
-use Rattle.links.specs.Linked.{says-back, Linked, spot-unfinished, unfinished-spot}
+use Rattle.links.specs.Linked.{Linked, spot-unfinished}
 use Rattle.links.specs.Frame.{keeps-linked}
-use Rattle.meaning.specs.Meaning.{freeIn, headsIn, viewIn, storeIn}
+use Rattle.meaning.specs.Meaning.{freeIn, storeIn}
 use Rattle.represents.specs.Represents.{alive, ofTasks, queueMemory, opened, Represents}
 use Rattle.represents.specs.Laids.{held-opened, mine-one}
 use Rattle.represents.specs.Parts.{opened-single, same-alive}
@@ -44,15 +42,6 @@ module _ (m : List ℕ) (xs : List Item) (r : Represents m xs) (n : List ℕ) (h
 
   pub spot-alive : (o : Task) → In (spot o) xs → alive n (numberOf o) ≡ true
   spot-alive o i = unfinished-live (numberOf o) (spot-unfinished m (r .tour) xs (r .linked) o i)
-
-  -- and the tour meets it
-  pub unfinished-there : (u : ℕ) → Unfinished (decode m) u → 0 < occurrences u (r .tour)
-  unfinished-there u k =
-      let w = unfinished-spot m (r .tour) xs (r .linked) u k in
-      let a = says-back (w .0) xs (w .1) in
-      let b = ap (occurrences (numberOf (w .0))) (r .linked .spots) in
-      let d = met-count (r .tour) (numberOf (w .0)) (let l = k .0 in let e = w .2 in omega (arith, l, e)) in
-      subst (λ (x : ℕ). 0 < occurrences x (r .tour)) (w .2) (omega (arith, a, b, d))
 
   -- SEGMENTS
   held : (q : ℕ) → q < 4 → (x : ℕ) → occurrences x (segments (line q)) + occurrences x (freeIn n) ≤ opened m x
@@ -77,24 +66,6 @@ module _ (m : List ℕ) (xs : List Item) (r : Represents m xs) (n : List ℕ) (h
       shorter (read n numberWord) (segments (line q)) (freeIn n)
       (λ x. let a = held q i x in let b = opened-single m x in omega (arith, a, b))
       (λ x l. let a = held q i x in below x (omega (arith, a, l)))
-
-  -- VIEWS of a task in use
-  module _ (q : ℕ) (x : ℕ) (live : alive n x ≡ true) where
-    pub children-word : viewIn n q CHILDREN x ≡ queueMemory n q .children x
-    unfolding queueMemory ofTasks
-    children-word = sym (halt _ _ live)
-
-    pub user-word : viewIn n q USER x ≡ queueMemory n q .user x
-    unfolding queueMemory ofTasks
-    user-word = sym (halt _ _ live)
-
-    pub right-word : viewIn n q RIGHT x ≡ queueMemory n q .right x
-    unfolding queueMemory ofTasks
-    right-word = sym (halt _ _ live)
-
-    pub head-word : headsIn n q x ≡ queueMemory n q .store .heads x
-    unfolding queueMemory ofTasks
-    head-word = sym (halt _ _ live)
 
   -- THE HOLDER of the queue view is an unfinished task with a right
   module _ (q h : ℕ) (first : firstPopper q xs ≡ some h) where

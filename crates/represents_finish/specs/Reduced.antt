@@ -24,17 +24,19 @@ use Rattle.meaning.specs.Links.{Linkable}
 use Rattle.meaning.specs.Reduce.{Links, Tailed, mergedIn, view-merged}
 use Rattle.meaning.specs.Merges.{inner, whole}
 use Rattle.meaning.specs.Finish.{words1, Reduces}
-use Rattle.represents.specs.Represents.{alive, ofTasks, queueMemory, Represents}
-use Rattle.represents.specs.Parts.{parts-of}
+use Rattle.represents.specs.Represents.{alive, ofTasks, queueMemory, Represents, opened}
+use Rattle.represents.specs.Parts.{parts-of, opened-single}
 use Rattle.represents.specs.Plain.{same-links}
-use Rattle.represents.specs.FirstNamed.{holder-unfinished}
+use Rattle.represents.specs.FirstNamed.{holder-unfinished, task-there}
 use Rattle.represents.specs.At.{mine-spot, task-unfinished}
+use Rattle.represents.specs.Views.{children-word, user-word, right-word}
+use Rattle.represents.specs.Covered.{Covered}
+use Rattle.represents.specs.FirstNames.{first-names}
+use Rattle.represents.specs.Naming.{Names, names-view, names-by}
 use Rattle.represents_finish.specs.Way.{Way}
 use Rattle.represents_finish.specs.Meets.{Meets, Apart, Tails, Headless, meets-links, apart-joined, tails-tailed, headless-not, vacant-not}
 use Rattle.represents_finish.specs.Reductions.{Link, Leaving, leaving-views}
-use Rattle.represents_finish.specs.Queue.{way-linked, spot-alive, single, held-below, held-local, room, children-word, user-word, right-word, holder-alive}
-use Rattle.represents_finish.specs.Naming.{Names, names-view, names-by}
-use Rattle.represents_finish.specs.FirstNames.{Covered, first-names}
+use Rattle.represents_finish.specs.Queue.{way-linked, spot-alive, single, held-below, held-local, room, holder-alive, unfinished-live}
 
 module _ (m : List ℕ) (ys zs : List Item) (s : Task) (r : Represents m (ys ++ spot s ∷ zs))
     (n : List ℕ) (holder : ℕ → ℕ) (line : ℕ → Line) (way : Way m n holder line) (covered : (p : ℕ) → p < 4 → Covered (queueMemory n p) (r .tour) (line p))
@@ -71,13 +73,13 @@ module _ (m : List ℕ) (ys zs : List Item) (s : Task) (r : Represents m (ys ++ 
   alive-h = holder-alive m Old r n holder line way q h first
 
   pub children-is : viewIn n q CHILDREN t ≡ Q .children t
-  children-is = children-word m Old r n holder line way q t alive-t
+  children-is = children-word n q t alive-t
 
   pub user-is : viewIn n q USER t ≡ Q .user t
-  user-is = user-word m Old r n holder line way q t alive-t
+  user-is = user-word n q t alive-t
 
   pub right-is : viewIn n q RIGHT t ≡ Q .right t
-  right-is = right-word m Old r n holder line way q t alive-t
+  right-is = right-word n q t alive-t
 
   pub inner-is : inner M q h t ≡ reduced (Q .children t) (Q .user t)
   inner-is = ap₂ (λ (x y : Extent). reduced x y) children-is user-is
@@ -105,7 +107,8 @@ module _ (m : List ℕ) (ys zs : List Item) (s : Task) (r : Represents m (ys ++ 
 
   -- a segment that is alone in the first gap
   pub names : (z : ℕ) → firstChain Line-t ≡ z ∷ [] → Names M (r .tour) z h q
-  names z e = first-names m Old r n holder line way covered q small alive-h z [] (ap firstChain parts ∙ e)
+  names z e = first-names (opened m) (opened-single m) n (r .tour) holder line (way .laids)
+      (λ x l p. unfinished-live m Old r n holder line way x (task-there m Old r x l p)) covered q small alive-h z [] (ap firstChain parts ∙ e)
 
   -- A LINK, in words w that mean the same segments
   pub linkable : (w : List ℕ) → Kept n w → contentsIn w ≡ contentsIn n → freeIn w ≡ freeIn n → (z x : ℕ) → Link Q Line-t z x
@@ -132,7 +135,9 @@ module _ (m : List ℕ) (ys zs : List Item) (s : Task) (r : Represents m (ys ++ 
   user-apart = subst₂ (λ (x y : Extent). Apart x y) (sym children-is) (sym user-is) (views .user-apart)
 
   user-tailed : Tailed (viewIn n q USER t)
-  user-tailed = tails-tailed (λ x. 0 < occurrences x (segments Line-t)) not-none (viewIn n q USER t) (subst (Tails (λ x. 0 < occurrences x (segments Line-t))) (sym user-is) (views .user-held))
+  user-tailed =
+      tails-tailed (λ x. 0 < occurrences x (segments Line-t)) not-none (viewIn n q USER t)
+      (subst (Tails (λ x. 0 < occurrences x (segments Line-t))) (sym user-is) (views .user-held))
 
   user-links : Links n q h (viewIn n q CHILDREN t) (viewIn n q USER t)
   user-links = meets-links (λ x y. ⊥) n q h (λ x y z. absurd z) (viewIn n q CHILDREN t) (viewIn n q USER t) user-apart
@@ -164,7 +169,9 @@ module _ (m : List ℕ) (ys zs : List Item) (s : Task) (r : Represents m (ys ++ 
         right-tailed = tails-tailed (λ x. 0 < occurrences x (segments Line-t)) not-none (viewIn n q RIGHT t)
             (subst (Tails (λ x. 0 < occurrences x (segments Line-t))) (sym right-is) (views .right-held));
         right-links = meets-links (Link Q Line-t) (words1 n t q) q h
-            (λ z x k. linkable (words1 n t q) (merged .kept) (ap (λ (N : Meaning). N .contents) means-merged) (ap (λ (N : Meaning). N .free) means-merged) z x k (names-merged z))
+            (λ z x k.
+            linkable (words1 n t q) (merged .kept) (ap (λ (N : Meaning). N .contents) means-merged) (ap (λ (N : Meaning). N .free) means-merged) z x k
+            (names-merged z))
             (inner M q h t) (viewIn n q RIGHT t)
             (subst₂ (λ (x y : Extent). Meets (Link Q Line-t) x y) (sym inner-is) (sym right-is) (views .right-meets));
       }

@@ -6,13 +6,14 @@ use Prim.Native.Nat.{ℕ, _+_, _<_, _≤_}
 use native.Mathlib.Omega.{arith}
 use Rattle.lists.specs.Counting.{occurrences, occurs-append, occurs-here}
 use Rattle.gaps.specs.Maps.{lastOf, last-in, all-behind}
-use Rattle.gaps.specs.Line.{End, nonlocal, local, Extent, extent, left, met, Line, segments, firstChain, Mode, settled, awaiting, Inside, rest, mid, close, Begins, bare, whole, begun, Views, leaving, meeting, passing}
+use Rattle.gaps.specs.Line.{End, nonlocal, local, Extent, extent, left, met, Line, segments, firstChain, Mode, settled, awaiting, Inside, rest, mid, close}
+use Rattle.gaps.specs.Line.{Begins, bare, whole, begun, Views, leaving, meeting, passing}
 use Rattle.gaps.specs.Store.{Chain, Memory, Laid}
 use Rattle.gaps.specs.Lines.{count-segments, first-behind}
 use Rattle.gaps.specs.Frames.{split, no-base}
 use Rattle.gaps.specs.Moves.{Place, childrenOf, rightOf, viewAt, reduced, returned}
 use Rattle.gaps.specs.Places.{Latest, Target, Returns}
-use Rattle.gaps.specs.Chains.{Gap, Sole, count-gap}
+use Rattle.gaps.specs.Chains.{Gap, count-gap, sole-first}
 use Rattle.gaps.specs.Joins.{is-sole}
 use Rattle.gaps.specs.Find.{awaited, Found, nothing, tail, find}
 use Rattle.gaps.specs.Reductions.{fuse}
@@ -35,13 +36,9 @@ inside-apart rest j = tt
 inside-apart mid close = tt
 inside-apart close rest = tt
 
-sole-first : {a : Line} {p : ℕ} → Sole a p → firstChain a ≡ p ∷ []
-sole-first Sole.at-base = refl
-sole-first (Sole.on-left g) = sole-first g
-sole-first (Sole.on-pass g) = sole-first g
-
 -- the view just before a view with a non-local head
-latest-meets : (P : ℕ → ℕ → Type 0) {children user right : ℕ → Extent} {l : Line} {z : ℕ} (k : Place) (x : End) → Latest l k → Views children user right l (awaiting z)
+latest-meets : (P : ℕ → ℕ → Type 0) {children user right : ℕ → Extent} {l : Line} {z : ℕ} (k : Place) (x : End) → Latest l k
+    → Views children user right l (awaiting z)
     → Meets P (viewAt children right k) (extent nonlocal x)
 latest-meets P (childrenOf t) x Latest.at-left (leaving v e rest r) = subst (λ (w : Extent). Meets P w (extent nonlocal x)) (sym e) tt
 latest-meets P (childrenOf t) x Latest.at-left (leaving v e mid r) = subst (λ (w : Extent). Meets P w (extent nonlocal x)) (sym e) tt
@@ -93,7 +90,8 @@ module _ (own : ℕ → ℕ) (single : (x : ℕ) → own x ≤ 1) (m : Memory) (
             let k = ap (λ (y : ℕ). occurrences y (s ∷ d)) e in
             omega (arith, x, o, i, j, k, first-held);
         alone = λ e.
-            let k = is-sole (m .store .next) (m .store .contents) g (all-behind (Chain (m .store .next) (m .store .contents)) b (met t (s ∷ d) ∷ (left t ∷ a)) (w .held .chains .good) .1 .1) e in
+            let k = is-sole (m .store .next) (m .store .contents) g
+            (all-behind (Chain (m .store .next) (m .store .contents)) b (met t (s ∷ d) ∷ (left t ∷ a)) (w .held .chains .good) .1 .1) e in
             first-behind b (met t (s ∷ d) ∷ (left t ∷ a)) (no-base b (met t (s ∷ d)) (left t ∷ a) (w .views))
             ∙ sole-first (k .0)
             ∙ ap (λ (y : ℕ). y ∷ []) (sym (ap (lastOf p) (k .1)));
@@ -104,7 +102,8 @@ module _ (own : ℕ → ℕ) (single : (x : ℕ) → own x ≤ 1) (m : Memory) (
       let g = awaited q in subst (λ (x : ℕ). Link m (Whole (s ∷ d)) x s) (g .3) (gap-link s d w (g .2))
 
   -- THE RIGHT VIEW is reduced into what children and user view are reduced to
-  right-case : {n₀ n : Mode} (c : List ℕ) (v w : Extent) → Was c → Inside n₀ v settled → Begins c w n → Views (m .children) (m .user) (m .right) a n₀ → Meets (Link m (Whole c)) v w
+  right-case : {n₀ n : Mode} (c : List ℕ) (v w : Extent) → Was c → Inside n₀ v settled → Begins c w n → Views (m .children) (m .user) (m .right) a n₀
+      → Meets (Link m (Whole c)) v w
   right-case c v w r rest g q = tt
   right-case c v w r (close {z = z}) bare q = tt
   right-case c v w r (close {z = z}) (whole {s = s} {c = d} e) q = awaited-link s d r z q
@@ -119,7 +118,8 @@ module _ (own : ℕ → ℕ) (single : (x : ℕ) → own x ≤ 1) (m : Memory) (
       go (nothing e g) = subst (λ (v : Extent). Meets (Link m (Whole (s ∷ d))) v (extent (local s) x)) (sym e) tt
       go (tail h p r e g) = subst (λ (v : Extent). Meets (Link m (Whole (s ∷ d))) v (extent (local s) x)) (sym e) (gap-link s d w g)
 
-  place-case : {n₀ n : Mode} (k : Place) (c : List ℕ) (v w : Extent) → Was c → Inside n₀ v settled → Begins c w n → Views (m .children) (m .user) (m .right) a n₀
+  place-case : {n₀ n : Mode} (k : Place) (c : List ℕ) (v w : Extent) → Was c → Inside n₀ v settled → Begins c w n
+      → Views (m .children) (m .user) (m .right) a n₀
       → Returns (m .children) a (reduced v w) k → Meets (Link m (Whole c)) (viewAt (m .children) (m .right) k) (reduced v w)
   place-case k c v w r rest bare q o = meets-vacant (Link m (Whole c)) (viewAt (m .children) (m .right) k)
   place-case k c v w r rest (whole {s = s} {z = z} {c = d} e) q o = target-case k s d (local z) r q o
@@ -172,6 +172,8 @@ module _ (own : ℕ → ℕ) (single : (x : ℕ) → own x ≤ 1) (m : Memory) (
             user-held = user-tails c (m .children t) (m .user t) k u q;
             right-meets = right-case c (reduced (m .children t) (m .user t)) (m .right t) w (fuse k u) y q;
             right-held = begins-tails c (m .right t) y;
-            whole-held = tails-reduced (Held c) (reduced (m .children t) (m .user t)) (m .right t) (inner-tails c (reduced (m .children t) (m .user t)) (fuse k u) q) (begins-tails c (m .right t) y);
+            whole-held =
+                tails-reduced (Held c) (reduced (m .children t) (m .user t)) (m .right t) (inner-tails c (reduced (m .children t) (m .user t)) (fuse k u) q)
+                (begins-tails c (m .right t) y);
             place-meets = λ p o. place-case p c (reduced (m .children t) (m .user t)) (m .right t) w (fuse k u) y q o;
           }

@@ -26,12 +26,12 @@ use Rattle.meaning.specs.FinishMemory.{memory-none-returned, memory-returned, n
 use Rattle.represents.specs.Represents.{alive, queueMemory, usesIn, Represents}
 use Rattle.represents.specs.Live.{holdsAt}
 use Rattle.represents.specs.At.{task-unfinished}
+use Rattle.represents.specs.Covered.{Covered}
+use Rattle.represents.specs.Naming.{Names, names-view}
 use Rattle.represents_finish.specs.Leaf.{leaf}
 use Rattle.represents_finish.specs.Way.{Way}
 use Rattle.represents_finish.specs.Meets.{Meets, Headless, tails-tailed, vacant-not}
 use Rattle.represents_finish.specs.Reductions.{Link}
-use Rattle.represents_finish.specs.Naming.{Names, names-view}
-use Rattle.represents_finish.specs.FirstNames.{Covered}
 use Rattle.represents_finish.specs.Target.{markOf, returns, returned-at, target-at}
 use Rattle.represents_finish.specs.Reduced.{alive-t, inner-is, whole-is, views, not-none, linkable, store-idle, reduces}
 
@@ -48,7 +48,8 @@ other-head z s y u n e = n (let d : s ≡ z = cc in sym d)
 module _ (m : List ℕ) (ys zs : List Item) (s : Task) (r : Represents m (ys ++ spot s ∷ zs)) (barren : hasChild m (numberOf s) ≡ false) (above : 0 < numberOf s)
     (n : List ℕ) (holder : ℕ → ℕ) (line : ℕ → Line) (way : Way m n holder line) (covered : (p : ℕ) → p < 4 → Covered (queueMemory n p) (r .tour) (line p))
     (q : ℕ) (small : q < 4) (first : firstPopper q (ys ++ spot s ∷ zs) ≡ some (holder q))
-    (b : Line) (c : List ℕ) (a : Line) (parts : line q ≡ b ++ (met (numberOf s) c ∷ (left (numberOf s) ∷ a))) (earlier : marks a ≡ leaf m ys zs s r barren .earlier) where
+    (b : Line) (c : List ℕ) (a : Line) (parts : line q ≡ b ++ (met (numberOf s) c ∷ (left (numberOf s) ∷ a)))
+    (earlier : marks a ≡ leaf m ys zs s r barren .earlier) where
   abbrev t : ℕ
   t = numberOf s
 
@@ -101,7 +102,8 @@ module _ (m : List ℕ) (ys zs : List Item) (s : Task) (r : Represents m (ys ++ 
         holds = alive-t m ys zs s r n holder line way covered q small first b c a parts;
         to = subst (λ (v : Extent). Returns (Q .children) a v (childrenOf t)) (sym e) tt;
         rest = λ x u.
-            subst (λ (v : Extent). (childrenWith v (childrenOf t) (Q .children) x ≡ Q .children x) × (rightsWith v (childrenOf t) (Q .right) x ≡ Q .right x)) (sym e)
+            subst (λ (v : Extent). (childrenWith v (childrenOf t) (Q .children) x ≡ Q .children x) × (rightsWith v (childrenOf t) (Q .right) x ≡ Q .right x))
+            (sym e)
             (refl, refl);
       }
 
@@ -122,10 +124,12 @@ module _ (m : List ℕ) (ys zs : List Item) (s : Task) (r : Represents m (ys ++ 
       → meaningOf (words2 n t q) ≡ withView (withView (withView M q CHILDREN t (extent (local x) y)) q USER t vacant) q RIGHT t vacant
   halfway-means x y e =
       halfway .means
-      ∙ ap₂ (λ (st : Store) (v : Extent). withView (withView (withView (withStore M q st) q CHILDREN t v) q USER t vacant) q RIGHT t vacant) (idle x y e) (W ∙ e)
+      ∙ ap₂ (λ (st : Store) (v : Extent). withView (withView (withView (withStore M q st) q CHILDREN t v) q USER t vacant) q RIGHT t vacant)
+      (idle x y e) (W ∙ e)
       ∙ ap (λ (N : Meaning). withView (withView (withView N q CHILDREN t (extent (local x) y)) q USER t vacant) q RIGHT t vacant) (store-self M q)
 
-  halfway-names : (x : ℕ) (y : End) → returned t Q ≡ extent (local x) y → (z : ℕ) → (z ≡ x → ⊥) → Names M (r .tour) z h q → Names (meaningOf (words2 n t q)) (r .tour) z h q
+  halfway-names : (x : ℕ) (y : End) → returned t Q ≡ extent (local x) y → (z : ℕ) → (z ≡ x → ⊥) → Names M (r .tour) z h q
+      → Names (meaningOf (words2 n t q)) (r .tour) z h q
   halfway-names x y e z k w =
       subst (λ (N : Meaning). Names N (r .tour) z h q) (sym (halfway-means x y e))
       (names-view _ (r .tour) z h q q RIGHT t vacant (vacant-not z)
@@ -160,7 +164,8 @@ module _ (m : List ℕ) (ys zs : List Item) (s : Task) (r : Represents m (ys ++ 
             (returned-extent n t q h (way .sized) below small redu ∙ W) some)
             (o .task .range) (o .task .other)
             (subst Tailed (sym W) (tails-tailed _ (not-none m ys zs s r n holder line way covered q small first b c a parts) v (views .whole-held)))
-            (subst₂ (λ (u w : Extent). Links (words2 n t q) q h u w) (o .view) (sym W) (place-links (viewAt (Q .children) (Q .right) (placeAt x)) v refl (views .place-meets (placeAt x) to)));
+            (subst₂ (λ (u w : Extent). Links (words2 n t q) q h u w) (o .view) (sym W)
+            (place-links (viewAt (Q .children) (Q .right) (placeAt x)) v refl (views .place-meets (placeAt x) to)));
         place = placeAt x;
         here = memory-returned M q h t x g y (W ∙ e);
         others = λ p k.

@@ -27,12 +27,14 @@ use Rattle.represents.specs.Nexts.{Nexts, nexts-joined}
 use Rattle.represents.specs.Live.{live-sync}
 use Rattle.represents.specs.Push.{masked-share}
 use Rattle.represents.specs.At.{mine-spot, task-unfinished}
+use Rattle.represents.specs.Views.{children-word, user-word}
+use Rattle.represents.specs.Covered.{Vacant}
 use Rattle.represents_finish.specs.Leaf.{with-right}
-use Rattle.represents_finish.specs.Way.{Vacant, Way, Standing, AllStand, Turn, turn-same}
+use Rattle.represents_finish.specs.Way.{Way, Standing, AllStand, Turn, turn-same}
 use Rattle.represents_finish.specs.Meets.{Apart, Tails, meets-reduces, meets-links, tails-tailed}
 use Rattle.represents_finish.specs.HeadsBelow.{headless-below}
 use Rattle.represents_finish.specs.Reductions.{Leaving, leaving-views}
-use Rattle.represents_finish.specs.Queue.{single, held-local, spot-alive, children-word, user-word, holder-alive}
+use Rattle.represents_finish.specs.Queue.{single, held-local, spot-alive, holder-alive}
 
 -- nothing is written where both views are vacant
 vacant-synced : (M : Meaning) (q holder t : ℕ) → M .views q CHILDREN t ≡ vacant → M .views q USER t ≡ vacant → syncedIn M q holder t ≡ M
@@ -50,7 +52,8 @@ module _ (m : List ℕ) (ys zs : List Item) (s : Task) (r : Represents m (ys ++ 
   abbrev Old : List Item
   Old = ys ++ spot s ∷ zs
 
-  module _ (n : List ℕ) (holder : ℕ → ℕ) (line : ℕ → Line) (way : Way m n holder line) (q : ℕ) (small : q < 4) (stands : Standing n Old (r .tour) q (holder q) (line q)) where
+  module _ (n : List ℕ) (holder : ℕ → ℕ) (line : ℕ → Line) (way : Way m n holder line) (q : ℕ) (small : q < 4)
+      (stands : Standing n Old (r .tour) q (holder q) (line q)) where
     abbrev Q : Memory
     Q = queueMemory n q
 
@@ -64,10 +67,10 @@ module _ (m : List ℕ) (ys zs : List Item) (s : Task) (r : Represents m (ys ++ 
     alive-h = holder-alive m Old r n holder line way q (holder q) (stands .first)
 
     C : viewIn n q CHILDREN t ≡ Q .children t
-    C = children-word m Old r n holder line way q t alive-t
+    C = children-word n q t alive-t
 
     U : viewIn n q USER t ≡ Q .user t
-    U = user-word m Old r n holder line way q t alive-t
+    U = user-word n q t alive-t
 
     -- THE TASK HAS A RIGHT: b and a are the line's parts, c the chain of the gap behind its spot
     module _ (b : Line) (c : List ℕ) (a : Line) (parts : line q ≡ b ++ (met t c ∷ (left t ∷ a))) where
@@ -81,7 +84,9 @@ module _ (m : List ℕ) (ys zs : List Item) (s : Task) (r : Represents m (ys ++ 
       syncable =
           record {
             tailed = tails-tailed _
-                (λ x l e. let k = held-local m Old r n holder line way q small x (subst (λ (k : Line). 0 < occurrences x (segments k)) (sym parts) l) in omega (arith, k, e))
+                (λ x l e.
+                let k = held-local m Old r n holder line way q small x (subst (λ (k : Line). 0 < occurrences x (segments k)) (sym parts) l) in
+                omega (arith, k, e))
                 (viewIn n q USER t) (subst (Tails _) (sym U) (views .user-held));
             links = meets-links (λ x y. ⊥) n q (holder q) (λ x y z. absurd z) (viewIn n q CHILDREN t) (viewIn n q USER t)
                 (subst₂ (λ (x y : Extent). Apart x y) (sym C) (sym U) (views .user-apart));
@@ -102,7 +107,8 @@ module _ (m : List ℕ) (ys zs : List Item) (s : Task) (r : Represents m (ys ++ 
       here : ofTasks (alive n) (memoryOf (syncedIn (meaningOf n) q (holder q) t) q) ≡ synced (holder q) t Q
       here = ap (ofTasks (alive n)) (memory-synced (meaningOf n) q (holder q) t) ∙ live
 
-      others : (p : ℕ) → p < 4 → (p ≡ q → ⊥) → ofTasks (alive n) (memoryOf (syncedIn (meaningOf n) q (holder q) t) p) ≡ shared (synced (holder q) t Q .store) (queueMemory n p)
+      others : (p : ℕ) → p < 4 → (p ≡ q → ⊥)
+          → ofTasks (alive n) (memoryOf (syncedIn (meaningOf n) q (holder q) t) p) ≡ shared (synced (holder q) t Q .store) (queueMemory n p)
       unfolding queueMemory synced
       others p i k =
           ap (ofTasks (alive n)) (memory-synced-elsewhere (meaningOf n) q (holder q) t p k)
@@ -208,7 +214,8 @@ module _ (m : List ℕ) (ys zs : List Item) (s : Task) (r : Represents m (ys ++ 
         let p = with-right m ys zs s r barren q (line q) (way .laids .laid q small .views) (way .fits q small) (st .marked) u in
         let after = row n holder line way q small st (p .0) (p .1) (p .2) (p .3) in (
           allowed n holder line way q small st (p .0) (p .1) (p .2) (p .3),
-          turn-same m n holder line way q small (syncedQueue n t q) (holder q) (turned n holder line way q small st (p .0) (p .1) (p .2) (p .3) u) Old (r .tour) (A .stands)
+          turn-same m n holder line way q small (syncedQueue n t q) (holder q) (turned n holder line way q small st (p .0) (p .1) (p .2) (p .3) u) Old (r .tour)
+              (A .stands)
               (after-marks after) refl (after .points),
         )
 
@@ -216,7 +223,8 @@ module _ (m : List ℕ) (ys zs : List Item) (s : Task) (r : Represents m (ys ++ 
     unfolding queueMemory ofTasks vacant-turned
     without-views u = (
       vacant-allowed n holder line way q small st u,
-      turn-same m n holder line way q small (syncedQueue n t q) (holder q) (vacant-turned n holder line way q small st u) Old (r .tour) (A .stands) refl refl refl,
+      turn-same m n holder line way q small (syncedQueue n t q) (holder q) (vacant-turned n holder line way q small st u) Old (r .tour) (A .stands) refl refl
+          refl,
     )
 
     pub sync-turn : Turned

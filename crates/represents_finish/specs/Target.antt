@@ -25,16 +25,17 @@ use Rattle.gaps.specs.Search.{firstOf, task-left, placeAt, takesPart as partTak
 use Rattle.gaps.specs.Absent.{met-marks, left-marks}
 use Rattle.gaps.specs.Pool.{mine}
 use Rattle.gaps.specs.Splits.{small-mets}
+use Rattle.links.specs.Marks.{mark-met}
 use Rattle.meaning.specs.Meaning.{extentOf, viewIn}
 use Rattle.meaning.specs.FinishTest.{returned-nonlocal, returned-local}
 use Rattle.represents.specs.Represents.{alive, queueMemory, usesIn, Represents}
-use Rattle.represents.specs.Views.{uses-small}
+use Rattle.represents.specs.Views.{uses-small, children-word, right-word}
 use Rattle.represents.specs.Walks.{top-uses, marked}
 use Rattle.represents.specs.Live.{holdsAt}
 use Rattle.represents.specs.FirstNamed.{task-there}
 use Rattle.represents_finish.specs.Leaf.{leaf}
 use Rattle.represents_finish.specs.Way.{Way}
-use Rattle.represents_finish.specs.Queue.{unfinished-there, children-word, right-word, unfinished-live}
+use Rattle.represents_finish.specs.Queue.{unfinished-live}
 use Rattle.represents_finish.specs.Back.{earlier-marks, earlier-ends, back-part, back-stand}
 
 -- the tasks of a line have a right to the queue
@@ -54,7 +55,8 @@ mets-use uses (pass x ∷ l) h = mets-use uses l (h .1)
 
 module _ (m : List ℕ) (ys zs : List Item) (s : Task) (r : Represents m (ys ++ spot s ∷ zs)) (barren : hasChild m (numberOf s) ≡ false) (above : 0 < numberOf s)
     (n : List ℕ) (holder : ℕ → ℕ) (line : ℕ → Line) (way : Way m n holder line) (q : ℕ) (small : q < 4)
-    (b : Line) (c : List ℕ) (a : Line) (parts : line q ≡ b ++ (met (numberOf s) c ∷ (left (numberOf s) ∷ a))) (earlier : marks a ≡ leaf m ys zs s r barren .earlier) where
+    (b : Line) (c : List ℕ) (a : Line) (parts : line q ≡ b ++ (met (numberOf s) c ∷ (left (numberOf s) ∷ a)))
+    (earlier : marks a ≡ leaf m ys zs s r barren .earlier) where
   abbrev t : ℕ
   t = numberOf s
 
@@ -98,7 +100,9 @@ module _ (m : List ℕ) (ys zs : List Item) (s : Task) (r : Represents m (ys ++ 
   returned-at w (extent nonlocal y) e some =
       returned-nonlocal n q t w y e ∙ back-part m ys zs s r barren above n holder line way q small ∙ ap (firstOf (partTaken (usesIn m q))) (sym earlier)
   returned-at w (extent (local x) y) e some =
-      returned-local n q t w x y e ∙ back-stand m ys zs s r barren above n holder line way q small ∙ ap (firstOf (viewStands (usesIn m q) (Q .children))) (sym earlier)
+      returned-local n q t w x y e
+      ∙ back-stand m ys zs s r barren above n holder line way q small
+      ∙ ap (firstOf (viewStands (usesIn m q) (Q .children))) (sym earlier)
 
   inside : (v : Extent) → (v ≡ vacant → ⊥) → In (placeAt (markOf v)) a
   inside vacant some = absurd (some refl)
@@ -132,7 +136,8 @@ module _ (m : List ℕ) (ys zs : List Item) (s : Task) (r : Represents m (ys ++ 
 
   left-other : (u : ℕ) → 0 < occurrences u (lefts a) → Other u
   left-other u p =
-      let k = subst (Unfinished (decode m)) (task-left u) (marked m Old r (128 + u) (in-earlier (128 + u) (let k = left-marks u a in omega (arith, k, p))) .1) in
+      let k = subst (Unfinished (decode m)) (task-left u) (marked m Old r (128 + u) (in-earlier (128 + u) (let k = left-marks u a in omega (arith, k, p))) .1)
+      in
       record {
         range = uses-small m q u (all-at (λ x. usesIn m q x ≡ true) (lefts a) u (lefts-use (usesIn m q) a fits) p);
         other = λ e.
@@ -141,7 +146,7 @@ module _ (m : List ℕ) (ys zs : List Item) (s : Task) (r : Represents m (ys ++ 
             let g = occurs-here t u (lefts a) (sym e) in
             omega (arith, d, f, g, p);
         live = unfinished-live m Old r n holder line way u k;
-        there = unfinished-there m Old r n holder line way u k;
+        there = mark-met m (r .tour) Old (r .linked) u k;
       }
 
   abbrev Rest : Place → Type 0
@@ -159,25 +164,27 @@ module _ (m : List ℕ) (ys zs : List Item) (s : Task) (r : Represents m (ys ++ 
   unfolding holdsAt
   at-right u p =
       let o = met-other u p in
-      record { task = o; holds = o .live; view = sym (right-word m Old r n holder line way q u (o .live)); rest = rest }
+      record { task = o; holds = o .live; view = sym (right-word n q u (o .live)); rest = rest }
     where
       rest : Rest (rightOf u)
       rest vacant x e = (refl, refl)
       rest (extent g y) x e = (
         refl,
-        put-other (Q .right) u _ x (λ d. false≢true (sym e ∙ ap (usesIn m q) d ∙ all-at (λ x. usesIn m q x ≡ true) (mets a) u (mets-use (usesIn m q) a fits) p)),
+        put-other (Q .right) u _ x
+            (λ d. false≢true (sym e ∙ ap (usesIn m q) d ∙ all-at (λ x. usesIn m q x ≡ true) (mets a) u (mets-use (usesIn m q) a fits) p)),
       )
 
   at-children : (u : ℕ) → 0 < occurrences u (lefts a) → At u CHILDREN (childrenOf u)
   unfolding holdsAt
   at-children u p =
       let o = left-other u p in
-      record { task = o; holds = o .live; view = sym (children-word m Old r n holder line way q u (o .live)); rest = rest }
+      record { task = o; holds = o .live; view = sym (children-word n q u (o .live)); rest = rest }
     where
       rest : Rest (childrenOf u)
       rest vacant x e = (refl, refl)
       rest (extent g y) x e = (
-        put-other (Q .children) u _ x (λ d. false≢true (sym e ∙ ap (usesIn m q) d ∙ all-at (λ x. usesIn m q x ≡ true) (lefts a) u (lefts-use (usesIn m q) a fits) p)),
+        put-other (Q .children) u _ x
+            (λ d. false≢true (sym e ∙ ap (usesIn m q) d ∙ all-at (λ x. usesIn m q x ≡ true) (lefts a) u (lefts-use (usesIn m q) a fits) p)),
         refl,
       )
 
@@ -185,7 +192,8 @@ module _ (m : List ℕ) (ys zs : List Item) (s : Task) (r : Represents m (ys ++ 
   unfolding taskAt kindAt placeAt pick
   at-place x i = go (ltb x 128) i
     where
-      go : (y : Bool) → In (pick y (rightOf x) (childrenOf (x - 128))) a → At (pick y x (x - 128)) (pick y RIGHT CHILDREN) (pick y (rightOf x) (childrenOf (x - 128)))
+      go : (y : Bool) → In (pick y (rightOf x) (childrenOf (x - 128))) a
+          → At (pick y x (x - 128)) (pick y RIGHT CHILDREN) (pick y (rightOf x) (childrenOf (x - 128)))
       go true j = at-right x j
       go false j = at-children (x - 128) j
 

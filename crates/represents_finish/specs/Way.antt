@@ -12,7 +12,7 @@ use Rattle.order.specs.Steps.{Item}
 use Rattle.order_waits.specs.Popper.{firstPopper}
 use Rattle.order_queue.specs.Points.{Timeline}
 use Rattle.gaps.specs.Maps.{All, put, put-same, put-other}
-use Rattle.gaps.specs.Line.{vacant, Line, marks, Fits}
+use Rattle.gaps.specs.Line.{Line, marks, Fits}
 use Rattle.gaps.specs.Store.{Store, Chain, Memory, Laid, timeline}
 use Rattle.gaps.specs.Stores.{Kept as StoreKept}
 use Rattle.gaps.specs.Pool.{allSegments, mine}
@@ -25,10 +25,7 @@ use Rattle.represents.specs.Laids.{four, Laids, laids-row, other-timeline}
 use Rattle.represents.specs.Parts.{holders, parts-of, opened-single}
 use Rattle.represents.specs.Plain.{laids-as}
 use Rattle.represents.specs.Push.{queue-memory}
-
--- task x has no view in the memory w
-abbrev pub Vacant : Memory → ℕ → Type 0
-Vacant w x = (w .children x ≡ vacant) × (w .user x ≡ vacant) × (w .right x ≡ vacant)
+use Rattle.represents.specs.Covered.{Vacant}
 
 -- THE WORDS n, on the way from m: the tree is that of m, and the four queues are laid out.
 pub record Way (m n : List ℕ) (holder : ℕ → ℕ) (line : ℕ → Line) : Type 0 where
@@ -75,7 +72,8 @@ holders-as own n holder holder′ line e h =
     }
 
 -- the four queues over the segments of the words w, which are those of the store st
-pub laids-over : (own : ℕ → ℕ) (st : Store) (w : List ℕ) (holder : ℕ → ℕ) (line : ℕ → Line) → nextIn w ≡ st .next → contentsIn w ≡ st .contents → freeIn w ≡ st .free
+pub laids-over : (own : ℕ → ℕ) (st : Store) (w : List ℕ) (holder : ℕ → ℕ) (line : ℕ → Line) → nextIn w ≡ st .next → contentsIn w ≡ st .contents
+    → freeIn w ≡ st .free
     → Laids own st (queueMemory w) holder line → Laids own (storeIn w 0) (queueMemory w) holder line
 unfolding queueMemory ofTasks
 laids-over own st w holder line e f g h =
@@ -112,7 +110,8 @@ pub record Turn (m n n′ : List ℕ) (q : ℕ) (l : Line) (h : ℕ) : Type 0 wh
   pub bare : (x : ℕ) → usesIn m q x ≡ false → Vacant memory x
   pub nexts : Nexts (read m numberWord) (memory .store .next)
 
-module _ (m n : List ℕ) (holder : ℕ → ℕ) (line : ℕ → Line) (way : Way m n holder line) (q : ℕ) (small : q < 4) (n′ : List ℕ) (h : ℕ) (c : Turn m n n′ q (line q) h) where
+module _ (m n : List ℕ) (holder : ℕ → ℕ) (line : ℕ → Line) (way : Way m n holder line) (q : ℕ) (small : q < 4) (n′ : List ℕ) (h : ℕ)
+    (c : Turn m n n′ q (line q) h) where
   abbrev W : Memory
   W = c .memory
 
@@ -143,7 +142,8 @@ module _ (m n : List ℕ) (holder : ℕ → ℕ) (line : ℕ → Line) (way : Wa
   same-laids : Laids (opened m) (storeIn n′ 0) (queueMemory n′) (put holder q h) (put line q l)
   unfolding queueMemory ofTasks
   same-laids =
-      laids-over (opened m) (W .store) n′ (put holder q h) (put line q l) (ap (λ (w : Memory). w .store .next) is-here) (ap (λ (w : Memory). w .store .contents) is-here)
+      laids-over (opened m) (W .store) n′ (put holder q h) (put line q l) (ap (λ (w : Memory). w .store .next) is-here)
+      (ap (λ (w : Memory). w .store .contents) is-here)
       (ap (λ (w : Memory). w .store .free) is-here) over-new
 
   -- tasks without views
@@ -184,7 +184,8 @@ module _ (m n : List ℕ) (holder : ℕ → ℕ) (line : ℕ → Line) (way : Wa
       record { marked = s .marked; first = s .first; time = subst (Timeline p xs) (sym (turn-time p i k)) (s .time) }
 
   -- and this one by its new line
-  pub turn-here : (xs : List Item) (T : List ℕ) → marks l ≡ T → firstPopper q xs ≡ some h → Timeline q xs (timeline (W .store .contents) l) → Standing n′ xs T q h l
+  pub turn-here : (xs : List Item) (T : List ℕ) → marks l ≡ T → firstPopper q xs ≡ some h → Timeline q xs (timeline (W .store .contents) l)
+      → Standing n′ xs T q h l
   unfolding queueMemory ofTasks
   turn-here xs T e f g =
       record { marked = e; first = f; time = subst (Timeline q xs) (sym (ap (λ (w : Memory). timeline (w .store .contents) l) is-here)) g }

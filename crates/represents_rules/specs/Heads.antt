@@ -16,11 +16,11 @@ use Rattle.lists.specs.Sums.{over-at}
 use Rattle.layout.specs.Layout.{NONE, RIGHTS, numberWord, read}
 use Rattle.tree.specs.Rights.{uses}
 use Rattle.tree.specs.Tour.{met}
+use Rattle.tree.specs.Queues.{queue-each}
 use Rattle.rules.specs.Contents.{Contents, decode, word, owners}
 use Rattle.rules.specs.Rules.{Unfinished}
 use Rattle.rules.specs.Test.{ownersTest}
 use Rattle.rules_tasks.specs.Holders.{holder-once as task-once}
-use Rattle.rules_views.specs.Tested.{queue-each}
 use Rattle.rules_views.specs.Toured.{over-owners}
 use Rattle.order.specs.Steps.{Item, numberOf}
 use Rattle.order_waits.specs.Poppers.{popper-says}

@@ -7,12 +7,12 @@ use native.Mathlib.Omega.{arith}
 use lib.Dec.{ltb}
 use borrow.Author.Tests.{lt-ltb, le-ltb}
 use Rattle.words.specs.Words.{pick, pass, halt}
-use Rattle.lists.specs.Counting.{over}
+use Rattle.lists.specs.Counting.{over, below?}
 use Rattle.lists.specs.Sums.{over-plus}
 use Rattle.tree.specs.Tour.{met}
 use Rattle.rules.specs.Contents.{decode}
-use Rattle.rules_tasks.specs.Holders.{below?}
-use Rattle.view_laws.specs.Marks.{lefts, lefts-here, lefts-past, met-here, met-past}
+use Rattle.rules_tasks.specs.Holders.{met-here, met-past}
+use Rattle.view_laws.specs.Marks.{lefts, lefts-here, lefts-past}
 use Rattle.view_laws.specs.Toured.{over-left}
 use Rattle.order.specs.Steps.{Item}
 use Rattle.links.specs.Marks.{mark-once}

@@ -10,11 +10,11 @@ use lib.Dec.{eqb}
 use borrow.Author.Tests.{eq-eqb, lt-ltb, le-ltb}
 use Rattle.layout.specs.Layout.{RIGHTS, CHILDREN, USER, numberWord, read}
 use Rattle.tree.specs.Rights.{uses}
+use Rattle.tree.specs.Queues.{queue-each}
 use Rattle.rules.specs.Contents.{Contents, decode, word}
 use Rattle.rules.specs.Rules.{Unfinished}
 use Rattle.rules.specs.Test.{passedAt, orderAt, orderOf, orderTest}
 use Rattle.rules_views.specs.Marks.{at-met, at-met-none, at-left, at-left-none}
-use Rattle.rules_views.specs.Tested.{queue-each}
 use Rattle.order.specs.Steps.{Item}
 use Rattle.gaps.specs.Maps.{All, all-map, all-front, all-behind}
 use Rattle.gaps.specs.Line.{Extent, Line, marks, segments, Mark, Mode, settled, Inside, Begins, Views, queue, leaving, meeting, passing}

@@ -2,20 +2,19 @@
 -- opened with, each once; their records are in range.
 use mathlib.Core.Path.{_≡_, refl}
 use mathlib.Core.Bool.{true}
-use mathlib.Core.Logic.{_⊎_, inl, inr, ⊎-elim}
+use mathlib.Core.Logic.{inl, inr, ⊎-elim}
 use mathlib.Core.List.{List, [], _++_}
 use Prim.Native.Nat.{ℕ, _+_, _<_, _≤_}
 use native.Mathlib.Omega.{arith}
 use borrow.Author.Tests.{lt-ltb, le-ltb}
 use Rattle.words.specs.Words.{pass, halt}
-use Rattle.lists.specs.Counting.{one, occurrences, total, occurs-nil, occurs-append}
+use Rattle.lists.specs.Counting.{one, occurrences, total, occurs-nil, occurs-append, below?}
 use Rattle.lists.specs.Sums.{total-term}
 use Rattle.lists.specs.Tests.{upto}
 use Rattle.layout.specs.Layout.{numberWord, read}
 use Rattle.rules.specs.Contents.{decode, part-word}
 use Rattle.rules.specs.Test.{segmentTest}
 use Rattle.rules_segments.specs.Tested.{Sound, sound-segments}
-use Rattle.rules_tasks.specs.Holders.{below?}
 use Rattle.order.specs.Steps.{Item}
 use Rattle.gaps.specs.Maps.{All, all-in}
 use Rattle.gaps.specs.Line.{segments}

@@ -9,18 +9,18 @@ use native.Mathlib.Omega.{arith}
 use lib.Dec.{ltb}
 use borrow.Author.Tests.{lt-ltb, ltb-true, le-ltb}
 use Rattle.words.specs.Words.{pick, both-true, both-on, pass, halt}
-use Rattle.lists.specs.Counting.{occurrences}
+use Rattle.lists.specs.Counting.{occurrences, occurs-first, occurs-later}
 use Rattle.layout.specs.Layout.{RIGHTS, CHILDREN, USER, RIGHT}
 use Rattle.tree.specs.Rights.{uses}
 use Rattle.tree.specs.Tour.{met}
 use Rattle.rules.specs.Contents.{Contents, decode, word}
-use Rattle.rules.specs.Rules.{Unfinished, Holder}
+use Rattle.rules.specs.Rules.{Unfinished}
 use Rattle.rules_views.specs.Toured.{Toured, met-holder}
 use Rattle.rules_same.specs.Passed.{toured}
 use Rattle.rules_same.specs.Same.{whole-tour}
 use Rattle.calls.specs.Waits.{rightsOf}
 use Rattle.order.specs.Steps.{Item}
-use Rattle.gaps.specs.Maps.{All, occurs-first, occurs-later}
+use Rattle.gaps.specs.Maps.{All}
 use Rattle.gaps.specs.Line.{Extent, Mark, base, left, pass as past, Line, marks, Fits}
 use Rattle.gaps.specs.Line.Mark.{met as meeting}
 use Rattle.links.specs.Linked.{tree, tour-is, word-is, holder-unfinished}
@@ -49,11 +49,8 @@ module _ (m : List ℕ) (xs : List Item) (r : Represents m xs) where
   whole = subst (λ (l : List ℕ). Toured c l) same-tour (whole-tour c (r .linked .top) (r .linked .idle) (tree m (r .tour) xs (r .linked)))
 
   -- its tasks are the unfinished ones
-  pub holder-busy : (t : ℕ) → Holder c t → Unfinished c t
-  holder-busy t h = holder-unfinished m (r .tour) xs (r .linked) t h
-
   pub met-busy : (t : ℕ) → 0 < occurrences t (met (r .tour)) → Unfinished c t
-  met-busy t p = holder-busy t (met-holder c (r .tour) whole t p)
+  met-busy t p = holder-unfinished m (r .tour) xs (r .linked) t (met-holder c (r .tour) whole t p)
 
   -- ONE QUEUE: the words of its views
   module _ (q : ℕ) (small : q < 4) where

@@ -20,8 +20,9 @@ use Rattle.view_laws.specs.Toured.{kinds-words}
 use Rattle.order.specs.Steps.{Item}
 use Rattle.links.specs.Marks.{mark-once}
 use Rattle.gaps.specs.Line.{vacant}
+use Rattle.links.specs.Linked.{holder-unfinished}
 use Rattle.represents.specs.Represents.{Represents}
-use Rattle.represents_rules.specs.Tasks.{whole, holder-busy, children-words, user-words, right-words, uses-word}
+use Rattle.represents_rules.specs.Tasks.{whole, children-words, user-words, right-words, uses-word}
 use Rattle.represents_rules.specs.Heads.{holder, holder-uses, holder-head, other-head, first-opened}
 
 module _ (m : List ℕ) (xs : List Item) (r : Represents m xs) where
@@ -74,5 +75,5 @@ module _ (m : List ℕ) (xs : List Item) (r : Represents m xs) where
   pub words-right : each (viewsTest c) (met (r .tour)) ≡ true
   words-right =
       says-words c (r .tour) (whole m xs r) (λ t i h l.
-      let u = holder-busy m xs r t h in
+      let u = holder-unfinished m (r .tour) xs (r .linked) t h in
       kinds-words c (r .tour) (whole m xs r) (mark-once m (r .tour) xs (r .linked)) t (queues-may t u) (children-may t u) (user-may t u) (right-may t u) i l)

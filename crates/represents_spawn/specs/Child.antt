@@ -10,7 +10,7 @@ use lib.Dec.{ltb, eqb}
 use lib.ListN.{drop, take}
 use borrow.Author.Tests.{eq-eqb, lt-ltb, ltb-true}
 use Rattle.words.specs.Words.{both, both-on, both-right-off, true-both}
-use Rattle.lists.specs.Counting.{occurrences, occurs-here, occurs-append}
+use Rattle.lists.specs.Counting.{occurrences, occurs-here, occurs-append, occurs-first}
 use Rattle.layout.specs.Layout.{NONE, FREE, STATUS, RIGHTS, YOUNGEST, numberWord, freeTasks, freeTask, task, address, read, write}
 use Rattle.tree.specs.Rights.{uses, subset}
 use Rattle.rules.specs.Contents.{Contents, decode, word}
@@ -42,7 +42,8 @@ use Rattle.meaning.specs.Spawn.{spawnedIn, child-made}
 use Rattle.represents.specs.Represents.{alive, usesIn, Represents}
 use Rattle.represents.specs.At.{mine-spot, task-unfinished, single-spot, where-it-stands}
 
-module _ (m : List ℕ) (ys zs : List Item) (s : Task) (r : Represents m (ys ++ spot s ∷ zs)) (u : ℕ) (sub : subset u (rightsOf s) ≡ true) (some : read m freeTasks ≡ 0 → ⊥) where
+module _ (m : List ℕ) (ys zs : List Item) (s : Task) (r : Represents m (ys ++ spot s ∷ zs)) (u : ℕ) (sub : subset u (rightsOf s) ≡ true)
+    (some : read m freeTasks ≡ 0 → ⊥) where
   abbrev t : ℕ
   t = numberOf s
 
@@ -137,7 +138,9 @@ module _ (m : List ℕ) (ys zs : List Item) (s : Task) (r : Represents m (ys ++ 
   sub-word = ap (subset u) (r .linked .rights s (mine-spot m ys zs s r)) ∙ sub
 
   pub child-unmarked : (occurrences child (r .tour) ≡ 0) × (occurrences (128 + child) (r .tour) ≡ 0)
-  child-unmarked = unmarked m after (r .tour) Old (r .linked) t u child words (stands .later) (stands .earlier) (stands .here) small sub-word
+  child-unmarked = unmarked m after t child u words (r .tour) Old (r .linked) small
+      (let e = ap (occurrences t) (stands .here) ∙ occurs-append t (stands .later) (t ∷ stands .earlier) in
+      let f = occurs-first t (stands .earlier) in omega (arith, e, f))
 
   pub new-is : New ≡ ys ++ (made s (spawns child u) ++ zs)
   new-is = advance-at ys zs s (spawns child u) (single-spot m ys zs s r)
@@ -178,7 +181,8 @@ module _ (m : List ℕ) (ys zs : List Item) (s : Task) (r : Represents m (ys ++ 
 
   pub same-number : read after numberWord ≡ read m numberWord
   same-number =
-      made-only (write m freeTasks h) t u child (was-meant .sized .words) small child-small apart youngest-task .same numberWord (omega arith, λ e. omega (arith, e))
+      made-only (write m freeTasks h) t u child (was-meant .sized .words) small child-small apart youngest-task .same numberWord
+      (omega arith, λ e. omega (arith, e))
       ∙ idle-height-only m h .same numberWord (omega arith, λ e. omega (arith, e))
 
   -- WHO IS IN USE, and who has a right: as before, and the child besides

@@ -8,8 +8,7 @@ use native.Mathlib.Omega.{arith}
 use lib.Dec.{ltb}
 use borrow.Author.Tests.{lt-ltb, le-ltb}
 use Rattle.words.specs.Words.{pick, pass as skip, halt}
-use Rattle.lists.specs.Counting.{occurrences, occurs-here, occurs-past, equal?}
-use Rattle.rules_tasks.specs.Holders.{below?}
+use Rattle.lists.specs.Counting.{occurrences, below?, occurs-not}
 use Rattle.tree.specs.Rights.{pops, uses, subset}
 use Rattle.order.specs.Steps.{Task, Item, spot, task, spawns, numberOf, rightsOf, advance}
 use Rattle.order_laws.specs.Count.{count, spotNumbered}
@@ -20,30 +19,22 @@ use Rattle.order_queue.specs.Laws.{spawn-line, spawn-past}
 use Rattle.gaps.specs.Maps.{All, put, put-other, all-append, all-front, all-behind}
 use Rattle.gaps.specs.Line.{base, left, met, pass, Line, marks, Fits}
 
--- a number that does not occur is not the first, and does not occur in the rest
-absent : (x y : ℕ) (l : List ℕ) → occurrences x (y ∷ l) ≡ 0 → (y ≡ x → ⊥) × (occurrences x l ≡ 0)
-absent x y l e =
-    ⊎-elim
-    (λ d. let a = occurs-here y x l d in let z : ⊥ = omega (arith, a, e) in absurd z)
-    (λ n. let a = occurs-past y x l n in (n, omega (arith, a, e)))
-    (equal? y x)
-
 -- a line fits still where a task of none of its marks gets rights
 pub fits-new : (f : ℕ → Bool) (c : ℕ) (b : Bool) (l : Line) → occurrences c (marks l) ≡ 0 → occurrences (128 + c) (marks l) ≡ 0
     → All (Fits f) l → All (Fits (put f c b)) l
 fits-new f c b [] n k h = tt
 fits-new f c b (base d ∷ l) n k h = (tt, fits-new f c b l n k (h .1))
 fits-new f c b (left t ∷ l) n k h =
-    let i = absent c (128 + t) (marks l) n in
-    let j = absent (128 + c) (128 + t) (marks l) k in
+    let i = occurs-not (128 + t) c (marks l) n in
+    let j = occurs-not (128 + t) (128 + c) (marks l) k in
     (put-other f c b t (λ e. j .0 (ap (λ (x : ℕ). 128 + x) e)) ∙ h .0, fits-new f c b l (i .1) (j .1) (h .1))
 fits-new f c b (met t d ∷ l) n k h =
-    let i = absent c t (marks l) n in
-    let j = absent (128 + c) t (marks l) k in
+    let i = occurs-not t c (marks l) n in
+    let j = occurs-not t (128 + c) (marks l) k in
     (put-other f c b t (i .0) ∙ h .0, fits-new f c b l (i .1) (j .1) (h .1))
 fits-new f c b (pass x ∷ l) n k h =
-    let i = absent c x (marks l) n in
-    let j = absent (128 + c) x (marks l) k in
+    let i = occurs-not x c (marks l) n in
+    let j = occurs-not x (128 + c) (marks l) k in
     (put-other f c b (pick (ltb x 128) x (x - 128)) (other (i .0) (j .0)) ∙ h .0, fits-new f c b l (i .1) (j .1) (h .1))
   where
     other : (x ≡ c → ⊥) → (x ≡ 128 + c → ⊥) → pick (ltb x 128) x (x - 128) ≡ c → ⊥

@@ -1,7 +1,7 @@
 -- OPENING gives the invariant: segment q is the only one of queue q, all others are free, the top has all queue views.
 use mathlib.Core.Path.{_≡_, refl, ap, sym, _∙_, subst}
 use mathlib.Core.Bool.{true, false, not, false≢true}
-use mathlib.Core.Logic.{_⊎_, ⊎-elim}
+use mathlib.Core.Logic.{⊎-elim}
 use mathlib.Core.Option.{none, some}
 use mathlib.Core.List.{List, [], _∷_}
 use Prim.Native.Nat.{ℕ, zero, suc, _+_, _-_, _<_, _≤_}
@@ -9,11 +9,11 @@ use native.Mathlib.Omega.{arith}
 use lib.Dec.{ltb, eqb}
 use borrow.Author.Tests.{eq-eqb, lt-ltb, le-ltb}
 use Rattle.words.specs.Words.{load, pick, pass as skip, halt, both, true-both, both-off, both-right-off}
-use Rattle.lists.specs.Counting.{one, one-no, occurrences, occurs-nil, occurs-here, occurs-past, equal?}
+use Rattle.lists.specs.Counting.{one, one-no, occurrences, occurs-nil, occurs-here, occurs-past, equal?, below?}
 use Rattle.layout.specs.Layout.{STATUS, RIGHTS, CHILDREN, USER, RIGHT, numberWord, read}
 use Rattle.tree.specs.Rights.{bits, uses, pops}
+use Rattle.tree.specs.Queues.{by-four}
 use Rattle.rules.specs.Test.{inRange}
-use Rattle.rules_tasks.specs.Holders.{below?}
 use Rattle.calls.specs.Open.{opened as openedWords}
 use Rattle.calls.specs.Waits.{rightsOf as rightsIn}
 use Rattle.order.specs.Steps.{begin, numberOf, rightsOf}
@@ -30,7 +30,6 @@ use Rattle.links.specs.Linked.{word-is}
 use Rattle.meaning.specs.Meaning.{Meaning, listed, nextIn, freeIn, headsIn, viewIn}
 use Rattle.meaning.specs.Kept.{Means}
 use Rattle.meaning.specs.Open.{topView, openedIn, core-opened, opened-number}
-use Rattle.meaning.specs.Records.{by-four}
 use Rattle.represents.specs.Represents.{alive, ofTasks, queueMemory, usesIn, opened, Represents}
 use Rattle.represents.specs.Nexts.{Leads, Nexts}
 use Rattle.represents.specs.Views.{unfinished-alive}
@@ -65,7 +64,8 @@ count-listed (suc j) a f e x =
     lower i d = ⊎-elim (λ p. let z : ⊥ = absurd (d (let h = e 0 in omega (arith, h, i, p))) in absurd z) (λ p. p) (below? x (suc a))
 
 -- a number below 4 is one of the four
-one-of-four : (x : ℕ) → (x < 4 → one (eqb 0 x) + one (eqb 1 x) + one (eqb 2 x) + one (eqb 3 x) ≡ 1) × (4 ≤ x → one (eqb 0 x) + one (eqb 1 x) + one (eqb 2 x) + one (eqb 3 x) ≡ 0)
+one-of-four : (x : ℕ)
+    → (x < 4 → one (eqb 0 x) + one (eqb 1 x) + one (eqb 2 x) + one (eqb 3 x) ≡ 1) × (4 ≤ x → one (eqb 0 x) + one (eqb 1 x) + one (eqb 2 x) + one (eqb 3 x) ≡ 0)
 unfolding one pick
 one-of-four x = (
   by-four (λ x. one (eqb 0 x) + one (eqb 1 x) + one (eqb 2 x) + one (eqb 3 x) ≡ 1) refl refl refl refl x,
@@ -142,7 +142,8 @@ module _ (l n : ℕ) (range : inRange l n ≡ true) where
     unfolding queueMemory ofTasks
     only-top x =
         ⊎-elim
-        (λ e. subst (λ (y : ℕ). after .store .heads y ≡ put (λ z. none) 0 (some q) y) (sym e) (halt _ _ alive-top ∙ own-head ∙ sym (put-same (λ z. none) 0 (some q))))
+        (λ e.
+        subst (λ (y : ℕ). after .store .heads y ≡ put (λ z. none) 0 (some q) y) (sym e) (halt _ _ alive-top ∙ own-head ∙ sym (put-same (λ z. none) 0 (some q))))
         (λ d. skip (headsIn m q x) (alive-free x d) refl ∙ sym (put-other (λ z. none) 0 (some q) x d))
         (equal? x 0)
 
@@ -216,10 +217,12 @@ module _ (l n : ℕ) (range : inRange l n ≡ true) where
       let d = number in
       let b = low in
       let a = high in
-      subst (Leads (read m numberWord)) (sym (skip none (le-ltb s 4 k) (halt (some 0) none (lt-ltb s 256 (omega (arith, h, d, b)))))) (let z : 0 < read m numberWord = omega (arith, d, a) in z))
+      subst (Leads (read m numberWord)) (sym (skip none (le-ltb s 4 k) (halt (some 0) none (lt-ltb s 256 (omega (arith, h, d, b))))))
+      (let z : 0 < read m numberWord = omega (arith, d, a) in z))
       (below? s 4))
 
 -- OPENING gives the invariant.
 pub open-represents : (l n : ℕ) → inRange l n ≡ true → Represents (openedWords l n) begin
 open-represents l n e =
-    of-rows (openedWords l n) (0 ∷ 128 ∷ []) begin (λ q x. one (eqb q x)) (open-queue l n e) (each-once l n e) (open-linked l n e) opens (means l n e .sized) (first-nexts l n e)
+    of-rows (openedWords l n) (0 ∷ 128 ∷ []) begin (λ q x. one (eqb q x)) (open-queue l n e) (each-once l n e) (open-linked l n e) opens (means l n e .sized)
+    (first-nexts l n e)

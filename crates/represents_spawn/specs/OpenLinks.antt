@@ -2,14 +2,14 @@
 use mathlib.Core.Path.{_≡_, refl, ap, sym, _∙_, subst}
 use mathlib.Core.Bool.{true}
 use mathlib.Core.List.{List, [], _∷_}
-use mathlib.Core.Logic.{_⊎_, inl, inr, ⊎-elim}
+use mathlib.Core.Logic.{inl, inr, ⊎-elim}
 use Prim.Native.Nat.{ℕ, zero, suc, _+_, _-_, _*_, _<_, _≤_}
 use native.Mathlib.Nat.{eq-zero-or-pos}
 use native.Mathlib.Omega.{arith}
 use lib.ListN.{length, replicate, length-replicate, drop, take}
 use borrow.Author.Tests.{leb-true}
 use Rattle.words.specs.Words.{load, size, pick, both-true}
-use Rattle.words.specs.Blocks.{storeAll, size-storeAll}
+use Rattle.words.specs.Blocks.{storeAll, size-storeAll, block-same}
 use Rattle.lists.specs.Counting.{occurrences, occurs-nil, occurs-here, occurs-past, occurs-append, equal?}
 use Rattle.layout.specs.Layout.{WORDS, STATUS, RIGHTS, PARENT, OLDER, YOUNGER, YOUNGEST, freeTasks, freeTask, freeSegment, task, address, read}
 use Rattle.tree.specs.Tour.{met}
@@ -22,8 +22,8 @@ use Rattle.order_laws.specs.Items.{In}
 use Rattle.links.specs.Row.{childless}
 use Rattle.links.specs.Linked.{numbersBack, Linked, word-is}
 use Rattle.links.specs.Idle.{idle-length, idle-last}
-use Rattle.meaning.specs.Records.{block-same, record-same, record-other}
-use Rattle.meaning.specs.OpenWords.{down-length, down-at, opened-core, size-core, core-free, before}
+use Rattle.meaning.specs.Records.{record-same, record-other}
+use Rattle.meaning.specs.OpenWords.{down-length, down-at, opened-core, size-core, core-free, before, size-stacked}
 
 -- the three parts of the range of an opening
 pub in-range : (l n : ℕ) → inRange l n ≡ true → (1 ≤ l) × (l ≤ 64) × (4 ≤ n) × (n ≤ 256) × (l * n ≤ 8192)
@@ -59,12 +59,6 @@ module _ (l n : ℕ) (hn : 4 ≤ n) (hn' : n ≤ 256) where
       ∙ before _ 452 emptySegment b (omega (arith, h))
       ∙ before _ 448 emptySegment b h
 
-  headed-size : size headed ≡ WORDS
-  headed-size = size-storeAll (replicate WORDS 0) 0 _ ∙ (unfold size in length-replicate {A = ℕ} WORDS 0)
-
-  stacked-size : size stacked1 ≡ WORDS
-  stacked-size = size-storeAll headed _ _ ∙ headed-size
-
   -- the stack of free task records: how many there are, and each of them
   pub idle-many : read m freeTasks ≡ 127
   unfolding read address stacked load
@@ -72,13 +66,15 @@ module _ (l n : ℕ) (hn : 4 ≤ n) (hn' : n ≤ 256) where
       front 3 (omega arith)
       ∙ before stacked1 320 (down 127 127) 3 (omega arith)
       ∙ before headed 64 (down (n - 4) (n - 1)) 3 (omega arith)
-      ∙ block-same (l ∷ n ∷ (n - 4) ∷ 127 ∷ []) (replicate WORDS 0) 0 3 (omega arith) (let e = length-replicate {A = ℕ} WORDS 0 in unfold size in omega (arith, e))
+      ∙ block-same (l ∷ n ∷ (n - 4) ∷ 127 ∷ []) (replicate WORDS 0) 0 3 (omega arith)
+      (let e = length-replicate {A = ℕ} WORDS 0 in unfold size in omega (arith, e))
 
   pub idle-at : (i : ℕ) → i < 127 → read m (freeTask i) ≡ 127 - i
   unfolding read address stacked
   idle-at i h =
       front (320 + i) (omega (arith, h))
-      ∙ block-same (down 127 127) stacked1 320 i (let e = down-length 127 127 in omega (arith, e, h)) (let e = down-length 127 127 in let s = stacked-size in omega (arith, e, s))
+      ∙ block-same (down 127 127) stacked1 320 i (let e = down-length 127 127 in omega (arith, e, h))
+      (let e = down-length 127 127 in let s = size-stacked l n hn hn' in omega (arith, e, s))
       ∙ down-at 127 127 i h
 
   -- THE LINKS of the top, and the free records
@@ -109,7 +105,8 @@ module _ (l n : ℕ) (hn : 4 ≤ n) (hn' : n ≤ 256) where
       ⊎-elim
       (λ q.
       let g = occurs-here (read m (freeTask j)) x [] q in
-      let none : occurrences x (take j (drop 320 m)) ≡ 0 = ⊎-elim (λ z. z) (λ p. let v = w .0 p .0 in let z : ⊥ = omega (arith, v, q, f, h) in absurd z) (eq-zero-or-pos _) in
+      let none : occurrences x (take j (drop 320 m)) ≡ 0 = ⊎-elim (λ z. z) (λ p. let v = w .0 p .0 in let z : ⊥ = omega (arith, v, q, f, h) in absurd z)
+      (eq-zero-or-pos _) in
       ((λ p. (omega (arith, q, f, h), omega (arith, q, f))), omega (arith, e, g, o, none)))
       (λ q.
       let g = occurs-past (read m (freeTask j)) x [] q in
@@ -138,7 +135,8 @@ module _ (l n : ℕ) (hn : 4 ≤ n) (hn' : n ≤ 256) where
           once = λ x. subst (λ (k : List ℕ). occurrences x k ≤ 1) (sym idle-is) (low-places 127 (omega arith) x .1);
         };
         above = λ x p. idle-member x p .0;
-        free = λ x p. let w = idle-member x p in let a = w .0 in let b = w .1 in word-is m x STATUS ∙ free-status x (λ e. omega (arith, e, a)) (omega (arith, b));
+        free =
+            λ x p. let w = idle-member x p in let a = w .0 in let b = w .1 in word-is m x STATUS ∙ free-status x (λ e. omega (arith, e, a)) (omega (arith, b));
       }
 
   top-word : (k : ℕ) → k < 6 → word c 0 k ≡ load topLinks k

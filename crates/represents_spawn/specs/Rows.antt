@@ -9,6 +9,7 @@ use lib.Dec.{eqb}
 use Rattle.words.specs.Words.{pick}
 use Rattle.lists.specs.Counting.{occurrences, occurs-append, occurs-nil}
 use Rattle.layout.specs.Layout.{numberWord, read}
+use Rattle.tree.specs.Queues.{by-four}
 use Rattle.order.specs.Steps.{Item}
 use Rattle.order_waits.specs.Played.{Played}
 use Rattle.order_waits.specs.Popper.{firstPopper}
@@ -19,7 +20,6 @@ use Rattle.gaps.specs.Store.{Laid, timeline}
 use Rattle.gaps.specs.Pool.{laid-mine}
 use Rattle.links.specs.Linked.{Linked}
 use Rattle.meaning.specs.Meaning.{nextIn, contentsIn, freeIn, Sized}
-use Rattle.meaning.specs.Records.{by-four}
 use Rattle.represents.specs.Represents.{ofTasks, queueMemory, usesIn, Queue, opened, Represents}
 use Rattle.represents.specs.Nexts.{Nexts, nexts-words}
 

@@ -1,31 +1,25 @@
 -- Rights words by masks: 170 has the pop bits of the four queues.
 use mathlib.Core.Path.{_≡_, refl, ap, ap₂, sym, _∙_}
 use mathlib.Core.Bool.{Bool, true, false, not}
-use Prim.Native.Nat.{ℕ, zero, suc, _+_, _*_, _/_, _%_, _^_, _<_, _≤_}
+use Prim.Native.Nat.{ℕ, suc, _+_, _*_, _/_, _%_, _^_, _<_, _≤_}
 use native.Mathlib.Omega.{arith}
 use lib.Dec.{eqb}
 use lib.Bits.{bitAnd, and-zero-r, and-lt, and-block, and-shr, and-mod}
 use borrow.Author.Tests.{lt-ltb, le-ltb, eq-eqb, ne-eqb, eqb-true, eqb-false}
-use Rattle.words.specs.Words.{pick, both, both-right-on, either, pass, halt}
+use Rattle.words.specs.Words.{pick, both, both-right-on, either, pass, both-on}
 use Rattle.tree.specs.Rights.{bits, pushes, pops, eachQueue, someQueue, sharesPop, subset}
+use Rattle.tree.specs.Queues.{by-four}
 
 -- a fact of the numbers below 4 by its four cases
-below4 : (P : ℕ → Type 0) → P 0 → P 1 → P 2 → P 3 → (u : ℕ) → u < 4 → P u
-below4 P a b c d zero h = a
-below4 P a b c d (suc zero) h = b
-below4 P a b c d (suc (suc zero)) h = c
-below4 P a b c d (suc (suc (suc zero))) h = d
-below4 P a b c d (suc (suc (suc (suc u)))) h = let z : ⊥ = omega arith in absurd z
-
 -- the shift by 2q
 pub shift : (r q : ℕ) → q < 4 → r / 2 ^ (q * 2) % 4 ≡ bits r q
 unfolding bits
-shift r q h = below4 (λ q. r / 2 ^ (q * 2) % 4 ≡ r / 4 ^ q % 4) refl refl refl refl q h
+shift r q h = by-four (λ q. r / 2 ^ (q * 2) % 4 ≡ r / 4 ^ q % 4) refl refl refl refl q h
 
 -- the pair of bits of the next queue is that of a quarter of the word
 bits-next : (r q : ℕ) → q < 4 → bits (r / 4) q ≡ bits r (suc q)
 unfolding bits
-bits-next r q h = below4 (λ q. r / 4 / 4 ^ q % 4 ≡ r / 4 ^ suc q % 4) (omega arith) (omega arith) (omega arith) (omega arith) q h
+bits-next r q h = by-four (λ q. r / 4 / 4 ^ q % 4 ≡ r / 4 ^ suc q % 4) (omega arith) (omega arith) (omega arith) (omega arith) q h
 
 bits-first : (r : ℕ) → bits r 0 ≡ r % 4
 unfolding bits
@@ -46,11 +40,11 @@ popPair u = eqb (u / 2) 1
 pair-shared : (u v : ℕ) → u < 4 → v < 4 → not (eqb (bitAnd (bitAnd u v) 2) 0) ≡ both (popPair u) (popPair v)
 unfolding both pick
 pair-shared u v h g =
-    below4 (λ u. (v : ℕ) → v < 4 → not (eqb (bitAnd (bitAnd u v) 2) 0) ≡ both (popPair u) (popPair v))
-    (below4 (λ v. not (eqb (bitAnd (bitAnd 0 v) 2) 0) ≡ both (popPair 0) (popPair v)) refl refl refl refl)
-    (below4 (λ v. not (eqb (bitAnd (bitAnd 1 v) 2) 0) ≡ both (popPair 1) (popPair v)) refl refl refl refl)
-    (below4 (λ v. not (eqb (bitAnd (bitAnd 2 v) 2) 0) ≡ both (popPair 2) (popPair v)) refl refl refl refl)
-    (below4 (λ v. not (eqb (bitAnd (bitAnd 3 v) 2) 0) ≡ both (popPair 3) (popPair v)) refl refl refl refl)
+    by-four (λ u. (v : ℕ) → v < 4 → not (eqb (bitAnd (bitAnd u v) 2) 0) ≡ both (popPair u) (popPair v))
+    (by-four (λ v. not (eqb (bitAnd (bitAnd 0 v) 2) 0) ≡ both (popPair 0) (popPair v)) refl refl refl refl)
+    (by-four (λ v. not (eqb (bitAnd (bitAnd 1 v) 2) 0) ≡ both (popPair 1) (popPair v)) refl refl refl refl)
+    (by-four (λ v. not (eqb (bitAnd (bitAnd 2 v) 2) 0) ≡ both (popPair 2) (popPair v)) refl refl refl refl)
+    (by-four (λ v. not (eqb (bitAnd (bitAnd 3 v) 2) 0) ≡ both (popPair 3) (popPair v)) refl refl refl refl)
     u h v g
 
 -- a sum is not 0 where one of its parts is not
@@ -123,11 +117,11 @@ coveredAt a b q = both (pick (pushes a q) (pushes b q) true) (pick (pops a q) (p
 pair-covered : (u v : ℕ) → u < 4 → v < 4 → eqb (bitAnd u v) u ≡ coveredPair u v
 unfolding both pick
 pair-covered u v h g =
-    below4 (λ u. (v : ℕ) → v < 4 → eqb (bitAnd u v) u ≡ coveredPair u v)
-    (below4 (λ v. eqb (bitAnd 0 v) 0 ≡ coveredPair 0 v) refl refl refl refl)
-    (below4 (λ v. eqb (bitAnd 1 v) 1 ≡ coveredPair 1 v) refl refl refl refl)
-    (below4 (λ v. eqb (bitAnd 2 v) 2 ≡ coveredPair 2 v) refl refl refl refl)
-    (below4 (λ v. eqb (bitAnd 3 v) 3 ≡ coveredPair 3 v) refl refl refl refl)
+    by-four (λ u. (v : ℕ) → v < 4 → eqb (bitAnd u v) u ≡ coveredPair u v)
+    (by-four (λ v. eqb (bitAnd 0 v) 0 ≡ coveredPair 0 v) refl refl refl refl)
+    (by-four (λ v. eqb (bitAnd 1 v) 1 ≡ coveredPair 1 v) refl refl refl refl)
+    (by-four (λ v. eqb (bitAnd 2 v) 2 ≡ coveredPair 2 v) refl refl refl refl)
+    (by-four (λ v. eqb (bitAnd 3 v) 3 ≡ coveredPair 3 v) refl refl refl refl)
     u h v g
 
 -- two numbers are the same where their parts are
@@ -173,10 +167,7 @@ subset-mask a b h =
     ∙ ap₂ both (covered-next a b 0 (omega arith)) (covered-from (a / 4 / 4) (b / 4 / 4)
     ∙ ap₂ both (covered-next (a / 4) (b / 4) 0 (omega arith) ∙ covered-next a b 1 (omega arith)) (covered-last (a / 4 / 4 / 4) (b / 4 / 4 / 4) (omega arith)
     ∙ covered-next (a / 4 / 4) (b / 4 / 4) 0 (omega arith) ∙ covered-next (a / 4) (b / 4) 1 (omega arith) ∙ covered-next a b 2 (omega arith))))
-    ∙ sym (true-first _ (lt-ltb a 256 h))
-  where
-    true-first : {x : Bool} (y : Bool) → x ≡ true → both x y ≡ y
-    true-first y e = unfold both in halt y false e
+    ∙ sym (both-on (lt-ltb a 256 h))
 
 pub subset-wide : (a b : ℕ) → 256 ≤ a → false ≡ subset a b
 unfolding subset both

@@ -1,4 +1,6 @@
 pub mod Contents
+pub mod Stack
 pub mod Views
 pub mod Rules
 pub mod Test
+pub mod Passed

@@ -1,6 +1,6 @@
 -- How often a segment is the next of a held one.
 use mathlib.Core.Path.{_≡_, refl, ap, sym, _∙_}
-use mathlib.Core.Bool.{Bool, true, false, not}
+use mathlib.Core.Bool.{not}
 use mathlib.Core.List.{List, _∷_}
 use mathlib.Core.Logic.{⊎-elim}
 use Prim.Native.Nat.{ℕ, zero, suc, _+_, _*_, _<_}
@@ -8,7 +8,7 @@ use native.Mathlib.Omega.{arith}
 use native.Mathlib.Nat.{eq-zero-or-pos}
 use lib.Dec.{eqb}
 use borrow.Author.Tests.{eq-eqb, ne-eqb}
-use Rattle.words.specs.Words.{pick, pass, halt, either, true-left, true-right}
+use Rattle.words.specs.Words.{pick, pass, halt, either, true-left, true-right, neither}
 use Rattle.lists.specs.Counting.{one, occurrences, total, equal?, one-yes, one-no, occurs-cons, occurs-nil, total-ext}
 use Rattle.lists.specs.Sums.{total-first}
 use Rattle.layout.specs.Layout.{NONE}
@@ -18,10 +18,6 @@ use Rattle.rules_segments.specs.Chains.{follows}
 -- 1 where y is held, among the segments opened
 abbrev pub held : Contents → ℕ → ℕ
 held c y = one (eqb (occurrences y (c .free)) 0)
-
-neither : {a b : Bool} → a ≡ false → b ≡ false → either a b ≡ false
-unfolding either
-neither e f = pass true e f
 
 pub held-times : (c : Contents) (y k : ℕ) → occurrences y (c .free) ≡ 0 → held c y * k ≡ k
 held-times c y k e = ap (λ (x : ℕ). x * k) (one-yes _ 0 e) ∙ (let z : 1 * k ≡ k = omega arith in z)

@@ -1,31 +1,26 @@
 -- How often a task stands among the holders, and among the tasks that are met.
 use mathlib.Core.Path.{_≡_, refl, ap, _∙_}
-use mathlib.Core.Bool.{Bool, true, false}
 use mathlib.Core.List.{List, [], _∷_}
-use mathlib.Core.Logic.{_⊎_, inl, inr, ⊎-elim, _↔_}
+use mathlib.Core.Logic.{_⊎_, inl, inr, ⊎-elim}
 use Prim.Native.Nat.{ℕ, zero, suc, _+_, _<_, _≤_}
 use native.Mathlib.Omega.{arith}
 use native.Mathlib.Nat.{eq-zero-or-pos}
-use lib.Dec.{ltb}
-use borrow.Author.Tests.{lt-ltb, le-ltb, ltb-true, ltb-false, eq-eqb, ne-eqb}
-use Rattle.words.specs.Words.{pass, halt, either, true-left, true-right}
-use Rattle.lists.specs.Counting.{occurrences, equal?, occurs-nil, occurs-cons, occurs-here, occurs-past}
+use borrow.Author.Tests.{lt-ltb, le-ltb, eq-eqb, ne-eqb}
+use Rattle.words.specs.Words.{pass, halt, true-left, true-right, neither}
+use Rattle.lists.specs.Counting.{occurrences, equal?, occurs-nil, occurs-cons, occurs-here, occurs-past, below?}
 use Rattle.layout.specs.Layout.{UNFINISHED, STATUS}
 use Rattle.tree.specs.Tour.{met}
 use Rattle.rules.specs.Contents.{Contents, word, holders, holdersFrom}
 use Rattle.rules.specs.Rules.{Holder}
 
--- a number is below a limit or not
-pub below? : (x n : ℕ) → (x < n) ⊎ (n ≤ x)
-below? x n = go (ltb x n) refl
-  where
-    go : (b : Bool) → ltb x n ≡ b → (x < n) ⊎ (n ≤ x)
-    go true e = inl (ltb-true x n e)
-    go false e = inr (ltb-false x n e)
+-- a mark below 128 meets a task, any other does not
+pub met-here : (x : ℕ) (xs : List ℕ) → x < 128 → met (x ∷ xs) ≡ x ∷ met xs
+unfolding met
+met-here x xs h = halt _ _ (lt-ltb x 128 h)
 
-neither : {a b : Bool} → a ≡ false → b ≡ false → either a b ≡ false
-unfolding either
-neither e f = pass true e f
+pub met-past : (x : ℕ) (xs : List ℕ) → 128 ≤ x → met (x ∷ xs) ≡ met xs
+unfolding met
+met-past x xs h = pass _ (le-ltb x 128 h) refl
 
 -- the tasks that are met are the marks below 128
 pub met-count : (xs : List ℕ) (t : ℕ) → t < 128 → occurrences t (met xs) ≡ occurrences t xs
@@ -36,11 +31,11 @@ met-count (x ∷ xs) t l =
     let b = occurs-cons x t xs in
     ⊎-elim
     (λ h.
-    let d = ap (occurrences t) (halt (x ∷ met xs) (met xs) (lt-ltb x 128 h)) in
+    let d = ap (occurrences t) (met-here x xs h) in
     let f = occurs-cons x t (met xs) in
     d ∙ (let z : occurrences t (x ∷ met xs) ≡ occurrences t (x ∷ xs) = omega (arith, a, b, f) in z))
     (λ h.
-    let d = ap (occurrences t) (pass (x ∷ met xs) (le-ltb x 128 h) refl) in
+    let d = ap (occurrences t) (met-past x xs h) in
     let f = occurs-past x t xs (λ q. omega (arith, q, h, l)) in
     d ∙ (let z : occurrences t (met xs) ≡ occurrences t (x ∷ xs) = omega (arith, a, f) in z))
     (below? x 128)
@@ -52,10 +47,10 @@ met-below (x ∷ xs) t l =
     let a = met-below xs t l in
     ⊎-elim
     (λ h.
-    ap (occurrences t) (halt (x ∷ met xs) (met xs) (lt-ltb x 128 h))
+    ap (occurrences t) (met-here x xs h)
     ∙ occurs-past x t (met xs) (λ q. omega (arith, q, h, l))
     ∙ a)
-    (λ h. ap (occurrences t) (pass (x ∷ met xs) (le-ltb x 128 h) refl) ∙ a)
+    (λ h. ap (occurrences t) (met-past x xs h) ∙ a)
     (below? x 128)
 
 module _ (c : Contents) where
@@ -114,7 +109,9 @@ module _ (c : Contents) where
       (λ h.
       ⊎-elim
       (λ q. (omega (arith, q), rw q at h))
-      (λ q. more (from-some n (s + 1) t (let a = ap (occurrences t) (from-cons n s h) in let b = occurs-past s t (holdersFrom c n (s + 1)) q in omega (arith, a, b, p))))
+      (λ q.
+      more
+      (from-some n (s + 1) t (let a = ap (occurrences t) (from-cons n s h) in let b = occurs-past s t (holdersFrom c n (s + 1)) q in omega (arith, a, b, p))))
       (equal? s t))
       (λ h. more (from-some n (s + 1) t (let a = ap (occurrences t) (from-past n s h) in omega (arith, a, p))))
       (holds? s)
@@ -136,9 +133,6 @@ module _ (c : Contents) where
       let l = w .0 in
       let m : t < 128 = omega (arith, l) in
       (m, ⊎-elim inl (λ q. inr (m, q)) (w .1))
-
-  pub holds-holder : (t : ℕ) → (0 < occurrences t (holders c)) ↔ ((t < 128) × Holder c t)
-  holds-holder t = (holders-hold t, λ w. let a = holder-once t (w .1) in omega (arith, a))
 
   pub holder? : (t : ℕ) → Holder c t ⊎ (Holder c t → ⊥)
   holder? t =

@@ -6,7 +6,7 @@ use Prim.Native.Nat.{ℕ, _+_, _-_, _*_, _<_, _≤_}
 use native.Mathlib.Omega.{arith}
 use native.Mathlib.Nat.{eq-zero-or-pos}
 use lib.ListN.{length}
-use Rattle.lists.specs.Counting.{occurrences}
+use Rattle.lists.specs.Counting.{occurrences, below?}
 use Rattle.tree.specs.Tour.{MARKS, tour, met}
 use Rattle.rules.specs.Contents.{Contents, holders}
 use Rattle.rules.specs.Rules.{Holder, TaskRules}
@@ -18,7 +18,7 @@ use Rattle.rules_tasks.specs.Tested.{top-says, says-top, idle-says, says
 use Rattle.rules_tasks.specs.Visits.{count, start, busy, met-once, left-once, holder-below, met-reached, left-reached, marks-below}
 use Rattle.rules_tasks.specs.FromTest.{tested-rules}
 use Rattle.rules_tasks.specs.FromRules.{rules-top, rules-idle, rules-tree}
-use Rattle.rules_tasks.specs.Holders.{below?, met-count, met-below, holder-once, holders-hold, holder?}
+use Rattle.rules_tasks.specs.Holders.{met-count, met-below, holder-once, holders-hold, holder?}
 
 module _ (c : Contents) where
   pub tasks-say : topTest c ≡ true → idleTest c ≡ true → treeTest c (2 * (128 - length (c .idle))) 0 ≡ true → TaskRules c

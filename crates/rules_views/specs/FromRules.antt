@@ -1,26 +1,28 @@
 -- The tests of views from their rules.
 use mathlib.Core.Path.{_≡_, refl, ap, sym, _∙_}
-use mathlib.Core.Bool.{true, false, false≢true}
+use mathlib.Core.Bool.{true, false≢true}
 use mathlib.Core.List.{List, []}
-use mathlib.Core.Logic.{_⊎_, inl, inr, ⊎-elim}
+use mathlib.Core.Logic.{inl, inr, ⊎-elim}
 use Prim.Native.Nat.{ℕ, _+_, _-_, _*_, _<_, _≤_}
 use native.Mathlib.Omega.{arith}
 use lib.Dec.{eqb}
 use lib.ListN.{length}
 use borrow.Author.Tests.{eq-eqb, lt-ltb, le-ltb}
-use Rattle.lists.specs.Counting.{occurrences}
+use Rattle.lists.specs.Counting.{occurrences, below?}
 use Rattle.lists.specs.Tests.{each}
 use Rattle.layout.specs.Layout.{NONE, NL, RIGHTS, CHILDREN, USER, RIGHT}
 use Rattle.tree.specs.Tour.{MARKS, tour, met}
+use Rattle.tree.specs.Queues.{queue-each}
 use Rattle.rules.specs.Contents.{Contents, word, heads, tails, owners}
 use Rattle.rules.specs.Views.{views, viewsOf}
 use Rattle.rules.specs.Rules.{Holder, Edge, ViewRules}
 use Rattle.rules.specs.Test.{viewsTest, orderOf, orderTest, ownersTest}
+use Rattle.rules.specs.Passed.{marked-yes}
 use Rattle.rules_views.specs.Toured.{Toured, same-owners}
-use Rattle.rules_views.specs.Order.{Pair, marked-yes, state, state-nil, joined-state}
+use Rattle.rules_views.specs.Order.{Pair, state, state-nil, joined-state}
 use Rattle.rules_views.specs.Marks.{PairAt, Fine, order-state}
 use Rattle.rules_views.specs.Ends.{Opened, Fit, fit-heads, fit-tails}
-use Rattle.rules_views.specs.Tested.{queue-each, split, word-right, says-words}
+use Rattle.rules_views.specs.Tested.{word-right, says-words}
 use Rattle.rules_views.specs.FromTest.{same-pair}
 
 module _ (c : Contents) (few : c .number ≤ 256) (xs : List ℕ) (v : Toured c xs) (r : ViewRules c) where
@@ -91,7 +93,7 @@ module _ (c : Contents) (few : c .number ≤ 256) (xs : List ℕ) (v : Toured c 
       let e = ap (word c t) (let z : 20 + (i - 4) ≡ 16 + i = omega (arith, m) in z) in
       let a = local-head t (i - 4) h (omega (arith, l, m)) (omega (arith, e, p)) in
       omega (arith, e, a))
-      (split i 4)
+      (below? i 4)
 
   pub views-tested : (each (viewsTest c) (met xs) ≡ true) × (orderTest c xs ≡ true) × (ownersTest c (met xs) ≡ true)
       × Opened c (heads c (met xs)) × Opened c (tails c (met xs))

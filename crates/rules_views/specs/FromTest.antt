@@ -9,22 +9,24 @@ use native.Mathlib.Nat.{eq-or-lt-of-le}
 use lib.Dec.{eqb}
 use lib.ListN.{length}
 use borrow.Author.Tests.{eqb-true, lt-ltb, le-ltb}
-use Rattle.lists.specs.Counting.{occurrences}
+use Rattle.lists.specs.Counting.{occurrences, below?}
 use Rattle.lists.specs.Tests.{each}
 use Rattle.layout.specs.Layout.{NONE, NL, RIGHTS, CHILDREN, USER, RIGHT}
 use Rattle.tree.specs.Rights.{uses}
 use Rattle.tree.specs.Tour.{MARKS, tour, met}
+use Rattle.tree.specs.Queues.{each-queue}
 use Rattle.rules.specs.Contents.{Contents, word, heads, tails, owners, holders}
 use Rattle.rules.specs.Views.{views, viewsOf, Joined}
 use Rattle.rules.specs.Rules.{Holder, Link, Edge, ViewRules}
 use Rattle.rules.specs.Test.{viewsTest, orderOf, orderTest, ownersTest}
+use Rattle.rules.specs.Passed.{marked-yes}
 use Rattle.rules_views.specs.Members.{met-mark}
 use Rattle.rules_tasks.specs.Holders.{holder-below}
 use Rattle.rules_views.specs.Toured.{Toured, same-owners, holder-met}
-use Rattle.rules_views.specs.Order.{Pair, marked-yes, state, state-nil, state-joined}
+use Rattle.rules_views.specs.Order.{Pair, state, state-nil, state-joined}
 use Rattle.rules_views.specs.Marks.{yes-no, PairAt, Fine, order-fine, order-state}
 use Rattle.rules_views.specs.Ends.{Opened, heads-fit, tails-fit}
-use Rattle.rules_views.specs.Tested.{each-queue, split, word-none, word-head, words-say}
+use Rattle.rules_views.specs.Tested.{word-none, word-head, words-say}
 
 -- a word is a segment, NL or NONE
 cases : (w : ℕ) → w ≤ NONE → (w < NL) ⊎ ((w ≡ NL) ⊎ (w ≡ NONE))
@@ -91,8 +93,8 @@ module _ (c : Contents) (small : (t i : ℕ) → word c t i ≤ NONE) (xs : List
       ⊎-elim
       (λ b. here USER (omega arith) (pair-met t (i % 4) h (omega arith) u .0))
       (λ b. here RIGHT (omega arith) (pair-met t (i % 4) h (omega arith) u .1))
-      (split i 8))
-      (split i 4)
+      (below? i 8))
+      (below? i 4)
     where
       here : (k : ℕ) → k * 4 + i % 4 ≡ i → PairAt c (i % 4) t k → Pair (word c t (20 + i)) (word c t (32 + i))
       here k e w = same-pair (ap (word c t) (omega (arith, e))) (ap (word c t) (omega (arith, e))) w

@@ -1,25 +1,17 @@
 -- The state of the test of order is made from the views passed so far; it says that they are joined.
 use mathlib.Core.Path.{_≡_, refl, ap, sym, _∙_}
-use mathlib.Core.Bool.{Bool, true, false, not}
 use mathlib.Core.List.{List, [], _∷_}
 use mathlib.Core.Logic.{_⊎_, inl, inr, ⊎-elim, _↔_}
 use Prim.Native.Nat.{ℕ, _≤_}
 use native.Mathlib.Omega.{arith}
 use lib.Dec.{eqb}
 use borrow.Author.Tests.{eq-eqb, ne-eqb}
-use Rattle.words.specs.Words.{pick, pass, halt, both, true-both, either, true-left, true-right}
+use Rattle.words.specs.Words.{pick, pass, halt, true-both, both-off}
 use Rattle.lists.specs.Counting.{equal?}
 use Rattle.layout.specs.Layout.{NONE, NL}
 use Rattle.rules.specs.Views.{View, view, more, Joined}
 use Rattle.rules.specs.Test.{marked, passed}
-
-pub marked-yes : (e : ℕ) → e ≡ NL → marked e ≡ 1
-unfolding marked
-marked-yes e q = halt _ _ (eq-eqb e NL q)
-
-pub marked-no : (e : ℕ) → (e ≡ NL → ⊥) → marked e ≡ 0
-unfolding marked
-marked-no e q = pass _ (ne-eqb e NL q) refl
+use Rattle.rules.specs.Passed.{marked-yes, marked-no, passed-none, passed-fit, passed-odd, passed-half, passed-open}
 
 marked-nl : (e : ℕ) → marked e ≡ 1 → e ≡ NL
 marked-nl e m = ⊎-elim (λ q. q) (λ q. let a = marked-no e q in let z : ⊥ = omega (arith, a, m) in absurd z) (equal? e NL)
@@ -31,42 +23,13 @@ marked-few e = ⊎-elim (λ q. let a = marked-yes e q in omega (arith, a)) (λ q
 abbrev pub Pair : ℕ → ℕ → Type 0
 Pair h e = ((h ≡ NONE) × (e ≡ NONE)) ⊎ ((h ≡ NONE → ⊥) × (e ≡ NONE → ⊥))
 
-neither : {a b : Bool} → a ≡ false → b ≡ false → either a b ≡ false
-unfolding either
-neither e f = pass true e f
-
-not-both : {a : Bool} (b : Bool) → a ≡ false → both a b ≡ false
-unfolding both
-not-both b e = pass b e refl
-
-module _ (h e o : ℕ) where
-  pub passed-none : h ≡ NONE → e ≡ NONE → passed h e o ≡ o
-  unfolding passed
-  passed-none p q = halt _ _ (eq-eqb h NONE p) ∙ halt _ _ (eq-eqb e NONE q)
-
-  pub passed-fit : (h ≡ NONE → ⊥) → (e ≡ NONE → ⊥) → marked e ≡ o → passed h e o ≡ marked h
-  unfolding passed
-  passed-fit p q m = pass _ (ne-eqb h NONE p) (pass _ (neither (ne-eqb e NONE q) (ap not (eq-eqb (marked e) o m))) refl)
-
-  passed-odd : (h ≡ NONE → ⊥) → (marked e ≡ o → ⊥) → passed h e o ≡ 2
-  unfolding passed
-  passed-odd p m = pass _ (ne-eqb h NONE p) (halt _ _ (true-right _ (ap not (ne-eqb (marked e) o m))))
-
-  passed-half : (h ≡ NONE) → (e ≡ NONE → ⊥) → passed h e o ≡ 2
-  unfolding passed
-  passed-half p q = halt _ _ (eq-eqb h NONE p) ∙ pass _ (ne-eqb e NONE q) refl
-
-  passed-open : (h ≡ NONE → ⊥) → (e ≡ NONE) → passed h e o ≡ 2
-  unfolding passed
-  passed-open p q = pass _ (ne-eqb h NONE p) (halt _ _ (true-left _ (eq-eqb e NONE q)))
-
-  -- a view whose ends are not a pair breaks the rule
-  pub passed-pair : (passed h e o ≡ 2 → ⊥) → Pair h e
-  passed-pair f =
-      ⊎-elim
-      (λ p. ⊎-elim (λ q. inl (p, q)) (λ q. absurd (f (passed-half p q))) (equal? e NONE))
-      (λ p. ⊎-elim (λ q. absurd (f (passed-open p q))) (λ q. inr (p, q)) (equal? e NONE))
-      (equal? h NONE)
+-- a view whose ends are not a pair breaks the rule
+pub passed-pair : (h e o : ℕ) → (passed h e o ≡ 2 → ⊥) → Pair h e
+passed-pair h e o f =
+    ⊎-elim
+    (λ p. ⊎-elim (λ q. inl (p, q)) (λ q. absurd (f (passed-half h e o p q))) (equal? e NONE))
+    (λ p. ⊎-elim (λ q. absurd (f (passed-open h e o p q))) (λ q. inr (p, q)) (equal? e NONE))
+    (equal? h NONE)
 
 -- what is broken stays so
 pub passed-broken : (h e : ℕ) → passed h e 2 ≡ 2
@@ -87,7 +50,7 @@ more-none h e vs p q = halt _ _ (true-both (eq-eqb h NONE p) (eq-eqb e NONE q))
 
 more-some : (h e : ℕ) (vs : List View) → (h ≡ NONE → ⊥) → more (view h e) vs ≡ view h e ∷ vs
 unfolding more
-more-some h e vs p = pass _ (not-both _ (ne-eqb h NONE p)) refl
+more-some h e vs p = pass _ (both-off _ (ne-eqb h NONE p)) refl
 
 state-fit : (h e : ℕ) (vs : List View) → marked e ≡ state vs → state (view h e ∷ vs) ≡ marked h
 unfolding state

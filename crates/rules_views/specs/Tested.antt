@@ -1,17 +1,18 @@
 -- What the tests of view words and of queues say, both ways.
 use mathlib.Core.Path.{_≡_, refl, ap, sym, _∙_}
-use mathlib.Core.Bool.{Bool, true, false, not}
+use mathlib.Core.Bool.{true, false, not}
 use mathlib.Core.List.{List}
-use mathlib.Core.Logic.{_⊎_, inl, inr, ⊎-elim}
-use Prim.Native.Nat.{ℕ, zero, suc, _+_, _%_, _<_, _≤_}
+use mathlib.Core.Logic.{⊎-elim}
+use Prim.Native.Nat.{ℕ, _+_, _%_, _<_}
 use native.Mathlib.Omega.{arith}
 use lib.Dec.{leb, eqb}
 use lib.ListN.{drop}
-use borrow.Author.Tests.{leb-true, leb-false, le-leb, eqb-true, eq-eqb, ne-eqb, eqb-false, not-true}
-use Rattle.words.specs.Words.{load, pass, halt, both-true, true-both, either, either-true, true-left, true-right}
+use borrow.Author.Tests.{leb-true, le-leb, eqb-true, eq-eqb, ne-eqb, eqb-false, not-true}
+use Rattle.words.specs.Words.{load, pass, halt, either, either-true, true-left, true-right}
 use Rattle.lists.specs.Tests.{each, each-says, says-each, eachWord-says, says-eachWord}
+use Rattle.lists.specs.Counting.{below?}
 use Rattle.layout.specs.Layout.{NONE, NL, RIGHTS}
-use Rattle.tree.specs.Rights.{uses, eachQueue}
+use Rattle.tree.specs.Rights.{uses}
 use Rattle.tree.specs.Tour.{met}
 use Rattle.rules.specs.Contents.{Contents, word}
 use Rattle.rules.specs.Rules.{Holder}
@@ -19,22 +20,6 @@ use Rattle.rules.specs.Test.{viewWord, viewsTest}
 use Rattle.rules_views.specs.Members.{load-drop}
 use Rattle.rules_views.specs.Toured.{Toured, holder-met, met-holder}
 use Rattle.rules_views.specs.Marks.{yes-no}
-
-pub each-queue : (f : ℕ → Bool) → eachQueue f ≡ true → (q : ℕ) → q < 4 → f q ≡ true
-unfolding eachQueue
-each-queue f e zero l = both-true _ _ e .0
-each-queue f e (suc zero) l = both-true _ _ (both-true _ _ e .1) .0
-each-queue f e (suc (suc zero)) l = both-true _ _ (both-true _ _ (both-true _ _ e .1) .1) .0
-each-queue f e (suc (suc (suc zero))) l = both-true _ _ (both-true _ _ (both-true _ _ e .1) .1) .1
-each-queue f e (suc (suc (suc (suc q)))) l = let z : ⊥ = omega arith in absurd z
-
-pub queue-each : (f : ℕ → Bool) → ((q : ℕ) → q < 4 → f q ≡ true) → eachQueue f ≡ true
-unfolding eachQueue
-queue-each f h = true-both (h 0 (omega arith)) (true-both (h 1 (omega arith)) (true-both (h 2 (omega arith)) (h 3 (omega arith))))
-
--- below a limit or not
-pub split : (i n : ℕ) → (i < n) ⊎ (n ≤ i)
-split i n = ⊎-elim (λ a. inr (leb-true n i a)) (λ a. inl (leb-false n i a)) (yes-no (leb n i))
 
 -- one word
 module _ (r i w : ℕ) where
@@ -58,7 +43,7 @@ module _ (r i w : ℕ) where
   unfolding viewWord
   word-right f g =
       ⊎-elim
-      (λ u. halt _ _ u ∙ ⊎-elim (λ l. true-right _ (ap not (ne-eqb w NL (g l)))) (λ l. true-left _ (le-leb 4 i l)) (split i 4))
+      (λ u. halt _ _ u ∙ ⊎-elim (λ l. true-right _ (ap not (ne-eqb w NL (g l)))) (λ l. true-left _ (le-leb 4 i l)) (below? i 4))
       (λ u. pass _ u (eq-eqb w NONE (f u)))
       (yes-no (uses r (i % 4)))
 

@@ -3,8 +3,7 @@ use mathlib.Core.Path.{_≡_, refl, ap, sym, _∙_}
 use mathlib.Core.List.{List}
 use Prim.Native.Nat.{ℕ, _+_, _^_, _<_, _≤_}
 use native.Mathlib.Omega.{arith}
-use lib.Dec.{ltb, leb}
-use lib.ListN.{length, getD, List·getD-eq-default}
+use lib.ListN.{length, List·getD-eq-default}
 use borrow.Author.Tests.{lt-ltb, le-ltb, le-leb, lt-leb}
 use Rattle.words.specs.Words.{either, halt, pass}
 use Rattle.text.specs.Text.{ascii, decimal}
@@ -17,9 +16,6 @@ use Rattle.serial.specs.declared.End.the-variants.{Ended, Spent, Refused}
 -- text that is put under another name
 pub named : {m ws m1 us : List ℕ} {a r : ℕ} → ws ≡ us → Puts m a ws m1 r → Puts m a us m1 r
 named e p = rw (← e) p
-
-pub above : (n k : ℕ) → n ≤ k → (k ≡ n → ⊥) → n + 1 ≤ k
-above n k h f = omega arith
 
 one-more : {m ws m1 m2 : List ℕ} {a b r : ℕ} (n : ℕ) → n < 2 ^ 32 → length ws ≡ 1 → Puts m a (decimal n) m1 b → Puts m1 b ws m2 r → r ≤ a + 11
 one-more n h l p q = let f = number-ends n h p in let e = q .end in omega (arith, f, e, l)
@@ -91,7 +87,8 @@ module _ {m m1 : List ℕ} {p1 : ℕ} (e : End) where
   unfolding endLine
   end-refused k h l p = named (sym (halt _ _ (lt-ltb k 10 l)) ∙ ap endLine (sym h)) p
 
-  pub end-job : {ws m0 : List ℕ} {p0 : ℕ} (k : ℕ) → e ≡ Refused k → 10 ≤ k → ws ≡ ascii "job " → Puts m 0 ws m0 p0 → Puts m0 p0 (refusedLine k) m1 p1 → Puts m 0 (endLine e) m1 p1
+  pub end-job : {ws m0 : List ℕ} {p0 : ℕ} (k : ℕ) → e ≡ Refused k → 10 ≤ k → ws ≡ ascii "job " → Puts m 0 ws m0 p0 → Puts m0 p0 (refusedLine k) m1 p1
+      → Puts m 0 (endLine e) m1 p1
   unfolding endLine
   end-job k h l f p q = named (sym (pass _ (le-ltb k 10 l) refl) ∙ ap endLine (sym h)) (puts-then (named f p) q)
 

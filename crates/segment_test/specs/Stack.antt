@@ -1,65 +1,50 @@
 -- The stack of free segments, place by place, as the code goes through it.
 use mathlib.Core.Path.{_≡_, ap, sym, _∙_}
 use mathlib.Core.Bool.{true, false}
-use mathlib.Core.List.{List, [], _∷_}
-use Prim.Native.Nat.{ℕ, suc, _+_, _-_, _<_, _≤_}
-use native.Mathlib.Omega.{arith}
-use native.Mathlib.Numerals.{add-one}
-use lib.ListN.{length, getD, set, take, drop}
-use lib.Seq.{drop-cons}
+use mathlib.Core.List.{List}
+use Prim.Native.Nat.{ℕ, _+_, _<_, _≤_}
+use lib.ListN.{length, getD, set}
 use borrow.Author.Tests.{lt-ltb, le-ltb, eq-eqb, ne-eqb}
 use Rattle.words.specs.Words.{load, store, both-on, both-off}
 use Rattle.lists.specs.Distinct.{fresh}
 use Rattle.lists.specs.Marks.{marking}
 use Rattle.layout.specs.Layout.{read, address}
 use Rattle.rules.specs.Contents.{decode}
+use Rattle.rules.specs.Stack.{rest, rest-start, rest-next, rest-end}
 use Rattle.view_events.specs.Parts.{number-at}
-
--- the places from i on, of h
-abbrev pub rest : List ℕ → ℕ → ℕ → List ℕ
-rest m h i = take (h - i) (drop (64 + i) m)
 
 pub rest-all : (m : List ℕ) → rest m (getD m 2 0) 0 ≡ decode m .free
 unfolding read address load
-rest-all m = ap (λ (k : ℕ). take k (drop 64 m)) (let z : getD m 2 0 - 0 ≡ getD m 2 0 = omega arith in z)
+rest-all m = rest-start m (getD m 2 0)
 
 module _ (m : List ℕ) (h i : ℕ) where
-  rest-first : i < h → 64 + i < length m → rest m h i ≡ getD m (64 + i) 0 ∷ rest m h (i + 1)
-  rest-first l g =
-      ap (λ (k : ℕ). take k (drop (64 + i) m)) (let z : h - i ≡ suc (h - (i + 1)) = omega arith in z)
-      ∙ ap (take (suc (h - (i + 1)))) (drop-cons m (64 + i) 0 g)
-      ∙ ap (λ (k : ℕ). getD m (64 + i) 0 ∷ take (h - (i + 1)) (drop k m)) (sym (add-one (64 + i)) ∙ (let z : 64 + i + 1 ≡ 64 + (i + 1) = omega arith in z))
-
-  rest-none : h ≤ i → rest m h i ≡ []
-  rest-none l = ap (λ (k : ℕ). take k (drop (64 + i) m)) (let z : h - i ≡ 0 = omega arith in z)
-
   module _ (d : List ℕ) (l : i < h) (g : 64 + i < length m) where
     pub free-far : getD m 1 0 ≤ getD m (64 + i) 0 → false ≡ fresh (decode m .number) (rest m h i) d
     unfolding fresh
-    free-far e = sym (ap (λ (xs : List ℕ). fresh (decode m .number) xs d) (rest-first l g) ∙ both-off _ (le-ltb _ _ (rw (number-at m) at e)))
+    free-far e = sym (ap (λ (xs : List ℕ). fresh (decode m .number) xs d) (rest-next m h i l g) ∙ both-off _ (le-ltb _ _ (rw (number-at m) at e)))
 
     module _ (low : getD m (64 + i) 0 < getD m 1 0) where
       pub free-again : (getD d (getD m (64 + i) 0) 0 ≡ 0 → ⊥) → false ≡ fresh (decode m .number) (rest m h i) d
       unfolding fresh load
       free-again e =
-          sym (ap (λ (xs : List ℕ). fresh (decode m .number) xs d) (rest-first l g)
+          sym (ap (λ (xs : List ℕ). fresh (decode m .number) xs d) (rest-next m h i l g)
           ∙ both-on (lt-ltb _ _ (rw (number-at m) at low)) ∙ both-off _ (ne-eqb _ _ e))
 
       pub free-more : getD d (getD m (64 + i) 0) 0 ≡ 0
           → fresh (decode m .number) (rest m h (i + 1)) (set d (getD m (64 + i) 0) 1) ≡ fresh (decode m .number) (rest m h i) d
       unfolding fresh load store
       free-more e =
-          sym (ap (λ (xs : List ℕ). fresh (decode m .number) xs d) (rest-first l g)
+          sym (ap (λ (xs : List ℕ). fresh (decode m .number) xs d) (rest-next m h i l g)
           ∙ both-on (lt-ltb _ _ (rw (number-at m) at low)) ∙ both-on (eq-eqb _ _ e))
 
     pub marking-more : marking (rest m h (i + 1)) (set d (getD m (64 + i) 0) 1) ≡ marking (rest m h i) d
     unfolding marking store
-    marking-more = sym (ap (λ (xs : List ℕ). marking xs d) (rest-first l g))
+    marking-more = sym (ap (λ (xs : List ℕ). marking xs d) (rest-next m h i l g))
 
   pub free-done : (d : List ℕ) → h ≤ i → true ≡ fresh (decode m .number) (rest m h i) d
   unfolding fresh
-  free-done d l = sym (ap (λ (xs : List ℕ). fresh (decode m .number) xs d) (rest-none l))
+  free-done d l = sym (ap (λ (xs : List ℕ). fresh (decode m .number) xs d) (rest-end m h i l))
 
   pub marking-done : (d : List ℕ) → h ≤ i → d ≡ marking (rest m h i) d
   unfolding marking
-  marking-done d l = sym (ap (λ (xs : List ℕ). marking xs d) (rest-none l))
+  marking-done d l = sym (ap (λ (xs : List ℕ). marking xs d) (rest-end m h i l))

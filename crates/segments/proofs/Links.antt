@@ -9,16 +9,11 @@ use lib.ListN.{drop, getD}
 use lib.Seq.{drop-drop, getD-drop}
 use borrow.Author.Tests.{eq-eqb, ne-eqb, lt-ltb, le-ltb}
 use Rattle.words.specs.Words.{load, pick, both, pass, halt}
+use Rattle.lists.specs.Tests.{turn-left, turns-over}
 use Rattle.layout.specs.Layout.{numberWord, segment, task, address, read, write, recordOf}
 use Rattle.tree.specs.Tour.{MARKS, seek}
 use Rattle.calls.specs.Segments.{indexOf, headIndex, linkedBy, renamed, released, linked}
 use Rattle.segments.specs.Names.{held, nextIs, headHere}
-
-less : (n i : ℕ) → i < n → n - i ≡ suc (n - (i + 1))
-less n i h = omega arith
-
-none : (n i : ℕ) → n ≤ i → n - i ≡ 0
-none n i h = omega arith
 
 -- THE HEADS of a task: the place of s, where the first i are others
 unfoldable pub headFrom : List ℕ → ℕ → ℕ → ℕ → ℕ
@@ -50,14 +45,14 @@ head-start m s t = go (indexOf s 16 (drop 16 (recordOf m t)))
 pub head-found : (m : List ℕ) (s t i w : ℕ) → i < 16 → w ≡ read m (task t (16 + i)) → w ≡ s → i ≡ headFrom m s t i
 unfolding headFrom
 head-found m s t i w h ew e =
-    let a = ap (λ (n : ℕ). indexOf s n (drop (16 + i) (recordOf m t))) (less 16 i h) in
+    let a = ap (λ (n : ℕ). indexOf s n (drop (16 + i) (recordOf m t))) (turn-left 16 i h) in
     let b = index-here s (16 - (i + 1)) (drop (16 + i) (recordOf m t)) (head-word m t i ∙ sym ew ∙ e) in
     omega (arith, a, b)
 
 pub head-next : (m : List ℕ) (s t i w : ℕ) → i < 16 → w ≡ read m (task t (16 + i)) → (w ≡ s → ⊥) → headFrom m s t (i + 1) ≡ headFrom m s t i
 unfolding headFrom
 head-next m s t i w h ew e =
-    let a = ap (λ (n : ℕ). indexOf s n (drop (16 + i) (recordOf m t))) (less 16 i h) in
+    let a = ap (λ (n : ℕ). indexOf s n (drop (16 + i) (recordOf m t))) (turn-left 16 i h) in
     let b = index-past s (16 - (i + 1)) (drop (16 + i) (recordOf m t)) (λ q. e (ew ∙ sym (head-word m t i) ∙ q)) in
     let d = ap (indexOf s (16 - (i + 1))) (drop-drop 1 (16 + i) (recordOf m t) ∙ ap (λ (n : ℕ). drop n (recordOf m t)) (same i)) in
     omega (arith, a, b, d)
@@ -68,7 +63,7 @@ head-next m s t i w h ew e =
 pub head-none : (m : List ℕ) (s t i : ℕ) → i ≤ 16 → 16 ≤ i → 16 ≡ headFrom m s t i
 unfolding headFrom
 head-none m s t i h g =
-    let a = ap (λ (n : ℕ). indexOf s n (drop (16 + i) (recordOf m t))) (none 16 i g) in
+    let a = ap (λ (n : ℕ). indexOf s n (drop (16 + i) (recordOf m t))) (turns-over 16 i g) in
     let b = index-none s (drop (16 + i) (recordOf m t)) in
     omega (arith, a, b)
 
@@ -96,13 +91,13 @@ by-start m s n e = ap (λ (k : ℕ). linkedBy k m s 0) (whole n ∙ e)
     whole k = omega arith
 
 pub by-found : (m : List ℕ) (s n y : ℕ) → y < n → nextIs m s y ≡ true → y ≡ linkedBy (n - y) m s y
-by-found m s n y h e = sym (ap (λ (k : ℕ). linkedBy k m s y) (less n y h) ∙ by-one _ m s y e)
+by-found m s n y h e = sym (ap (λ (k : ℕ). linkedBy k m s y) (turn-left n y h) ∙ by-one _ m s y e)
 
 pub by-next : (m : List ℕ) (s n y : ℕ) → y < n → nextIs m s y ≡ false → linkedBy (n - (y + 1)) m s (y + 1) ≡ linkedBy (n - y) m s y
-by-next m s n y h e = sym (ap (λ (k : ℕ). linkedBy k m s y) (less n y h) ∙ by-more _ m s y e)
+by-next m s n y h e = sym (ap (λ (k : ℕ). linkedBy k m s y) (turn-left n y h) ∙ by-more _ m s y e)
 
 pub by-end : (m : List ℕ) (s n y : ℕ) → n ≤ y → y ≡ linkedBy (n - y) m s y
-by-end m s n y h = sym (ap (λ (k : ℕ). linkedBy k m s y) (none n y h) ∙ last m s y)
+by-end m s n y h = sym (ap (λ (k : ℕ). linkedBy k m s y) (turns-over n y h) ∙ last m s y)
   where
     last : (m : List ℕ) (s y : ℕ) → linkedBy 0 m s y ≡ y
     last m s y = unfold linkedBy in refl

@@ -1,41 +1,15 @@
 -- The ring of values: places, the addresses of values, a store into one segment's values.
-use mathlib.Core.Path.{_≡_, refl, ap, sym, _∙_}
-use mathlib.Core.Bool.{Bool, true, false}
+use mathlib.Core.Path.{_≡_, refl, ap, _∙_}
 use mathlib.Core.List.{List}
 use Prim.Native.Nat.{ℕ, _+_, _-_, _*_, _^_, _<_, _≤_}
 use native.Mathlib.Omega.{arith}
 use native.Mathlib.Nat.{mul-le-mul, mul-le-mul-left, mul-suc, mul-comm}
-use lib.Dec.{ltb}
 use lib.ListN.{length}
-use borrow.Author.Tests.{lt-ltb, le-ltb, ltb-true}
 use borrow.Rule.Slice.PartMut.{putMid, midOf, mid-len, set-mid-at}
-use Rattle.words.specs.Words.{load, store, size, pick, pass, halt, pick-true, pick-false}
+use Rattle.words.specs.Words.{load, store, size}
 use Rattle.layout.specs.Layout.{lengthWord, numberWord, segment, value, first, count, address, read, write}
 use Rattle.calls.specs.Segments.{place, valueAt, stored, dropped}
-
-pub place-low : (l f k : ℕ) → f + k < l → f + k ≡ place l f k
-unfolding place
-place-low l f k h = sym (halt _ _ (lt-ltb _ _ h))
-
-pub place-high : (l f k : ℕ) → l ≤ f + k → f + k - l < l → f + k - l ≡ place l f k
-unfolding place
-place-high l f k h g = sym (pass _ (le-ltb _ _ h) (halt _ _ (lt-ltb _ _ g)))
-
-pub place-none : (l f k : ℕ) → l ≤ f + k → l ≤ f + k - l → 0 ≡ place l f k
-unfolding place
-place-none l f k h g = sym (pass _ (le-ltb _ _ h) (pass _ (le-ltb _ _ g) refl))
-
-pub place-below : (l f k : ℕ) → 0 < l → place l f k < l
-unfolding place
-place-below l f k h = go (ltb (f + k) l) refl
-  where
-    last : (b : Bool) → ltb (f + k - l) l ≡ b → pick b (f + k - l) 0 < l
-    last true e = rw (pick-true (f + k - l) 0) (ltb-true _ _ e)
-    last false e = rw (pick-false (f + k - l) 0) h
-
-    go : (b : Bool) → ltb (f + k) l ≡ b → pick b (f + k) (pick (ltb (f + k - l) l) (f + k - l) 0) < l
-    go true e = rw (pick-true (f + k) (pick (ltb (f + k - l) l) (f + k - l) 0)) (ltb-true _ _ e)
-    go false e = rw (pick-false (f + k) (pick (ltb (f + k - l) l) (f + k - l) 0)) (last (ltb (f + k - l) l) refl)
+use Rattle.calls.specs.Places.{place-below}
 
 -- no address of a value wraps
 pub product-fits : (s l : ℕ) → s < 2 ^ 32 → l < 2 ^ 32 → s * l ≤ 4294967295 * 4294967295

@@ -44,13 +44,17 @@ unfolding ring
 queue-length w q h = ap length (queue-ring w q h) ∙ ring-length w q (load w (firstAt q)) (load w (countAt q))
 
 -- a ring whose words and first place, but for whole turns, are the same
-pub ring-same : (w u : List ℕ) (q h g n : ℕ) → h % 4096 ≡ g % 4096 → ((i : ℕ) → i < n → load w (placeAt q (h + i)) ≡ load u (placeAt q (h + i))) → ringFrom w q h n ≡ ringFrom u q g n
+pub ring-same : (w u : List ℕ) (q h g n : ℕ) → h % 4096 ≡ g % 4096 → ((i : ℕ) → i < n → load w (placeAt q (h + i)) ≡ load u (placeAt q (h + i)))
+    → ringFrom w q h n ≡ ringFrom u q g n
 unfolding ringFrom
 ring-same w u q h g zero e f = refl
 ring-same w u q h g (suc n) e f =
     ap₂ (λ (x : ℕ) (xs : List ℕ). x ∷ xs)
-    (ap (λ (k : ℕ). load w (placeAt q k)) (sym (add-zero h)) ∙ f 0 (omega arith) ∙ ap (λ (k : ℕ). load u (q * 4096 + k)) (let z : (h + 0) % 4096 ≡ g % 4096 = omega (arith, e) in z))
-    (ring-same w u q (h + 1) (g + 1) n (omega (arith, e)) (λ i l. ap (λ (k : ℕ). load w (placeAt q k)) (shift i) ∙ f (suc i) (omega (arith, l)) ∙ ap (λ (k : ℕ). load u (placeAt q k)) (sym (shift i))))
+    (ap (λ (k : ℕ). load w (placeAt q k)) (sym (add-zero h))
+    ∙ f 0 (omega arith)
+    ∙ ap (λ (k : ℕ). load u (q * 4096 + k)) (let z : (h + 0) % 4096 ≡ g % 4096 = omega (arith, e) in z))
+    (ring-same w u q (h + 1) (g + 1) n (omega (arith, e))
+    (λ i l. ap (λ (k : ℕ). load w (placeAt q k)) (shift i) ∙ f (suc i) (omega (arith, l)) ∙ ap (λ (k : ℕ). load u (placeAt q k)) (sym (shift i))))
   where
     shift : (i : ℕ) → h + 1 + i ≡ h + suc i
     shift i = omega arith
@@ -72,8 +76,10 @@ ring-at w q h (suc n) (suc i) l =
     ring-at w q (h + 1) n i (le-of-suc-le-suc l) ∙ ap (λ (k : ℕ). load w (placeAt q k)) (let z : h + 1 + i ≡ h + suc i = omega arith in z)
 
 -- ring q with another content, the other rings as they were
-pub rings-set : (w u : List ℕ) (q : ℕ) (xs : List ℕ) → q < 4 → ring u q ≡ xs → ((p : ℕ) → p < 4 → (p ≡ q → ⊥) → ring u p ≡ ring w p) → lists u ≡ set (lists w) q xs
-rings-set w u q xs h e f = ext-getD [] (lists u) (set (lists w) q xs) (lists-length u ∙ sym (length-set (lists w) q xs ∙ lists-length w)) (λ p l. at p (rw (lists-length u) at l))
+pub rings-set : (w u : List ℕ) (q : ℕ) (xs : List ℕ) → q < 4 → ring u q ≡ xs → ((p : ℕ) → p < 4 → (p ≡ q → ⊥) → ring u p ≡ ring w p)
+    → lists u ≡ set (lists w) q xs
+rings-set w u q xs h e f =
+    ext-getD [] (lists u) (set (lists w) q xs) (lists-length u ∙ sym (length-set (lists w) q xs ∙ lists-length w)) (λ p l. at p (rw (lists-length u) at l))
   where
     at : (p : ℕ) → p < 4 → getD (lists u) p [] ≡ getD (set (lists w) q xs) p []
     at p l =
@@ -84,7 +90,8 @@ rings-set w u q xs h e f = ext-getD [] (lists u) (set (lists w) q xs) (lists-len
         (equal? p q)
 
 -- a ring whose first place, count and values are the same
-pub ring-kept : (w u : List ℕ) (q : ℕ) → load u (firstAt q) ≡ load w (firstAt q) → load u (countAt q) ≡ load w (countAt q) → ((h : ℕ) → load u (placeAt q h) ≡ load w (placeAt q h)) → ring u q ≡ ring w q
+pub ring-kept : (w u : List ℕ) (q : ℕ) → load u (firstAt q) ≡ load w (firstAt q) → load u (countAt q) ≡ load w (countAt q)
+    → ((h : ℕ) → load u (placeAt q h) ≡ load w (placeAt q h)) → ring u q ≡ ring w q
 unfolding ring
 ring-kept w u q ef ec ev =
     ap₂ (ringFrom u q) ef ec ∙ ring-same u w q (load w (firstAt q)) (load w (firstAt q)) (load w (countAt q)) refl (λ i l. ev (load w (firstAt q) + i))
@@ -97,7 +104,8 @@ queue-there w q n e x = within (λ l. x (e ∙ ap length (queue-none w q l)))
     within f = omega (arith, f)
 
 -- a queue and its front
-pub front-there : (w : List ℕ) (q n : ℕ) → q < 4 → n ≡ load w (countAt q) → (n ≡ 0 → ⊥) → front (queue (lists w) q) ≡ some (load w (placeAt q (load w (firstAt q))))
+pub front-there : (w : List ℕ) (q n : ℕ) → q < 4 → n ≡ load w (countAt q) → (n ≡ 0 → ⊥)
+    → front (queue (lists w) q) ≡ some (load w (placeAt q (load w (firstAt q))))
 unfolding ring
 front-there w q n l e x = ap front (queue-ring w q l ∙ ap (ringFrom w q (load w (firstAt q))) (sym e)) ∙ first n x
   where
@@ -105,9 +113,10 @@ front-there w q n l e x = ap front (queue-ring w q l ∙ ap (ringFrom w q (load 
     first zero x = absurd (x refl)
     first (suc n) x = unfold ringFrom front in refl
 
+pub no-front : (xs : List ℕ) → length xs ≡ 0 → none ≡ front xs
+unfolding front
+no-front [] z = refl
+no-front (x ∷ xs) z = let y : ⊥ = omega arith in absurd y
+
 pub front-none : (w : List ℕ) (q n : ℕ) → n ≡ length (queue (lists w) q) → n ≡ 0 → none ≡ front (queue (lists w) q)
-front-none w q n e z = nothing (queue (lists w) q) (sym e ∙ z)
-  where
-    nothing : (xs : List ℕ) → length xs ≡ 0 → none ≡ front xs
-    nothing [] z = unfold front in refl
-    nothing (x ∷ xs) z = let y : ⊥ = omega arith in absurd y
+front-none w q n e z = no-front (queue (lists w) q) (sym e ∙ z)

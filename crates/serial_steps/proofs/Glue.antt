@@ -2,16 +2,15 @@
 use mathlib.Core.Path.{_≡_, refl, ap, sym, _∙_, subst}
 use mathlib.Core.Bool.{false}
 use mathlib.Core.List.{List, [], _∷_, _++_}
-use mathlib.Core.Option.{Option, none, some}
-use Prim.Native.Nat.{ℕ, suc, _+_, _%_, _<_, _≤_}
+use mathlib.Core.Option.{Option, some}
+use Prim.Native.Nat.{ℕ, _+_, _%_, _<_, _≤_}
 use native.Mathlib.Omega.{arith}
 use lib.Dec.{leb, eqb}
 use lib.ListN.{length, set, drop}
 use types.Run.{OneOf}
 use denote.Enum.Declared.{tagOf}
 use borrow.Author.Tests.{eq-eqb, ne-eqb, le-leb, lt-leb, leb-false}
-use Rattle.words.specs.Words.{store, pick, both-on, both-off, halt, pass}
-use Rattle.words.specs.Blocks.{storeAll, store-none, store-more}
+use Rattle.words.specs.Words.{pick, both-on, both-off, halt, pass}
 use Rattle.job.specs.declared.Instruction.{Instruction}
 use Rattle.job.specs.Operations.{rowOf, operationOf, operationAt}
 use Rattle.job.specs.Effects.{sum, effect}
@@ -23,21 +22,9 @@ use Rattle.serial_queues.specs.declared.Front.{Front}
 use Rattle.serial_queues.specs.declared.Front.the-variants.{Value, Nothing}
 use Rattle.serial_queues.proofs.Front.{the-type}
 use Rattle.serial_queues.specs.Front.{frontOf}
+use Rattle.serial_queues.specs.Rings.{no-front}
 use Rattle.serial_steps.specs.declared.Made.{Made}
 use Rattle.serial_steps.specs.Steps.{Inner, coded, Does, Moves}
-
--- three stores in a row
-pub three : (m m1 m2 m3 : List ℕ) (a x y z : ℕ) → m1 ≡ store m a x → m2 ≡ store m1 (a + 1) y → m3 ≡ store m2 (a + 2) z → m3 ≡ storeAll m a (x ∷ y ∷ z ∷ [])
-three m m1 m2 m3 a x y z e1 e2 e3 =
-    sym
-    (store-more m a x (y ∷ z ∷ [])
-    ∙ ap (λ (l : List ℕ). storeAll l (suc a) (y ∷ z ∷ [])) (sym e1)
-    ∙ store-more m1 (suc a) y (z ∷ [])
-    ∙ ap (λ (l : List ℕ). storeAll l (suc (suc a)) (z ∷ [])) (ap (λ (b : ℕ). store m1 b y) (let w : suc a ≡ a + 1 = omega arith in w) ∙ sym e2)
-    ∙ store-more m2 (suc (suc a)) z []
-    ∙ store-none _ _
-    ∙ ap (λ (b : ℕ). store m2 b z) (let w : suc (suc a) ≡ a + 2 = omega arith in w)
-    ∙ sym e3)
 
 -- A BOUND
 pub full-push : (s : Instruction) (v n : ℕ) → v ≡ n → 1 ≤ s .operation → s .operation < 3 → leb 4096 v ≡ full s n
@@ -65,37 +52,38 @@ module _ (q x i r : ℕ) (qs us : List (List ℕ)) where
   unfolding operationAt operationOf rowOf effect coded numberOf queuesAfter
   push-does e h = subst (λ (k : ℕ). Does k q x i r qs (gives 1 x r (i + 1)) us) (sym e) (record { made = refl; lists = h })
 
-  pub push-sum-does : {k v : ℕ} → 1 ≤ k → k ≤ 2 → (k ≡ 1 → ⊥) → v ≡ (r + x) % 4294967296 → us ≡ set qs q (queue qs q ++ (v ∷ [])) → Does k q x i r qs (gives 1 v r (i + 1)) us
+  pub push-sum-does : {k v : ℕ} → 1 ≤ k → k ≤ 2 → (k ≡ 1 → ⊥) → v ≡ (r + x) % 4294967296 → us ≡ set qs q (queue qs q ++ (v ∷ []))
+      → Does k q x i r qs (gives 1 v r (i + 1)) us
   push-sum-does {k} {v} a b n ev h = subst (λ (k : ℕ). Does k q x i r qs (gives 1 v r (i + 1)) us) (let z : 2 ≡ k = omega (arith, a, b, n) in z) here
     where
       here : Does 2 q x i r qs (gives 1 v r (i + 1)) us
       here = unfold operationAt operationOf rowOf effect coded numberOf queuesAfter sum in record { made = ap (λ (y : ℕ). gives 1 y r (i + 1)) ev; lists = h }
 
-  pub pop-takes : {v : ℕ} (f : Front) → frontOf f ≡ front (queue qs q) → f ≡ Value v → us ≡ set qs q (drop 1 (queue qs q)) → Does 3 q x i r qs (gives 2 v v (i + 1)) us
+  pub pop-takes : {v : ℕ} (f : Front) → frontOf f ≡ front (queue qs q) → f ≡ Value v → us ≡ set qs q (drop 1 (queue qs q))
+      → Does 3 q x i r qs (gives 2 v v (i + 1)) us
   unfolding operationAt operationOf rowOf effect coded numberOf queuesAfter frontOf
   pop-takes {v} f e g h =
       record { made = ap (λ (o : Option ℕ). coded (effect (operationAt 3) i r x o)) (ap frontOf (sym g) ∙ e); lists = h }
 
-  pub pop-none : (f : Front) → frontOf f ≡ front (queue qs q) → OneOf (1 ∷ []) (tagOf the-type f) → us ≡ set qs q (drop 1 (queue qs q)) → Does 3 q x i r qs (gives 5 0 r (i + 1)) us
+  pub pop-none : (f : Front) → frontOf f ≡ front (queue qs q) → OneOf (1 ∷ []) (tagOf the-type f) → us ≡ set qs q (drop 1 (queue qs q))
+      → Does 3 q x i r qs (gives 5 0 r (i + 1)) us
   unfolding operationAt operationOf rowOf effect coded numberOf queuesAfter frontOf
   pop-none (Value v) e g h = let z : ⊥ = omega (arith, g) in absurd z
   pop-none Nothing e g h = record { made = ap (λ (o : Option ℕ). coded (effect (operationAt 3) i r x o)) e; lists = h }
 
 module _ (q x i r : ℕ) (qs : List (List ℕ)) {n : ℕ} (en : n ≡ length (queue qs q)) where
-  none-there : (vs : List ℕ) → length vs ≡ 0 → none ≡ front vs
-  none-there [] e = unfold front in refl
-  none-there (v ∷ vs) e = let z : ⊥ = omega (arith, e) in absurd z
-
   pub test-empty : n ≡ 0 → Does 4 q x i r qs (gives 5 0 r x) qs
   unfolding operationAt operationOf rowOf effect coded numberOf queuesAfter
-  test-empty e = record { made = ap (λ (o : Option ℕ). coded (effect (operationAt 4) i r x o)) (none-there (queue qs q) (sym en ∙ e)); lists = refl }
+  test-empty e = record { made = ap (λ (o : Option ℕ). coded (effect (operationAt 4) i r x o)) (no-front (queue qs q) (sym en ∙ e)); lists = refl }
 
   pub test-not : (n ≡ 0 → ⊥) → Does 4 q x i r qs (gives 6 0 r (i + 1)) qs
   test-not e = there (queue qs q) refl (λ z. e (en ∙ z))
     where
       there : (vs : List ℕ) → queue qs q ≡ vs → (length vs ≡ 0 → ⊥) → Does 4 q x i r qs (gives 6 0 r (i + 1)) qs
       there [] p z = absurd (z refl)
-      there (v ∷ vs) p z = unfold operationAt operationOf rowOf effect coded numberOf queuesAfter front in record { made = ap (λ (xs : List ℕ). coded (effect (operationAt 4) i r x (front xs))) (sym p); lists = refl }
+      there (v ∷ vs) p z =
+          unfold operationAt operationOf rowOf effect coded numberOf queuesAfter front in record
+          { made = ap (λ (xs : List ℕ). coded (effect (operationAt 4) i r x (front xs))) (sym p); lists = refl }
 
 module _ (x i r : ℕ) where
   pub go-moves : {k : ℕ} → k ≡ 5 → Moves k x i r (gives 3 0 r x)

@@ -1,17 +1,15 @@
 -- The child's record, four words at a time. No store reaches a word that is read later.
 use mathlib.Core.Path.{_≡_, refl, ap, sym, _∙_}
-use mathlib.Core.Bool.{Bool, true, false}
 use mathlib.Core.List.{List, [], _∷_, _++_}
-use mathlib.Core.Logic.{_⊎_, inl, inr, ⊎-elim}
+use mathlib.Core.Logic.{_⊎_, inl, inr}
 use Prim.Native.Nat.{ℕ, suc, _+_, _*_, _<_, _≤_}
 use native.Mathlib.Omega.{arith}
-use lib.Dec.{eqb}
 use lib.ListN.{length}
 use borrow.Author.Tests.{eq-eqb, ne-eqb}
-use Rattle.words.specs.Words.{load, store, pick, halt, pass}
+use Rattle.words.specs.Words.{store, halt, pass}
 use Rattle.words.specs.Blocks.{storeAll, store-none, store-more, store-append, block-other}
 use Rattle.layout.specs.Layout.{NONE, UNFINISHED, USER, YOUNGER, YOUNGEST, task, head, tail, queueHead, address, read, write}
-use Rattle.calls.specs.Spawn.{forQueues, passedUser, passedQueue, keptUser, keptQueue, noWords, childViews, passedOn, childMade}
+use Rattle.calls.specs.Spawn.{forQueues, passedUser, passedQueue, keptUser, keptQueue, noWords, childViews, passedOn, childMade, queues-four}
 
 -- words k of all records, where words j to j + n - 1 of a record are stored
 others-stay : (m : List ℕ) (c j t k n : ℕ) (ws : List ℕ) → length ws ≡ n → j + n ≤ 48 → k < 48 → (k < j) ⊎ (j + n ≤ k)
@@ -30,10 +28,6 @@ queues-same f g e =
     ∙ ap (λ (x : ℕ). g 0 ∷ x ∷ f 2 ∷ f 3 ∷ []) (e 1 (omega arith))
     ∙ ap (λ (x : ℕ). g 0 ∷ g 1 ∷ x ∷ f 3 ∷ []) (e 2 (omega arith))
     ∙ ap (λ (x : ℕ). g 0 ∷ g 1 ∷ g 2 ∷ x ∷ []) (e 3 (omega arith))
-
-queues-four : (f : ℕ → ℕ) → length (forQueues f) ≡ 4
-unfolding forQueues
-queues-four f = refl
 
 -- four words in front of others
 more-four : (m m' : List ℕ) (c k : ℕ) (xs ys : List ℕ) → length xs ≡ 4 → m' ≡ storeAll m (address (task c k)) xs
@@ -153,13 +147,18 @@ module _ (t r c o : ℕ) (m m1 m2 m3 m4 : List ℕ) (e0 : o ≡ read m (task t Y
   views-now =
       views-same t r m m1 (λ k a b. ap (λ (x : List ℕ). read x (task t k)) e1 ∙ others-stay m c 0 t k 6 _ refl (omega arith) b (inr (omega (arith, a))))
 
-  first-made : m2 ≡ storeAll (storeAll m (address (task c 0)) (UNFINISHED ∷ r ∷ t ∷ read m (task t YOUNGEST) ∷ NONE ∷ NONE ∷ [])) (address (task c 16)) (childViews m t r)
+  -- the links of the child, and then its views
+  abbrev made : List ℕ
+  made = storeAll (storeAll m (address (task c 0)) (UNFINISHED ∷ r ∷ t ∷ read m (task t YOUNGEST) ∷ NONE ∷ NONE ∷ [])) (address (task c 16)) (childViews m t r)
+
+  first-made : m2 ≡ made
   first-made =
       e2
       ∙ ap (storeAll m1 (address (task c 16))) views-now
-      ∙ ap (λ (x : List ℕ). storeAll x (address (task c 16)) (childViews m t r)) (e1 ∙ ap (λ (w : ℕ). storeAll m (address (task c 0)) (UNFINISHED ∷ r ∷ t ∷ w ∷ NONE ∷ NONE ∷ [])) e0)
+      ∙ ap (λ (x : List ℕ). storeAll x (address (task c 16)) (childViews m t r))
+      (e1 ∙ ap (λ (w : ℕ). storeAll m (address (task c 0)) (UNFINISHED ∷ r ∷ t ∷ w ∷ NONE ∷ NONE ∷ [])) e0)
 
-  then-made : m4 ≡ write (passedOn (storeAll (storeAll m (address (task c 0)) (UNFINISHED ∷ r ∷ t ∷ read m (task t YOUNGEST) ∷ NONE ∷ NONE ∷ [])) (address (task c 16)) (childViews m t r)) t r) (task t YOUNGEST) c
+  then-made : m4 ≡ write (passedOn made t r) (task t YOUNGEST) c
   then-made = e4 ∙ ap (λ (x : List ℕ). write x (task t YOUNGEST) c) (e3 ∙ ap (λ (x : List ℕ). passedOn x t r) first-made)
 
   pub first-child : o ≡ NONE → m4 ≡ childMade m t r c

@@ -4,19 +4,19 @@ use mathlib.Core.Bool.{Bool, true, false, false≢true}
 use mathlib.Core.List.{List, [], _∷_}
 use Prim.Native.Nat.{ℕ, zero, suc, _+_, _*_, _<_, _≤_}
 use native.Mathlib.Omega.{arith}
-use native.Mathlib.Numerals.{add-one}
 use lib.Dec.{leb, ltb, eqb}
-use lib.ListN.{length, getD, drop, take, replicate, length-drop}
-use lib.Seq.{drop-cons}
+use lib.ListN.{length, drop, take, replicate, length-drop}
+use lib.Seq.{length-take-le}
 use borrow.Author.Tests.{ltb-true, lt-ltb, leb-true, le-leb, lt-leb, leb-false}
 use Rattle.words.specs.Words.{load, store, size, pick, both, both-on, both-off, same-test}
+use Rattle.words.specs.Blocks.{take-more}
 use Rattle.lists.specs.Tests.{each}
 use Rattle.lists.specs.Distinct.{fresh, distinct}
 use Rattle.layout.specs.Layout.{FREE, STATUS, freeTasks, read}
 use Rattle.rules.specs.Contents.{decode, word}
 use Rattle.rules.specs.Test.{idleTest}
 use Rattle.tree_test.specs.Records.{status-at}
-use Rattle.tree_test.specs.Stacks.{take-few, take-many, take-all}
+use Rattle.tree_test.specs.Stacks.{take-few, take-many}
 
 -- the k records from place i of the stack on; d has the marks of those before
 unfoldable pub idleFrom : ℕ → List ℕ → ℕ → List ℕ → Bool
@@ -25,13 +25,6 @@ idleFrom (suc k) m i d =
     let t = load m (320 + i) in
     let rest = idleFrom k m (i + 1) (store d t 1) in
     both (leb 1 t) (both (leb t 127) (both (eqb (load d t) 0) (both (eqb (load m (1472 + t * 48)) 0) rest)))
-
--- the first of some words of a memory, and the others
-take-more : (k a : ℕ) (m : List ℕ) → a < size m → take (suc k) (drop a m) ≡ load m a ∷ take k (drop (a + 1) m)
-unfolding size load
-take-more k a m h =
-    ap (take (suc k)) (drop-cons m a 0 h)
-    ∙ ap (λ (j : ℕ). getD m a 0 ∷ take k (drop j m)) (sym (add-one a))
 
 below-same : (t : ℕ) → leb t 127 ≡ ltb t 128
 below-same t =
@@ -87,7 +80,8 @@ module _ (m : List ℕ) where
       let t = load m (320 + i) in
       ap
       (λ (b : Bool). both (leb 1 t) (both (leb t 127) (both (eqb (load d t) 0) (both (eqb (load m (1472 + t * 48)) 0) b))))
-      (idle-parts k (i + 1) (store d t 1) (omega arith) ∙ ap (λ (a : ℕ). Parts (take k (drop a m)) (store d t 1)) (let z : 320 + (i + 1) ≡ 320 + i + 1 = omega arith in z))
+      (idle-parts k (i + 1) (store d t 1) (omega arith)
+      ∙ ap (λ (a : ℕ). Parts (take k (drop a m)) (store d t 1)) (let z : 320 + (i + 1) ≡ 320 + i + 1 = omega arith in z))
       ∙ parts-cons t (take k (drop (320 + i + 1) m)) d
       ∙ ap (λ (l : List ℕ). Parts l d) (sym (take-more k (320 + i) m (omega arith)))
 
@@ -113,5 +107,5 @@ module _ (m : List ℕ) where
       room l = unfold size in let a = length-drop 320 m in omega (arith, a, s, l)
 
       go : (b : Bool) → leb (read m freeTasks) 127 ≡ b → (read m freeTasks ≤ 127) × (length ((decode m) .idle) ≡ read m freeTasks)
-      go true q = let l = leb-true (read m freeTasks) 127 q in (l, take-all (read m freeTasks) (drop 320 m) (room l))
+      go true q = let l = leb-true (read m freeTasks) 127 q in (l, length-take-le (read m freeTasks) (drop 320 m) (room l))
       go false q = absurd (false≢true (idle-many s (leb-false (read m freeTasks) 127 q) ∙ e))

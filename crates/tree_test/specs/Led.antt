@@ -9,14 +9,11 @@ use lib.Dec.{eqb}
 use lib.ListN.{length, set, take}
 use borrow.Author.Tests.{le-leb, lt-leb, eqb-true, eq-eqb, ne-eqb}
 use Rattle.words.specs.Words.{pass, halt, same-test}
+use Rattle.lists.specs.Tests.{turn-left}
 use Rattle.tree.specs.Tour.{END, tour}
 use Rattle.rules.specs.Contents.{Contents}
 use Rattle.rules.specs.Test.{treeTest}
 use Rattle.tree_test.specs.Walk.{nextMark, walkTest, path, walk-same, path-tour}
-
--- what is left
-left : (n i : ℕ) → i < n → n - i ≡ suc (n - (i + 1))
-left n i h = omega arith
 
 last-one : (n i : ℕ) → i < n → eqb (n - (i + 1)) 0 ≡ eqb (i + 1) n
 last-one n i h =
@@ -65,26 +62,26 @@ module _ (c : Contents) (n : ℕ) where
     module _ (h : i < n) where
       walk-last : x ≡ 128 → eqb (i + 1) n ≡ walkTest c (n - i) x
       unfolding walkTest
-      walk-last q = sym (ap (λ (k : ℕ). walkTest c k x) (left n i h) ∙ halt _ _ (eq-eqb x 128 q) ∙ last-one n i h)
+      walk-last q = sym (ap (λ (k : ℕ). walkTest c k x) (turn-left n i h) ∙ halt _ _ (eq-eqb x 128 q) ∙ last-one n i h)
 
       path-more : (xs : List ℕ) → i < length xs → take (i + 1) (set xs i x) ++ path c (n - (i + 1)) (nextMark c x) ≡ take i xs ++ path c (n - i) x
       unfolding path
       path-more xs r =
           ap (λ (k : ℕ). take k (set xs i x) ++ path c (n - (i + 1)) (nextMark c x)) (let z : i + 1 ≡ suc i = omega arith in z)
           ∙ take-set i x xs (path c (n - (i + 1)) (nextMark c x)) r
-          ∙ ap (λ (k : ℕ). take i xs ++ path c k x) (sym (left n i h))
+          ∙ ap (λ (k : ℕ). take i xs ++ path c k x) (sym (turn-left n i h))
 
       module _ (o : x ≡ 128 → ⊥) (y : ℕ) (e : y ≡ nextMark c x) where
         pub walk-wrong : END ≤ y → false ≡ walkTest c (n - i) x
         unfolding walkTest
         walk-wrong l =
-            sym (ap (λ (k : ℕ). walkTest c k x) (left n i h) ∙ pass _ (ne-eqb x 128 o) (halt _ _ (le-leb END (nextMark c x) (omega (arith, e, l)))))
+            sym (ap (λ (k : ℕ). walkTest c k x) (turn-left n i h) ∙ pass _ (ne-eqb x 128 o) (halt _ _ (le-leb END (nextMark c x) (omega (arith, e, l)))))
 
         walk-on : y < END → walkTest c (n - (i + 1)) y ≡ walkTest c (n - i) x
         unfolding walkTest
         walk-on l =
             sym
-            (ap (λ (k : ℕ). walkTest c k x) (left n i h)
+            (ap (λ (k : ℕ). walkTest c k x) (turn-left n i h)
             ∙ pass _ (ne-eqb x 128 o) (pass _ (lt-leb END (nextMark c x) (omega (arith, e, l))) (ap (walkTest c (n - (i + 1))) (sym e))))
 
         -- it is written, and y is the next one

@@ -1,5 +1,5 @@
 -- How many entries a stack has, by its height.
-use mathlib.Core.Path.{_≡_, refl, ap}
+use mathlib.Core.Path.{_≡_, refl}
 use mathlib.Core.Bool.{Bool, true, false}
 use mathlib.Core.List.{List, [], _∷_}
 use Prim.Native.Nat.{ℕ, zero, suc, _<_, _≤_}
@@ -22,11 +22,6 @@ take-many j zero l a b = let z : ⊥ = omega arith in absurd z
 take-many j (suc k) [] a b = let z : ⊥ = omega arith in absurd z
 take-many zero (suc k) (x ∷ l) a b = omega arith
 take-many (suc j) (suc k) (x ∷ l) a b = let z = take-many j k l (le-of-suc-le-suc a) (le-of-suc-le-suc b) in omega (arith, z)
-
-pub take-all : (k : ℕ) (l : List ℕ) → k ≤ length l → length (take k l) ≡ k
-take-all zero l h = refl
-take-all (suc k) [] h = let z : ⊥ = omega arith in absurd z
-take-all (suc k) (x ∷ l) h = ap suc (take-all k l (le-of-suc-le-suc h))
 
 -- a stack is at most n high where it has at most n entries, as long as there is room for more
 height : (n h : ℕ) (l : List ℕ) → n < length l → leb h n ≡ leb (length (take h l)) n

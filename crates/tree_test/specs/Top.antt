@@ -1,12 +1,12 @@
 -- The opening numbers and the top, test by test, as the code makes them.
 use mathlib.Core.Path.{_≡_, refl, sym, _∙_}
-use mathlib.Core.Bool.{Bool, true, false}
+use mathlib.Core.Bool.{Bool, false}
 use mathlib.Core.List.{List}
 use Prim.Native.Nat.{ℕ, _<_, _≤_, _*_}
 use native.Mathlib.Nat.{mul-le-mul}
 use lib.Dec.{leb, eqb}
-use borrow.Author.Tests.{leb-true, le-leb, lt-leb, ne-eqb, eq-eqb}
-use Rattle.words.specs.Words.{pick, both, both-true, both-on, both-off, both-right-off, either, true-left, true-right}
+use borrow.Author.Tests.{le-leb, lt-leb, ne-eqb, eq-eqb}
+use Rattle.words.specs.Words.{both, both-on, both-off, both-right-off, true-left, true-right, neither}
 use Rattle.layout.specs.Layout.{NONE, UNFINISHED, FINISHED, STATUS, RIGHTS, PARENT, OLDER, YOUNGER, YOUNGEST, task, read}
 use Rattle.layout.specs.Frame.{record-word}
 use Rattle.rules.specs.Contents.{decode, word}
@@ -34,10 +34,6 @@ module _ (l n : ℕ) where
   product a b c d =
       sym (both-on (both-on (le-leb 1 l a) ∙ le-leb l 64 b) ∙ both-on (both-on (le-leb 4 n c) ∙ le-leb n 256 d))
 
-  pub few-opened : inRange l n ≡ true → n ≤ 256
-  unfolding inRange within
-  few-opened e = leb-true n 256 (both-true _ _ (both-true _ _ (both-true _ _ e .1) .0) .1)
-
   -- their product is a word
   pub fits : l ≤ 64 → n ≤ 256 → l * n ≤ 16384
   fits a b = mul-le-mul a b
@@ -45,10 +41,13 @@ module _ (l n : ℕ) where
 -- the top has all rights, no parent and no siblings
 unfoldable pub topAlone : List ℕ → Bool
 topAlone m =
-    both (eqb (read m (task 0 RIGHTS)) 255) (both (eqb (read m (task 0 PARENT)) NONE) (both (eqb (read m (task 0 OLDER)) NONE) (eqb (read m (task 0 YOUNGER)) NONE)))
+    both (eqb (read m (task 0 RIGHTS)) 255)
+    (both (eqb (read m (task 0 PARENT)) NONE) (both (eqb (read m (task 0 OLDER)) NONE) (eqb (read m (task 0 YOUNGER)) NONE)))
 
 module _ (m : List ℕ) where
-  alone : topAlone m ≡ both (eqb (word (decode m) 0 RIGHTS) 255) (both (eqb (word (decode m) 0 PARENT) NONE) (both (eqb (word (decode m) 0 OLDER) NONE) (eqb (word (decode m) 0 YOUNGER) NONE)))
+  alone : topAlone m
+      ≡ both (eqb (word (decode m) 0 RIGHTS) 255)
+      (both (eqb (word (decode m) 0 PARENT) NONE) (both (eqb (word (decode m) 0 OLDER) NONE) (eqb (word (decode m) 0 YOUNGER) NONE)))
   unfolding topAlone word
   alone = rw (record-word m 0 RIGHTS, record-word m 0 PARENT, record-word m 0 OLDER, record-word m 0 YOUNGER) refl
 
@@ -63,10 +62,6 @@ module _ (m : List ℕ) where
   pub top-closed : read m (task 0 STATUS) ≡ FINISHED → read m (task 0 YOUNGEST) ≡ NONE → topAlone m ≡ topTest (decode m)
   unfolding topTest
   top-closed e f = alone ∙ sym (both-on (true-right _ (both-on (eq-eqb _ _ (state STATUS ∙ e)) ∙ eq-eqb _ _ (state YOUNGEST ∙ f))))
-
-  neither : {a b : Bool} → a ≡ false → b ≡ false → either a b ≡ false
-  unfolding either pick
-  neither e f = rw (e, f) refl
 
   pub top-other : (read m (task 0 STATUS) ≡ UNFINISHED → ⊥) → (read m (task 0 STATUS) ≡ FINISHED → ⊥) → false ≡ topTest (decode m)
   unfolding topTest

@@ -13,7 +13,7 @@ use Rattle.words.specs.Words.{load, store, both, either, pass, halt, both-on, b
 use Rattle.lists.specs.Counting.{equal?}
 use Rattle.layout.specs.Layout.{NONE, NL}
 use Rattle.rules.specs.Contents.{Contents}
-use Rattle.rules.specs.Test.{marked, passed}
+use Rattle.rules.specs.Test.{passed}
 use Rattle.view_events.specs.Events.{Event, queueOf, viewOf}
 use Rattle.view_events.specs.Events.Event.{tail, head}
 use Rattle.view_events.specs.Run.{run}
@@ -24,36 +24,6 @@ stops y x e h = both-off x refl ∙ sym (both-off _ e) ∙ h
 
 pub goes : {r y z : Bool} → r ≡ true → both r y ≡ z → y ≡ z
 goes e h = sym (both-on e) ∙ h
-
--- the state of the order behind a view
-module _ (h e o : ℕ) where
-  pub passed-empty : h ≡ NONE → e ≡ NONE → o ≡ passed h e o
-  unfolding passed
-  passed-empty p q = sym (halt _ _ (eq-eqb _ _ p) ∙ halt _ _ (eq-eqb _ _ q))
-
-  pub passed-headless : h ≡ NONE → (e ≡ NONE → ⊥) → 2 ≡ passed h e o
-  unfolding passed
-  passed-headless p q = sym (halt _ _ (eq-eqb _ _ p) ∙ pass _ (ne-eqb _ _ q) refl)
-
-  pub passed-tailless : (h ≡ NONE → ⊥) → e ≡ NONE → 2 ≡ passed h e o
-  unfolding passed
-  passed-tailless p q = sym (pass _ (ne-eqb _ _ p) (halt _ _ (true-left _ (eq-eqb _ _ q))))
-
-  pub passed-broken : (h ≡ NONE → ⊥) → (marked e ≡ o → ⊥) → 2 ≡ passed h e o
-  unfolding passed
-  passed-broken p q = sym (pass _ (ne-eqb _ _ p) (halt _ _ (true-right _ (ap not (ne-eqb _ _ q)))))
-
-  pub passed-right : (h ≡ NONE → ⊥) → (e ≡ NONE → ⊥) → marked e ≡ o → marked h ≡ passed h e o
-  unfolding passed either
-  passed-right p q r = sym (pass _ (ne-eqb _ _ p) (pass _ (pass _ (ne-eqb _ _ q) (ap not (eq-eqb _ _ r))) refl))
-
-pub marked-nl : (w : ℕ) → w ≡ NL → 1 ≡ marked w
-unfolding marked
-marked-nl w e = sym (halt _ _ (eq-eqb _ _ e))
-
-pub marked-other : (w : ℕ) → (w ≡ NL → ⊥) → 0 ≡ marked w
-unfolding marked
-marked-other w e = sym (pass _ (ne-eqb _ _ e) refl)
 
 -- both words of a view are the mark for none, by one test
 pub and-none : (h e : ℕ) → h ≤ NONE → e ≤ NONE → bitAnd h e ≡ NONE → (h ≡ NONE) × (e ≡ NONE)

@@ -1,12 +1,10 @@
 -- The marks of the tour one after the other, as the code's loop goes through them.
-use mathlib.Core.Path.{_≡_, refl, ap, sym, _∙_}
+use mathlib.Core.Path.{_≡_, ap, sym, _∙_}
 use mathlib.Core.Bool.{Bool, true, false}
-use mathlib.Core.List.{List, [], _∷_}
-use Prim.Native.Nat.{ℕ, zero, suc, _+_, _<_, _≤_}
-use native.Mathlib.Omega.{arith}
-use native.Mathlib.Nat.{le-of-suc-le-suc}
+use mathlib.Core.List.{List, _∷_}
+use Prim.Native.Nat.{ℕ, _+_, _<_, _≤_}
 use native.Mathlib.Numerals.{add-one}
-use lib.ListN.{length, getD, drop}
+use lib.ListN.{length, getD, drop, drop-of-length-le}
 use lib.Seq.{drop-cons}
 use Rattle.words.specs.Words.{both-on, both-off}
 use Rattle.rules.specs.Contents.{Contents, decode}
@@ -17,12 +15,6 @@ use Rattle.view_events.specs.Does.{Does}
 -- all marks are places of the tour
 abbrev pub Marks : List ℕ → Type 0
 Marks xs = (i : ℕ) → i < length xs → getD xs i 0 < 256
-
-drop-all : (i : ℕ) (xs : List ℕ) → length xs ≤ i → drop i xs ≡ []
-drop-all zero [] h = refl
-drop-all zero (x ∷ xs) h = let z : ⊥ = omega arith in absurd z
-drop-all (suc i) [] h = refl
-drop-all (suc i) (x ∷ xs) h = drop-all i xs (le-of-suc-le-suc h)
 
 module _ (m xs : List ℕ) (i : ℕ) where
   abbrev c : Contents
@@ -44,4 +36,4 @@ module _ (m xs : List ℕ) (i : ℕ) where
 
   pub walk-done : (d f w : List ℕ) → length xs ≤ i → whole c w ≡ run c (events c (drop i xs)) d f w
   unfolding run events
-  walk-done d f w h = sym (ap (λ (l : List ℕ). run c (events c l) d f w) (drop-all i xs h))
+  walk-done d f w h = sym (ap (λ (l : List ℕ). run c (events c l) d f w) (drop-of-length-le xs h))

@@ -7,8 +7,9 @@ use Prim.Native.Nat.{ℕ, zero, suc, _<_, _≤_}
 use native.Mathlib.Omega.{arith}
 use native.Mathlib.Nat.{le-of-suc-le-suc}
 use lib.Dec.{leb}
-use lib.ListN.{length, getD, set, replicate, take, drop, length-drop}
+use lib.ListN.{length, getD, set, replicate, drop, length-drop}
 use borrow.Author.Tests.{le-leb, leb-true, leb-false}
+use lib.Seq.{length-take-le}
 use Rattle.words.specs.Words.{load, store, size, pass, halt, both-true, both-on, both-off}
 use Rattle.lists.specs.Tests.{upto}
 use Rattle.lists.specs.Distinct.{fresh}
@@ -52,11 +53,6 @@ tour-below (suc k) recs x =
     more h f zero l = h
     more h f (suc i) l = f i (le-of-suc-le-suc l)
 
-take-length : (k : ℕ) (l : List ℕ) → k ≤ length l → length (take k l) ≡ k
-take-length zero l h = refl
-take-length (suc k) [] h = let z : ⊥ = omega arith in absurd z
-take-length (suc k) (x ∷ l) h = ap suc (take-length k l (le-of-suc-le-suc h))
-
 module _ (m xs : List ℕ) (b : Begun m xs) where
   most : read m numberWord ≤ 256
   unfolding inRange within
@@ -78,7 +74,7 @@ module _ (m xs : List ℕ) (b : Begun m xs) where
 
   free-length : length (decode m .free) ≡ getD m 2 0
   unfolding read address load size
-  free-length = take-length (getD m 2 0) (drop 64 m) (let a = length-drop 64 m in let d = b .words in let e = height in omega (arith, a, d, e))
+  free-length = length-take-le (getD m 2 0) (drop 64 m) (let a = length-drop 64 m in let d = b .words in let e = height in omega (arith, a, d, e))
 
   few : leb (length (decode m .free)) (decode m .number) ≡ true
   few = le-leb (length (decode m .free)) (decode m .number) (let a = free-length in let d = b .room in let e = at in omega (arith, a, d, e))
@@ -111,6 +107,10 @@ module _ (m xs : List ℕ) (b : Begun m xs) where
       unfolding coded store
       all-views d e p =
           ap (λ (l : List ℕ). run (decode m) (events (decode m) xs) l l (set (replicate 12 0) 8 (getD m 2 0))) p
-          ∙ ap (λ (k : ℕ). run (decode m) (events (decode m) xs) (marking (decode m .free) (replicate 256 0)) (marking (decode m .free) (replicate 256 0)) (set (replicate 12 0) 8 k)) (sym free-length)
+          ∙ ap
+          (λ (k : ℕ).
+          run (decode m) (events (decode m) xs) (marking (decode m .free) (replicate 256 0)) (marking (decode m .free) (replicate 256 0))
+          (set (replicate 12 0) 8 k))
+          (sym free-length)
           ∙ sym (both-on (first ∙ good) ∙ both-on (sym free ∙ e))
           ∙ law

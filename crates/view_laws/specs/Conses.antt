@@ -13,9 +13,9 @@ use Rattle.lists.specs.Counting.{one, equal?}
 use Rattle.layout.specs.Layout.{NONE, NL}
 use Rattle.rules.specs.Contents.{Contents}
 use Rattle.rules.specs.Test.{passed}
+use Rattle.rules.specs.Passed.{passed-none}
 use Rattle.view_events.specs.Events.{Event}
 use Rattle.view_events.specs.Events.Event.{entry, owner, order, tail, head}
-use Rattle.view_events.specs.Open.{passed-empty}
 use Rattle.view_laws.specs.Good.{Good, Chained, Ended, allowed, turned, orderFrom, ownersOf, tailsOf, headsOf}
 
 -- lists of events of which all rules see the same
@@ -58,7 +58,7 @@ module _ (es : List Event) where
   no-order u q h t x y =
       record {
         words = refl;
-        order = λ i o. ap (orderFrom i es) (sym (flat (eqb q i) (pick u (passed h t o) o) o (flat u (passed h t o) o (sym (passed-empty h t o x y)))));
+        order = λ i o. ap (orderFrom i es) (sym (flat (eqb q i) (pick u (passed h t o) o) o (flat u (passed h t o) o (passed-none h t o x y))));
         owners = λ i. refl;
         tails = refl;
         heads = refl;
@@ -163,7 +163,9 @@ module _ {c : Contents} {es : List Event} {d f : List ℕ} {o p : ℕ → ℕ} {
           words = true-both (ap not (ne-eqb _ _ local)) (g .words);
           ordered = g .ordered;
           owned = λ i l. ⊎-elim
-              (λ z. let k = g .owned i l in let v = here p q i z in let y = v .0 in let j = v .1 in let n = counted es q x i some in let m = ap p z in omega (arith, k, y, j, n, m, new))
+              (λ z.
+              let k = g .owned i l in
+              let v = here p q i z in let y = v .0 in let j = v .1 in let n = counted es q x i some in let m = ap p z in omega (arith, k, y, j, n, m, new))
               (λ z. let k = g .owned i l in let v = past p q i z in let y = v .0 in let j = v .1 in let n = counted es q x i some in omega (arith, k, y, j, n))
               (equal? q i);
           heads = g .heads;
@@ -181,8 +183,10 @@ module _ {c : Contents} {es : List Event} {d f : List ℕ} {o p : ℕ → ℕ} {
             words = w .1;
             ordered = g .ordered;
             owned = λ i l. ⊎-elim
-                (λ z. let k = g .owned i l in let v = here p q i z in let y = v .0 in let j = v .1 in let n = counted es q x i some in omega (arith, k, y, j, n))
-                (λ z. let k = g .owned i l in let v = past p q i z in let y = v .0 in let j = v .1 in let n = counted es q x i some in omega (arith, k, y, j, n))
+                (λ z.
+                let k = g .owned i l in let v = here p q i z in let y = v .0 in let j = v .1 in let n = counted es q x i some in omega (arith, k, y, j, n))
+                (λ z.
+                let k = g .owned i l in let v = past p q i z in let y = v .0 in let j = v .1 in let n = counted es q x i some in omega (arith, k, y, j, n))
                 (equal? q i);
             heads = g .heads;
             tails = g .tails;

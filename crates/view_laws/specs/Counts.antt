@@ -13,13 +13,13 @@ use Rattle.words.specs.Words.{load, pick, both, pass, halt}
 use Rattle.lists.specs.Counting.{one, occurrences, total, occurs-nil, occurs-cons, total-ext}
 use Rattle.lists.specs.Sums.{total-first}
 use Rattle.layout.specs.Layout.{NONE, NL}
+use Rattle.tree.specs.Queues.{by-four}
 use Rattle.rules.specs.Contents.{Contents, word, locals}
 use Rattle.rules_views.specs.Marks.{yes-no}
 use Rattle.rules_views.specs.Members.{load-drop}
 use Rattle.view_events.specs.Events.{Event, queueAt, viewAt, queuesAt, kindAt}
 use Rattle.view_events.specs.Events.Event.{tail, head}
 use Rattle.view_laws.specs.Good.{ownersOf, tailsOf, headsOf}
-use Rattle.view_laws.specs.Tasks.{four}
 
 -- 1 where the word x names segment s
 unfoldable pub names : ℕ → ℕ → ℕ
@@ -29,10 +29,11 @@ names s x = pick (leb NL x) 0 (one (eqb x s))
 unfoldable pub namesAt : Contents → ℕ → ℕ → ℕ → ℕ
 namesAt c s t a = names s (word c t (a + 0)) + names s (word c t (a + 1)) + names s (word c t (a + 2)) + names s (word c t (a + 3))
 
-pub queues-owners : (c : Contents) (t : ℕ) (es : List Event) (q : ℕ) → q < 4 → ownersOf q (queuesAt c t es) ≡ one (not (eqb (word c t (16 + q)) NONE)) + ownersOf q es
+pub queues-owners : (c : Contents) (t : ℕ) (es : List Event) (q : ℕ) → q < 4
+    → ownersOf q (queuesAt c t es) ≡ one (not (eqb (word c t (16 + q)) NONE)) + ownersOf q es
 unfolding queuesAt queueAt ownersOf one both pick
 queues-owners c t es =
-    four (λ q. ownersOf q (queuesAt c t es) ≡ one (not (eqb (word c t (16 + q)) NONE)) + ownersOf q es)
+    by-four (λ q. ownersOf q (queuesAt c t es) ≡ one (not (eqb (word c t (16 + q)) NONE)) + ownersOf q es)
     (omega arith) (omega arith) (omega arith) (omega arith)
 
 module _ (s : ℕ) where
@@ -125,7 +126,8 @@ module _ (s : ℕ) where
       ∙ total-ext n _ _ (λ j l. ap (λ (i : ℕ). names s (load rec i)) (let z : a + 1 + j ≡ a + suc j = omega arith in z)))
       ∙ sym (total-first n (λ j. names s (load rec (a + j))))
 
-  pub heads-count : (c : Contents) (t : ℕ) → occurrences s (locals 16 (drop 16 (c .recs t))) ≡ namesAt c s t 16 + namesAt c s t 20 + namesAt c s t 24 + namesAt c s t 28
+  pub heads-count : (c : Contents) (t : ℕ)
+      → occurrences s (locals 16 (drop 16 (c .recs t))) ≡ namesAt c s t 16 + namesAt c s t 20 + namesAt c s t 24 + namesAt c s t 28
   unfolding namesAt total word
   heads-count c t = locals-count 16 16 (c .recs t) ∙ omega arith
 

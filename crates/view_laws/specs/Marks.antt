@@ -9,16 +9,17 @@ use lib.Dec.{ltb, eqb}
 use lib.ListN.{length}
 use borrow.Author.Tests.{lt-ltb, le-ltb}
 use Rattle.words.specs.Words.{pick, pass, halt}
-use Rattle.lists.specs.Counting.{one, occurrences, over, equal?, occurs-nil, occurs-here, occurs-past}
+use Rattle.lists.specs.Counting.{one, occurrences, over, equal?, occurs-nil, occurs-here, occurs-past, below?}
 use Rattle.layout.specs.Layout.{NONE, RIGHTS, CHILDREN, USER, RIGHT}
 use Rattle.tree.specs.Rights.{uses}
 use Rattle.tree.specs.Tour.{met}
 use Rattle.rules.specs.Contents.{Contents, word, owners}
 use Rattle.rules.specs.Test.{passedAt, orderAt, orderOf}
-use Rattle.rules_tasks.specs.Holders.{below?}
+use Rattle.rules_tasks.specs.Holders.{met-here, met-past}
 use Rattle.view_events.specs.Events.{Event, queuesAt, kindAt, eventsAt, events}
 use Rattle.view_laws.specs.Good.{Queued, allowed, orderFrom, ownersOf, tailsOf, headsOf}
-use Rattle.view_laws.specs.Tasks.{MayKind, MayQueues, kind-allowed, allowed-kind, queues-allowed, allowed-queues, kind-order, queues-order, kind-owners, kind-queued, queues-queued}
+use Rattle.view_laws.specs.Tasks.{MayKind, MayQueues, kind-allowed, allowed-kind, queues-allowed, allowed-queues, kind-order, queues-order, kind-owners}
+use Rattle.view_laws.specs.Tasks.{kind-queued, queues-queued}
 use Rattle.view_laws.specs.Counts.{namesAt, queues-owners, kind-heads, kind-tails, queues-heads, queues-tails}
 
 -- the tasks that are left
@@ -30,14 +31,6 @@ twice : (u : Bool) (g : ℕ → ℕ) (a o : ℕ) → pick u (g (pick u a o)) (pi
 unfolding pick
 twice true g a o = refl
 twice false g a o = refl
-
-pub met-here : (x : ℕ) (xs : List ℕ) → x < 128 → met (x ∷ xs) ≡ x ∷ met xs
-unfolding met
-met-here x xs l = halt _ _ (lt-ltb x 128 l)
-
-pub met-past : (x : ℕ) (xs : List ℕ) → 128 ≤ x → met (x ∷ xs) ≡ met xs
-unfolding met
-met-past x xs l = pass _ (le-ltb x 128 l) refl
 
 pub lefts-here : (x : ℕ) (xs : List ℕ) → 128 ≤ x → lefts (x ∷ xs) ≡ (x - 128) ∷ lefts xs
 unfolding lefts
@@ -111,7 +104,9 @@ module _ (c : Contents) where
   queued-marks [] = tt
   queued-marks (x ∷ xs) =
       ⊎-elim
-      (λ l. subst⁻¹ (λ (v : List Event). Queued v) (at-met x (events c xs) l) (queues-queued c x _ (kind-queued c x _ RIGHT (kind-queued c x _ USER (queued-marks xs)))))
+      (λ l.
+      subst⁻¹ (λ (v : List Event). Queued v) (at-met x (events c xs) l)
+      (queues-queued c x _ (kind-queued c x _ RIGHT (kind-queued c x _ USER (queued-marks xs)))))
       (λ l. subst⁻¹ (λ (v : List Event). Queued v) (at-left x (events c xs) l) (kind-queued c (x - 128) _ CHILDREN (queued-marks xs)))
       (below? x 128)
 
@@ -136,7 +131,8 @@ module _ (c : Contents) where
         ap₂ (λ (a b : List ℕ). over a g + over b h) (met-here x xs l) (lefts-past x xs l)
         ∙ (let z : g x + over (met xs) g + over (lefts xs) h ≡ g x + (over (met xs) g + over (lefts xs) h) = omega arith in z)
 
-    over-past : (x : ℕ) (xs : List ℕ) (g h : ℕ → ℕ) → 128 ≤ x → over (met (x ∷ xs)) g + over (lefts (x ∷ xs)) h ≡ h (x - 128) + (over (met xs) g + over (lefts xs) h)
+    over-past : (x : ℕ) (xs : List ℕ) (g h : ℕ → ℕ) → 128 ≤ x
+        → over (met (x ∷ xs)) g + over (lefts (x ∷ xs)) h ≡ h (x - 128) + (over (met xs) g + over (lefts xs) h)
     unfolding over
     over-past x xs g h l =
         ap₂ (λ (a b : List ℕ). over a g + over b h) (met-past x xs l) (lefts-here x xs l)
@@ -225,4 +221,5 @@ module _ (c : Contents) where
   marks-allowed [] f = unfold allowed in refl
   marks-allowed (y ∷ xs) f =
       at-allowed y (events c xs) (f y (let a = occurs-here y y xs refl in omega (arith, a)))
-      (marks-allowed xs (λ x p. f x (⊎-elim (λ z. let a = occurs-here y x xs z in omega (arith, a)) (λ z. let a = occurs-past y x xs z in omega (arith, a, p)) (equal? y x))))
+      (marks-allowed xs
+      (λ x p. f x (⊎-elim (λ z. let a = occurs-here y x xs z in omega (arith, a)) (λ z. let a = occurs-past y x xs z in omega (arith, a, p)) (equal? y x))))

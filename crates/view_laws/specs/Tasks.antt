@@ -3,13 +3,14 @@ use mathlib.Core.Path.{_≡_, refl, ap, sym, _∙_}
 use mathlib.Core.Bool.{Bool, true, false, not}
 use mathlib.Core.List.{List}
 use mathlib.Core.Logic.{⊎-elim}
-use Prim.Native.Nat.{ℕ, zero, suc, _+_, _*_, _<_}
+use Prim.Native.Nat.{ℕ, _+_, _*_, _<_}
 use native.Mathlib.Omega.{arith}
 use lib.Dec.{eqb}
 use borrow.Author.Tests.{eq-eqb, ne-eqb, eqb-true, eqb-false, not-true}
 use Rattle.words.specs.Words.{pick, either, both-true, true-both, either-true, true-left, true-right}
 use Rattle.layout.specs.Layout.{NONE, NL, RIGHTS}
 use Rattle.tree.specs.Rights.{uses}
+use Rattle.tree.specs.Queues.{by-four}
 use Rattle.rules.specs.Contents.{Contents, word}
 use Rattle.rules.specs.Test.{passedAt}
 use Rattle.rules_views.specs.Marks.{yes-no}
@@ -17,13 +18,6 @@ use Rattle.view_events.specs.Events.{Event, queueAt, viewAt, queuesAt, kindAt}
 use Rattle.view_laws.specs.Good.{Queued, allowed, orderFrom, ownersOf}
 
 -- one of four
-pub four : (P : ℕ → Type 0) → P 0 → P 1 → P 2 → P 3 → (q : ℕ) → q < 4 → P q
-four P a b c d zero l = a
-four P a b c d (suc zero) l = b
-four P a b c d (suc (suc zero)) l = c
-four P a b c d (suc (suc (suc zero))) l = d
-four P a b c d (suc (suc (suc (suc q)))) l = let z : ⊥ = omega arith in absurd z
-
 -- a word stands only where the task has a right
 may-says : (u : Bool) (x : ℕ) → either (eqb x NONE) u ≡ true → u ≡ false → x ≡ NONE
 may-says u x e z = ⊎-elim (λ a. eqb-true _ _ a) (λ a. let y : true ≡ false = sym a ∙ z in absurd (no y)) (either-true _ _ e)
@@ -69,7 +63,8 @@ module _ (c : Contents) (t : ℕ) where
         let b = both-true _ _ (a .1) in
         ((may-says _ _ (a .0), eqb-false _ _ (not-true _ (b .0))), b .1)
 
-    allowed-queue : (q : ℕ) → (uses r q ≡ false → word c t (16 + q) ≡ NONE) → (word c t (16 + q) ≡ NL → ⊥) → allowed es ≡ true → allowed (queueAt c t q es) ≡ true
+    allowed-queue : (q : ℕ) → (uses r q ≡ false → word c t (16 + q) ≡ NONE) → (word c t (16 + q) ≡ NL → ⊥) → allowed es ≡ true
+        → allowed (queueAt c t q es) ≡ true
     unfolding queueAt allowed
     allowed-queue q a b e = true-both (says-may _ _ a) (true-both (ap not (ne-eqb _ _ b)) e)
 
@@ -81,8 +76,8 @@ module _ (c : Contents) (t : ℕ) where
       let v2 = view-allowed _ k 2 (v1 .1) in
       let v3 = view-allowed _ k 3 (v2 .1) in (
         record {
-          heads = four (λ q. uses r q ≡ false → word c t (20 + k * 4 + q) ≡ NONE) (v0 .0 .0) (v1 .0 .0) (v2 .0 .0) (v3 .0 .0);
-          tails = four (λ q. uses r q ≡ false → word c t (32 + k * 4 + q) ≡ NONE) (v0 .0 .1) (v1 .0 .1) (v2 .0 .1) (v3 .0 .1);
+          heads = by-four (λ q. uses r q ≡ false → word c t (20 + k * 4 + q) ≡ NONE) (v0 .0 .0) (v1 .0 .0) (v2 .0 .0) (v3 .0 .0);
+          tails = by-four (λ q. uses r q ≡ false → word c t (32 + k * 4 + q) ≡ NONE) (v0 .0 .1) (v1 .0 .1) (v2 .0 .1) (v3 .0 .1);
         },
         v3 .1,
       )
@@ -103,8 +98,8 @@ module _ (c : Contents) (t : ℕ) where
       let v2 = queue-allowed _ 2 (v1 .1) in
       let v3 = queue-allowed _ 3 (v2 .1) in (
         record {
-          none = four (λ q. uses r q ≡ false → word c t (16 + q) ≡ NONE) (v0 .0 .0) (v1 .0 .0) (v2 .0 .0) (v3 .0 .0);
-          local = four (λ q. word c t (16 + q) ≡ NL → ⊥) (v0 .0 .1) (v1 .0 .1) (v2 .0 .1) (v3 .0 .1);
+          none = by-four (λ q. uses r q ≡ false → word c t (16 + q) ≡ NONE) (v0 .0 .0) (v1 .0 .0) (v2 .0 .0) (v3 .0 .0);
+          local = by-four (λ q. word c t (16 + q) ≡ NL → ⊥) (v0 .0 .1) (v1 .0 .1) (v2 .0 .1) (v3 .0 .1);
         },
         v3 .1,
       )
@@ -120,7 +115,7 @@ module _ (c : Contents) (t : ℕ) where
   -- the order of queue q in front of the views of kind k
   pub kind-order : (es : List Event) (k o q : ℕ) → q < 4 → orderFrom q (kindAt c t k es) o ≡ orderFrom q es (pick (uses r q) (passedAt c q t k o) o)
   unfolding kindAt viewAt orderFrom passedAt pick
-  kind-order es k o = four (λ q. orderFrom q (kindAt c t k es) o ≡ orderFrom q es (pick (uses r q) (passedAt c q t k o) o)) refl refl refl refl
+  kind-order es k o = by-four (λ q. orderFrom q (kindAt c t k es) o ≡ orderFrom q es (pick (uses r q) (passedAt c q t k o) o)) refl refl refl refl
 
   pub queues-order : (es : List Event) (o q : ℕ) → orderFrom q (queuesAt c t es) o ≡ orderFrom q es o
   unfolding queuesAt queueAt orderFrom

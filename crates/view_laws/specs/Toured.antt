@@ -8,7 +8,7 @@ use Prim.Native.Nat.{ℕ, _+_, _-_, _*_, _%_, _<_, _≤_}
 use native.Mathlib.Omega.{arith}
 use native.Mathlib.Nat.{eq-zero-or-pos}
 use lib.ListN.{drop}
-use Rattle.lists.specs.Counting.{occurrences, over, equal?, occurs-nil, occurs-here, occurs-past, over-same}
+use Rattle.lists.specs.Counting.{occurrences, over, equal?, occurs-nil, occurs-here, occurs-past, over-same, below?}
 use Rattle.lists.specs.Sums.{over-plus, over-ext}
 use Rattle.lists.specs.Tests.{each}
 use Rattle.layout.specs.Layout.{NONE, NL, RIGHTS, CHILDREN, USER, RIGHT}
@@ -17,15 +17,16 @@ use Rattle.tree.specs.Tour.{met}
 use Rattle.rules.specs.Contents.{Contents, word, locals, heads, tails, holders}
 use Rattle.rules.specs.Rules.{Holder}
 use Rattle.rules.specs.Test.{viewWord, viewsTest}
-use Rattle.rules_tasks.specs.Holders.{below?, met-below, holder-below, holder-once, holders-hold, holder?}
+use Rattle.rules_tasks.specs.Holders.{met-below, holder-below, holder-once, holders-hold, holder?}
 use Rattle.rules_views.specs.Members.{met-mark}
 use Rattle.rules_views.specs.Toured.{Toured, over-heads, over-tails, holder-met}
-use Rattle.rules_views.specs.Tested.{split, word-none, word-head, word-right, words-say, says-words}
+use Rattle.rules_views.specs.Tested.{word-none, word-head, word-right, words-say, says-words}
 use Rattle.view_events.specs.Events.{events}
 use Rattle.view_laws.specs.Good.{allowed, tailsOf, headsOf}
 use Rattle.view_laws.specs.Tasks.{MayKind, MayQueues}
 use Rattle.view_laws.specs.Counts.{heads-count, tails-count}
-use Rattle.view_laws.specs.Marks.{lefts, lefts-here, lefts-past, headsMet, headsLeft, tailsMet, tailsLeft, heads-marks, tails-marks, Allowed, allowed-marks, marks-allowed}
+use Rattle.view_laws.specs.Marks.{lefts, lefts-here, lefts-past, headsMet, headsLeft, tailsMet, tailsLeft, heads-marks, tails-marks, Allowed}
+use Rattle.view_laws.specs.Marks.{allowed-marks, marks-allowed}
 
 lefts-count : (xs : List ℕ) (t : ℕ) → occurrences t (lefts xs) ≡ occurrences (128 + t) xs
 lefts-count [] t = unfold lefts in occurs-nil t ∙ sym (occurs-nil (128 + t))
@@ -85,7 +86,8 @@ module _ (c : Contents) (xs : List ℕ) (v : Toured c xs) (once : (y : ℕ) → 
       heads-marks c s xs
       ∙ ap (λ (k : ℕ). over (met xs) (headsMet c s) + k) (over-left (headsLeft c s))
       ∙ sym (over-plus (met xs) (headsMet c s) (headsLeft c s))
-      ∙ over-ext (met xs) (λ t. headsMet c s t + headsLeft c s t) (λ t. occurrences s (locals 16 (drop 16 (c .recs t)))) (λ t. let a = heads-count s c t in omega (arith, a))
+      ∙ over-ext (met xs) (λ t. headsMet c s t + headsLeft c s t) (λ t. occurrences s (locals 16 (drop 16 (c .recs t))))
+      (λ t. let a = heads-count s c t in omega (arith, a))
       ∙ sym (over-heads c s (met xs))
 
   pub tails-same : (s : ℕ) → occurrences s (tailsOf (events c xs)) ≡ occurrences s (tails c (met xs))
@@ -93,7 +95,8 @@ module _ (c : Contents) (xs : List ℕ) (v : Toured c xs) (once : (y : ℕ) → 
       tails-marks c s xs
       ∙ ap (λ (k : ℕ). over (met xs) (tailsMet c s) + k) (over-left (tailsLeft c s))
       ∙ sym (over-plus (met xs) (tailsMet c s) (tailsLeft c s))
-      ∙ over-ext (met xs) (λ t. tailsMet c s t + tailsLeft c s t) (λ t. occurrences s (locals 12 (drop 32 (c .recs t)))) (λ t. let a = tails-count s c t in omega (arith, a))
+      ∙ over-ext (met xs) (λ t. tailsMet c s t + tailsLeft c s t) (λ t. occurrences s (locals 12 (drop 32 (c .recs t))))
+      (λ t. let a = tails-count s c t in omega (arith, a))
       ∙ sym (over-tails c s (met xs))
 
   -- WORDS
@@ -120,7 +123,7 @@ module _ (c : Contents) (xs : List ℕ) (v : Toured c xs) (once : (y : ℕ) → 
           (λ x16. ⊎-elim (λ x. at-tail CHILDREN b (omega (arith, x16, x)) u)
           (λ x20. ⊎-elim (λ x. at-tail USER d (omega (arith, x20, x)) u)
           (λ x24. at-tail RIGHT e (omega (arith, x24, l)) u)
-          (split i 24)) (split i 20)) (split i 16)) (split i 12)) (split i 8)) (split i 4)
+          (below? i 24)) (below? i 20)) (below? i 16)) (below? i 12)) (below? i 8)) (below? i 4)
 
       local : i < 4 → word c t (16 + i) ≡ NL → ⊥
       local x z = a .local i x z

@@ -12,19 +12,18 @@ use Rattle.lists.specs.Counting.{occurrences}
 use Rattle.lists.specs.Tests.{upto}
 use Rattle.lists.specs.Distinct.{fresh}
 use Rattle.tree.specs.Tour.{tour, met}
+use Rattle.tree.specs.Queues.{each-queue, queue-each, by-four}
 use Rattle.rules.specs.Contents.{Contents, heads, tails, owners}
 use Rattle.rules.specs.Test.{topTest, idleTest, treeTest, orderOf, orderTest, ownersTest, segmentTest, viewTests}
 use Rattle.rules_tasks.specs.Tested.{idle-says}
 use Rattle.rules_tasks.specs.Visits.{marks-once}
 use Rattle.rules_tasks.specs.Tasks.{tour-whole, met-holders, marks-held, holders-left}
 use Rattle.rules_views.specs.Toured.{Toured}
-use Rattle.rules_views.specs.Tested.{each-queue, queue-each}
 use Rattle.view_events.specs.Events.{events}
 use Rattle.view_events.specs.Run.{run}
 use Rattle.view_laws.specs.Good.{tailsOf, headsOf}
 use Rattle.view_laws.specs.State.{Reads}
 use Rattle.view_laws.specs.Says.{run-says, says-run}
-use Rattle.view_laws.specs.Tasks.{four}
 use Rattle.view_laws.specs.Marks.{order-marks, owners-marks, queued-marks}
 use Rattle.view_laws.specs.Toured.{heads-same, tails-same, words-there, words-back}
 use Rattle.view_laws.specs.Held.{D, holds-held, held-holds, held-counts}
@@ -44,8 +43,8 @@ unfolding load store size
 reads-start n l =
     record {
       room = refl;
-      order = four (λ q. load (W n) q ≡ 0) refl refl refl refl;
-      owner = four (λ q. load (W n) (4 + q) ≡ 0) refl refl refl refl;
+      order = by-four (λ q. load (W n) q ≡ 0) refl refl refl refl;
+      owner = by-four (λ q. load (W n) (4 + q) ≡ 0) refl refl refl refl;
       placed = refl;
       heads = refl;
       tails = refl;

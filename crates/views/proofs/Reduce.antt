@@ -1,31 +1,14 @@
 -- Which views are empty, which ends are segments, which reductions the paper has: one law for each answer of the code.
 use mathlib.Core.Path.{_≡_, refl, ap, sym, _∙_}
-use mathlib.Core.Bool.{Bool, true, false, not}
+use mathlib.Core.Bool.{true, false, not}
 use mathlib.Core.List.{List}
 use Prim.Native.Nat.{ℕ, _<_, _≤_}
 use lib.Dec.{ltb, eqb}
 use borrow.Author.Tests.{eq-eqb, ne-eqb, lt-ltb, le-ltb}
-use Rattle.words.specs.Words.{both, either, pass, halt, true-both}
+use Rattle.words.specs.Words.{both, either, pass, halt, true-both, both-on, both-off, both-right-off}
 use Rattle.layout.specs.Layout.{NONE, NL, segment, read}
 use Rattle.rules.specs.Views.{View, view}
 use Rattle.calls.specs.Views.{isEmpty, headOf, tailOf, reducible, frees, behind, reduced}
-
-both-left : (x y : Bool) → x ≡ true → both x y ≡ y
-unfolding both
-both-left x y e = halt _ _ e
-
-both-no : (x y : Bool) → x ≡ false → both x y ≡ false
-unfolding both
-both-no x y e = pass _ e refl
-
-both-last : (x y : Bool) → y ≡ false → both x y ≡ false
-unfolding both
-both-last true y e = halt _ _ refl ∙ e
-both-last false y e = pass _ refl refl
-
-pub not-empty : (h e : ℕ) → (h ≡ NONE → ⊥) → false ≡ isEmpty (view h e)
-unfolding isEmpty both
-not-empty h e n = sym (pass _ (ne-eqb _ _ n) refl)
 
 pub empty-tail : (h e : ℕ) → h ≡ NONE → eqb e NONE ≡ isEmpty (view h e)
 unfolding isEmpty both
@@ -76,15 +59,15 @@ module _ (m : List ℕ) (h1 e1 h2 e2 : ℕ) where
     module _ (b : isEmpty (view h2 e2) ≡ false) where
       pub keeps-apart : both (ltb e1 NL) (ltb h2 NL) ≡ false → false ≡ frees m (view h1 e1) (view h2 e2)
       unfolding frees headOf tailOf
-      keeps-apart l = sym (both-left _ _ (true-both (ap not a) (ap not b)) ∙ both-no _ _ l)
+      keeps-apart l = sym (both-on (true-both (ap not a) (ap not b)) ∙ both-off _ l)
 
       pub frees-empty : (n : ℕ) → both (ltb e1 NL) (ltb h2 NL) ≡ true → n ≡ read m (segment e1 1) → eqb n 0 ≡ frees m (view h1 e1) (view h2 e2)
       unfolding frees headOf tailOf
-      frees-empty n l e = ap (λ (k : ℕ). eqb k 0) e ∙ sym (both-left _ _ (true-both (ap not a) (ap not b)) ∙ both-left _ _ l)
+      frees-empty n l e = ap (λ (k : ℕ). eqb k 0) e ∙ sym (both-on (true-both (ap not a) (ap not b)) ∙ both-on l)
 
   pub head-other : (h e : ℕ) → (h ≡ e1 → ⊥) → view h e ≡ behind m (view h1 e1) (view h2 e2) (view h e)
   unfolding behind headOf tailOf
-  head-other h e n = sym (pass _ (both-last (frees m (view h1 e1) (view h2 e2)) (eqb h e1) (ne-eqb _ _ n)) refl)
+  head-other h e n = sym (pass _ (both-right-off (frees m (view h1 e1) (view h2 e2)) (ne-eqb _ _ n)) refl)
 
   pub head-freed : (h e : ℕ) → h ≡ e1 → frees m (view h1 e1) (view h2 e2) ≡ true → view h2 e ≡ behind m (view h1 e1) (view h2 e2) (view h e)
   unfolding behind headOf tailOf
@@ -92,7 +75,7 @@ module _ (m : List ℕ) (h1 e1 h2 e2 : ℕ) where
 
   pub head-kept : (h e : ℕ) → frees m (view h1 e1) (view h2 e2) ≡ false → view h e ≡ behind m (view h1 e1) (view h2 e2) (view h e)
   unfolding behind headOf tailOf
-  head-kept h e f = sym (pass _ (both-no _ _ f) refl)
+  head-kept h e f = sym (pass _ (both-off _ f) refl)
 
   pub right-alone : isEmpty (view h1 e1) ≡ true → view h2 e2 ≡ reduced m (view h1 e1) (view h2 e2)
   unfolding reduced

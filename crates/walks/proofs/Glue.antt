@@ -6,7 +6,7 @@ use Prim.Native.Nat.{ℕ, _+_, _-_, _<_, _≤_}
 use native.Mathlib.Omega.{arith}
 use lib.Dec.{ltb, eqb}
 use borrow.Author.Tests.{lt-ltb, le-ltb, eq-eqb, ne-eqb}
-use Rattle.words.specs.Words.{pick, both, either, pass, halt, true-left, true-right}
+use Rattle.words.specs.Words.{pick, both, either, pass, halt, true-left, true-right, both-on, both-off}
 use Rattle.layout.specs.Layout.{NONE, NL, PARENT, OLDER, YOUNGEST, RIGHTS, task, read, recordOf}
 use Rattle.layout.specs.Frame.{record-word}
 use Rattle.tree.specs.Rights.{pushes, pops, uses, sharesPop}
@@ -18,12 +18,7 @@ use Rattle.calls.specs.Finish.{heir}
 
 -- the first of two tests decides, or the second does
 pub both-so : {a x b : Bool} → a ≡ true → x ≡ b → x ≡ both a b
-unfolding both
-both-so {a} {x} {b} e f = f ∙ sym (halt b false e)
-
-pub both-no : {a : Bool} (b : Bool) → a ≡ false → false ≡ both a b
-unfolding both
-both-no b e = sym (pass b e refl)
+both-so e f = f ∙ sym (both-on e)
 
 -- the mark after a task that is met, and after one that is left
 pub after-met : {r y : ℕ} (m : List ℕ) (x : ℕ) → x < 128 → y ≡ read m (task x YOUNGEST) → r ≡ entering x y → r ≡ after (recordOf m) x
@@ -69,7 +64,7 @@ takes-part m q x e f g = g ∙ ap (λ (w : ℕ). uses w q) (f ∙ ap (λ (t : �
 module _ {p : Bool} (m : List ℕ) (q x : ℕ) (part : p ≡ takesPart m q x) where
   pub stands-not : p ≡ false → false ≡ standsAt m q x
   unfolding standsAt
-  stands-not f = both-no _ (sym part ∙ f)
+  stands-not f = sym (both-off _ (sym part ∙ f))
 
   pub stands-met : p ≡ true → x ≤ 128 → true ≡ standsAt m q x
   unfolding standsAt
@@ -78,7 +73,7 @@ module _ {p : Bool} (m : List ℕ) (q x : ℕ) (part : p ≡ takesPart m q x) wh
   pub stands-head : {h : ℕ} → p ≡ true → h ≡ read m (task (x - 128) (20 + q)) → (h ≡ NONE → ⊥) → true ≡ standsAt m q x
   unfolding standsAt viewOf isEmpty
   stands-head f e n =
-      both-so (sym part ∙ f) (sym (true-right _ (true-right _ (ap not (sym (both-no _ (ne-eqb _ _ (λ z. n (e ∙ z)))))))))
+      both-so (sym part ∙ f) (sym (true-right _ (true-right _ (ap not (both-off _ (ne-eqb _ _ (λ z. n (e ∙ z))))))))
 
   pub stands-tail : {h e : ℕ} → p ≡ true → 128 < x → h ≡ read m (task (x - 128) (20 + q)) → h ≡ NONE
       → e ≡ read m (task (x - 128) (32 + q)) → not (eqb e NONE) ≡ standsAt m q x
@@ -105,7 +100,7 @@ module _ {x r : ℕ} (m : List ℕ) (q t h e : ℕ) (from : x ≡ after (recordO
 -- HEIRS
 module _ (m : List ℕ) (t q c d : ℕ) where
   pub heir-self : c ≡ t → d ≡ pick (both (not (eqb c t)) (pops (rightsOf m c) q)) c d
-  heir-self e = sym (pass _ (sym (both-no _ (ap not (eq-eqb c t e)))) refl)
+  heir-self e = sym (pass _ (both-off _ (ap not (eq-eqb c t e))) refl)
 
   pub heir-pops : {w : ℕ} {b : Bool} → (c ≡ t → ⊥) → w ≡ read m (task c RIGHTS) → b ≡ pops w q → b ≡ true
       → c ≡ pick (both (not (eqb c t)) (pops (rightsOf m c) q)) c d

@@ -4,7 +4,8 @@ use mathlib.Core.Path.{_≡_, refl, sym, _∙_}
 use mathlib.Core.Bool.{Bool, true, false, false≢true}
 use mathlib.Core.Logic.{_⊎_, inl, inr}
 use mathlib.Core.List.{List}
-use Prim.Native.Nat.{ℕ, _<_}
+use Prim.Native.Nat.{ℕ, suc, _<_}
+use native.Mathlib.Omega.{arith}
 use lib.ListN.{length, getD, set, length-set}
 use lib.Seq.{getD-set-other, getD-set-same}
 
@@ -50,6 +51,12 @@ pub halt : {A : Type 0} {b : Bool} (x y : A) → b ≡ true → pick b x y ≡ x
 unfolding pick
 halt x y e = rw e
 
+-- a ladder of numbers other than 0 that gives 0 has passed each rung
+pub rung : (b : Bool) (k n : ℕ) → pick b (suc k) n ≡ 0 → (b ≡ false) × (n ≡ 0)
+unfolding pick
+rung true k n e = let z : ⊥ = omega (arith, e) in absurd z
+rung false k n e = (refl, e)
+
 pub size-store : (m : List ℕ) (a v : ℕ) → size (store m a v) ≡ size m
 unfolding size store
 size-store m a v = length-set m a v
@@ -61,11 +68,6 @@ load-same m a v h = getD-set-same m a v 0 h
 pub load-other : (m : List ℕ) (a b v : ℕ) → (b ≡ a → ⊥) → load (store m a v) b ≡ load m b
 unfolding load store
 load-other m a b v n = getD-set-other m a b v 0 n
-
-pub size-pick : (b : Bool) (x y : List ℕ) → size x ≡ size y → size (pick b x y) ≡ size y
-unfolding pick
-size-pick true x y e = e
-size-pick false x y e = refl
 
 no : {A : Type 0} → false ≡ true → A
 no e = absurd (false≢true e)
@@ -109,6 +111,15 @@ pub either-true : (a b : Bool) → either a b ≡ true → (a ≡ true) ⊎ (b �
 unfolding either pick
 either-true true b e = inl refl
 either-true false b e = inr e
+
+pub neither : {a b : Bool} → a ≡ false → b ≡ false → either a b ≡ false
+unfolding either
+neither e f = pass true e f
+
+pub neither-true : (a b : Bool) → either a b ≡ false → (a ≡ false) × (b ≡ false)
+unfolding either pick
+neither-true true b e = no (sym e)
+neither-true false b e = (refl, e)
 
 pub true-left : {a : Bool} (b : Bool) → a ≡ true → either a b ≡ true
 unfolding either

@@ -1,4 +1,4 @@
-use Rattle.memory.proofs.Glue.{four}
+use Rattle.words.specs.Blocks.{store-four}
 use borrow.Author.Needs.{needs}
 use Rattle.memory.proofs.put4.Statement.{statement}
 use Rattle.memory.proofs.put4.Tie as tie
@@ -31,7 +31,11 @@ same-length : tie.Need-same-length
 same-length c = search needs
 
 returns : tie.Need-returns
-returns c = four _ _ _ _ _ _ _ _ _ _ (c .before .before .before .before .before .before .before .before .before .before .before .before .before .before .put .ensures) (c .before .before .before .before .before .before .before .before .before .before .put2 .ensures) (c .before .before .before .before .before .before .put3 .ensures) (c .before .before .put4 .ensures)
+returns c =
+    store-four _ _ _ _ _ _ _ _ _ _
+    (c .before .before .before .before .before .before .before .before .before .before .before .before .before .before .put .ensures)
+    (c .before .before .before .before .before .before .before .before .before .before .put2 .ensures)
+    (c .before .before .before .before .before .before .put3 .ensures) (c .before .before .put4 .ensures)
 
 pub put4-spec : {M : Type 1} → statement M
 put4-spec =

@@ -1,6 +1,6 @@
 use Prim.Native.Nat.{zero-le}
 use mathlib.Core.Path.{refl}
-use Rattle.run_text.proofs.Glue.{above, said, said-past}
+use Rattle.run_text.proofs.Glue.{said, said-past}
 use Rattle.text.specs.Text.{ascii}
 use Rattle.run_text.specs.Lines.{answerText, spaced}
 use borrow.Author.Needs.{needs}
@@ -9,6 +9,7 @@ use Rattle.run_text.proofs.answer.Tie as tie
 use Rattle.run_text.proofs.answer.Reads as reads
 use Rattle.run_text.proofs.answer.Lts as lts
 use Rattle.text.proofs.put.Reads as put-reads
+use Rattle.job.specs.Rows.{above}
 
 slice-aggregate-put : tie.Need-slice-aggregate-put
 slice-aggregate-put c = search needs
@@ -125,7 +126,23 @@ same-length-9 c = search needs
 
 returns-9 : tie.Need-returns-9
 unfolding spaced ascii
-returns-9 c = said-past _ (above 7 _ (above 6 _ (above 5 _ (above 4 _ (above 3 _ (above 2 _ (above 1 _ (above 0 _ zero-le (c .before .before .before .before .before .match .rest .0 .0 .0 .0 .0 .0 .0 .1)) (c .before .before .before .before .before .match .rest .0 .0 .0 .0 .0 .0 .1)) (c .before .before .before .before .before .match .rest .0 .0 .0 .0 .0 .1)) (c .before .before .before .before .before .match .rest .0 .0 .0 .0 .1)) (c .before .before .before .before .before .match .rest .0 .0 .0 .1)) (c .before .before .before .before .before .match .rest .0 .0 .1)) (c .before .before .before .before .before .match .rest .0 .1)) (c .before .before .before .before .before .match .rest .1)) refl (c .before .before .put9 .ensures)
+returns-9 c =
+    said-past _
+    (above 7 _
+    (above 6 _
+    (above 5 _
+    (above 4 _
+    (above 3 _
+    (above 2 _
+    (above 1 _ (above 0 _ zero-le (c .before .before .before .before .before .match .rest .0 .0 .0 .0 .0 .0 .0 .1))
+    (c .before .before .before .before .before .match .rest .0 .0 .0 .0 .0 .0 .1))
+    (c .before .before .before .before .before .match .rest .0 .0 .0 .0 .0 .1))
+    (c .before .before .before .before .before .match .rest .0 .0 .0 .0 .1))
+    (c .before .before .before .before .before .match .rest .0 .0 .0 .1))
+    (c .before .before .before .before .before .match .rest .0 .0 .1))
+    (c .before .before .before .before .before .match .rest .0 .1))
+    (c .before .before .before .before .before .match .rest .1))
+    refl (c .before .before .put9 .ensures)
 
 pub answer-spec : {M : Type 1} → statement M
 answer-spec =

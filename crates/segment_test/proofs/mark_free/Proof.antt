@@ -1,4 +1,4 @@
-use Rattle.segment_test.specs.Stack.{rest, rest-all, free-far, free-again, free-more, marking-more, free-done, marking-done}
+use Rattle.segment_test.specs.Stack.{rest-all, free-far, free-again, free-more, marking-more, free-done, marking-done}
 use Rattle.rules.specs.Contents.{decode}
 use Rattle.lists.specs.Distinct.{fresh}
 use Rattle.lists.specs.Marks.{marking}
@@ -8,13 +8,15 @@ use mathlib.Core.Bool.{false≢true}
 use mathlib.Core.Path.{_≡_, ap, _∙_}
 use borrow.Author.Needs.{needs}
 use native.Mathlib.Omega.{arith}
+use Rattle.rules.specs.Stack.{rest}
 use Rattle.segment_test.proofs.mark_free.Statement.{statement}
 use Rattle.segment_test.proofs.mark_free.Tie as tie
 use Rattle.segment_test.proofs.mark_free.Reads as reads
 use Rattle.segment_test.proofs.mark_free.Lts as lts
 
 abbrev Inv-loop : tie.InvT-loop
-Inv-loop d₀ m n h i₀ d i = (i ≤ h) × (fresh (decode m .number) (rest m h i) d ≡ fresh (decode m .number) (decode m .free) d₀) × (marking (rest m h i) d ≡ marking (decode m .free) d₀)
+Inv-loop d₀ m n h i₀ d i =
+    (i ≤ h) × (fresh (decode m .number) (rest m h i) d ≡ fresh (decode m .number) (decode m .free) d₀) × (marking (rest m h i) d ≡ marking (decode m .free) d₀)
 
 abbrev μ-loop : tie.MeasureT-loop
 μ-loop d₀ m n h i₀ d i = h - i
@@ -29,7 +31,12 @@ cast-h : tie.Need-cast-h Inv-loop μ-loop
 cast-h c = search needs
 
 loop-holds : tie.Need-loop-holds Inv-loop μ-loop
-loop-holds c = (omega arith, ap (λ (l : List ℕ). fresh (decode (c .before .before .args .m .now) .number) l (c .before .before .args .d .now)) (rest-all (c .before .before .args .m .now)), ap (λ (l : List ℕ). marking l (c .before .before .args .d .now)) (rest-all (c .before .before .args .m .now)))
+loop-holds c = (
+  omega arith,
+  ap (λ (l : List ℕ). fresh (decode (c .before .before .args .m .now) .number) l (c .before .before .args .d .now))
+      (rest-all (c .before .before .args .m .now)),
+  ap (λ (l : List ℕ). marking l (c .before .before .args .d .now)) (rest-all (c .before .before .args .m .now)),
+)
 
 add-s : tie.Need-add-s Inv-loop μ-loop
 add-s c = omega arith
@@ -41,7 +48,11 @@ shared-slice-read-s : tie.Need-shared-slice-read-s Inv-loop μ-loop
 shared-slice-read-s c = omega arith
 
 returns : tie.Need-returns Inv-loop μ-loop
-returns c = (free-far (c .before .before .before .before .before .before .args .m .now) _ _ _ (c .before .before .loop-test .taken) (omega arith) (c .if1 .taken) ∙ c .before .before .before .loop .inv .1, λ e. absurd (false≢true e))
+returns c = (
+  free-far (c .before .before .before .before .before .before .args .m .now) _ _ _ (c .before .before .loop-test .taken) (omega arith) (c .if1 .taken)
+      ∙ c .before .before .before .loop .inv .1,
+  λ e. absurd (false≢true e),
+)
 
 cast-if2 : tie.Need-cast-if2 Inv-loop μ-loop
 cast-if2 c = omega arith
@@ -50,7 +61,12 @@ element-copy-out-if2 : tie.Need-element-copy-out-if2 Inv-loop μ-loop
 element-copy-out-if2 c = omega arith
 
 returns-2 : tie.Need-returns-2 Inv-loop μ-loop
-returns-2 c = (free-again (c .before .before .before .before .before .before .before .before .args .m .now) _ _ _ (c .before .before .before .before .loop-test .taken) (omega arith) (c .before .before .if1 .left) (c .if2 .taken) ∙ c .before .before .before .before .before .loop .inv .1, λ e. absurd (false≢true e))
+returns-2 c = (
+  free-again (c .before .before .before .before .before .before .before .before .args .m .now) _ _ _ (c .before .before .before .before .loop-test .taken)
+      (omega arith) (c .before .before .if1 .left) (c .if2 .taken)
+      ∙ c .before .before .before .before .before .loop .inv .1,
+  λ e. absurd (false≢true e),
+)
 
 cast-d : tie.Need-cast-d Inv-loop μ-loop
 cast-d c = omega arith
@@ -65,10 +81,21 @@ loop-less : tie.Need-loop-less Inv-loop μ-loop
 loop-less c = omega arith
 
 loop-again : tie.Need-loop-again Inv-loop μ-loop
-loop-again c = (omega arith, free-more (c .before .before .before .before .before .before .before .before .args .m .now) _ _ _ (c .before .before .before .before .loop-test .taken) (omega arith) (c .before .before .if1 .left) (c .if2 .left) ∙ c .before .before .before .before .before .loop .inv .1, marking-more (c .before .before .before .before .before .before .before .before .args .m .now) _ _ _ (c .before .before .before .before .loop-test .taken) (omega arith) ∙ c .before .before .before .before .before .loop .inv .2)
+loop-again c = (
+  omega arith,
+  free-more (c .before .before .before .before .before .before .before .before .args .m .now) _ _ _ (c .before .before .before .before .loop-test .taken)
+      (omega arith) (c .before .before .if1 .left) (c .if2 .left)
+      ∙ c .before .before .before .before .before .loop .inv .1,
+  marking-more (c .before .before .before .before .before .before .before .before .args .m .now) _ _ _ (c .before .before .before .before .loop-test .taken)
+      (omega arith)
+      ∙ c .before .before .before .before .before .loop .inv .2,
+)
 
 returns-3 : tie.Need-returns-3 Inv-loop μ-loop
-returns-3 c = (free-done (c .before .before .before .before .args .m .now) _ _ _ (c .loop-test .left) ∙ c .before .loop .inv .1, λ e. marking-done (c .before .before .before .before .args .m .now) _ _ _ (c .loop-test .left) ∙ c .before .loop .inv .2)
+returns-3 c = (
+  free-done (c .before .before .before .before .args .m .now) _ _ _ (c .loop-test .left) ∙ c .before .loop .inv .1,
+  λ e. marking-done (c .before .before .before .before .args .m .now) _ _ _ (c .loop-test .left) ∙ c .before .loop .inv .2,
+)
 
 pub mark-free-spec : {M : Type 1} → statement M
 mark-free-spec =

@@ -4,8 +4,9 @@ use native.Mathlib.Omega.{arith}
 use borrow.Author.Needs.{needs}
 use lib.Dec.{eqb}
 use Rattle.lists.specs.Counting.{occurrences}
+use Rattle.rules.specs.Stack.{rest, rest-end}
 use Rattle.segments.specs.Names.{held}
-use Rattle.segments.proofs.Free.{rest, rest-out, rest-end, held-start, held-found, held-next, held-none}
+use Rattle.segments.proofs.Free.{rest-out, held-start, held-found, held-next, held-none}
 use Rattle.segments.proofs.held.Statement.{statement}
 use Rattle.segments.proofs.held.Tie as tie
 use Rattle.segments.proofs.held.Reads as reads
@@ -38,7 +39,9 @@ free-segment-requires : tie.Need-free-segment-requires Inv-loop μ-loop
 free-segment-requires c κs = search needs
 
 returns-2 : tie.Need-returns-2 Inv-loop μ-loop
-returns-2 c = held-found _ _ _ _ _ (c .before .before .before .loop-test .taken) (c .before .before .if1 .left) (c .before .free-segment .ensures) (c .if2 .taken) ∙ c .before .before .before .before .loop .inv .2
+returns-2 c =
+    held-found _ _ _ _ _ (c .before .before .before .loop-test .taken) (c .before .before .if1 .left) (c .before .free-segment .ensures) (c .if2 .taken)
+    ∙ c .before .before .before .before .loop .inv .2
 
 add-i : tie.Need-add-i Inv-loop μ-loop
 add-i c = omega arith
@@ -47,7 +50,12 @@ loop-less : tie.Need-loop-less Inv-loop μ-loop
 loop-less c = omega arith
 
 loop-again : tie.Need-loop-again Inv-loop μ-loop
-loop-again c = (omega arith, omega arith, held-next _ _ _ _ _ (c .before .before .before .loop-test .taken) (c .before .before .if1 .left) (c .before .free-segment .ensures) (c .if2 .left) ∙ c .before .before .before .before .loop .inv .2)
+loop-again c = (
+  omega arith,
+  omega arith,
+  held-next _ _ _ _ _ (c .before .before .before .loop-test .taken) (c .before .before .if1 .left) (c .before .free-segment .ensures) (c .if2 .left)
+      ∙ c .before .before .before .before .loop .inv .2,
+)
 
 returns-3 : tie.Need-returns-3 Inv-loop μ-loop
 returns-3 c = held-none _ _ _ _ (rest-end _ _ _ (c .loop-test .left)) ∙ c .before .loop .inv .2

@@ -1,4 +1,4 @@
-use Rattle.serial_steps.proofs.Glue.{three}
+use Rattle.words.specs.Blocks.{store-three}
 use borrow.Author.Needs.{needs}
 use Rattle.serial_steps.proofs.write_answer.Statement.{statement}
 use Rattle.serial_steps.proofs.write_answer.Tie as tie
@@ -28,7 +28,9 @@ same-length : tie.Need-same-length
 same-length c = search needs
 
 returns : tie.Need-returns
-returns c = three _ _ _ _ _ _ _ _ (c .before .before .before .before .before .before .before .before .before .before .put .ensures) (c .before .before .before .before .before .before .put2 .ensures) (c .before .before .put3 .ensures)
+returns c =
+    store-three _ _ _ _ _ _ _ _ (c .before .before .before .before .before .before .before .before .before .before .put .ensures)
+    (c .before .before .before .before .before .before .put2 .ensures) (c .before .before .put3 .ensures)
 
 pub write-answer-spec : {M : Type 1} → statement M
 write-answer-spec =

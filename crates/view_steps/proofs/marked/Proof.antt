@@ -1,14 +1,15 @@
-use Rattle.view_events.specs.Open.{marked-nl, marked-other}
+use mathlib.Core.Path.{sym}
+use Rattle.rules.specs.Passed.{marked-yes, marked-no}
 use Rattle.view_steps.proofs.marked.Statement.{statement}
 use Rattle.view_steps.proofs.marked.Tie as tie
 use Rattle.view_steps.proofs.marked.Reads as reads
 use Rattle.view_steps.proofs.marked.Lts as lts
 
 returns : tie.Need-returns
-returns c = marked-nl _ (c .if1 .taken)
+returns c = sym (marked-yes _ (c .if1 .taken))
 
 returns-2 : tie.Need-returns-2
-returns-2 c = marked-other _ (c .if1 .left)
+returns-2 c = sym (marked-no _ (c .if1 .left))
 
 pub marked-spec : {M : Type 1} → statement M
 marked-spec = tie.close (tie.spec returns returns-2)

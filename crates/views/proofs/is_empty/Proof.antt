@@ -1,11 +1,13 @@
-use Rattle.views.proofs.Reduce.{not-empty, empty-tail}
+use mathlib.Core.Path.{sym}
+use Rattle.calls.specs.Views.{not-empty}
+use Rattle.views.proofs.Reduce.{empty-tail}
 use Rattle.views.proofs.is_empty.Statement.{statement}
 use Rattle.views.proofs.is_empty.Tie as tie
 use Rattle.views.proofs.is_empty.Reads as reads
 use Rattle.views.proofs.is_empty.Lts as lts
 
 returns : tie.Need-returns
-returns c = not-empty _ _ (c .if1 .taken)
+returns c = sym (not-empty _ _ (c .if1 .taken))
 
 returns-2 : tie.Need-returns-2
 returns-2 c = empty-tail _ _ (c .if1 .left)

@@ -1,9 +1,10 @@
 use Prim.Native.Nat.{ℕ}
-use mathlib.Core.Path.{ap, _∙_}
+use mathlib.Core.Path.{ap, _∙_, sym}
 use borrow.Author.Tests.{lt-ltb, le-ltb}
+use Rattle.words.specs.Words.{both-off}
 use Rattle.tree.specs.Rights.{pushes}
 use Rattle.calls.specs.Waits.{rightsOf}
-use Rattle.walks.proofs.Glue.{both-so, both-no}
+use Rattle.walks.proofs.Glue.{both-so}
 use Rattle.walks.proofs.meets_pusher.Statement.{statement}
 use Rattle.walks.proofs.meets_pusher.Tie as tie
 use Rattle.walks.proofs.meets_pusher.Reads as reads
@@ -19,10 +20,12 @@ pushes-requires c κs = c .before .before .before .pre
 
 returns : tie.Need-returns
 unfolding rightsOf
-returns c = both-so (lt-ltb _ _ (c .before .before .if1 .taken)) (c .pushes .ensures ∙ ap (λ (w : ℕ). pushes w (c .before .before .before .before .args .q)) (c .before .task .ensures))
+returns c =
+    both-so (lt-ltb _ _ (c .before .before .if1 .taken))
+    (c .pushes .ensures ∙ ap (λ (w : ℕ). pushes w (c .before .before .before .before .args .q)) (c .before .task .ensures))
 
 returns-2 : tie.Need-returns-2
-returns-2 c = both-no _ (le-ltb _ _ (c .if1 .left))
+returns-2 c = sym (both-off _ (le-ltb _ _ (c .if1 .left)))
 
 pub meets-pusher-spec : {M : Type 1} → statement M
 meets-pusher-spec = tie.close (tie.spec task-requires pushes-requires returns returns-2)

@@ -1,9 +1,10 @@
 use lib.Dec.{eqb}
 use Prim.Native.Nat.{ℕ}
-use mathlib.Core.Path.{ap}
+use mathlib.Core.Path.{ap, sym}
 use borrow.Author.Tests.{lt-ltb, le-ltb}
+use Rattle.words.specs.Words.{both-off}
 use Rattle.calls.specs.Waits.{unfinished}
-use Rattle.walks.proofs.Glue.{both-so, both-no}
+use Rattle.walks.proofs.Glue.{both-so}
 use Rattle.walks.proofs.unfinished.Statement.{statement}
 use Rattle.walks.proofs.unfinished.Tie as tie
 use Rattle.walks.proofs.unfinished.Reads as reads
@@ -19,7 +20,7 @@ returns c = both-so (lt-ltb _ _ (c .before .if1 .taken)) (ap (λ (s : ℕ). eqb 
 
 returns-2 : tie.Need-returns-2
 unfolding unfinished
-returns-2 c = both-no _ (le-ltb _ _ (c .if1 .left))
+returns-2 c = sym (both-off _ (le-ltb _ _ (c .if1 .left)))
 
 pub unfinished-spec : {M : Type 1} → statement M
 unfinished-spec = tie.close (tie.spec task-requires returns returns-2)

@@ -5,10 +5,9 @@ use mathlib.Core.List.{List}
 use mathlib.Core.Logic.{_⊎_, inl, inr, ⊎-elim}
 use Prim.Native.Nat.{ℕ, _+_, _-_, _*_, _/_, _%_, _<_}
 use native.Mathlib.Omega.{arith}
-use Rattle.lists.specs.Counting.{occurrences, equal?}
+use Rattle.lists.specs.Counting.{occurrences, equal?, below?}
 use Rattle.layout.specs.Layout.{NL, task, head, tail, queueHead, read}
-use Rattle.rules_tasks.specs.Holders.{below?}
-use Rattle.calls.specs.Views.{viewOf}
+use Rattle.calls.specs.Views.{viewOf, not-empty}
 use Rattle.gaps.specs.Maps.{put, put-same, put-other}
 use Rattle.gaps.specs.Line.{End, local, Extent, extent}
 use Rattle.order.specs.Steps.{Item}
@@ -19,8 +18,7 @@ use Rattle.meaning.specs.Free.{optional-some, link-word}
 use Rattle.meaning.specs.Extents.{end-local, filled-extent}
 use Rattle.meaning.specs.Update.{withView}
 use Rattle.meaning.specs.Links.{NamedBy}
 use Rattle.represents.specs.Named.{OnlyNamed, named-by}
-use Rattle.represents.specs.FirstNamed.{not-empty-head}
 
 -- Of all heads of views of the tasks of the tour T only the head of queue view q of task h is segment g.
 pub record Names (M : Meaning) (T : List ℕ) (g h q : ℕ) : Type 0 where
@@ -61,13 +59,14 @@ names-view M T g h q p k t v n w =
     }
 
 -- BY THE WORDS
-module _ (n : List ℕ) (T : List ℕ) (g h q : ℕ) (small : h < 128) (queue : q < 4) (low : g < NL) (there : 0 < occurrences h T) (w : Names (meaningOf n) T g h q) where
+module _ (n : List ℕ) (T : List ℕ) (g h q : ℕ) (small : h < 128) (queue : q < 4) (low : g < NL) (there : 0 < occurrences h T)
+    (w : Names (meaningOf n) T g h q) where
   none-word : (x k p : ℕ) → x < 128 → 0 < occurrences x T → k < 3 → p < 4 → read n (head k x p) ≡ g → ⊥
   unfolding viewOf
   none-word x k p l i a b e =
       w .views x p k l i b a (endOf (read n (tail k x p)))
       (view-at n p k x b a l
-      ∙ filled-extent (read n (head k x p)) (read n (tail k x p)) (not-empty-head (read n (head k x p)) (read n (tail k x p)) (λ z. omega (arith, z, e, low)))
+      ∙ filled-extent (read n (head k x p)) (read n (tail k x p)) (not-empty (read n (head k x p)) (read n (tail k x p)) (λ z. omega (arith, z, e, low)))
       ∙ ap (λ (y : End). extent y (endOf (read n (tail k x p)))) (end-local (read n (head k x p)) (λ z. omega (arith, z, e, low)) ∙ ap local e))
 
   by-word : (x i : ℕ) → x < 128 → 0 < occurrences x T → i < 16 → read n (task x (16 + i)) ≡ g → (x ≡ h) × (i ≡ q)
@@ -79,7 +78,7 @@ module _ (n : List ℕ) (T : List ℕ) (g h q : ℕ) (small : h < 128) (queue : 
       (ap (λ (k : ℕ). read n (task x k)) (let z : 20 + (i - 4) / 4 * 4 + (i - 4) % 4 ≡ 16 + i = omega (arith, b) in z) ∙ e)))
       (below? i 4)
 
-  names-only : OnlyNamed n T g h q
+  pub names-only : OnlyNamed n T g h q
   names-only =
       record {
         task-range = small;
