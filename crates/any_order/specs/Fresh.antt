@@ -1,16 +1,13 @@
 -- A FRESH OPENING of an accepted job: the core is opened, the top stands alone at its first instruction.
 use mathlib.Core.Path.{_≡_, refl, sym, subst}
-use mathlib.Core.Bool.{true}
 use mathlib.Core.List.{List, [], _∷_}
 use mathlib.Core.Logic.{inl, ⊎-elim}
 use Prim.Native.Nat.{ℕ, _+_, _*_, _≤_}
 use native.Mathlib.Omega.{arith}
 use lib.ListN.{replicate, getD-replicate, length-replicate, List·getD-eq-default}
-use Rattle.words.specs.Words.{load, size, pick, both}
-use Rattle.lists.specs.Tests.{upto, upto-says}
+use Rattle.words.specs.Words.{load, size}
 use Rattle.layout.specs.Layout.{WORDS}
-use Rattle.rules.specs.Test.{within, inRange}
-use Rattle.meaning.specs.Ring.{below?}
+use Rattle.lists.specs.Counting.{below?}
 use Rattle.answers.specs.declared.Answer.the-variants.{Moved}
 use Rattle.order.specs.Steps.{begin}
 use Rattle.represents_spawn.specs.Open.{open-represents}
@@ -24,18 +21,11 @@ use Rattle.job_order.specs.Located.{topNumbered, begins}
 use Rattle.runner.specs.Words.{RUNNER, procedureOf, positionOf, registerOf}
 use Rattle.runner.specs.Answers.{Outcome, coreOf, runnerOf}
 use Rattle.runner.specs.Open.{segmentsFor, jobOpened, openOutcome}
+use Rattle.runner.specs.Opens.{in-range}
 use Rattle.any_order.specs.Statement.{Stand, fresh}
 use Rattle.any_order.specs.Written.{Words}
 use Rattle.any_order.specs.Tested.{job-passes}
 use Rattle.any_order.specs.Running.{Running}
-
--- "segments the smaller of 256 and 8,192 divided by L" are in range for every L from 1 to 64
-ranges : upto (λ l. inRange l (segmentsFor l)) 64 1 ≡ true
-unfolding upto both pick inRange within segmentsFor
-ranges = refl
-
-pub in-range : (l : ℕ) → 1 ≤ l → l ≤ 64 → inRange l (segmentsFor l) ≡ true
-in-range l a b = upto-says (λ l. inRange l (segmentsFor l)) 64 1 ranges l a (omega (arith, b))
 
 no-word : (a : ℕ) → load (replicate RUNNER 0) a ≡ 0
 unfolding load
@@ -65,7 +55,7 @@ module _ (j : List ℕ) (e : jobAnswer j ≡ Moved 0) (w v : List ℕ) (sw : siz
       begun =
           unfold jobOpened coreOf runnerOf standing unnumbered size in
           record {
-            state = inl (open-represents (segmentLength j) (segmentsFor (segmentLength j)) (in-range (segmentLength j) (acc .segmentSome) (acc .segmentFew)));
+            state = inl (open-represents (segmentLength j) (segmentsFor (segmentLength j)) (in-range j e));
             beside = begins j acc;
             written = record { sized = length-replicate {A = ℕ} RUNNER 0; held = (record { small = omega arith; words = zeros 0 }, tt); free = λ t o. zeros t };
             count = 0;

@@ -4,8 +4,8 @@ use mathlib.Core.List.{List, [], _∷_}
 use Prim.Native.Nat.{ℕ, _+_, _*_, _<_}
 use native.Mathlib.Omega.{arith}
 use Rattle.words.specs.Words.{load, size}
-use Rattle.words.specs.Blocks.{block-other, size-storeAll}
-use Rattle.meaning.specs.Records.{block-same}
+use Rattle.words.specs.Blocks.{block-other, size-storeAll, block-same}
+
 use Rattle.gaps.specs.Maps.{All}
 use Rattle.job_order.specs.Beside.{Numbered}
 use Rattle.runner.specs.Words.{RUNNER, procedureOf, positionOf, registerOf, put}

@@ -7,7 +7,7 @@ use native.Mathlib.Omega.{arith}
 use lib.Dec.{ltb, eqb}
 use lib.ListN.{length}
 use borrow.Author.Tests.{lt-ltb, le-ltb, eq-eqb, ne-eqb}
-use Rattle.words.specs.Words.{store, size, halt, pass}
+use Rattle.words.specs.Words.{store, size, halt, pass, both-off}
 use Rattle.words.specs.Blocks.{store-none, store-more}
 use Rattle.layout.specs.Layout.{task, read}
 use Rattle.answers.specs.declared.Answer.{Answer}
@@ -17,7 +17,7 @@ use Rattle.job.specs.Fields.{procedures, count, rights, instructionAt}
 use Rattle.job.specs.Test.{jobAnswer}
 use Rattle.runner.specs.Words.{RUNNER, procedureOf, positionOf, registerOf, put, instructionFor}
 use Rattle.runner.specs.Rules.{taskHolds, zeros, recordHolds}
-use Rattle.walks.proofs.Glue.{both-so, both-no}
+use Rattle.walks.proofs.Glue.{both-so}
 use Rattle.runner_words.specs.Refusals.{refusalIn, jobRefusal}
 
 -- three stores in a row
@@ -46,7 +46,7 @@ module _ (j m r : List ℕ) (t : ℕ) {p n : ℕ} (ep : p ≡ procedureOf r t) (
 
   pub no-procedure : n ≤ p → false ≡ taskHolds j m r t
   unfolding taskHolds
-  no-procedure h = both-no _ (exists ∙ le-ltb p n h)
+  no-procedure h = sym (both-off _ (exists ∙ le-ltb p n h))
 
   module _ (h : p < n) {i c : ℕ} (ei : i ≡ positionOf r t) (ec : c ≡ count j p) where
     abbrev inside : ltb (positionOf r t) (count j (procedureOf r t)) ≡ ltb i c
@@ -54,7 +54,7 @@ module _ (j m r : List ℕ) (t : ℕ) {p n : ℕ} (ep : p ≡ procedureOf r t) (
 
     pub no-instruction : c ≤ i → false ≡ taskHolds j m r t
     unfolding taskHolds
-    no-instruction g = both-so (exists ∙ lt-ltb p n h) (both-no _ (inside ∙ le-ltb i c g))
+    no-instruction g = both-so (exists ∙ lt-ltb p n h) (sym (both-off _ (inside ∙ le-ltb i c g)))
 
     pub same-rights : i < c → {a b : ℕ} → a ≡ read m (task t 1) → b ≡ rights j p → eqb a b ≡ taskHolds j m r t
     unfolding taskHolds rightsOf
@@ -65,12 +65,12 @@ module _ (j m r : List ℕ) (t : ℕ) {p n : ℕ} (ep : p ≡ procedureOf r t) (
 module _ (r : List ℕ) (t : ℕ) {p : ℕ} (ep : p ≡ procedureOf r t) where
   pub some-procedure : (p ≡ 0 → ⊥) → false ≡ zeros r t
   unfolding zeros
-  some-procedure n = both-no _ (ne-eqb _ _ (λ e. n (ep ∙ e)))
+  some-procedure n = sym (both-off _ (ne-eqb _ _ (λ e. n (ep ∙ e))))
 
   module _ (zp : p ≡ 0) {i : ℕ} (ei : i ≡ positionOf r t) where
     pub some-position : (i ≡ 0 → ⊥) → false ≡ zeros r t
     unfolding zeros
-    some-position n = both-so (eq-eqb _ _ (sym ep ∙ zp)) (both-no _ (ne-eqb _ _ (λ e. n (ei ∙ e))))
+    some-position n = both-so (eq-eqb _ _ (sym ep ∙ zp)) (sym (both-off _ (ne-eqb _ _ (λ e. n (ei ∙ e)))))
 
     pub all-zero : i ≡ 0 → {x : ℕ} → x ≡ registerOf r t → eqb x 0 ≡ zeros r t
     unfolding zeros
