@@ -3,3 +3,5 @@ pub mod Words
 pub mod Rules
 pub mod Open
 pub mod Step
+pub mod Ready
+pub mod ReadyLaws
