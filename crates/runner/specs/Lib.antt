@@ -5,3 +5,5 @@ pub mod Open
 pub mod Step
 pub mod Ready
 pub mod ReadyLaws
+pub mod Moves
+pub mod MovesLaws

@@ -8,7 +8,6 @@ use native.Mathlib.Nat.{le-of-suc-le-suc, pow-suc, pow-succ', mul-assoc, div-div
 use native.Mathlib.Omega.{arith}
 use lib.Count.{ones, ones-cat, trailingZeros, under}
 use lib.Dec.{eqb, ltb}
-use lib.ListN.{getD}
 use borrow.Author.Tests.{eqb-true, eqb-false, ltb-true, ltb-false}
 use Rattle.words.specs.Words.{load, pick, pass, halt}
 use Rattle.lists.specs.Counting.{one, over, total, total-ext, equal?}
