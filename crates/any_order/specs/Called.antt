@@ -23,13 +23,14 @@ use Rattle.runner.specs.declared.StepAnswer.{StepAnswer}
 use Rattle.runner.specs.declared.StepAnswer.the-variants.{Refused}
 use Rattle.runner.specs.Answers.{answerWith, outcome, hasMoved, answerOf}
 use Rattle.runner.specs.Step.{stepTested, stepOutcome}
+use Rattle.runner.specs.Laws.{has-moved}
 use Rattle.any_order.specs.Statement.{Stand, stepped, stepAnswer}
 use Rattle.any_order.specs.States.{state-unfinished}
 use Rattle.any_order.specs.Written.{Written}
 use Rattle.any_order.specs.Tested.{tests-pass}
 use Rattle.any_order.specs.Goes.{Stays, waits, eight, nine, Goes, Does, stays, goes}
 use Rattle.any_order.specs.Goes as common
-use Rattle.any_order.specs.Running.{Running, has-moved, same-stand, next-stand}
+use Rattle.any_order.specs.Running.{Running, same-stand, next-stand}
 use Rattle.any_order.specs.Names.{name-is, event-is}
 
 -- an answer of a step that does not move
@@ -59,7 +60,7 @@ module _ (j : List ℕ) (e : jobAnswer j ≡ Moved 0) where
     went : (k : List (Item Numbered)) → hasMoved (stepAnswer j s t) ≡ true → Running j (stepped j t s) k → Called s l t
 
   -- 4: nobody unfinished has the number
-  refused-four : (s : Stand) (l : List (Item Numbered)) (t : ℕ) → Running j s l → unfinished t (s .order) ≡ false → Called s l t
+  pub refused-four : (s : Stand) (l : List (Item Numbered)) (t : ℕ) → Running j s l → unfinished t (s .order) ≡ false → Called s l t
   unfolding stepOutcome stepTested stepAnswer answerOf hasMoved
   refused-four s l t run f =
       let o : stepOutcome j (s .core) (s .runner) t ≡ outcome (Refused 4) (s .core) (s .runner) =

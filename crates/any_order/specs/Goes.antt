@@ -11,7 +11,7 @@ use Rattle.tree.specs.Rights.{pops as mayPop}
 use Rattle.answers.specs.declared.Answer.{Answer}
 use Rattle.answers.specs.declared.Answer.the-variants.{Moved}
 use Rattle.answers.specs.declared.Finding.the-variants.{Waits as Later}
-use Rattle.answers.specs.Answers.{wordsOf, answerOf as coreAnswer}
+use Rattle.answers.specs.Answers.{Outcome as CoreOutcome, outcome as core-outcome, wordsOf, answerOf as coreAnswer}
 use Rattle.answers.specs.Calls.{Call}
 use Rattle.calls.specs.Outcomes.{outcomeOf}
 use Rattle.order.specs.Steps.{Item as Mark, numberOf, noted}
@@ -37,9 +37,9 @@ use Rattle.runner.specs.declared.StepAnswer.{StepAnswer}
 use Rattle.runner.specs.declared.StepAnswer.the-variants.{Waits, Refused}
 use Rattle.runner.specs.Words.{procedureOf, positionOf, registerOf, instructionFor}
 use Rattle.runner.specs.Answers.{answerWith, Outcome, outcome}
-use Rattle.runner.specs.Step.{callOf, replyOf, runnerAfter, done, replied, makes, stepTested, stepOutcome}
+use Rattle.runner.specs.Step.{callOf, replyOf, runnerAfter, done, replied, repliedTo, makes, stepTested, stepOutcome}
 use Rattle.any_order.specs.Statement.{notedBy}
-use Rattle.any_order.specs.States.{state-unfinished, still}
+use Rattle.any_order.specs.States.{state-unfinished, still, behind-test}
 use Rattle.any_order.specs.Written.{Words, Holds, Written}
 use Rattle.any_order.specs.Tested.{stands-at, tests-pass}
 
@@ -76,7 +76,7 @@ pub data Does (j m r : List ℕ) (xs : List Mark) (a b : List (Item Numbered)) (
   goes : Goes j m r xs a b n → Does j m r xs a b n
 
 module _ (j : List ℕ) (e : jobAnswer j ≡ Moved 0) (m r : List ℕ) (xs : List Mark) (a b : List (Item Numbered)) (n : Numbered) (st : State m xs)
-  (h : Beside j xs (a ++ spot n ∷ b)) (w : Written r (standing (a ++ spot n ∷ b))) (stood : All (λ k. Stands j (k .runner .task)) (standing (a ++ spot n ∷ b))) where
+    (h : Beside j xs (a ++ spot n ∷ b)) (w : Written r (standing (a ++ spot n ∷ b))) (stood : All (λ k. Stands j (k .runner .task)) (standing (a ++ spot n ∷ b))) where
   abbrev t : ℕ
   t = n .number
 
@@ -153,7 +153,12 @@ module _ (j : List ℕ) (e : jobAnswer j ≡ Moved 0) (m r : List ℕ) (xs : Lis
       call-replied =
           makes-it
           ∙ ap (λ (o : Option Call). makes t i o m r) which
+          ∙ ap (λ (o : CoreOutcome). repliedTo t i o m r) (behind-test m xs st c)
+          ∙ parts (outcomeOf c m)
           ∙ ap (λ (y : Answer). replied t i (replyOf y) core m r) (call-does c m xs st .answer ∙ answer)
+        where
+          parts : (o : CoreOutcome) → repliedTo t i o m r ≡ replied t i (replyOf (coreAnswer o)) (wordsOf o) m r
+          parts (core-outcome y k) = unfold repliedTo coreAnswer wordsOf in refl
 
       pub call-state : State core (noted c x xs)
       call-state = subst (λ (y : Answer). State core (noted c y xs)) answer (call-does c m xs st .holds)

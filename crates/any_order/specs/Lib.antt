@@ -11,3 +11,5 @@ pub mod Looking
 pub mod Running
 pub mod Names
 pub mod Called
+pub mod Fresh
+pub mod AnyOrder

@@ -39,8 +39,8 @@ use Rattle.any_order.specs.Goes as common
 use Rattle.any_order.specs.Operations as other
 
 module _ (j : List ℕ) (e : jobAnswer j ≡ Moved 0) (m r : List ℕ) (xs : List Mark) (a b : List (Item Numbered)) (n : Numbered) (st : State m xs)
-  (h : Beside j xs (a ++ spot n ∷ b)) (w : Written r (standing (a ++ spot n ∷ b))) (stood : All (λ k. Stands j (k .runner .task)) (standing (a ++ spot n ∷ b)))
-  (free : blocked (n .number) xs ≡ false) where
+    (h : Beside j xs (a ++ spot n ∷ b)) (w : Written r (standing (a ++ spot n ∷ b))) (stood : All (λ k. Stands j (k .runner .task)) (standing (a ++ spot n ∷ b)))
+    (free : blocked (n .number) xs ≡ false) where
   abbrev t : ℕ
   t = n .number
 

@@ -39,8 +39,7 @@ module _ (j : List ℕ) where
       let w = located j a b n h in
       let once = one-number (played-reached p) t in
       let here = ap (count (spotNumbered t)) (w .here) ∙ count-append (spotNumbered t) (w .before) (place (taskOf j n) ∷ w .behind) in
-      let me = one-yes t t refl in
-      (
+      let me = one-yes t t refl in (
         none-numbered t (w .before) (standing a) (omega (arith, once, here, me)) (w .first),
         none-numbered t (w .behind) (standing b) (omega (arith, once, here, me)) (w .last),
       )

@@ -71,8 +71,7 @@ module _ (r : List ℕ) (a b : List Numbered) (n : Numbered) (h : Written r (a +
       record {
         sized = size-put g (w .sized) (c .number) p i x;
         held = all-append (Holds (put g (c .number) p i x)) a (c ∷ k ∷ b)
-            (keep a (all-front (Other (c .number)) a (n ∷ b) new) (all-front (Holds g) a (k ∷ b) (w .held)))
-            (
+            (keep a (all-front (Other (c .number)) a (n ∷ b) new) (all-front (Holds g) a (k ∷ b) (w .held))) (
               record { small = few; words = put-same g (w .sized) (c .number) p i x few },
               keep (k ∷ b) ((λ f. others .0 (sym e ∙ f)), others .1) (all-behind (Holds g) a (k ∷ b) (w .held)),
             );

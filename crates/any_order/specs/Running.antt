@@ -37,22 +37,7 @@ pub record Running (j : List ℕ) (s : Stand) (line : List (Item Numbered)) : Ty
   pub moves : Moves (jobTasks j) count start (unnumbered line)
   pub log : Log.log j moves ≡ s .events
 
--- THE WORDS of a step that goes on: it has moved, and its event has the word and the value of its effect
-pub has-moved : (o : Operation) (p x y : ℕ) (f : Option ℕ) (v c : ℕ) → hasMoved (answerWith (effect o p x y f .word) v c) ≡ true
-unfolding hasMoved answerWith effect
-has-moved return p x y f v c = refl
-has-moved push p x y f v c = refl
-has-moved pushSum p x y f v c = refl
-has-moved pop p x y none v c = refl
-has-moved pop p x y (some w) v c = refl
-has-moved goIfEmpty p x y none v c = refl
-has-moved goIfEmpty p x y (some w) v c = refl
-has-moved go p x y f v c = refl
-has-moved goIfZero p x y f v c = refl
-has-moved add p x y f v c = refl
-has-moved spawn p x y f v c = refl
-has-moved sync p x y f v c = refl
-
+-- THE WORDS of a step that goes on: its event has the word and the value of its effect
 pub same-word : (w : Word) (v c : ℕ) → wordOf (answerWith w v c) ≡ w
 unfolding wordOf answerWith
 same-word spawned v c = refl

@@ -72,7 +72,7 @@ rights-held j m xs a b n p h =
     rights-same m (w .before) (w .behind) (taskOf j n) r ∙ rights-are m (w .before) (w .behind) (taskOf j n) r
 
 module _ (j m r : List ℕ) (xs : List Mark) (l : List (Item Numbered)) (st : State m xs) (h : Beside j xs l) (w : Written r (standing l))
-  (stood : All (λ n. Stands j (n .runner .task)) (standing l)) where
+    (stood : All (λ n. Stands j (n .runner .task)) (standing l)) where
   -- an unfinished task
   task-holds : (a b : List (Item Numbered)) (n : Numbered) → l ≡ a ++ spot n ∷ b → Represents m xs → taskHolds j m r (n .number) ≡ true
   unfolding taskHolds rightsOf

@@ -46,7 +46,7 @@ runs m xs r = inl r
 
 -- the tests that every call makes first pass
 module _ (m : List ℕ) (xs : List Item) (st : State m xs) where
-  tested-is : (o : Outcome) → tested m o ≡ o
+  pub tested-is : (o : Outcome) → tested m o ≡ o
   unfolding tested
   tested-is o = skip _ (ap not (eq-eqb (size m) WORDS (state-size m xs st))) (skip _ (ap not (state-rules m xs st)) refl)
 

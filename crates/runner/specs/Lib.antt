@@ -2,7 +2,9 @@ pub mod Answers
 pub mod Words
 pub mod Rules
 pub mod Open
+pub mod Opens
 pub mod Step
+pub mod Laws
 pub mod Ready
 pub mod ReadyLaws
 pub mod Moves

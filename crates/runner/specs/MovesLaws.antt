@@ -5,35 +5,31 @@ use mathlib.Core.List.{List}
 use mathlib.Core.Option.{Option, none, some}
 use Prim.Native.Nat.{ℕ}
 use lib.Dec.{leb, ltb, eqb}
-use borrow.Author.Tests.{eq-eqb}
-use Rattle.words.specs.Words.{size, pick, both, both-right-on, either, pass}
-use Rattle.layout.specs.Layout.{WORDS, NL, USER, lengthWord, count, read}
+use Rattle.words.specs.Words.{pick, both, both-right-on, either, pass}
+use Rattle.layout.specs.Layout.{NL, USER, lengthWord, count, read}
 use Rattle.answers.specs.declared.Answer.{Answer}
 use Rattle.answers.specs.declared.Answer.the-variants.{Moved, Empty, NotEmpty, Waits, Refused}
 use Rattle.answers.specs.declared.Finding.{Finding}
 use Rattle.answers.specs.declared.Finding.the-variants.{Value as Found, Empty as Nothing, Waits as Later}
-use Rattle.answers.specs.Answers.{Outcome as CoreOutcome, outcome as coreOutcome, answerOf as coreAnswer}
-use Rattle.answers.specs.Calls.{Call}
+use Rattle.answers.specs.Answers.{Outcome as CoreOutcome, outcome as answered, answerOf as coreAnswer}
 use Rattle.tree.specs.Rights.{pushes, pops, subset}
-use Rattle.rules.specs.Test.{rulesHold}
 use Rattle.calls.specs.Segments.{noneFree}
 use Rattle.calls.specs.Views.{viewOf, isEmpty, tailOf, justBefore}
-use Rattle.calls.specs.Waits.{tested as coreTested, rightsOf, unfinished, blocked, hasChild}
-use Rattle.calls.specs.Push.{pushedApart, pushedBehind, pushed, pushTested, pushOutcome}
-use Rattle.calls.specs.Spawn.{spawned, spawnTested, spawnOutcome}
-use Rattle.calls.specs.Find.{finding, popGives, testGives, popAllowed, popTested, testTested, popOutcome, testOutcome}
-use Rattle.calls.specs.Sync.{whenReduced, syncTested, syncOutcome}
-use Rattle.calls.specs.Finish.{finishTested, finishOutcome}
-use Rattle.calls.specs.Outcomes.{outcomeOf}
+use Rattle.calls.specs.Waits.{rightsOf, unfinished, blocked, hasChild}
+use Rattle.calls.specs.Push.{pushedApart, pushedBehind, pushed, pushTested}
+use Rattle.calls.specs.Spawn.{spawned, spawnTested}
+use Rattle.calls.specs.Find.{finding, popGives, testGives, popAllowed, popTested, testTested}
+use Rattle.calls.specs.Sync.{whenReduced, syncTested}
+use Rattle.calls.specs.Finish.{finishTested}
 use Rattle.job.specs.declared.Instruction.{Instruction}
 use Rattle.job.specs.Fields.{rights}
 use Rattle.job.specs.Operations.{Operation, return, push, pushSum, pop, goIfEmpty, go, goIfZero, add, spawn, sync, operationAt}
-use Rattle.job.specs.Effects.{effect}
 use Rattle.runner.specs.declared.StepAnswer.the-variants.{Waits as Wait, Refused as TurnedDown}
 use Rattle.runner.specs.Words.{instructionFor, registerOf}
-use Rattle.runner.specs.Answers.{answerWith, hasMoved, Outcome, outcome, answerOf}
+use Rattle.runner.specs.Answers.{hasMoved, Outcome, outcome, answerOf}
 use Rattle.runner.specs.Rules.{tested}
-use Rattle.runner.specs.Step.{callOf, goes, stops, replyOf, done, replied, makes, stepTested, stepOutcome}
+use Rattle.runner.specs.Step.{callOf, goes, stops, replyOf, done, replied, coreOutcome, repliedTo, makes, stepTested, stepOutcome}
+use Rattle.runner.specs.Laws.{has-moved}
 use Rattle.runner.specs.Ready.{readyBit}
 use Rattle.runner.specs.Moves.{moves, fitsApart, hasRoom, valueFits, pushMoves, spawnMoves, decided, findMoves, syncMoves, finishMoves}
 use Rattle.runner.specs.Moves.{instructionMoves, stepMoves}
@@ -42,7 +38,7 @@ use Rattle.runner.specs.Moves.{instructionMoves, stepMoves}
 goesOn : CoreOutcome → Bool
 goesOn o = moves (coreAnswer o)
 
-gives : (v : ℕ) (w : List ℕ) → goesOn (coreOutcome (Moved v) w) ≡ true
+gives : (v : ℕ) (w : List ℕ) → goesOn (answered (Moved v) w) ≡ true
 unfolding goesOn moves coreAnswer
 gives v w = refl
 
@@ -52,17 +48,17 @@ chosen true x y = refl
 chosen false x y = refl
 
 -- a rung of a ladder of refusals, which are not 7, and one that waits
-turned : (b : Bool) (k : ℕ) (w : List ℕ) (o : CoreOutcome) → eqb k 7 ≡ false → goesOn (pick b (coreOutcome (Refused k) w) o) ≡ both (not b) (goesOn o)
+turned : (b : Bool) (k : ℕ) (w : List ℕ) (o : CoreOutcome) → eqb k 7 ≡ false → goesOn (pick b (answered (Refused k) w) o) ≡ both (not b) (goesOn o)
 unfolding goesOn moves coreAnswer pick both
 turned true k w o e = e
 turned false k w o e = refl
 
-lacking : (b : Bool) (k : ℕ) (w : List ℕ) (o : CoreOutcome) → eqb k 7 ≡ false → goesOn (pick (not b) (coreOutcome (Refused k) w) o) ≡ both b (goesOn o)
+lacking : (b : Bool) (k : ℕ) (w : List ℕ) (o : CoreOutcome) → eqb k 7 ≡ false → goesOn (pick (not b) (answered (Refused k) w) o) ≡ both b (goesOn o)
 unfolding goesOn moves coreAnswer pick both
 lacking true k w o e = refl
 lacking false k w o e = e
 
-waiting : (b : Bool) (w : List ℕ) (o : CoreOutcome) → goesOn (pick b (coreOutcome Waits w) o) ≡ both (not b) (goesOn o)
+waiting : (b : Bool) (w : List ℕ) (o : CoreOutcome) → goesOn (pick b (answered Waits w) o) ≡ both (not b) (goesOn o)
 unfolding goesOn moves coreAnswer pick both
 waiting true w o = refl
 waiting false w o = refl
@@ -129,7 +125,7 @@ module _ (m : List ℕ) (t : ℕ) (alive : unfinished m t ≡ true) (free : bloc
       go Nothing = unfold goesOn in unfold testGives in unfold moves in unfold coreAnswer in unfold decided in refl
       go Later = unfold goesOn in unfold testGives in unfold moves in unfold coreAnswer in unfold decided in refl
 
-  reduces : (a : Bool) (v : ℕ) (w : List ℕ) → goesOn (whenReduced m t a (coreOutcome (Moved v) w)) ≡ both (not (hasChild m t)) a
+  reduces : (a : Bool) (v : ℕ) (w : List ℕ) → goesOn (whenReduced m t a (answered (Moved v) w)) ≡ both (not (hasChild m t)) a
   unfolding whenReduced either
   reduces a v w =
       ap goesOn (pass _ (ap not alive) refl)
@@ -149,25 +145,9 @@ module _ (m : List ℕ) (t : ℕ) (alive : unfinished m t ≡ true) (free : bloc
       go false x y = unfold pick in refl
 
 -- THE STEP
--- what is done is answered as a step that moved
-effect-moves : (o : Operation) (i x w : ℕ) (f : Option ℕ) (v c : ℕ) → hasMoved (answerWith (effect o i x w f .word) v c) ≡ true
-unfolding hasMoved answerWith effect
-effect-moves return i x w f v c = refl
-effect-moves push i x w f v c = refl
-effect-moves pushSum i x w f v c = refl
-effect-moves pop i x w (some y) v c = refl
-effect-moves pop i x w none v c = refl
-effect-moves goIfEmpty i x w (some y) v c = refl
-effect-moves goIfEmpty i x w none v c = refl
-effect-moves go i x w f v c = refl
-effect-moves goIfZero i x w f v c = refl
-effect-moves add i x w f v c = refl
-effect-moves spawn i x w f v c = refl
-effect-moves sync i x w f v c = refl
-
 done-moves : (t : ℕ) (s : Instruction) (f : Option ℕ) (c : ℕ) (n r : List ℕ) → hasMoved (answerOf (done t s f c n r)) ≡ true
 unfolding done answerOf
-done-moves t s f c n r = effect-moves (operationAt (s .operation)) _ _ _ f _ c
+done-moves t s f c n r = has-moved (operationAt (s .operation)) _ _ _ f _ c
 
 replied-moves : (t : ℕ) (s : Instruction) (a : Answer) (n m r : List ℕ) → hasMoved (answerOf (replied t s (replyOf a) n m r)) ≡ moves a
 unfolding replied replyOf moves
@@ -181,29 +161,24 @@ replied-moves t s (Refused k) n m r = turn (eqb k 7)
     turn true = unfold pick in done-moves t s none 0 n r
     turn false = unfold pick in unfold answerOf in unfold hasMoved in refl
 
-module _ (j m r : List ℕ) (t : ℕ) (big : size m ≡ WORDS) (ok : rulesHold m ≡ true) where
-  core-tested : (o : CoreOutcome) → coreTested m o ≡ o
-  unfolding coreTested
-  core-tested o = pass _ (ap not (eq-eqb _ _ big)) (pass _ (ap not ok) refl)
-
-  called : (s : Instruction) (c : Call) (o : CoreOutcome) (b : Bool) → outcomeOf c m ≡ o → moves (coreAnswer o) ≡ b
-      → hasMoved (answerOf (makes t s (some c) m r)) ≡ b
-  unfolding makes
-  called s c o b e h = replied-moves t s _ _ m r ∙ ap (λ (x : CoreOutcome). moves (coreAnswer x)) e ∙ h
+module _ (j m r : List ℕ) (t : ℕ) where
+  called : (s : Instruction) (o : CoreOutcome) (b : Bool) → moves (coreAnswer o) ≡ b → hasMoved (answerOf (repliedTo t s o m r)) ≡ b
+  unfolding repliedTo coreAnswer
+  called s (answered a n) b h = replied-moves t s a n m r ∙ h
 
   made : (alive : unfinished m t ≡ true) (free : blocked m t ≡ false) (o : Operation) (x : ℕ) (s : Instruction)
       → hasMoved (answerOf (makes t s (callOf o j t x s) m r)) ≡ instructionMoves o j m t s
-  unfolding callOf instructionMoves outcomeOf pushOutcome spawnOutcome popOutcome testOutcome syncOutcome finishOutcome
-  made alive free return x s = called s _ _ _ (core-tested _) (finish-moves m t alive free)
-  made alive free push x s = called s _ _ _ (core-tested _) (push-moves m t alive free (s .which) _)
-  made alive free pushSum x s = called s _ _ _ (core-tested _) (push-moves m t alive free (s .which) _)
-  made alive free pop x s = called s _ _ _ (core-tested _) (pop-moves m t alive free (s .which))
-  made alive free goIfEmpty x s = called s _ _ _ (core-tested _) (test-moves m t alive free (s .which))
-  made alive free go x s = unfold makes in done-moves t s none 0 m r
-  made alive free goIfZero x s = unfold makes in done-moves t s none 0 m r
-  made alive free add x s = unfold makes in done-moves t s none 0 m r
-  made alive free spawn x s = called s _ _ _ (core-tested _) (spawn-moves m t alive free (rights j (s .which)))
-  made alive free sync x s = called s _ _ _ (core-tested _) (sync-moves m t alive free)
+  unfolding makes callOf coreOutcome instructionMoves
+  made alive free return x s = called s _ _ (finish-moves m t alive free)
+  made alive free push x s = called s _ _ (push-moves m t alive free (s .which) _)
+  made alive free pushSum x s = called s _ _ (push-moves m t alive free (s .which) _)
+  made alive free pop x s = called s _ _ (pop-moves m t alive free (s .which))
+  made alive free goIfEmpty x s = called s _ _ (test-moves m t alive free (s .which))
+  made alive free go x s = done-moves t s none 0 m r
+  made alive free goIfZero x s = done-moves t s none 0 m r
+  made alive free add x s = done-moves t s none 0 m r
+  made alive free spawn x s = called s _ _ (spawn-moves m t alive free (rights j (s .which)))
+  made alive free sync x s = called s _ _ (sync-moves m t alive free)
 
   pub step-moves : hasMoved (answerOf (stepTested j m r t)) ≡ stepMoves j m r t
   unfolding stepTested stepMoves

@@ -7,10 +7,16 @@ use lib.Dec.{eqb}
 use Rattle.words.specs.Words.{pick}
 use Rattle.answers.specs.declared.Answer.{Answer}
 use Rattle.answers.specs.declared.Answer.the-variants.{Moved, Empty, NotEmpty, Waits, Refused}
-use Rattle.answers.specs.Answers.{wordsOf, answerOf as coreAnswer}
-use Rattle.answers.specs.Calls.{Call, spawn-call, push-call, pop-call, test-call, sync-call, finish-call}
+use Rattle.answers.specs.Answers.{Outcome as CoreOutcome, outcome as answered}
+use Rattle.answers.specs.Calls.{Call, open-call, spawn-call, push-call, pop-call, test-call, sync-call, finish-call, left-call}
 use Rattle.calls.specs.Waits.{unfinished, blocked}
-use Rattle.calls.specs.Outcomes.{outcomeOf}
+use Rattle.calls.specs.Open.{openOutcome}
+use Rattle.calls.specs.Spawn.{spawnTested}
+use Rattle.calls.specs.Push.{pushTested}
+use Rattle.calls.specs.Find.{popTested, testTested}
+use Rattle.calls.specs.Sync.{syncTested}
+use Rattle.calls.specs.Finish.{finishTested}
+use Rattle.calls.specs.Left.{leftTested}
 use Rattle.job.specs.declared.Instruction.{Instruction}
 use Rattle.job.specs.Fields.{rights}
 use Rattle.job.specs.Operations.{Operation, return, push, pushSum, pop, goIfEmpty, go, goIfZero, add, spawn, sync, operationAt}
@@ -75,9 +81,23 @@ unfoldable pub replied : ℕ → Instruction → Reply → List ℕ → List ℕ
 replied t s (goes f c) n m r = done t s f c n r
 replied t s (stops a) n m r = outcome a m r
 
+-- The outcome of a core call behind the memory test, which the step has made itself. Opening and left are no calls of a task.
+unfoldable pub coreOutcome : Call → List ℕ → CoreOutcome
+coreOutcome (spawn-call t u) m = spawnTested m t u
+coreOutcome (push-call t q v) m = pushTested m t q v
+coreOutcome (pop-call t q) m = popTested m t q
+coreOutcome (test-call t q) m = testTested m t q
+coreOutcome (sync-call t) m = syncTested m t
+coreOutcome (finish-call t) m = finishTested m t
+coreOutcome (open-call l n) m = openOutcome m l n
+coreOutcome (left-call q i) m = leftTested m q i
+
+unfoldable pub repliedTo : ℕ → Instruction → CoreOutcome → List ℕ → List ℕ → Outcome
+repliedTo t s (answered a n) m r = replied t s (replyOf a) n m r
+
 -- with the core call, or without one
 unfoldable pub makes : ℕ → Instruction → Option Call → List ℕ → List ℕ → Outcome
-makes t s (some c) m r = replied t s (replyOf (coreAnswer (outcomeOf c m))) (wordsOf (outcomeOf c m)) m r
+makes t s (some c) m r = repliedTo t s (coreOutcome c m) m r
 makes t s none m r = done t s none 0 m r
 
 -- 4; "Every call of a task, any operation of a job too, waits while an older sibling is unfinished that shares a pop right

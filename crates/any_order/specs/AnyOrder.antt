@@ -1,0 +1,198 @@
+-- DEMAND 3, PROVED: any list of the runner's calls from a fresh opening agrees with the plain machine's run.
+use mathlib.Core.Path.{_≡_, refl, ap, sym, _∙_, subst}
+use mathlib.Core.Bool.{Bool, true, false, false≢true}
+use mathlib.Core.List.{List, [], _∷_, _++_, nil≢cons}
+use mathlib.Core.Logic.{_⊎_, inl, inr}
+use Prim.Native.Nat.{ℕ, _<_}
+use lib.ListN.{length, getElem?}
+use borrow.Author.Tests.{lt-leb}
+use Rattle.words.specs.Words.{pass}
+use Rattle.gaps.specs.Maps.{All}
+use Rattle.layout.specs.Layout.{WORDS}
+use Rattle.answers.specs.declared.Answer.{Answer}
+use Rattle.answers.specs.declared.Answer.the-variants.{Moved}
+use Rattle.answers.specs.Answers.{answerOf as coreAnswer}
+use Rattle.answers.specs.Calls.{left-call}
+use Rattle.calls.specs.Waits.{unfinished as unfinishedIn}
+use Rattle.calls.specs.Left.{leftOutcome}
+use Rattle.calls.specs.Outcomes.{outcomeOf}
+use Rattle.order.specs.Steps.{Name, Item as Mark}
+use Rattle.order.specs.Waits.{unfinished}
+use Rattle.order.specs.Finding.{leftOver}
+use Rattle.order.specs.Ordered.{leftAnswer, ordered}
+use Rattle.in_order.specs.Answered.{answered}
+use Rattle.in_order.specs.InOrder.{call-does}
+use Rattle.job.specs.Test.{jobAnswer}
+use Rattle.job.specs.Accepted.{Accepted, accepted}
+use Rattle.plain.specs.Machine.{Event, queue}
+use Rattle.plain.specs.Run.{queuesOf, stackOf, stepsOf, run, events, answersOf}
+use Rattle.exchange.specs.Line.{Item, value, spot, finished, NoSpot}
+use Rattle.job_line.specs.Agree.{moves-agree}
+use Rattle.job_line.specs.Answered.{log-length, answers-first, answers-all}
+use Rattle.job_line.specs.Front.{valuesOf}
+use Rattle.job_order.specs.Beside.{Numbered, unnumbered, standing, Beside}
+use Rattle.job_order.specs.Located.{topNumbered, On, stands-unfinished, unfinished-stands}
+use Rattle.job_order.specs.Points.{standing-append}
+use Rattle.job_order.specs.First.{never-blocked, never-parent, never-waits}
+use Rattle.job_order.specs.Left.{left-along}
+use Rattle.runner.specs.declared.StepAnswer.{StepAnswer}
+use Rattle.runner.specs.declared.StepAnswer.the-variants.{Waits, Refused}
+use Rattle.runner.specs.Answers.{hasMoved, Outcome, answerOf}
+use Rattle.runner.specs.Laws.{has-moved}
+use Rattle.any_order.specs.Statement.{Stand, stepped, afterCalls, fresh, stepAnswer, AllFinished, Agreed, Promise}
+use Rattle.any_order.specs.States.{state-unfinished, still}
+use Rattle.any_order.specs.Goes.{Waiting, for-sibling, for-child, for-queue, Stays, waits, eight, nine, Does, stays, goes}
+use Rattle.any_order.specs.Looking.{step-does}
+use Rattle.any_order.specs.Running.{Running}
+use Rattle.any_order.specs.Called.{stood, Called, absent, held, went, refused-four, called-by}
+use Rattle.any_order.specs.Fresh.{fresh-runs}
+
+-- a line on which nobody stands, or its first task
+data Front : List (Item Numbered) → Type 0 where
+  nobody : {l : List (Item Numbered)} → standing l ≡ [] → Front l
+  somebody : (a b : List (Item Numbered)) (n : Numbered) → standing a ≡ [] → Front (a ++ spot n ∷ b)
+
+front-past : (x : Item Numbered) {l : List (Item Numbered)} → ((k : List (Item Numbered)) → standing (x ∷ k) ≡ standing k) → Front l → Front (x ∷ l)
+front-past x f (nobody {l = l} h) = nobody {l = x ∷ l} (f l ∙ h)
+front-past x f (somebody a b n h) = somebody (x ∷ a) b n (f a ∙ h)
+
+front : (l : List (Item Numbered)) → Front l
+unfolding standing
+front [] = nobody refl
+front (value q v ∷ l) = front-past (value q v) (λ k. refl) (front l)
+front (spot n ∷ l) = somebody [] l n refl
+front (finished n ∷ l) = front-past (finished n) (λ k. refl) (front l)
+
+bare : (l : List (Item Numbered)) → standing l ≡ [] → All NoSpot (unnumbered l)
+unfolding standing unnumbered
+bare [] h = tt
+bare (value q v ∷ l) h = (tt, bare l h)
+bare (spot n ∷ l) h = absurd (nil≢cons (sym h))
+bare (finished n ∷ l) h = (tt, bare l h)
+
+module _ (j : List ℕ) (e : jobAnswer j ≡ Moved 0) where
+  -- ONE CALL
+  call : (s : Stand) (l : List (Item Numbered)) → Running j s l → (t : ℕ) → Called j e s l t
+  call s l run t = go (unfinished t (s .order)) refl
+    where
+      stands : (a b : List (Item Numbered)) (n : Numbered) → Running j s (a ++ spot n ∷ b) → Called j e s (a ++ spot n ∷ b) (n .number)
+      stands a b n r = called-by j e s a b n r (step-does j e (s .core) (s .runner) (s .order) a b n (r .state) (r .beside) (r .written) (stood j e r))
+
+      go : (d : Bool) → unfinished t (s .order) ≡ d → Called j e s l t
+      go false d = refused-four j e s l t run d
+      go true d =
+          let o = unfinished-stands j (run .beside) t d in
+          subst (Called j e s l) (o .number)
+          (subst (λ (k : List (Item Numbered)). Called j e s k (o .who .number)) (sym (o .here))
+          (stands (o .before) (o .behind) (o .who) (subst (Running j s) (o .here) run)))
+
+  -- A LIST OF CALLS
+  calls : (ts : List ℕ) (s : Stand) (l : List (Item Numbered)) → Running j s l → (k : List (Item Numbered)) × Running j (afterCalls j ts s) k
+  unfolding afterCalls
+  calls [] s l run = (l, run)
+  calls (t ∷ ts) s l run = go (calls ts (stepped j t s)) (call s l run t)
+    where
+      go : ((k : List (Item Numbered)) → Running j (stepped j t s) k → (i : List (Item Numbered)) × Running j (afterCalls j ts (stepped j t s)) i)
+          → Called j e s l t → (i : List (Item Numbered)) × Running j (afterCalls j ts (stepped j t s)) i
+      go rest (absent f a same) = rest l (subst (λ (x : Stand). Running j x l) (sym same) run)
+      go rest (held a b n x f g y z same) = rest l (subst (λ (x : Stand). Running j x l) (sym same) run)
+      go rest (went k m r) = rest k r
+
+  -- WHAT HOLDS OF A RUN UNDER WAY
+  module _ (s : Stand) (l : List (Item Numbered)) (run : Running j s l) where
+    -- a call that does not move
+    only : (t : ℕ) → hasMoved (stepAnswer j s t) ≡ false
+        → (stepAnswer j s t ≡ Waits) ⊎ ((stepAnswer j s t ≡ Refused 4) ⊎ ((stepAnswer j s t ≡ Refused 8) ⊎ (stepAnswer j s t ≡ Refused 9)))
+    only t no-move = go (call s l run t)
+      where
+        by : (n : Numbered) (x : StepAnswer) → Stays j (s .order) n x → stepAnswer j s t ≡ x
+            → (stepAnswer j s t ≡ Waits) ⊎ ((stepAnswer j s t ≡ Refused 4) ⊎ ((stepAnswer j s t ≡ Refused 8) ⊎ (stepAnswer j s t ≡ Refused 9)))
+        by n x (waits w) a = inl a
+        by n x eight a = inr (inr (inl a))
+        by n x nine a = inr (inr (inr a))
+
+        go : Called j e s l t → (stepAnswer j s t ≡ Waits) ⊎ ((stepAnswer j s t ≡ Refused 4) ⊎ ((stepAnswer j s t ≡ Refused 8) ⊎ (stepAnswer j s t ≡ Refused 9)))
+        go (absent f a same) = inr (inl a)
+        go (held a b n x f g y z same) = by n x y z
+        go (went k m r) = absurd (false≢true (sym no-move ∙ m))
+
+    -- the first task on the line
+    abbrev Ready : ℕ → Type 0
+    Ready t = (hasMoved (stepAnswer j s t) ≡ true) ⊎ ((stepAnswer j s t ≡ Refused 8) ⊎ (stepAnswer j s t ≡ Refused 9))
+
+    first-ready : (a b : List (Item Numbered)) (n : Numbered) → standing a ≡ [] → Running j s (a ++ spot n ∷ b) → Ready (n .number)
+    unfolding stepAnswer answerOf
+    first-ready a b n none r = go (step-does j e (s .core) (s .runner) (s .order) a b n (r .state) (r .beside) (r .written) (stood j e r))
+      where
+        there : unfinished (n .number) (s .order) ≡ true
+        there = stands-unfinished j a b n (r .beside)
+
+        never : Waiting j (s .order) n → ⊥
+        never w = waiting (still (s .core) (s .order) (r .state) (n .number) there .played) w
+          where
+            waiting : Rattle.order_waits.specs.Played.Played (s .order) → Waiting j (s .order) n → ⊥
+            waiting p (for-sibling d) = false≢true (sym (never-blocked j p a b n none (r .beside)) ∙ d)
+            waiting p (for-child d) = false≢true (sym (never-parent j p a b n none (r .beside)) ∙ d)
+            waiting p (for-queue q small may d) = never-waits j p a b n none (r .beside) q small may d
+
+        by : (x : StepAnswer) → Stays j (s .order) n x → stepAnswer j s (n .number) ≡ x → Ready (n .number)
+        by x (waits w) i = absurd (never w)
+        by x eight i = inr (inl i)
+        by x nine i = inr (inr i)
+
+        go : Does j (s .core) (s .runner) (s .order) a b n → Ready (n .number)
+        go (stays x y o) = by x y (unfold stepAnswer answerOf in ap answerOf o)
+        go (goes g) = inl (unfold stepAnswer answerOf Rattle.job_line.specs.Tasks.does in ap (λ (o : Outcome). hasMoved (answerOf o)) (g .outcome-is) ∙ has-moved _ _ _ _ (g .found) _ (g .new))
+
+    -- while a task is unfinished, the first on the line can move, or wants a record or a segment
+    some-ready : (t : ℕ) → unfinishedIn (s .core) t ≡ true → (u : ℕ) × (unfinishedIn (s .core) u ≡ true) × Ready u
+    some-ready t there =
+        let o = unfinished-stands j (run .beside) t (sym (state-unfinished (s .core) (s .order) (run .state) t) ∙ there) in
+        go l run o (front l)
+      where
+        go : (k : List (Item Numbered)) → Running j s k → On t k → Front k → (u : ℕ) × (unfinishedIn (s .core) u ≡ true) × Ready u
+        go k r o (somebody a b n none) =
+            (n .number, state-unfinished (s .core) (s .order) (r .state) (n .number) ∙ stands-unfinished j a b n (r .beside), first-ready a b n none r)
+        go k r o (nobody none) =
+            absurd (empty (standing (o .before)) (sym none ∙ ap standing (o .here) ∙ standing-append (o .before) (spot (o .who) ∷ o .behind)))
+          where
+            empty : (a : List Numbered) → [] ≡ a ++ standing (spot (o .who) ∷ o .behind) → ⊥
+            empty [] d = unfold standing in nil≢cons d
+            empty (x ∷ a) d = nil≢cons d
+
+    -- ONCE ALL HAVE FINISHED nobody stands on the line
+    all-gone : AllFinished s → All NoSpot (unnumbered l)
+    all-gone f = go l run (front l)
+      where
+        go : (k : List (Item Numbered)) → Running j s k → Front k → All NoSpot (unnumbered k)
+        go k r (nobody none) = bare k none
+        go k r (somebody a b n none) =
+            absurd (false≢true (sym (f (n .number)) ∙ state-unfinished (s .core) (s .order) (r .state) (n .number) ∙ stands-unfinished j a b n (r .beside)))
+
+    left-is : AllFinished s → (q i : ℕ) → q < 4 → coreAnswer (leftOutcome (s .core) q i) ≡ leftAnswer (getElem? (valuesOf q (unnumbered l)) i)
+    unfolding outcomeOf answered ordered
+    left-is f q i small =
+        call-does (left-call q i) (s .core) (s .order) (run .state) .answer
+        ∙ pass _ (lt-leb 4 q small) (pass _ (sym (state-unfinished (s .core) (s .order) (run .state) 0) ∙ f 0) (ap leftAnswer (left-along j (run .beside) q i small)))
+
+    -- with the plain machine, which ends after n steps
+    agreed : (n : ℕ) → stackOf (Rattle.plain.specs.Run.run n j) ≡ [] → Agreed j n s
+    agreed n end =
+        let acc = accepted j e in
+        let plain = moves-agree j acc n end (run .moves) in
+        record {
+          first = λ p.
+              let w = answers-first j acc n end (run .moves) p in
+              (w .0, w .1 ∙ ap (λ (es : List Event). answersOf p es ++ w .0) (run .log));
+          progress = some-ready;
+          others = only;
+          all = λ f p. ap (answersOf p) (sym (run .log)) ∙ answers-all j acc n end (run .moves) (all-gone f) p;
+          left = λ f q i small. left-is f q i small ∙ ap (λ (vs : List ℕ). leftAnswer (getElem? vs i)) (plain .left (all-gone f) q small);
+          moves = λ f. ap length (sym (run .log)) ∙ log-length j (run .moves) ∙ plain .all-moved (all-gone f);
+        }
+
+-- THE PROMISE HOLDS.
+pub any-order : Promise
+any-order j e n end w v sw sv ts =
+    let r = calls j e ts (fresh j w v) (spot topNumbered ∷ []) (fresh-runs j e w v sw sv) in
+    agreed j e (afterCalls j ts (fresh j w v)) (r .0) (r .1) n end

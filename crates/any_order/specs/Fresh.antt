@@ -1,0 +1,74 @@
+-- A FRESH OPENING of an accepted job: the core is opened, the top stands alone at its first instruction.
+use mathlib.Core.Path.{_≡_, refl, ap, sym, _∙_, subst}
+use mathlib.Core.Bool.{true}
+use mathlib.Core.List.{List, [], _∷_}
+use mathlib.Core.Logic.{_⊎_, inl, inr, ⊎-elim}
+use Prim.Native.Nat.{ℕ, _+_, _*_, _<_, _≤_}
+use native.Mathlib.Omega.{arith}
+use lib.ListN.{length, replicate, getD, getD-replicate, length-replicate, List·getD-eq-default}
+use Rattle.words.specs.Words.{load, size, pick, both}
+use Rattle.lists.specs.Tests.{upto, upto-says}
+use Rattle.layout.specs.Layout.{WORDS}
+use Rattle.rules.specs.Test.{within, inRange}
+use Rattle.meaning.specs.Ring.{below?}
+use Rattle.answers.specs.declared.Answer.the-variants.{Moved}
+use Rattle.order.specs.Steps.{begin}
+use Rattle.represents_spawn.specs.Open.{open-represents}
+use Rattle.job.specs.Fields.{segmentLength}
+use Rattle.job.specs.Test.{jobAnswer}
+use Rattle.job.specs.Accepted.{Accepted, accepted}
+use Rattle.exchange.specs.Line.{Item, spot}
+use Rattle.exchange.specs.Agreement.{Moves}
+use Rattle.job_order.specs.Beside.{Numbered, unnumbered, standing}
+use Rattle.job_order.specs.Located.{topNumbered, begins}
+use Rattle.runner.specs.Words.{RUNNER, procedureOf, positionOf, registerOf}
+use Rattle.runner.specs.Answers.{Outcome, outcome, coreOf, runnerOf}
+use Rattle.runner.specs.Open.{segmentsFor, jobOpened, openOutcome}
+use Rattle.any_order.specs.Statement.{Stand, fresh}
+use Rattle.any_order.specs.Written.{Words, Written}
+use Rattle.any_order.specs.Tested.{job-passes}
+use Rattle.any_order.specs.Running.{Running}
+
+-- "segments the smaller of 256 and 8,192 divided by L" are in range for every L from 1 to 64
+ranges : upto (λ l. inRange l (segmentsFor l)) 64 1 ≡ true
+unfolding upto both pick inRange within segmentsFor
+ranges = refl
+
+pub in-range : (l : ℕ) → 1 ≤ l → l ≤ 64 → inRange l (segmentsFor l) ≡ true
+in-range l a b = upto-says (λ l. inRange l (segmentsFor l)) 64 1 ranges l a (omega (arith, b))
+
+no-word : (a : ℕ) → load (replicate RUNNER 0) a ≡ 0
+unfolding load
+no-word a = ⊎-elim (λ l. getD-replicate RUNNER a 0 0 l) (λ l. List·getD-eq-default (replicate RUNNER 0) 0 (subst (λ (k : ℕ). k ≤ a) (sym (length-replicate {A = ℕ} RUNNER 0)) l)) (below? a RUNNER)
+
+zeros : (t : ℕ) → Words (replicate RUNNER 0) t 0 0 0
+unfolding procedureOf positionOf registerOf
+zeros t = record { procedure = no-word (t * 3); position = no-word (t * 3 + 1); register = no-word (t * 3 + 2) }
+
+module _ (j : List ℕ) (e : jobAnswer j ≡ Moved 0) (w v : List ℕ) (sw : size w ≡ WORDS) (sv : size v ≡ RUNNER) where
+  opened-is : openOutcome j w v ≡ jobOpened j
+  unfolding openOutcome
+  opened-is = job-passes j w v e sw sv (jobOpened j)
+
+  -- the run as it begins
+  abbrev after : Outcome → Stand
+  after o = record { core = coreOf o; runner = runnerOf o; order = begin; events = [] }
+
+  pub fresh-runs : Running j (fresh j w v) (spot topNumbered ∷ [])
+  unfolding fresh
+  fresh-runs = subst (λ (o : Outcome). Running j (after o) (spot topNumbered ∷ [])) (sym opened-is) begun
+    where
+      acc : Accepted j
+      acc = accepted j e
+
+      begun : Running j (after (jobOpened j)) (spot topNumbered ∷ [])
+      begun =
+          unfold jobOpened coreOf runnerOf standing unnumbered size in
+          record {
+            state = inl (open-represents (segmentLength j) (segmentsFor (segmentLength j)) (in-range (segmentLength j) (acc .segmentSome) (acc .segmentFew)));
+            beside = begins j acc;
+            written = record { sized = length-replicate {A = ℕ} RUNNER 0; held = (record { small = omega arith; words = zeros 0 }, tt); free = λ t o. zeros t };
+            count = 0;
+            moves = Moves.none;
+            log = refl;
+          }

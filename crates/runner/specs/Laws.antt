@@ -1,0 +1,95 @@
+-- Laws of a step: it answers a refusal or a wait exactly where it changes nothing, and what it does for tasks and registers.
+use mathlib.Core.Path.{_≡_, refl, ap, sym, _∙_}
+use mathlib.Core.Bool.{Bool, true, false, not, false≢true}
+use mathlib.Core.List.{List}
+use mathlib.Core.Option.{Option, none, some}
+use Prim.Native.Nat.{ℕ, _+_}
+use Rattle.words.specs.Words.{pick, pass, halt}
+use Rattle.answers.specs.declared.Answer.the-variants.{Waits}
+use Rattle.answers.specs.Answers.{Outcome as CoreOutcome, outcome as answered}
+use Rattle.answers.specs.Calls.{Call}
+use Rattle.calls.specs.Waits.{unfinished, blocked}
+use Rattle.job.specs.declared.Instruction.{Instruction}
+use Rattle.job.specs.Operations.{Operation, return, push, pushSum, pop, goIfEmpty, go, goIfZero, add, spawn, sync, operationAt, rowOf, operationOf}
+use Rattle.job.specs.Effects.{sum, effect}
+use Rattle.runner.specs.declared.StepAnswer.the-variants.{Spawned, Waits as Later}
+use Rattle.runner.specs.Words.{procedureOf, positionOf, registerOf, put, instructionFor}
+use Rattle.runner.specs.Answers.{answerWith, hasMoved, Outcome, outcome, answerOf, coreOf, runnerOf}
+use Rattle.runner.specs.Rules.{refused, jobTested, tested}
+use Rattle.runner.specs.Step.{callOf, Reply, goes, stops, replyOf, runnerAfter, done, replied, coreOutcome, repliedTo, makes, stepTested, stepOutcome}
+
+-- a step that goes on has moved
+pub has-moved : (o : Operation) (p x y : ℕ) (f : Option ℕ) (v c : ℕ) → hasMoved (answerWith (effect o p x y f .word) v c) ≡ true
+unfolding hasMoved answerWith effect
+has-moved return p x y f v c = refl
+has-moved push p x y f v c = refl
+has-moved pushSum p x y f v c = refl
+has-moved pop p x y none v c = refl
+has-moved pop p x y (some w) v c = refl
+has-moved goIfEmpty p x y none v c = refl
+has-moved goIfEmpty p x y (some w) v c = refl
+has-moved go p x y f v c = refl
+has-moved goIfZero p x y f v c = refl
+has-moved add p x y f v c = refl
+has-moved spawn p x y f v c = refl
+has-moved sync p x y f v c = refl
+
+-- an outcome that has moved, or has left both memories as they were
+abbrev Fair : List ℕ → List ℕ → Outcome → Type 0
+Fair m r (outcome a n s) = hasMoved a ≡ false → (n ≡ m) × (s ≡ r)
+
+module _ (m r : List ℕ) where
+  choice : (b : Bool) (x y : Outcome) → Fair m r x → Fair m r y → Fair m r (pick b x y)
+  unfolding pick
+  choice true x y f g = f
+  choice false x y f g = g
+
+  done-fair : (t : ℕ) (s : Instruction) (f : Option ℕ) (c : ℕ) (n : List ℕ) → Fair m r (done t s f c n r)
+  unfolding done
+  done-fair t s f c n e = absurd (false≢true (sym e ∙ has-moved (operationAt (s .operation)) (positionOf r t) (registerOf r t) (s .operand) f _ c))
+
+  replied-fair : (t : ℕ) (s : Instruction) (y : Reply) (n : List ℕ) → Fair m r (replied t s y n m r)
+  unfolding replied
+  replied-fair t s (goes f c) n = done-fair t s f c n
+  replied-fair t s (stops a) n = λ e. (refl, refl)
+
+  makes-fair : (t : ℕ) (s : Instruction) (c : Option Call) → Fair m r (makes t s c m r)
+  unfolding makes
+  makes-fair t s none = done-fair t s none 0 m
+  makes-fair t s (some c) = go (coreOutcome c m)
+    where
+      go : (o : CoreOutcome) → Fair m r (repliedTo t s o m r)
+      go (answered a n) = unfold repliedTo in replied-fair t s (replyOf a) n
+
+  fair-says : (o : Outcome) → Fair m r o → hasMoved (answerOf o) ≡ false → (coreOf o ≡ m) × (runnerOf o ≡ r)
+  unfolding answerOf coreOf runnerOf
+  fair-says (outcome a n s) f e = f e
+
+  -- "no refused or waiting call changes a word"
+  pub step-keeps : (j : List ℕ) (t : ℕ) → hasMoved (answerOf (stepOutcome j m r t)) ≡ false → (coreOf (stepOutcome j m r t) ≡ m) × (runnerOf (stepOutcome j m r t) ≡ r)
+  unfolding stepOutcome tested jobTested refused stepTested
+  step-keeps j t =
+      fair-says _
+      (choice _ _ _ same (choice _ _ _ same (choice _ _ _ same (choice _ _ _ same (choice _ _ _ same (choice _ _ _ same
+      (choice _ _ _ same (choice _ _ _ same (makes-fair t (instructionFor j r t) _)))))))))
+    where
+      same : {A : Type 0} → A → (m ≡ m) × (r ≡ r)
+      same x = (refl, refl)
+
+  -- A TASK THAT AN OLDER SIBLING BLOCKS WAITS, whatever its operation.
+  pub blocked-waits : (j : List ℕ) (t : ℕ) → unfinished m t ≡ true → blocked m t ≡ true → stepTested j m r t ≡ outcome Later m r
+  unfolding stepTested
+  blocked-waits j t u b = pass _ (ap not u) (halt _ _ b)
+
+  -- a core call that waits makes the step wait
+  pub call-waits : (t : ℕ) (s : Instruction) (c : Call) (n : List ℕ) → coreOutcome c m ≡ answered Waits n → makes t s (some c) m r ≡ outcome Later m r
+  unfolding makes repliedTo replyOf replied
+  call-waits t s c n e = ap (λ (o : CoreOutcome). repliedTo t s o m r) e
+
+  -- A SPAWN answers the child's number, which no register takes: the spawner keeps its own, the child's is the spawner's plus
+  -- operand.
+  pub spawn-leaves : (t w x c : ℕ) (n : List ℕ) → let s : Instruction = record { operation = 8; which = w; operand = x } in
+      done t s none c n r
+      ≡ outcome (Spawned c) n (put (put r t (procedureOf r t) (positionOf r t + 1) (registerOf r t)) c w 0 (sum (registerOf r t) x))
+  unfolding done operationAt operationOf rowOf effect answerWith runnerAfter
+  spawn-leaves t w x c n = refl

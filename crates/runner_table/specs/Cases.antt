@@ -1,0 +1,41 @@
+-- Cases of the runner, each established by computation.
+use mathlib.Core.Path.{_≡_, refl}
+use mathlib.Core.Bool.{true}
+use mathlib.Core.List.{List, [], _∷_}
+use Prim.Native.Nat.{ℕ}
+use Rattle.answers.specs.declared.Answer.the-variants.{Moved as Gives, Refused as NoMore}
+use Rattle.job.specs.Examples.{head, entry, ins, fullRun, wrappedSpawn}
+use Rattle.runner.specs.declared.StepAnswer.the-variants.{Spawned, Pushed, Took, Finished, Moved, Empty, Waits, Refused}
+use Rattle.runner_table.specs.Table.{step, left, lent, lentRunner, right}
+
+-- Four poppers of queue 0, each blocked by those before it: the first tests and pops an empty queue, the others begin with
+-- operations 7, 6 and 5.
+abbrev pub blockedJob : List ℕ
+blockedJob =
+    head 5 1
+    (entry 34 6 255 (entry 70 3 2 (entry 88 2 2 (entry 100 2 2 (entry 112 2 2
+    (ins 8 1 0 (ins 8 2 0 (ins 8 3 0 (ins 8 4 0 (ins 9 0 0 (ins 0 0 0
+    (ins 4 0 1 (ins 3 0 0 (ins 0 0 0
+    (ins 7 0 3 (ins 0 0 0
+    (ins 6 0 1 (ins 0 0 0
+    (ins 5 0 1 (ins 0 0 0 []))))))))))))))))))))
+
+-- "A run in full": step 5 waits, step 7 takes 10
+pub full-run : right fullRun
+    (step 0 (Spawned 1) ∷ step 0 (Spawned 2) ∷ step 0 (Spawned 3) ∷ step 3 (Pushed 20) ∷ step 2 Waits ∷ step 1 (Pushed 10) ∷ step 2 (Took 10)
+    ∷ step 1 Finished ∷ step 2 Finished ∷ step 3 Finished ∷ step 0 Moved ∷ step 0 Finished ∷ left 0 0 (Gives 20) ∷ left 0 1 (NoMore 7) ∷ [])
+    lent lentRunner ≡ true
+unfolding right
+full-run = refl
+
+-- "Every call of a task, any operation of a job too, waits while an older sibling is unfinished that shares a pop right"
+pub blocked : right blockedJob
+    (step 0 (Spawned 1) ∷ step 0 (Spawned 2) ∷ step 0 (Spawned 3) ∷ step 0 (Spawned 4) ∷ step 2 Waits ∷ step 3 Waits ∷ step 4 Waits ∷ step 1 Empty ∷ step 1 Empty ∷ [])
+    lent lentRunner ≡ true
+unfolding right
+blocked = refl
+
+-- "Register 4,294,967,295 plus 1 is 0", for the child's register; the spawner keeps its own
+pub wrapped : right wrappedSpawn (step 0 Moved ∷ step 0 (Spawned 1) ∷ step 0 (Pushed 4294967295) ∷ step 1 (Pushed 0) ∷ []) lent lentRunner ≡ true
+unfolding right
+wrapped = refl

@@ -1,0 +1,69 @@
+-- Runs of jobs, tried on the outcomes of the runner's calls: each call with the answer that it must get.
+use mathlib.Core.Bool.{Bool, true, false}
+use mathlib.Core.List.{List, [], _∷_}
+use Prim.Native.Nat.{ℕ}
+use lib.Dec.{eqb}
+use lib.ListN.{replicate}
+use Rattle.words.specs.Words.{load, store, size, pick, both, either}
+use Rattle.words.specs.Blocks.{storeAll, rows}
+use Rattle.lists.specs.Counting.{one, occurrences}
+use Rattle.lists.specs.Tests.{each, upto, eachWord}
+use Rattle.lists.specs.Distinct.{fresh, distinct}
+use Rattle.layout.specs.Layout.{WORDS, address, read, write, recordOf}
+use Rattle.answers.specs.declared.Answer.{Answer}
+use Rattle.answers.specs.Answers.{answerOf as coreAnswer, wordsOf, statusOf as coreStatus, valueOf as coreValue, sameAnswer as sameLeft}
+use Rattle.tree.specs.Rights.{bits, pushes, pops, uses, eachQueue, someQueue, sharesPop, subset}
+use Rattle.tree.specs.Tour.{leaving, entering, after, tour, met, seek, sibling, oldest}
+use Rattle.rules.specs.Contents.{segmentOf, tables, look, scan, word, part, locals, heads, tails, owners}
+use Rattle.rules.specs.Test.{within, inRange, topTest, idleTest, kin, linkTest, treeTest, viewWord, viewsTest, marked, passed, passedAt, orderAt, orderOf, orderTest, ownersTest, segmentTest, chain, chains, heldTest, viewTests, test, rulesHold}
+use Rattle.calls.specs.Open.{down, stacked, segmented, topped, opened}
+use Rattle.calls.specs.Segments.{place, valueAt, stored, dropped, noneFree, nextFree, taken, released, indexOf, headIndex, linkedBy, renamed, linked}
+use Rattle.calls.specs.Views.{viewOf, isEmpty, headOf, tailOf, reducible, frees, behind, reduced, setView, joined, merged, taskAt, kindAt, takesPart, standsAt, justBefore, returnedTo}
+use Rattle.calls.specs.Waits.{tested as coreTested, rightsOf, unfinished, blocked, childPops, hasChild, pusherBefore}
+use Rattle.calls.specs.Spawn.{forQueues, passedUser, passedQueue, keptUser, keptQueue, childViews, passedOn, childMade, spawned, spawnTested}
+use Rattle.calls.specs.Push.{pushedApart, pushedBehind, pushed, pushTested}
+use Rattle.calls.specs.Find.{hasValue, finding, popped, popGives, testGives, popAllowed, popTested, testTested}
+use Rattle.calls.specs.Sync.{syncs, syncedQueue, synced, whenReduced, syncTested}
+use Rattle.calls.specs.Finish.{returned, finishes, viewsReturned, heir, queueReturned, finishedQueue, unlinked, recordFreed, finished, topFinished, finishTested}
+use Rattle.calls.specs.Left.{queued, leftTested, leftOutcome}
+use Rattle.job.specs.Fields.{bytes2, bytes4, procedures, segmentLength, offset, count, rights, reserved, instructionFrom, instructionAt}
+use Rattle.job.specs.Operations.{rowOf, operationOf, operationAt}
+use Rattle.job.specs.Effects.{sum, effect}
+use Rattle.job.specs.Test.{between, headHolds, refusal10, entryHolds, entriesHold, contentsHold, refusal11, whichHolds, operandHolds, fitting, instructionHolds, lastHolds, bodyHolds, refusal12}
+use Rattle.runner.specs.declared.StepAnswer.{StepAnswer}
+use Rattle.runner.specs.Words.{RUNNER, procedureOf, positionOf, registerOf, put, instructionFor}
+use Rattle.runner.specs.Answers.{answerWith, valueOf, statusOf, Outcome, outcome}
+use Rattle.runner.specs.Rules.{taskHolds, zeros, recordHolds, runnerHolds, refused, jobTested, tested}
+use Rattle.runner.specs.Open.{segmentsFor, jobOpened, openOutcome}
+use Rattle.runner.specs.Step.{callOf, replyOf, runnerAfter, done, replied, coreOutcome, repliedTo, makes, stepTested, stepOutcome}
+
+-- a step of a task with its answer; what left gives for a queue and an index
+pub data Row : Type 0 where
+  step : ℕ → StepAnswer → Row
+  left : ℕ → ℕ → Answer → Row
+
+-- two answers have the same number and the same value
+unfoldable pub sameAnswer : StepAnswer → StepAnswer → Bool
+sameAnswer a b = both (eqb (statusOf a) (statusOf b)) (eqb (valueOf a) (valueOf b))
+
+-- every call of a run of job j gets its answer, where the first finds the core's words m and the runner's words r
+unfoldable pub ran : List ℕ → List Row → List ℕ → List ℕ → Bool
+ran j [] m r = true
+ran j (step t a ∷ rest) m r = elim (stepOutcome j m r t) [ outcome b n s ↦ let more = ran j rest n s in both (sameAnswer b a) more ]
+ran j (left q i a ∷ rest) m r = let more = ran j rest m r in both (sameLeft (coreAnswer (leftOutcome m q i)) a) more
+
+-- from a fresh opening, which finds the words m and r
+unfoldable pub ranFresh : List ℕ → List Row → List ℕ → List ℕ → Bool
+ranFresh j rows m r = elim (openOutcome j m r) [ outcome b n s ↦ ran j rows n s ]
+
+-- opening may find any words
+abbrev pub lent : List ℕ
+lent = replicate WORDS 7
+
+abbrev pub lentRunner : List ℕ
+lentRunner = replicate RUNNER 7
+
+-- the same, with every definition open, so that it can be computed
+unfoldable pub right : List ℕ → List Row → List ℕ → List ℕ → Bool
+unfolding load store size pick both either storeAll rows one occurrences each upto eachWord fresh distinct address read write recordOf coreAnswer wordsOf coreStatus coreValue sameLeft bits pushes pops uses eachQueue someQueue sharesPop subset leaving entering after tour met seek sibling oldest segmentOf tables look scan word part locals heads tails owners within inRange topTest idleTest kin linkTest treeTest viewWord viewsTest marked passed passedAt orderAt orderOf orderTest ownersTest segmentTest chain chains heldTest viewTests test rulesHold down stacked segmented topped opened place valueAt stored dropped noneFree nextFree taken released indexOf headIndex linkedBy renamed linked viewOf isEmpty headOf tailOf reducible frees behind reduced setView joined merged taskAt kindAt takesPart standsAt justBefore returnedTo coreTested rightsOf unfinished blocked childPops hasChild pusherBefore forQueues passedUser passedQueue keptUser keptQueue childViews passedOn childMade spawned spawnTested pushedApart pushedBehind pushed pushTested hasValue finding popped popGives testGives popAllowed popTested testTested syncs syncedQueue synced whenReduced syncTested returned finishes viewsReturned heir queueReturned finishedQueue unlinked recordFreed finished topFinished finishTested queued leftTested leftOutcome bytes2 bytes4 procedures segmentLength offset count rights reserved instructionFrom instructionAt rowOf operationOf operationAt sum effect between headHolds refusal10 entryHolds entriesHold contentsHold refusal11 whichHolds operandHolds fitting instructionHolds lastHolds bodyHolds refusal12 procedureOf positionOf registerOf put instructionFor answerWith valueOf statusOf taskHolds zeros recordHolds runnerHolds refused jobTested tested segmentsFor jobOpened openOutcome callOf replyOf runnerAfter done replied coreOutcome repliedTo makes stepTested stepOutcome sameAnswer ran ranFresh
+right j rows m r = ranFresh j rows m r

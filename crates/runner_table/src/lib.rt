@@ -1,0 +1,1 @@
+// Runs of jobs, computed on the runner's outcomes. Laws only.

@@ -1,0 +1,100 @@
+-- What the pieces of a function come to, over plain variables.
+use mathlib.Core.Path.{_≡_, refl, ap, ap₂, sym, _∙_}
+use mathlib.Core.Bool.{Bool, true, false, not}
+use mathlib.Core.List.{List, [], _∷_}
+use Prim.Native.Nat.{ℕ, suc, _+_, _*_, _<_, _≤_}
+use native.Mathlib.Omega.{arith}
+use lib.Dec.{ltb, eqb}
+use lib.ListN.{length}
+use borrow.Author.Tests.{lt-ltb, le-ltb, eq-eqb, ne-eqb}
+use Rattle.words.specs.Words.{store, size, halt, pass}
+use Rattle.words.specs.Blocks.{store-none, store-more}
+use Rattle.layout.specs.Layout.{task, read}
+use Rattle.answers.specs.declared.Answer.{Answer}
+use Rattle.calls.specs.Waits.{rightsOf, unfinished}
+use Rattle.job.specs.declared.Instruction.{Instruction}
+use Rattle.job.specs.Fields.{procedures, count, rights, instructionAt}
+use Rattle.job.specs.Test.{jobAnswer}
+use Rattle.runner.specs.Words.{RUNNER, procedureOf, positionOf, registerOf, put, instructionFor}
+use Rattle.runner.specs.Rules.{taskHolds, zeros, recordHolds}
+use Rattle.walks.proofs.Glue.{both-so, both-no}
+use Rattle.runner_words.specs.Refusals.{refusalIn, jobRefusal}
+
+-- three stores in a row
+pub three : (m m1 m2 m3 : List ℕ) (t x y z : ℕ) → m1 ≡ store m (t * 3) x → m2 ≡ store m1 (t * 3 + 1) y → m3 ≡ store m2 (t * 3 + 2) z → m3 ≡ put m t x y z
+unfolding put
+three m m1 m2 m3 t x y z e1 e2 e3 =
+    e3
+    ∙ ap₂ (λ (l : List ℕ) (a : ℕ). store l a z)
+    (e2 ∙ ap₂ (λ (l : List ℕ) (a : ℕ). store l a y) e1 (let w : t * 3 + 1 ≡ suc (t * 3) = omega arith in w))
+    (let w : t * 3 + 2 ≡ suc (suc (t * 3)) = omega arith in w)
+    ∙ sym
+    (store-more m (t * 3) x (y ∷ z ∷ [])
+    ∙ store-more _ (suc (t * 3)) y (z ∷ [])
+    ∙ store-more _ (suc (suc (t * 3))) z []
+    ∙ store-none _ _)
+
+pub instruction-for : (j r : List ℕ) (t : ℕ) {p i : ℕ} {s : Instruction} → p ≡ procedureOf r t → i ≡ positionOf r t → s ≡ instructionAt j p i → s ≡ instructionFor j r t
+unfolding instructionFor
+instruction-for j r t ep ei e = e ∙ ap₂ (instructionAt j) ep ei
+
+-- AN UNFINISHED TASK
+module _ (j m r : List ℕ) (t : ℕ) {p n : ℕ} (ep : p ≡ procedureOf r t) (en : n ≡ procedures j) where
+  abbrev exists : ltb (procedureOf r t) (procedures j) ≡ ltb p n
+  exists = ap₂ ltb (sym ep) (sym en)
+
+  pub no-procedure : n ≤ p → false ≡ taskHolds j m r t
+  unfolding taskHolds
+  no-procedure h = both-no _ (exists ∙ le-ltb p n h)
+
+  module _ (h : p < n) {i c : ℕ} (ei : i ≡ positionOf r t) (ec : c ≡ count j p) where
+    abbrev inside : ltb (positionOf r t) (count j (procedureOf r t)) ≡ ltb i c
+    inside = ap₂ ltb (sym ei) (ap (count j) (sym ep) ∙ sym ec)
+
+    pub no-instruction : c ≤ i → false ≡ taskHolds j m r t
+    unfolding taskHolds
+    no-instruction g = both-so (exists ∙ lt-ltb p n h) (both-no _ (inside ∙ le-ltb i c g))
+
+    pub same-rights : i < c → {a b : ℕ} → a ≡ read m (task t 1) → b ≡ rights j p → eqb a b ≡ taskHolds j m r t
+    unfolding taskHolds rightsOf
+    same-rights g ea eb =
+        both-so (exists ∙ lt-ltb p n h) (both-so (inside ∙ lt-ltb i c g) (ap₂ eqb ea (eb ∙ ap (rights j) ep)))
+
+-- A RECORD THAT IS NOT IN USE
+module _ (r : List ℕ) (t : ℕ) {p : ℕ} (ep : p ≡ procedureOf r t) where
+  pub some-procedure : (p ≡ 0 → ⊥) → false ≡ zeros r t
+  unfolding zeros
+  some-procedure n = both-no _ (ne-eqb _ _ (λ e. n (ep ∙ e)))
+
+  module _ (zp : p ≡ 0) {i : ℕ} (ei : i ≡ positionOf r t) where
+    pub some-position : (i ≡ 0 → ⊥) → false ≡ zeros r t
+    unfolding zeros
+    some-position n = both-so (eq-eqb _ _ (sym ep ∙ zp)) (both-no _ (ne-eqb _ _ (λ e. n (ei ∙ e))))
+
+    pub all-zero : i ≡ 0 → {x : ℕ} → x ≡ registerOf r t → eqb x 0 ≡ zeros r t
+    unfolding zeros
+    all-zero z ex = both-so (eq-eqb _ _ (sym ep ∙ zp)) (both-so (eq-eqb _ _ (sym ei ∙ z)) (ap (λ (x : ℕ). eqb x 0) ex))
+
+module _ (j m r : List ℕ) (t : ℕ) {u x : Bool} (eu : u ≡ unfinished m t) where
+  pub in-use : u ≡ true → x ≡ taskHolds j m r t → x ≡ recordHolds j m r t
+  unfolding recordHolds
+  in-use h e = e ∙ sym (halt _ _ (sym eu ∙ h))
+
+  pub not-in-use : u ≡ false → x ≡ zeros r t → x ≡ recordHolds j m r t
+  unfolding recordHolds
+  not-in-use h e = e ∙ sym (pass _ (sym eu ∙ h) refl)
+
+-- THE FIRST REFUSALS
+module _ (j m r : List ℕ) where
+  pub other-core : (length m ≡ 16384 → ⊥) → 1 ≡ jobRefusal j m r
+  unfolding jobRefusal size
+  other-core n = sym (halt _ _ (ap not (ne-eqb _ _ n)))
+
+  module _ (em : length m ≡ 16384) where
+    pub other-runner : (length r ≡ RUNNER → ⊥) → 1 ≡ jobRefusal j m r
+    unfolding jobRefusal size
+    other-runner n = sym (pass _ (ap not (eq-eqb _ _ em)) (halt _ _ (ap not (ne-eqb _ _ n))))
+
+    pub job-says : length r ≡ RUNNER → {a : Answer} {k : ℕ} → a ≡ jobAnswer j → k ≡ refusalIn a → k ≡ jobRefusal j m r
+    unfolding jobRefusal size
+    job-says er ea e = e ∙ ap refusalIn ea ∙ sym (pass _ (ap not (eq-eqb _ _ em)) (pass _ (ap not (eq-eqb _ _ er)) refl))

@@ -1,0 +1,20 @@
+use Rattle.runner.specs.Words.{procedureOf}
+use borrow.Author.Needs.{needs}
+use Rattle.runner_words.proofs.procedure.Statement.{statement}
+use Rattle.runner_words.proofs.procedure.Tie as tie
+use Rattle.runner_words.proofs.procedure.Reads as reads
+use Rattle.runner_words.proofs.procedure.Lts as lts
+use Rattle.memory.proofs.get.Reads as get-reads
+
+mul-get : tie.Need-mul-get
+mul-get c = search needs
+
+get-requires : tie.Need-get-requires
+get-requires c κs = search needs
+
+returns : tie.Need-returns
+unfolding procedureOf
+returns c = c .get .ensures
+
+pub procedure-spec : {M : Type 1} → statement M
+procedure-spec = tie.close (tie.spec mul-get get-requires returns)

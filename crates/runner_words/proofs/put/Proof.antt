@@ -1,0 +1,44 @@
+use Rattle.runner_words.proofs.Glue.{three}
+use borrow.Author.Needs.{needs}
+use Rattle.runner_words.proofs.put.Statement.{statement}
+use Rattle.runner_words.proofs.put.Tie as tie
+use Rattle.runner_words.proofs.put.Reads as reads
+use Rattle.runner_words.proofs.put.Lts as lts
+use Rattle.memory.proofs.put.Reads as put-reads
+
+mul-a : tie.Need-mul-a
+mul-a c = search needs
+
+put-requires : tie.Need-put-requires
+put-requires c κs = search needs
+
+add-put : tie.Need-add-put
+add-put c = search needs
+
+put-requires-2 : tie.Need-put-requires-2
+put-requires-2 c κs = search needs
+
+add-put-2 : tie.Need-add-put-2
+add-put-2 c = search needs
+
+put-requires-3 : tie.Need-put-requires-3
+put-requires-3 c κs = search needs
+
+same-length : tie.Need-same-length
+same-length c = search needs
+
+returns : tie.Need-returns
+returns c = three _ _ _ _ _ _ _ _ (c .before .before .before .before .before .before .before .before .before .before .put .ensures) (c .before .before .before .before .before .before .put2 .ensures) (c .before .before .put3 .ensures)
+
+pub put-spec : {M : Type 1} → statement M
+put-spec =
+    tie.close
+    (tie.spec
+    mul-a
+    put-requires
+    add-put
+    put-requires-2
+    add-put-2
+    put-requires-3
+    same-length
+    returns)

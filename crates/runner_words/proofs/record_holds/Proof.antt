@@ -1,0 +1,28 @@
+use Rattle.runner_words.proofs.Glue.{in-use, not-in-use}
+use borrow.Author.Needs.{needs}
+use Rattle.runner_words.proofs.record_holds.Statement.{statement}
+use Rattle.runner_words.proofs.record_holds.Tie as tie
+use Rattle.runner_words.proofs.record_holds.Reads as reads
+use Rattle.runner_words.proofs.record_holds.Lts as lts
+use Rattle.runner_words.proofs.task_holds.Reads as task-holds-reads
+use Rattle.runner_words.proofs.zeros.Reads as zeros-reads
+use Rattle.walks.proofs.unfinished.Reads as unfinished-reads
+
+unfinished-requires : tie.Need-unfinished-requires
+unfinished-requires c κs = search needs
+
+task-holds-requires : tie.Need-task-holds-requires
+task-holds-requires c κs = search needs
+
+zeros-requires : tie.Need-zeros-requires
+zeros-requires c κs = search needs
+
+returns : tie.Need-returns
+returns c = in-use _ _ _ _ (c .before .before .unfinished .ensures) (c .before .if1 .taken) (c .task-holds .ensures)
+
+returns-2 : tie.Need-returns-2
+returns-2 c = not-in-use _ _ _ _ (c .before .before .unfinished .ensures) (c .before .if1 .left) (c .zeros .ensures)
+
+pub record-holds-spec : {M : Type 1} → statement M
+record-holds-spec =
+    tie.close (tie.spec unfinished-requires task-holds-requires zeros-requires returns returns-2)

@@ -1,0 +1,56 @@
+use Rattle.runner_words.specs.Refusals.{refusalIn}
+use borrow.Author.Needs.{needs}
+use Rattle.runner_words.proofs.refusal_in.Statement.{statement}
+use Rattle.runner_words.proofs.refusal_in.Tie as tie
+use Rattle.runner_words.proofs.refusal_in.Reads as reads
+use Rattle.runner_words.proofs.refusal_in.Lts as lts
+
+enum-known-a : tie.Need-enum-known-a
+enum-known-a c = search needs
+
+enum-told : tie.Need-enum-told
+enum-told c = search needs
+
+enum-told-2 : tie.Need-enum-told-2
+enum-told-2 c = search needs
+
+enum-told-3 : tie.Need-enum-told-3
+enum-told-3 c = search needs
+
+enum-told-4 : tie.Need-enum-told-4
+enum-told-4 c = search needs
+
+returns : tie.Need-returns
+unfolding refusalIn
+returns c = search needs
+
+returns-2 : tie.Need-returns-2
+unfolding refusalIn
+returns-2 c = search needs
+
+returns-3 : tie.Need-returns-3
+unfolding refusalIn
+returns-3 c = search needs
+
+returns-4 : tie.Need-returns-4
+unfolding refusalIn
+returns-4 c = search needs
+
+returns-5 : tie.Need-returns-5
+unfolding refusalIn
+returns-5 c = search needs
+
+pub refusal-in-spec : {M : Type 1} → statement M
+refusal-in-spec =
+    tie.close
+    (tie.spec
+    enum-known-a
+    enum-told
+    enum-told-2
+    enum-told-3
+    enum-told-4
+    returns
+    returns-2
+    returns-3
+    returns-4
+    returns-5)

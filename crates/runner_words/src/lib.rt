@@ -1,0 +1,122 @@
+// The runner's words: reading and writing them, whether they keep their rules, and what every call of the runner tests first.
+// Every function is total: past the end a read gives 0 and a write does nothing.
+ghost use mathlib.Core.Path.{_≡_};
+ghost use Rattle.runner.specs.Words.{procedureOf, positionOf, registerOf, put, instructionFor};
+ghost use Rattle.runner.specs.Rules.{taskHolds, zeros, recordHolds, runnerHolds};
+ghost use Rattle.runner_words.specs.Refusals.{refusalIn, jobRefusal};
+use answers::Answer;
+use job::Instruction;
+
+// The procedure of task t.
+pub fn procedure(r: &[u32], t: u32) -> u32
+    ensures { λ p. ⌜ p ≡ procedureOf (now (r .entry)) t ⌝ }
+{
+    memory::get(r, t as usize * 3)
+}
+
+// The number of the instruction that task t is at.
+pub fn position(r: &[u32], t: u32) -> u32
+    ensures { λ i. ⌜ i ≡ positionOf (now (r .entry)) t ⌝ }
+{
+    memory::get(r, t as usize * 3 + 1)
+}
+
+pub fn register(r: &[u32], t: u32) -> u32
+    ensures { λ x. ⌜ x ≡ registerOf (now (r .entry)) t ⌝ }
+{
+    memory::get(r, t as usize * 3 + 2)
+}
+
+// The three words of task t.
+pub fn put(r: &mut [u32], t: u32, p: u32, i: u32, x: u32)
+    ensures { λ _. ⌜ now (r .exit) ≡ put (now (r .entry)) t p i x ⌝ }
+{
+    let a = t as usize * 3;
+    memory::put(r, a, p);
+    memory::put(r, a + 1, i);
+    memory::put(r, a + 2, x);
+}
+
+// The instruction that task t is at.
+pub fn instruction_for(job: &[u8], r: &[u32], t: u32) -> Instruction
+    ensures { λ s. ⌜ s ≡ instructionFor (now (job .entry)) (now (r .entry)) t ⌝ }
+{
+    job_fields::instruction_at(job, procedure(r, t), position(r, t))
+}
+
+// The words of an unfinished task: procedure and instruction exist, and the core's rights are the procedure's.
+fn task_holds(job: &[u8], m: &[u32], r: &[u32], t: u32) -> bool
+    ensures { λ b. ⌜ b ≡ taskHolds (now (job .entry)) (now (m .entry)) (now (r .entry)) t ⌝ }
+{
+    let p = procedure(r, t);
+    if p >= job_fields::procedures(job) {
+        return false;
+    }
+    if position(r, t) >= job_fields::count(job, p) {
+        return false;
+    }
+    memory::task(m, t, 1) == job_fields::rights(job, p)
+}
+
+// The words of a record that is not in use.
+fn zeros(r: &[u32], t: u32) -> bool
+    ensures { λ b. ⌜ b ≡ zeros (now (r .entry)) t ⌝ }
+{
+    if procedure(r, t) != 0 {
+        return false;
+    }
+    if position(r, t) != 0 {
+        return false;
+    }
+    register(r, t) == 0
+}
+
+fn record_holds(job: &[u8], m: &[u32], r: &[u32], t: u32) -> bool
+    ensures { λ b. ⌜ b ≡ recordHolds (now (job .entry)) (now (m .entry)) (now (r .entry)) t ⌝ }
+{
+    if walks::unfinished(m, t) {
+        task_holds(job, m, r, t)
+    } else {
+        zeros(r, t)
+    }
+}
+
+// The runner's part of the memory rules.
+pub fn holds(job: &[u8], m: &[u32], r: &[u32]) -> bool
+    ensures { λ b. ⌜ b ≡ runnerHolds (now (job .entry)) (now (m .entry)) (now (r .entry)) ⌝ }
+{
+    let mut t: u32 = 0;
+    while t < 128 {
+        if !record_holds(job, m, r, t) {
+            return false;
+        }
+        t += 1;
+    }
+    true
+}
+
+// The number of a refusal, 0 for any other answer.
+fn refusal_in(a: Answer) -> u32
+    ensures { λ k. ⌜ k ≡ refusalIn a ⌝ }
+{
+    match a {
+        Answer::Refused(k) => k,
+        Answer::Moved(_) => 0,
+        Answer::Empty => 0,
+        Answer::NotEmpty => 0,
+        Answer::Waits => 0,
+    }
+}
+
+// Why no call may be made: 1 for a length, 10, 11 or 12 for the job; 0 where none of these.
+pub fn refusal(job: &[u8], m: &[u32], r: &[u32]) -> u32
+    ensures { λ k. ⌜ k ≡ jobRefusal (now (job .entry)) (now (m .entry)) (now (r .entry)) ⌝ }
+{
+    if m.len() != 16384 {
+        return 1;
+    }
+    if r.len() != 384 {
+        return 1;
+    }
+    refusal_in(job_test::job_test(job))
+}
