@@ -119,11 +119,11 @@ count-is f =
     omega (arith, a, b, c, d, x, y, z)
 
 -- THE LOWEST
-one-true : {b : Bool} → b ≡ true → one b ≡ 1
+pub one-true : {b : Bool} → b ≡ true → one b ≡ 1
 unfolding one
 one-true e = halt _ _ e
 
-one-false : {b : Bool} → b ≡ false → one b ≡ 0
+pub one-false : {b : Bool} → b ≡ false → one b ≡ 0
 unfolding one
 one-false e = pass _ e refl
 
