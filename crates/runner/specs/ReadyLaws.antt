@@ -1,6 +1,6 @@
 -- What the words of the ready map say: each bit, the number of ready tasks, and the least of them.
-use mathlib.Core.Path.{_≡_, refl, ap, sym, _∙_, subst}
-use mathlib.Core.Bool.{Bool, true, false}
+use mathlib.Core.Path.{_≡_, refl, ap, sym, _∙_, subst, fun-ext}
+use mathlib.Core.Bool.{Bool, true, false, not, false≢true}
 use mathlib.Core.List.{List, [], _∷_}
 use mathlib.Core.Logic.{_⊎_, inl, inr, ⊎-elim}
 use Prim.Native.Nat.{ℕ, zero, suc, _+_, _*_, _-_, _/_, _%_, _^_, _<_, _≤_}
@@ -8,11 +8,15 @@ use native.Mathlib.Nat.{le-of-suc-le-suc, pow-suc, pow-succ', mul-assoc, div-div
 use native.Mathlib.Omega.{arith}
 use lib.Count.{ones, ones-cat, trailingZeros, under}
 use lib.Dec.{eqb, ltb}
-use borrow.Author.Tests.{eqb-true, eqb-false, ltb-true, ltb-false}
-use Rattle.words.specs.Words.{load, pick, pass, halt}
+use borrow.Author.Tests.{eq-eqb, eqb-true, eqb-false, ltb-true, ltb-false}
+use Rattle.words.specs.Words.{load, size, pick, pass, halt}
 use Rattle.lists.specs.Counting.{one, over, total, total-ext, equal?}
 use Rattle.layout.specs.Layout.{NONE}
-use Rattle.runner.specs.Ready.{readyBit, bitsFrom, wordsFor, lowestFrom, mapOf, readyMap}
+use Rattle.runner.specs.declared.StepAnswer.the-variants.{Moved, Refused}
+use Rattle.runner.specs.Answers.{hasMoved, Outcome, outcome, answerOf}
+use Rattle.runner.specs.Rules.{refused, jobTested, tested}
+use Rattle.runner.specs.Step.{stepTested, stepOutcome}
+use Rattle.runner.specs.Ready.{readyBit, bitsFrom, wordsFor, lowestFrom, mapOf, readyMap, noMap, testAnswer, mapped, readyOutcome}
 
 one-cases : (P : ℕ → Type 0) (b : Bool) → P 0 → P 1 → P (one b)
 unfolding one pick
@@ -269,3 +273,33 @@ module _ (j m r : List ℕ) where
   pub ready-lowest : Lowest (readyBit j m r) 0 (load (readyMap j m r) 5)
   unfolding readyMap mapOf load wordsFor
   ready-lowest = lowest-is (readyBit j m r)
+
+-- THE WORDS LENT get the map whatever the answer: where the map is refused, so is every step.
+-- A refusal has not moved: below it the two agree.
+rung : (b : Bool) (k : ℕ) (m r : List ℕ) (x y : Outcome) → (hasMoved (answerOf x) ≡ false → hasMoved (answerOf y) ≡ false)
+    → hasMoved (answerOf (pick b (outcome (Refused k) m r) x)) ≡ false → hasMoved (answerOf (pick b (outcome (Refused k) m r) y)) ≡ false
+unfolding pick hasMoved answerOf
+rung true k m r x y h e = refl
+rung false k m r x y h e = h e
+
+none-ready : mapOf (wordsFor (λ t. false)) ≡ noMap
+unfolding mapOf wordsFor bitsFrom total one pick over ones lowestFrom
+none-ready = refl
+
+module _ (j m r : List ℕ) where
+  refused-too : (o : Outcome) → hasMoved (testAnswer j m r) ≡ false → hasMoved (answerOf (tested j m r o)) ≡ false
+  unfolding testAnswer tested jobTested refused
+  refused-too o = rung _ 1 m r _ _ (rung _ 1 m r _ _ (rung _ 10 m r _ _ (rung _ 11 m r _ _ (rung _ 12 m r _ _ (rung _ 2 m r _ _ never)))))
+    where
+      never : hasMoved (answerOf (outcome Moved m r)) ≡ false → hasMoved (answerOf o) ≡ false
+      never e = unfold hasMoved in unfold answerOf in absurd (false≢true (sym e))
+
+  pub ready-words : (o : List ℕ) → size o ≡ 6 → readyOutcome j m r o ≡ mapped (testAnswer j m r) (readyMap j m r)
+  unfolding readyOutcome
+  ready-words o l = pass _ (ap not (eq-eqb _ _ l)) (ap (mapped (testAnswer j m r)) (go (hasMoved (testAnswer j m r)) refl))
+    where
+      go : (b : Bool) → hasMoved (testAnswer j m r) ≡ b → pick b (readyMap j m r) noMap ≡ readyMap j m r
+      go true e = halt _ _ refl
+      go false e =
+          unfold readyMap in unfold readyBit in unfold stepOutcome in
+          pass _ refl (sym none-ready ∙ ap (λ (f : ℕ → Bool). mapOf (wordsFor f)) (fun-ext (λ t. sym (refused-too (stepTested j m r t) e))))
