@@ -99,7 +99,7 @@ pub fn top_finished(m: &mut [u32])
     memory::set_task(m, 0, STATUS, FINISHED);
 }
 
-fn each_syncs(m: &[u32], t: u32) -> bool
+pub fn each_syncs(m: &[u32], t: u32) -> bool
     ensures { λ r. ⌜ r ≡ eachQueue (syncs (now (m .entry)) t) ⌝ }
 {
     if !views::syncs(m, t, 0) {
@@ -114,7 +114,7 @@ fn each_syncs(m: &[u32], t: u32) -> bool
     views::syncs(m, t, 3)
 }
 
-fn each_finishes(m: &[u32], t: u32) -> bool
+pub fn each_finishes(m: &[u32], t: u32) -> bool
     requires { ⌜ t < 128 ⌝ }
     ensures { λ r. ⌜ r ≡ eachQueue (finishes (now (m .entry)) t) ⌝ }
 {

@@ -14,7 +14,7 @@ ghost use Rattle.calls.specs.Waits.{unfinished};
 ghost use Rattle.calls.specs.Push.{pushedApart, pushedBehind, pushed, pushTested};
 
 // Which view stands at mark x of the tour.
-fn kind_at(x: u32) -> u32
+pub fn kind_at(x: u32) -> u32
     ensures { λ k. ⌜ k ≡ kindAt x ⌝ }
 {
     if x < 128 { 2 } else { 0 }

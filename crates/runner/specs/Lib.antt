@@ -5,3 +5,7 @@ pub mod Open
 pub mod Opens
 pub mod Step
 pub mod Laws
+pub mod Ready
+pub mod ReadyLaws
+pub mod Moves
+pub mod MovesLaws

@@ -1,0 +1,49 @@
+use mathlib.Core.Path.{_∙_, ap}
+use Rattle.runner.specs.Moves.{decided, findMoves}
+use Rattle.tree.specs.Rights.{pops}
+use Rattle.deciding.proofs.Glue.{no-queue, not-held, is-held}
+use borrow.Author.Needs.{needs}
+use Rattle.deciding.proofs.find_moves.Statement.{statement}
+use Rattle.deciding.proofs.find_moves.Tie as tie
+use Rattle.deciding.proofs.find_moves.Reads as reads
+use Rattle.deciding.proofs.find_moves.Lts as lts
+use Rattle.deciding.proofs.decided.Reads as decided-reads
+use Rattle.finding.proofs.find.Reads as find-reads
+use Rattle.memory.proofs.task.Reads as task-reads
+use Rattle.rights.proofs.pops.Reads as pops-reads
+
+returns : tie.Need-returns
+unfolding findMoves
+returns c = no-queue _ _ _ pops _ (c .if1 .taken)
+
+task-requires : tie.Need-task-requires
+task-requires c κs = search needs
+
+pops-requires : tie.Need-pops-requires
+pops-requires c κs = search needs
+
+returns-2 : tie.Need-returns-2
+unfolding findMoves
+returns-2 c = not-held _ _ _ pops _ (c .before .before .before .if1 .left) (c .before .before .task .ensures) (c .before .pops .ensures) (c .if2 .taken)
+
+find-requires : tie.Need-find-requires
+find-requires c κs = search needs
+
+decided-requires : tie.Need-decided-requires
+decided-requires c κs = search needs
+
+returns-3 : tie.Need-returns-3
+unfolding findMoves
+returns-3 c = is-held _ _ _ pops _ (c .before .before .before .before .before .if1 .left) (c .before .before .before .before .task .ensures) (c .before .before .before .pops .ensures) _ (c .before .before .if2 .left) (c .decided .ensures ∙ ap decided (c .before .find .ensures))
+
+pub find-moves-spec : {M : Type 1} → statement M
+find-moves-spec =
+    tie.close
+    (tie.spec
+    returns
+    task-requires
+    pops-requires
+    returns-2
+    find-requires
+    decided-requires
+    returns-3)

@@ -1,0 +1,37 @@
+use Rattle.runner.specs.Moves.{pushMoves}
+use Rattle.tree.specs.Rights.{pushes}
+use Rattle.deciding.proofs.Glue.{no-queue, not-held, is-held}
+use borrow.Author.Needs.{needs}
+use Rattle.deciding.proofs.push_moves.Statement.{statement}
+use Rattle.deciding.proofs.push_moves.Tie as tie
+use Rattle.deciding.proofs.push_moves.Reads as reads
+use Rattle.deciding.proofs.push_moves.Lts as lts
+use Rattle.deciding.proofs.value_fits.Reads as value-fits-reads
+use Rattle.memory.proofs.task.Reads as task-reads
+use Rattle.rights.proofs.pushes.Reads as pushes-reads
+
+returns : tie.Need-returns
+unfolding pushMoves
+returns c = no-queue _ _ _ pushes _ (c .if1 .taken)
+
+task-requires : tie.Need-task-requires
+task-requires c κs = search needs
+
+pushes-requires : tie.Need-pushes-requires
+pushes-requires c κs = search needs
+
+returns-2 : tie.Need-returns-2
+unfolding pushMoves
+returns-2 c = not-held _ _ _ pushes _ (c .before .before .before .if1 .left) (c .before .before .task .ensures) (c .before .pushes .ensures) (c .if2 .taken)
+
+value-fits-requires : tie.Need-value-fits-requires
+value-fits-requires c κs = search needs
+
+returns-3 : tie.Need-returns-3
+unfolding pushMoves
+returns-3 c = is-held _ _ _ pushes _ (c .before .before .before .before .if1 .left) (c .before .before .before .task .ensures) (c .before .before .pushes .ensures) _ (c .before .if2 .left) (c .value-fits .ensures)
+
+pub push-moves-spec : {M : Type 1} → statement M
+push-moves-spec =
+    tie.close
+    (tie.spec returns task-requires pushes-requires returns-2 value-fits-requires returns-3)

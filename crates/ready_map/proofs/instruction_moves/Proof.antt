@@ -1,0 +1,67 @@
+use mathlib.Core.Logic.{inl, inr, ⊎-elim}
+use mathlib.Core.Path.{_∙_}
+use Rattle.ready_map.proofs.Steps.{pushing, finding, going, spawning, syncing, finishing}
+use borrow.Author.Needs.{needs}
+use Rattle.ready_map.proofs.instruction_moves.Statement.{statement}
+use Rattle.ready_map.proofs.instruction_moves.Tie as tie
+use Rattle.ready_map.proofs.instruction_moves.Reads as reads
+use Rattle.ready_map.proofs.instruction_moves.Lts as lts
+use Rattle.deciding.proofs.find_moves.Reads as find-moves-reads
+use Rattle.deciding.proofs.finish_moves.Reads as finish-moves-reads
+use Rattle.deciding.proofs.push_moves.Reads as push-moves-reads
+use Rattle.deciding.proofs.spawn_moves.Reads as spawn-moves-reads
+use Rattle.deciding.proofs.sync_moves.Reads as sync-moves-reads
+use Rattle.job_fields.proofs.rights.Reads as rights-reads
+
+rights-requires : tie.Need-rights-requires
+rights-requires c κs = search needs
+
+spawn-moves-requires : tie.Need-spawn-moves-requires
+spawn-moves-requires c κs = search needs
+
+sync-moves-requires : tie.Need-sync-moves-requires
+sync-moves-requires c κs = search needs
+
+push-moves-requires : tie.Need-push-moves-requires
+push-moves-requires c κs = search needs
+
+find-moves-requires : tie.Need-find-moves-requires
+find-moves-requires c κs = search needs
+
+finish-moves-requires : tie.Need-finish-moves-requires
+finish-moves-requires c κs = search needs
+
+returns : tie.Need-returns
+returns c = c .spawn-moves .ensures ∙ spawning _ _ _ _ (c .before .before .match .keys1) (c .before .rights .ensures)
+
+returns-2 : tie.Need-returns-2
+returns-2 c = c .sync-moves .ensures ∙ syncing _ _ _ _ (c .before .match .keys2)
+
+returns-3 : tie.Need-returns-3
+returns-3 c = c .push-moves .ensures ∙ pushing _ _ _ _ _ (c .before .before .if1 .left) (c .before .if2 .taken)
+
+returns-4 : tie.Need-returns-4
+returns-4 c = c .find-moves .ensures ∙ finding _ _ _ _ _ (c .before .before .if2 .left) (c .before .if3 .taken)
+
+returns-5 : tie.Need-returns-5
+returns-5 c = going _ _ _ _ _ (c .before .if3 .left) (c .if4 .taken)
+
+returns-6 : tie.Need-returns-6
+returns-6 c = c .finish-moves .ensures ∙ finishing _ _ _ _ _ (c .before .before .match .rest .0 .1) (c .before .before .match .rest .1) (⊎-elim (λ s. inl (s .taken)) (λ s. inr (s .3 .left)) (c .before .if1 .came))
+
+pub instruction-moves-spec : {M : Type 1} → statement M
+instruction-moves-spec =
+    tie.close
+    (tie.spec
+    rights-requires
+    spawn-moves-requires
+    sync-moves-requires
+    push-moves-requires
+    find-moves-requires
+    finish-moves-requires
+    returns
+    returns-2
+    returns-3
+    returns-4
+    returns-5
+    returns-6)

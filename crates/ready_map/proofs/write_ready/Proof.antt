@@ -1,0 +1,51 @@
+use Rattle.ready_map.proofs.Map.{map-written}
+use borrow.Author.Needs.{needs}
+use Rattle.ready_map.proofs.write_ready.Statement.{statement}
+use Rattle.ready_map.proofs.write_ready.Tie as tie
+use Rattle.ready_map.proofs.write_ready.Reads as reads
+use Rattle.ready_map.proofs.write_ready.Lts as lts
+use Rattle.ready_map.proofs.count.Reads as count-reads
+use Rattle.ready_map.proofs.lowest.Reads as lowest-reads
+use Rattle.ready_map.proofs.word_from.Reads as word-from-reads
+use Rattle.ready_map.proofs.write_map.Reads as write-map-reads
+
+word-from-requires : tie.Need-word-from-requires
+word-from-requires c κs = search needs
+
+word-from-requires-2 : tie.Need-word-from-requires-2
+word-from-requires-2 c κs = search needs
+
+word-from-requires-3 : tie.Need-word-from-requires-3
+word-from-requires-3 c κs = search needs
+
+word-from-requires-4 : tie.Need-word-from-requires-4
+word-from-requires-4 c κs = search needs
+
+count-requires : tie.Need-count-requires
+count-requires c κs = search needs
+
+lowest-requires : tie.Need-lowest-requires
+lowest-requires c κs = search needs
+
+write-map-requires : tie.Need-write-map-requires
+write-map-requires c κs = search needs
+
+same-length : tie.Need-same-length
+same-length c = search needs
+
+returns : tie.Need-returns
+returns c = map-written _ _ _ _ _ _ _ _ (c .before .before .before .before .before .before .before .before .before .word-from .ensures) (c .before .before .before .before .before .before .before .before .word-from2 .ensures) (c .before .before .before .before .before .before .before .word-from3 .ensures) (c .before .before .before .before .before .before .word-from4 .ensures) (c .before .before .before .before .before .count .ensures) (c .before .before .before .lowest .ensures) (c .before .before .write-map .ensures)
+
+pub write-ready-spec : {M : Type 1} → statement M
+write-ready-spec =
+    tie.close
+    (tie.spec
+    word-from-requires
+    word-from-requires-2
+    word-from-requires-3
+    word-from-requires-4
+    count-requires
+    lowest-requires
+    write-map-requires
+    same-length
+    returns)
