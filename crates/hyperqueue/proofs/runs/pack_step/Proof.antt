@@ -1,3 +1,5 @@
+use mathlib.Core.Path.{ap, sym, _∙_}
+use Rattle.hyperqueue.specs.Steps.{packedStep}
 use borrow.Author.Needs.{needs}
 use Rattle.hyperqueue.proofs.runs.pack_step.Statement.{statement}
 use Rattle.hyperqueue.proofs.runs.pack_step.Tie as tie
@@ -60,13 +62,13 @@ with-value-requires-9 : tie.Need-with-value-requires-9
 with-value-requires-9 c κs = search needs
 
 returns : tie.Need-returns
-returns c = c .with-value .ensures ∙ sym (ap packedStep (c .before .before .?))
+returns c = c .with-value .ensures ∙ sym (ap packedStep (c .before .before .a .given .1))
 
 returns-2 : tie.Need-returns-2
-returns-2 c = c .with-value2 .ensures ∙ sym (ap packedStep (c .before .before .?))
+returns-2 c = c .with-value2 .ensures ∙ sym (ap packedStep (c .before .before .a2 .given .1))
 
 returns-3 : tie.Need-returns-3
-returns-3 c = c .with-value3 .ensures ∙ sym (ap packedStep (c .before .before .?))
+returns-3 c = c .with-value3 .ensures ∙ sym (ap packedStep (c .before .before .a3 .given .1))
 
 returns-4 : tie.Need-returns-4
 returns-4 c = search needs
@@ -84,7 +86,7 @@ returns-8 : tie.Need-returns-8
 returns-8 c = search needs
 
 returns-9 : tie.Need-returns-9
-returns-9 c = c .with-value9 .ensures ∙ sym (ap packedStep (c .before .before .?))
+returns-9 c = c .with-value9 .ensures ∙ sym (ap packedStep (c .before .before .a4 .given .1))
 
 pub pack-step-spec : {M : Type 1} → statement M
 pack-step-spec =
