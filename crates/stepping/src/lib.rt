@@ -75,16 +75,17 @@ fn effect(k: u32, x: u32, i: u32, r: u32, found: bool, v: u32) -> Made
     ensures { λ e. ⌜ e ≡ coded (effect (operationAt k) i r x (foundWith found v)) v ⌝ }
 {
     let sum = std::num::wrapping_add_u32(r, x);
+    let next = i + 1;
     match k {
-        1 => gives(StepAnswer::Pushed(x), r, i + 1),
-        2 => gives(StepAnswer::Pushed(sum), r, i + 1),
+        1 => gives(StepAnswer::Pushed(x), r, next),
+        2 => gives(StepAnswer::Pushed(sum), r, next),
         3 => pop_effect(i, r, found, v),
         4 => test_effect(x, i, r, found),
         5 => gives(StepAnswer::Moved, r, x),
         6 => zero_effect(x, i, r),
-        7 => gives(StepAnswer::Moved, sum, i + 1),
-        8 => gives(StepAnswer::Spawned(v), r, i + 1),
-        9 => gives(StepAnswer::Moved, r, i + 1),
+        7 => gives(StepAnswer::Moved, sum, next),
+        8 => gives(StepAnswer::Spawned(v), r, next),
+        9 => gives(StepAnswer::Moved, r, next),
         _ => gives(StepAnswer::Finished, r, i),
     }
 }

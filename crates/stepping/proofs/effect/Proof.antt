@@ -14,14 +14,11 @@ use Rattle.stepping.proofs.zero_effect.Reads as zero-effect-reads
 wrapping-add-u32-requires : tie.Need-wrapping-add-u32-requires
 wrapping-add-u32-requires c κs = search needs
 
-add-gives : tie.Need-add-gives
-add-gives c = search needs
+add-next : tie.Need-add-next
+add-next c = search needs
 
 gives-requires : tie.Need-gives-requires
 gives-requires c κs = search needs
-
-add-gives-2 : tie.Need-add-gives-2
-add-gives-2 c = search needs
 
 gives-requires-2 : tie.Need-gives-requires-2
 gives-requires-2 c κs = search needs
@@ -38,20 +35,11 @@ gives-requires-3 c κs = search needs
 zero-effect-requires : tie.Need-zero-effect-requires
 zero-effect-requires c κs = search needs
 
-add-gives-3 : tie.Need-add-gives-3
-add-gives-3 c = search needs
-
 gives-requires-4 : tie.Need-gives-requires-4
 gives-requires-4 c κs = search needs
 
-add-gives-4 : tie.Need-add-gives-4
-add-gives-4 c = search needs
-
 gives-requires-5 : tie.Need-gives-requires-5
 gives-requires-5 c κs = search needs
-
-add-gives-5 : tie.Need-add-gives-5
-add-gives-5 c = search needs
 
 gives-requires-6 : tie.Need-gives-requires-6
 gives-requires-6 c κs = search needs
@@ -94,19 +82,15 @@ effect-spec =
     tie.close
     (tie.spec
     wrapping-add-u32-requires
-    add-gives
+    add-next
     gives-requires
-    add-gives-2
     gives-requires-2
     pop-effect-requires
     test-effect-requires
     gives-requires-3
     zero-effect-requires
-    add-gives-3
     gives-requires-4
-    add-gives-4
     gives-requires-5
-    add-gives-5
     gives-requires-6
     gives-requires-7
     returns
