@@ -1,9 +1,10 @@
 -- What the runner hands to a host: the packed answer and both memories.
-use mathlib.Core.Path.{_≡_, refl, ap, _∙_}
+use mathlib.Core.Path.{_≡_, refl, ap, _∙_, subst}
 use mathlib.Core.List.{List}
 use Prim.Native.Nat.{ℕ, _+_, _*_}
 use Rattle.runner.specs.declared.StepAnswer.{StepAnswer}
 use Rattle.runner.specs.declared.StepAnswer.the-variants.{Spawned, Pushed, Took, Finished, Moved, Empty, NotEmpty, Waits, Refused}
+use Rattle.runner.specs.Ready.{Mapped, mapped}
 use Rattle.runner.specs.Answers.{statusOf, valueOf, Outcome, outcome, answerOf, coreOf, runnerOf}
 
 -- an answer as one number of 64 bits: the status in the high half, the value in the low half
@@ -37,3 +38,10 @@ StepHanded p m r o = (p ≡ packedStep (answerOf o)) × (m ≡ coreOf o) × (r �
 pub step-handed : {a : StepAnswer} {p : ℕ} {m r : List ℕ} {o : Outcome} → outcome a m r ≡ o → p ≡ packedStep a → StepHanded p m r o
 unfolding answerOf coreOf runnerOf
 step-handed e f = (f ∙ ap (λ (x : Outcome). packedStep (answerOf x)) e, ap coreOf e, ap runnerOf e)
+
+-- a host is handed the packed answer p and the words w of the ready map
+abbrev pub MapHanded : ℕ → List ℕ → Mapped → Type 0
+MapHanded p w (mapped a ws) = (p ≡ packedStep a) × (w ≡ ws)
+
+pub map-handed : {a : StepAnswer} {p : ℕ} {w : List ℕ} {o : Mapped} → mapped a w ≡ o → p ≡ packedStep a → MapHanded p w o
+map-handed {a} {p} {w} e f = subst (MapHanded p w) e (f, refl)

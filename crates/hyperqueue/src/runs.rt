@@ -1,9 +1,10 @@
-// Jobs with overlap, for hosts in other languages: opening a job, and a step of a task.
+// Jobs with overlap, for hosts in other languages: opening a job, a step of a task, the ready map.
 ghost use mathlib.Core.Path.{_≡_};
 ghost use Prim.Native.Nat.{_+_, _*_};
 ghost use Rattle.runner.specs.Open.{openOutcome};
 ghost use Rattle.runner.specs.Step.{stepOutcome};
-ghost use Rattle.hyperqueue.specs.Steps.{packedStep, StepHanded};
+ghost use Rattle.runner.specs.Ready.{readyOutcome};
+ghost use Rattle.hyperqueue.specs.Steps.{packedStep, StepHanded, MapHanded};
 use runner::StepAnswer;
 
 // The number of a case with a value, packed.
@@ -42,4 +43,12 @@ pub extern "C" fn hq_job_step(job: &[u8], words: &mut [u32], runner: &mut [u32],
     ensures { λ r. ⌜ StepHanded r (now (words .exit)) (now (runner .exit)) (stepOutcome (now (job .entry)) (now (words .entry)) (now (runner .entry)) task) ⌝ }
 {
     pack_step(stepping::step(job, words, runner, task))
+}
+
+// The ready map: four words, the number of set bits, the lowest ready task or 4294967295.
+#[no_mangle]
+pub extern "C" fn hq_job_ready(job: &[u8], words: &[u32], runner: &[u32], out: &mut [u32; 6]) -> u64
+    ensures { λ r. ⌜ MapHanded r (now (out .exit)) (readyOutcome (now (job .entry)) (now (words .entry)) (now (runner .entry)) (now (out .entry))) ⌝ }
+{
+    pack_step(ready_map::ready(job, words, runner, out))
 }
