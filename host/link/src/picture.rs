@@ -1,5 +1,5 @@
 //! A picture of a run: a row a task, a mark a step, waits in grey, an arrow
-//! from each push to the pop that took its value.
+//! from each push to the pop that took its value. The calls are numbered.
 
 use crate::on_off::name;
 use crate::proved_run::ProvedRun;
@@ -7,19 +7,21 @@ use host::job::Job;
 use host::overlap::Path;
 use host::plain::Reply;
 use host::runner::Stepped;
-use std::collections::{BTreeMap, VecDeque};
-use std::fmt::Write;
+use std::collections::VecDeque;
 
 /// Pixels between two calls, between two rows, and around the picture.
 const ACROSS: usize = 34;
 const DOWN: usize = 30;
 const MARGIN: usize = 40;
+/// Pixels across that the legend takes.
+const LEGEND: usize = 700;
 /// Room for the names of tasks: so many pixels a letter.
 const LETTER: usize = 7;
 
 struct Mark {
     call: usize,
-    row: usize,
+    /// The row of the task; none where no unfinished task had the number.
+    row: Option<usize>,
     answer: Stepped,
 }
 
@@ -104,7 +106,7 @@ fn drawing(bytes: &[u8], tasks: &[u32]) -> Result<Drawing, String> {
             job.procedures()[procedure].body[at].which
         });
         let answer = run.step(*t);
-        let row = path.as_ref().map_or(0, |path| drawing.row(path));
+        let row = path.as_ref().map(|path| drawing.row(path));
         drawing.marks.push(Mark { call, row, answer });
         if let (Stepped::Moved(reply), Some(path)) = (answer, path) {
             let child = match reply {
@@ -136,87 +138,127 @@ fn look(answer: Stepped) -> (&'static str, String) {
     }
 }
 
+/// The text of the picture, and how far its marks stand from the left.
+struct Page {
+    out: String,
+    left: usize,
+    width: usize,
+}
+
+fn y(row: usize) -> usize {
+    MARGIN + DOWN * row
+}
+
+impl Page {
+    fn x(&self, call: usize) -> usize {
+        self.left + ACROSS * (call + 1)
+    }
+
+    fn put(&mut self, element: String) {
+        self.out.push_str(&element);
+        self.out.push('\n');
+    }
+
+    fn text(&mut self, x: usize, y: usize, anchor: &str, colour: &str, text: &str) {
+        self.put(format!(
+            "<text x=\"{x}\" y=\"{y}\" text-anchor=\"{anchor}\" fill=\"{colour}\">{text}</text>"
+        ));
+    }
+
+    fn dot(&mut self, x: usize, y: usize, colour: &str) {
+        self.put(format!(
+            "<circle cx=\"{x}\" cy=\"{y}\" r=\"6\" fill=\"{colour}\"/>"
+        ));
+    }
+
+    fn head(&mut self, height: usize) {
+        let width = self.width;
+        self.put(format!(
+            "<svg xmlns=\"http://www.w3.org/2000/svg\" width=\"{width}\" height=\"{height}\" \
+             font-family=\"sans-serif\" font-size=\"11\">\n\
+             <defs><marker id=\"tip\" markerWidth=\"7\" markerHeight=\"7\" refX=\"6\" \
+             refY=\"3\" orient=\"auto\"><path d=\"M0,0 L6,3 L0,6 z\" fill=\"#555\"/></marker>\
+             </defs>\n<rect width=\"100%\" height=\"100%\" fill=\"white\"/>"
+        ));
+    }
+
+    fn rows(&mut self, names: &[String]) {
+        let (left, right) = (self.left, self.width - MARGIN);
+        for (row, name) in names.iter().enumerate() {
+            let at = y(row);
+            self.put(format!(
+                "<line x1=\"{left}\" y1=\"{at}\" x2=\"{right}\" y2=\"{at}\" stroke=\"#e4e4e4\"/>"
+            ));
+            self.text(left - 6, at + 4, "end", "#222", name);
+        }
+    }
+
+    /// An arrow that ends at the rim of the mark that it leads to.
+    fn arrow(&mut self, from: (usize, usize), to: (usize, usize)) {
+        let (x1, y1, x2, y2) = (from.0 as f64, from.1 as f64, to.0 as f64, to.1 as f64);
+        let length = (x2 - x1).hypot(y2 - y1).max(1.0);
+        let (dx, dy) = (9.0 * (x2 - x1) / length, 9.0 * (y2 - y1) / length);
+        let (x2, y2) = (x2 - dx, y2 - dy);
+        self.put(format!(
+            "<line x1=\"{x1}\" y1=\"{y1}\" x2=\"{x2:.1}\" y2=\"{y2:.1}\" stroke=\"#555\" \
+             marker-end=\"url(#tip)\"/>"
+        ));
+    }
+
+    fn legend(&mut self, y: usize) {
+        let mut x = self.left;
+        for (colour, word) in KINDS {
+            self.dot(x, y, colour);
+            self.text(x + 9, y + 4, "start", "#222", word);
+            x += 30 + LETTER * word.len();
+        }
+    }
+}
+
+const KINDS: [(&str, &str); 8] = [
+    ("#7d3c98", "spawned"),
+    ("#1f77b4", "pushed"),
+    ("#2e8b57", "took"),
+    ("#d98e04", "empty, not"),
+    ("#8aa0b4", "moved"),
+    ("#222222", "finished"),
+    ("#b8b8b8", "waits"),
+    ("#c0392b", "refused"),
+];
+
 /// The picture of a run as SVG.
 pub fn svg(bytes: &[u8], tasks: &[u32]) -> Result<String, String> {
     let drawing = drawing(bytes, tasks)?;
-    let names: Vec<String> = drawing.rows.iter().map(name).collect();
+    let mut names: Vec<String> = drawing.rows.iter().map(name).collect();
+    let nobody = names.len();
+    if drawing.marks.iter().any(|mark| mark.row.is_none()) {
+        names.push("no task".to_string());
+    }
     let longest = names.iter().map(String::len).max().unwrap_or(0);
     let left = MARGIN + LETTER * longest;
-    let x = |call: usize| left + ACROSS * (call + 1);
-    let y = |row: usize| MARGIN + DOWN * row;
-    let (width, height) = (x(tasks.len()) + MARGIN, y(names.len()) + MARGIN);
-    let mut out = String::new();
-    let _ = writeln!(
-        out,
-        "<svg xmlns=\"http://www.w3.org/2000/svg\" width=\"{width}\" height=\"{height}\" \
-         font-family=\"sans-serif\" font-size=\"11\">\n\
-         <defs><marker id=\"tip\" markerWidth=\"7\" markerHeight=\"7\" refX=\"6\" refY=\"3\" orient=\"auto\">\
-         <path d=\"M0,0 L6,3 L0,6 z\" fill=\"#555\"/></marker></defs>\n\
-         <rect width=\"100%\" height=\"100%\" fill=\"white\"/>"
-    );
-    rows(&mut out, &names, left, width, &y);
-    let row_of: BTreeMap<usize, usize> = drawing.marks.iter().map(|m| (m.call, m.row)).collect();
+    let mut page = Page {
+        out: String::new(),
+        left,
+        width: (left + ACROSS * (tasks.len() + 1) + MARGIN).max(left + LEGEND),
+    };
+    page.head(y(names.len()) + MARGIN);
+    page.rows(&names);
+    let row = |mark: &Mark| mark.row.unwrap_or(nobody);
+    let places: Vec<(usize, usize)> = drawing
+        .marks
+        .iter()
+        .map(|mark| (page.x(mark.call), y(row(mark))))
+        .collect();
     for (from, to) in &drawing.arrows {
-        let (x1, y1, x2, y2) = (x(*from), y(row_of[from]), x(*to), y(row_of[to]));
-        let (dx, dy) = (x2 as f64 - x1 as f64, y2 as f64 - y1 as f64);
-        let length = dx.hypot(dy).max(1.0);
-        let (ex, ey) = (x2 as f64 - 9.0 * dx / length, y2 as f64 - 9.0 * dy / length);
-        let _ = writeln!(
-            out,
-            "<line x1=\"{x1}\" y1=\"{y1}\" x2=\"{ex:.1}\" y2=\"{ey:.1}\" stroke=\"#555\" marker-end=\"url(#tip)\"/>"
-        );
+        page.arrow(places[*from], places[*to]);
     }
-    for mark in &drawing.marks {
+    for (mark, (x, y)) in drawing.marks.iter().zip(&places) {
         let (colour, text) = look(mark.answer);
-        let (cx, cy) = (x(mark.call), y(mark.row));
-        let _ = writeln!(
-            out,
-            "<circle cx=\"{cx}\" cy=\"{cy}\" r=\"6\" fill=\"{colour}\"/>"
-        );
-        let _ = writeln!(
-            out,
-            "<text x=\"{cx}\" y=\"{}\" text-anchor=\"middle\" fill=\"{colour}\">{text}</text>",
-            cy - 9
-        );
+        page.dot(*x, *y, colour);
+        page.text(*x, y - 9, "middle", colour, &text);
+        page.text(*x, 14, "middle", "#999", &(mark.call + 1).to_string());
     }
-    legend(&mut out, left, y(names.len()) + 10);
-    out.push_str("</svg>\n");
-    Ok(out)
-}
-
-fn rows(out: &mut String, names: &[String], left: usize, width: usize, y: &dyn Fn(usize) -> usize) {
-    for (row, name) in names.iter().enumerate() {
-        let at = y(row);
-        let _ = writeln!(
-            out,
-            "<line x1=\"{left}\" y1=\"{at}\" x2=\"{}\" y2=\"{at}\" stroke=\"#e4e4e4\"/>\n\
-             <text x=\"{}\" y=\"{}\" text-anchor=\"end\">{name}</text>",
-            width - MARGIN,
-            left - 6,
-            at + 4
-        );
-    }
-}
-
-fn legend(out: &mut String, left: usize, y: usize) {
-    let kinds = [
-        ("#7d3c98", "spawned"),
-        ("#1f77b4", "pushed"),
-        ("#2e8b57", "took"),
-        ("#d98e04", "empty, not"),
-        ("#8aa0b4", "moved"),
-        ("#222222", "finished"),
-        ("#b8b8b8", "waits"),
-        ("#c0392b", "refused"),
-    ];
-    let mut x = left;
-    for (colour, word) in kinds {
-        let _ = writeln!(
-            out,
-            "<circle cx=\"{x}\" cy=\"{y}\" r=\"5\" fill=\"{colour}\"/><text x=\"{}\" y=\"{}\">{word}</text>",
-            x + 9,
-            y + 4
-        );
-        x += 30 + LETTER * word.len();
-    }
+    page.legend(y(names.len()) + 10);
+    page.put("</svg>".to_string());
+    Ok(page.out)
 }

@@ -61,12 +61,10 @@ impl RunnerPair {
                 "{call}: status {status}, value {value}, model {due:?}"
             ));
         }
-        let core = self.core.words().iter().zip(&self.model_core);
-        let runner = self.runner.words().iter().zip(&self.model_runner);
-        if let Some(at) = core.clone().position(|(a, b)| a != b) {
+        if let Some(at) = first_other(self.core.words(), &self.model_core) {
             return Err(format!("{call}: word {at} of the core"));
         }
-        if let Some(at) = runner.clone().position(|(a, b)| a != b) {
+        if let Some(at) = first_other(self.runner.words(), &self.model_runner) {
             return Err(format!("{call}: word {at} of the runner"));
         }
         if self.core.overrun() || self.runner.overrun() {
@@ -74,4 +72,12 @@ impl RunnerPair {
         }
         Ok(due)
     }
+}
+
+/// The first place where two memories of one length differ.
+fn first_other(a: &[u32], b: &[u32]) -> Option<usize> {
+    if a == b {
+        return None;
+    }
+    a.iter().zip(b).position(|(a, b)| a != b)
 }

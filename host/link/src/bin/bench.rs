@@ -200,17 +200,17 @@ fn with_overlap() {
 fn main() -> ExitCode {
     let words: Vec<String> = std::env::args().skip(1).collect();
     let words: Vec<&str> = words.iter().map(String::as_str).collect();
-    let run = match words[..] {
-        [] => beside_the_model,
-        ["growth"] => growth,
-        ["serial"] => without_overlap,
-        ["overlap"] => with_overlap,
+    let (run, rounds): (fn(), u32) = match words[..] {
+        [] => (beside_the_model, ROUNDS),
+        ["growth"] => (growth, ROUNDS),
+        ["serial"] => (without_overlap, ROUNDS),
+        ["overlap"] => (with_overlap, RUNS),
         _ => {
             eprintln!("bench [growth | serial | overlap]");
             return ExitCode::FAILURE;
         }
     };
-    println!("nanoseconds, best of {ROUNDS} rounds");
+    println!("nanoseconds, best of {rounds} rounds");
     run();
     ExitCode::SUCCESS
 }

@@ -4,6 +4,7 @@
 //! `orders SEED` runs all parts. `orders SEED PART ROUND` makes one round of
 //! one part again, as the line of a difference names it.
 
+use host::asm::assemble;
 use host::damage::damage;
 use host::damaged_jobs::damaged;
 use host::job::Job;
@@ -24,19 +25,43 @@ type Outcome = Result<(), String>;
 const MOST_STEPS: u64 = 3_000;
 /// Calls of one run: so many times the plain machine's steps, and no more.
 const CALLS_A_STEP: u64 = 4;
-const MOST_CALLS: u64 = 400;
-
+const MOST_CALLS: u64 = 100;
 struct Part {
     name: &'static str,
     rounds: u32,
     round: fn(&mut State, &mut Random) -> Outcome,
 }
 
-const PARTS: [Part; 3] = [
+/// A top that spawns without end, more children than there are records; and one
+/// that pushes without end, more values than the segments hold.
+const CROWDS: [&str; 2] = [
+    "length 1
+     procedure top all
+     again: spawn child 1
+     go again
+     procedure child pop 0
+     pop 0
+     return",
+    "length 1
+     procedure top all
+     spawn child 1
+     again: push 0 1
+     go again
+     procedure child pop 0
+     pop 0
+     return",
+];
+
+const PARTS: [Part; 4] = [
     Part {
         name: "orders",
         rounds: 20_000,
         round: orders,
+    },
+    Part {
+        name: "crowd",
+        rounds: 10,
+        round: crowd,
     },
     Part {
         name: "damaged",
@@ -91,6 +116,9 @@ fn orders(state: &mut State, r: &mut Random) -> Outcome {
         if r.chance(4) {
             pair.ready()?;
         }
+        if log.unfinished().is_empty() && r.chance(25) {
+            break;
+        }
     }
     if log.unfinished().is_empty() {
         state.ended += 1;
@@ -99,6 +127,22 @@ fn orders(state: &mut State, r: &mut Random) -> Outcome {
         Some(what) => Err(what),
         None => Ok(()),
     }
+}
+
+/// A job for which records or segments run out; children move now and then.
+fn crowd(state: &mut State, r: &mut Random) -> Outcome {
+    let job = assemble(r.pick(&CROWDS)).expect("the crowd assembles");
+    let mut pair = RunnerPair::new(job, &noise(r, WORDS as u32), &noise(r, RUNNER as u32));
+    pair.open()?;
+    let (calls, own) = (r.within(500, 1_500), r.within(50, 95));
+    for _ in 0..calls {
+        let t = if r.chance(own) { 0 } else { r.below(128) };
+        state.count(pair.step(t)?);
+        if r.chance(2) {
+            pair.ready()?;
+        }
+    }
+    Ok(())
 }
 
 /// Changes words of the core, of the runner, or of the job.
