@@ -1,5 +1,5 @@
-/* A written job, tested and run without overlap: the top pushes 7 and 9, and a
- * child takes the first of them. */
+/* A written job, tested, run without overlap and then with it: the top pushes 7
+ * and 9, and a child takes the first of them. */
 #include "hyperqueue.h"
 
 #include <stdio.h>
@@ -17,6 +17,32 @@ static const uint8_t job[] = {
 
 static uint32_t working[HQ_WORKING_WORDS];
 static uint32_t answers[HQ_ANSWER_WORDS];
+static uint32_t core[HQ_WORDS];
+static uint32_t runner[HQ_RUNNER_WORDS];
+
+/* Moves the highest ready task until nobody is ready. */
+static void with_overlap(void) {
+    uint32_t map[6];
+
+    hq_job_open(job, sizeof job, core, HQ_WORDS, runner, HQ_RUNNER_WORDS);
+    for (;;) {
+        uint32_t task = 127;
+        uint64_t answer;
+
+        hq_job_ready(job, sizeof job, core, HQ_WORDS, runner, HQ_RUNNER_WORDS,
+                     map);
+        if (map[4] == 0)
+            break;
+        while ((map[task / 32] >> task % 32 & 1) == 0)
+            task--;
+        answer = hq_job_step(job, sizeof job, core, HQ_WORDS, runner,
+                             HQ_RUNNER_WORDS, task);
+        printf("%u ready, task %u: status %u, value %u\n", map[4], task,
+               HQ_STATUS(answer), HQ_VALUE(answer));
+    }
+    printf("left in queue 0: %u\n",
+           HQ_VALUE(hq_left(core, HQ_WORDS, 0, 0)));
+}
 
 int main(void) {
     static const char *const words[] = {"spawned", "pushed", "took", "moved",
@@ -35,5 +61,6 @@ int main(void) {
     }
     for (index = 0; index < HQ_QUEUED(working, 0); index++)
         printf("left in queue 0: %u\n", HQ_QUEUED_VALUE(working, 0, index));
+    with_overlap();
     return 0;
 }

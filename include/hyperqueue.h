@@ -1,5 +1,6 @@
 /* The queue core: four queues and a tree of tasks, in memory lent by the host;
- * and the run of a written job without overlap, at the end of this file.
+ * and the runs of a written job, with overlap and without, at the end of this
+ * file.
  *
  * Every call gets the host's words and their number: words points to len words
  * that may be written, and len should be HQ_WORDS. Nothing else has to be
@@ -45,8 +46,14 @@ enum {
     HQ_JOB_CONTENTS = 11, /* an entry of a job or its length is wrong */
     HQ_JOB_BODY = 12,     /* an instruction of a job is wrong */
     HQ_WAITS = 32,
-    HQ_EMPTY = 33,    /* test: a pop would find no value */
-    HQ_NOT_EMPTY = 34 /* test: a pop would find a value */
+    HQ_EMPTY = 33,     /* test: a pop would find no value */
+    HQ_NOT_EMPTY = 34, /* test: a pop would find a value */
+    /* A step of a job's task that moved, with its value if it has one: */
+    HQ_TASK_SPAWNED = 40, /* the number of the new task */
+    HQ_TASK_PUSHED = 41,  /* the value */
+    HQ_TASK_TOOK = 42,    /* the value */
+    HQ_TASK_FINISHED = 43,
+    HQ_TASK_MOVED = 44
 };
 
 /* Rights of a task on a queue from 0 to 3; add them up for several. */
@@ -90,7 +97,35 @@ uint64_t hq_left(uint32_t *words, size_t len, uint32_t queue, uint32_t index);
  * HQ_JOB_BODY. The value is 0. */
 uint64_t hq_job_test(const uint8_t *job, size_t len);
 
-/* Words that a run without overlap is lent for working and for its answers;
+/* WITH OVERLAP: the host says which task of the job moves next. The runner
+ * needs HQ_RUNNER_WORDS words beside the core's HQ_WORDS. Every call is given
+ * the same job, and tests job and both memories first: 1 for a wrong length,
+ * the job's refusals, then HQ_RULES_FAIL. In whatever order tasks are called,
+ * each gets the answers that it gets in a run without overlap. */
+#define HQ_RUNNER_WORDS 384
+
+/* Writes all words of both memories: the top task, 0, is at its first
+ * instruction. HQ_TASK_MOVED, or a refusal. */
+uint64_t hq_job_open(const uint8_t *job, size_t job_len, uint32_t *words,
+                     size_t len, uint32_t *runner, size_t runner_len);
+
+/* The next instruction of an unfinished task: one of HQ_TASK_SPAWNED to
+ * HQ_TASK_MOVED, HQ_EMPTY or HQ_NOT_EMPTY where it moved; HQ_WAITS, or a
+ * refusal, and then no word has changed. A pop on an empty queue moves on with
+ * HQ_EMPTY. Once the top has finished, hq_left gives the values left. */
+uint64_t hq_job_step(const uint8_t *job, size_t job_len, uint32_t *words,
+                     size_t len, uint32_t *runner, size_t runner_len,
+                     uint32_t task);
+
+/* Which tasks' next step would move: bit t mod 32 of out[t / 32], their number
+ * in out[4], the lowest of them in out[5], HQ_NO_TASK if there is none. A
+ * refusal leaves zeros and HQ_NO_TASK. */
+#define HQ_NO_TASK 0xFFFFFFFF
+uint64_t hq_job_ready(const uint8_t *job, size_t job_len, const uint32_t *words,
+                      size_t len, const uint32_t *runner, size_t runner_len,
+                      uint32_t out[6]);
+
+/* WITHOUT OVERLAP. Words that a run without overlap is lent for working and for its answers;
  * any other numbers are refused with 1. Their contents before do not matter. */
 #define HQ_WORKING_WORDS 16392
 #define HQ_ANSWER_WORDS 196605
