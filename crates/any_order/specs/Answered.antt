@@ -25,14 +25,16 @@ module _ (m : List ℕ) (xs : List Item) (t : ℕ) (there : unfinished t xs ≡ 
   queue-passes q held a small e = halt _ _ there ∙ pass _ (lt-leb 4 q small) (halt _ _ e)
 
   -- a push moves, or is refused with 9
-  pub push-answer : (q v : ℕ) → q < 4 → mayPush (rightsAt t xs) q ≡ true → (answered (push-call t q v) m xs ≡ Moved v) ⊎ (answered (push-call t q v) m xs ≡ Refused 9)
+  pub push-answer : (q v : ℕ) → q < 4 → mayPush (rightsAt t xs) q ≡ true
+      → (answered (push-call t q v) m xs ≡ Moved v) ⊎ (answered (push-call t q v) m xs ≡ Refused 9)
   unfolding answered ordered
   push-answer q v small e = go (eqb (statusOf (decided (push-call t q v) m)) 9) refl
     where
       is : answered (push-call t q v) m xs ≡ pick (eqb (statusOf (decided (push-call t q v) m)) 9) (Refused 9) (Moved v)
       is = queue-passes q _ _ small e ∙ pass _ free refl
 
-      go : (b : Bool) → eqb (statusOf (decided (push-call t q v) m)) 9 ≡ b → (answered (push-call t q v) m xs ≡ Moved v) ⊎ (answered (push-call t q v) m xs ≡ Refused 9)
+      go : (b : Bool) → eqb (statusOf (decided (push-call t q v) m)) 9 ≡ b
+          → (answered (push-call t q v) m xs ≡ Moved v) ⊎ (answered (push-call t q v) m xs ≡ Refused 9)
       go true d = inr (is ∙ halt _ _ d)
       go false d = inl (is ∙ pass _ d refl)
 
@@ -58,7 +60,8 @@ module _ (m : List ℕ) (xs : List Item) (t : ℕ) (there : unfinished t xs ≡ 
       go false d = inl (is ∙ pass _ d refl)
 
   -- sync and finish move, or wait for a child
-  alone-answer : (a : Answer) → a ≡ forTask t xs (pick (either (blocked t xs) (hasChild t xs)) Waits (Moved 0)) → (a ≡ Moved 0) ⊎ ((hasChild t xs ≡ true) × (a ≡ Waits))
+  alone-answer : (a : Answer) → a ≡ forTask t xs (pick (either (blocked t xs) (hasChild t xs)) Waits (Moved 0))
+      → (a ≡ Moved 0) ⊎ ((hasChild t xs ≡ true) × (a ≡ Waits))
   unfolding forTask either
   alone-answer a e = go (hasChild t xs) refl
     where

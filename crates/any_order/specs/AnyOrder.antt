@@ -16,13 +16,15 @@ use Rattle.calls.specs.Left.{leftOutcome}
 use Rattle.calls.specs.Outcomes.{outcomeOf}
 use Rattle.order.specs.Waits.{unfinished}
 use Rattle.order.specs.Ordered.{leftAnswer, ordered}
+use Rattle.order_waits.specs.Played.{Played}
 use Rattle.in_order.specs.Answered.{answered}
 use Rattle.in_order.specs.InOrder.{call-does}
 use Rattle.job.specs.Test.{jobAnswer}
 use Rattle.job.specs.Accepted.{accepted}
 use Rattle.plain.specs.Machine.{Event}
-use Rattle.plain.specs.Run.{stackOf, run, answersOf}
+use Rattle.plain.specs.Run.{stackOf, run as plain-run, answersOf}
 use Rattle.exchange.specs.Line.{Item, value, spot, finished, NoSpot}
+use Rattle.job_line.specs.Tasks.{does}
 use Rattle.job_line.specs.Agree.{moves-agree}
 use Rattle.job_line.specs.Answered.{log-length, answers-first, answers-all}
 use Rattle.job_line.specs.Front.{valuesOf}
@@ -40,7 +42,7 @@ use Rattle.any_order.specs.States.{state-unfinished, still}
 use Rattle.any_order.specs.Goes.{Waiting, for-sibling, for-child, for-queue, Stays, waits, eight, nine, Does, stays, goes}
 use Rattle.any_order.specs.Looking.{step-does}
 use Rattle.any_order.specs.Running.{Running}
-use Rattle.any_order.specs.Called.{stood, Called, absent, held, went, refused-four, called-by}
+use Rattle.any_order.specs.Called.{place, Called, absent, held, went, refused-four, called-by}
 use Rattle.any_order.specs.Fresh.{fresh-runs}
 
 -- a line on which nobody stands, or its first task
@@ -72,7 +74,7 @@ module _ (j : List ℕ) (e : jobAnswer j ≡ Moved 0) where
   call s l run t = go (unfinished t (s .order)) refl
     where
       stands : (a b : List (Item Numbered)) (n : Numbered) → Running j s (a ++ spot n ∷ b) → Called j e s (a ++ spot n ∷ b) (n .number)
-      stands a b n r = called-by j e s a b n r (step-does j e (s .core) (s .runner) (s .order) a b n (r .state) (r .beside) (r .written) (stood j e r))
+      stands a b n r = called-by j e s a b n r (step-does (place j e s a b n r))
 
       go : (d : Bool) → unfinished t (s .order) ≡ d → Called j e s l t
       go false d = refused-four j e s l t run d
@@ -107,7 +109,8 @@ module _ (j : List ℕ) (e : jobAnswer j ≡ Moved 0) where
         by n x eight a = inr (inr (inl a))
         by n x nine a = inr (inr (inr a))
 
-        go : Called j e s l t → (stepAnswer j s t ≡ Waits) ⊎ ((stepAnswer j s t ≡ Refused 4) ⊎ ((stepAnswer j s t ≡ Refused 8) ⊎ (stepAnswer j s t ≡ Refused 9)))
+        go : Called j e s l t
+            → (stepAnswer j s t ≡ Waits) ⊎ ((stepAnswer j s t ≡ Refused 4) ⊎ ((stepAnswer j s t ≡ Refused 8) ⊎ (stepAnswer j s t ≡ Refused 9)))
         go (absent f a same) = inr (inl a)
         go (held a b n x f g y z same) = by n x y z
         go (went k m r) = absurd (false≢true (sym no-move ∙ m))
@@ -118,7 +121,7 @@ module _ (j : List ℕ) (e : jobAnswer j ≡ Moved 0) where
 
     first-ready : (a b : List (Item Numbered)) (n : Numbered) → standing a ≡ [] → Running j s (a ++ spot n ∷ b) → Ready (n .number)
     unfolding stepAnswer answerOf
-    first-ready a b n none r = go (step-does j e (s .core) (s .runner) (s .order) a b n (r .state) (r .beside) (r .written) (stood j e r))
+    first-ready a b n none r = go (step-does (place j e s a b n r))
       where
         there : unfinished (n .number) (s .order) ≡ true
         there = stands-unfinished j a b n (r .beside)
@@ -126,7 +129,7 @@ module _ (j : List ℕ) (e : jobAnswer j ≡ Moved 0) where
         never : Waiting j (s .order) n → ⊥
         never w = waiting (still (s .core) (s .order) (r .state) (n .number) there .played) w
           where
-            waiting : Rattle.order_waits.specs.Played.Played (s .order) → Waiting j (s .order) n → ⊥
+            waiting : Played (s .order) → Waiting j (s .order) n → ⊥
             waiting p (for-sibling d) = false≢true (sym (never-blocked j p a b n none (r .beside)) ∙ d)
             waiting p (for-child d) = false≢true (sym (never-parent j p a b n none (r .beside)) ∙ d)
             waiting p (for-queue q small may d) = never-waits j p a b n none (r .beside) q small may d
@@ -138,7 +141,8 @@ module _ (j : List ℕ) (e : jobAnswer j ≡ Moved 0) where
 
         go : Does j (s .core) (s .runner) (s .order) a b n → Ready (n .number)
         go (stays x y o) = by x y (unfold stepAnswer answerOf in ap answerOf o)
-        go (goes g) = inl (unfold stepAnswer answerOf Rattle.job_line.specs.Tasks.does in ap (λ (o : Outcome). hasMoved (answerOf o)) (g .outcome-is) ∙ has-moved _ _ _ _ (g .found) _ (g .new))
+        go (goes g) =
+            inl (unfold stepAnswer answerOf does in ap (λ (o : Outcome). hasMoved (answerOf o)) (g .outcome-is) ∙ has-moved _ _ _ _ (g .found) _ (g .new))
 
     -- while a task is unfinished, the first on the line can move, or wants a record or a segment
     some-ready : (t : ℕ) → unfinishedIn (s .core) t ≡ true → (u : ℕ) × (unfinishedIn (s .core) u ≡ true) × Ready u
@@ -172,7 +176,7 @@ module _ (j : List ℕ) (e : jobAnswer j ≡ Moved 0) where
         ∙ pass _ (lt-leb 4 q small) (pass _ (sym (state-unfinished (s .core) (s .order) (run .state) 0) ∙ f 0) (ap leftAnswer (left-along j (run .beside) q i small)))
 
     -- with the plain machine, which ends after n steps
-    agreed : (n : ℕ) → stackOf (Rattle.plain.specs.Run.run n j) ≡ [] → Agreed j n s
+    agreed : (n : ℕ) → stackOf (plain-run n j) ≡ [] → Agreed j n s
     agreed n end =
         let acc = accepted j e in
         let plain = moves-agree j acc n end (run .moves) in

@@ -26,7 +26,7 @@ use Rattle.any_order.specs.Statement.{Stand, stepped, stepAnswer}
 use Rattle.any_order.specs.States.{state-unfinished}
 use Rattle.any_order.specs.Written.{Written}
 use Rattle.any_order.specs.Tested.{tests-pass}
-use Rattle.any_order.specs.Goes.{Stays, waits, eight, nine, Goes, Does, stays, goes}
+use Rattle.any_order.specs.Goes.{Place, Stays, waits, eight, nine, Goes, Does, stays, goes}
 use Rattle.any_order.specs.Goes as common
 use Rattle.any_order.specs.Running.{Running, same-stand, next-stand}
 use Rattle.any_order.specs.Names.{name-is, event-is}
@@ -40,7 +40,8 @@ stays-still x nine = refl
 
 module _ (j : List ℕ) (e : jobAnswer j ≡ Moved 0) where
   -- every task on the line is at an instruction that exists
-  all-stood : (l : List (Item Numbered)) → ((u : Runner) → Unfinished u (unnumbered l) → Stands j (u .task)) → All (λ n. Stands j (n .runner .task)) (standing l)
+  all-stood : (l : List (Item Numbered)) → ((u : Runner) → Unfinished u (unnumbered l) → Stands j (u .task))
+      → All (λ n. Stands j (n .runner .task)) (standing l)
   unfolding unnumbered standing
   all-stood [] f = tt
   all-stood (value q v ∷ l) f = all-stood l (λ u i. f u (behind i))
@@ -70,15 +71,18 @@ module _ (j : List ℕ) (e : jobAnswer j ≡ Moved 0) where
     abbrev t : ℕ
     t = n .number
 
+    pub place : Place j (s .core) (s .runner) (s .order) a b n
+    place = record { accepted = e; state = run .state; beside = run .beside; written = run .written; stood = stood run }
+
     moves-on : Goes j (s .core) (s .runner) (s .order) a b n → Called s (a ++ spot n ∷ b) t
     unfolding stepAnswer answerOf
     moves-on g =
         let f = g .found in
         let d = does (n .runner) (instructionOf j (n .runner)) f in
         let yes : hasMoved (answerWith (d .word) (d .value) (g .new)) ≡ true = unfold does in has-moved _ _ _ _ f _ (g .new) in
-        let p = common.represents j e (s .core) (s .runner) (s .order) a b n (run .state) (run .beside) (run .written) (stood run) .played in
+        let p = common.represents place .played in
         let v = event-is j s n f (g .new) (name-is j (s .order) a b n p (run .beside))
-        (common.instruction-is j e (s .core) (s .runner) (s .order) a b n (run .state) (run .beside) (run .written) (stood run)) in
+        (common.instruction-is place) in
         let next : Stand = record { core = g .core; runner = g .runner; order = g .order; events = s .events ++ eventWith j (n .runner) f ∷ [] } in
         went (g .after .line) (ap (λ o. hasMoved (answerOf o)) (g .outcome-is) ∙ yes)
         (subst (λ (k : Stand). Running j k (g .after .line)) (sym (next-stand j s t _ (g .core) (g .runner) (g .order) _ yes (g .outcome-is) (g .noted-is) v))

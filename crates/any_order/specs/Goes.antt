@@ -5,7 +5,7 @@ use mathlib.Core.Bool.{true, false, not}
 use mathlib.Core.List.{List, _∷_, _++_}
 use mathlib.Core.Option.{Option, some}
 use Prim.Native.Nat.{ℕ, _<_}
-use Rattle.words.specs.Words.{pass}
+use Rattle.words.specs.Words.{pass, halt}
 use Rattle.gaps.specs.Maps.{All, all-behind}
 use Rattle.tree.specs.Rights.{pops as mayPop}
 use Rattle.answers.specs.declared.Answer.{Answer}
@@ -13,8 +13,9 @@ use Rattle.answers.specs.declared.Answer.the-variants.{Moved}
 use Rattle.answers.specs.declared.Finding.the-variants.{Waits as Later}
 use Rattle.answers.specs.Answers.{Outcome as CoreOutcome, outcome as core-outcome, wordsOf, answerOf as coreAnswer}
 use Rattle.answers.specs.Calls.{Call}
+use Rattle.calls.specs.Waits.{blocked as blockedIn}
 use Rattle.calls.specs.Outcomes.{outcomeOf}
-use Rattle.order.specs.Steps.{Item as Mark, numberOf, noted}
+use Rattle.order.specs.Steps.{Item as Mark, numberOf, rightsOf as rightsWith, noted}
 use Rattle.order.specs.Waits.{unfinished, blocked, hasChild}
 use Rattle.order.specs.Finding.{finding}
 use Rattle.order.specs.Ordered.{rightsAt}
@@ -24,6 +25,7 @@ use Rattle.in_order.specs.State.{State}
 use Rattle.in_order.specs.Ladder.{blocked-same, rights-are}
 use Rattle.in_order.specs.InOrder.{call-does}
 use Rattle.job.specs.declared.Instruction.{Instruction}
+use Rattle.job.specs.Fields.{instructionAt}
 use Rattle.job.specs.Operations.{operationAt}
 use Rattle.job.specs.Effects.{Effect, effect}
 use Rattle.job.specs.Test.{jobAnswer}
@@ -75,8 +77,16 @@ pub data Does (j m r : List ℕ) (xs : List Mark) (a b : List (Item Numbered)) (
   stays : (x : StepAnswer) → Stays j xs n x → stepOutcome j m r (n .number) ≡ outcome x m r → Does j m r xs a b n
   goes : Goes j m r xs a b n → Does j m r xs a b n
 
-module _ (j : List ℕ) (e : jobAnswer j ≡ Moved 0) (m r : List ℕ) (xs : List Mark) (a b : List (Item Numbered)) (n : Numbered) (st : State m xs)
-    (h : Beside j xs (a ++ spot n ∷ b)) (w : Written r (standing (a ++ spot n ∷ b))) (stood : All (λ k. Stands j (k .runner .task)) (standing (a ++ spot n ∷ b))) where
+-- A TASK THAT STANDS: task n stands between a and b on the line of an accepted job, in a state with the core's words m, the runner's
+-- words r and the steps and spots xs.
+pub record Place (j m r : List ℕ) (xs : List Mark) (a b : List (Item Numbered)) (n : Numbered) : Type 0 where
+  pub accepted : jobAnswer j ≡ Moved 0
+  pub state : State m xs
+  pub beside : Beside j xs (a ++ spot n ∷ b)
+  pub written : Written r (standing (a ++ spot n ∷ b))
+  pub stood : All (λ k. Stands j (k .runner .task)) (standing (a ++ spot n ∷ b))
+
+module _ {j m r : List ℕ} {xs : List Mark} {a b : List (Item Numbered)} {n : Numbered} (p : Place j m r xs a b n) where
   abbrev t : ℕ
   t = n .number
 
@@ -84,44 +94,44 @@ module _ (j : List ℕ) (e : jobAnswer j ≡ Moved 0) (m r : List ℕ) (xs : Lis
   u = n .runner
 
   pub is-unfinished : unfinished t xs ≡ true
-  is-unfinished = stands-unfinished j a b n h
+  is-unfinished = stands-unfinished j a b n (p .beside)
 
   pub represents : Represents m xs
-  represents = still m xs st t is-unfinished
+  represents = still m xs (p .state) t is-unfinished
 
   pub stands : Stands j (u .task)
-  stands = all-behind (λ k. Stands j (k .runner .task)) (standing a) (n ∷ standing b) (stands-at (λ k. Stands j (k .runner .task)) a b n stood) .0
+  stands = all-behind (λ k. Stands j (k .runner .task)) (standing a) (n ∷ standing b) (stands-at (λ k. Stands j (k .runner .task)) a b n (p .stood)) .0
 
   pub words : Words r t (u .task .procedure) (u .task .position) (u .task .register)
-  words = all-behind (Holds r) (standing a) (n ∷ standing b) (stands-at (Holds r) a b n (w .held)) .0 .words
+  words = all-behind (Holds r) (standing a) (n ∷ standing b) (stands-at (Holds r) a b n (p .written .held)) .0 .words
 
   pub instruction-is : instructionFor j r t ≡ instructionOf j u
   unfolding instructionFor instructionOf
-  instruction-is = ap₂ (λ (p i : ℕ). Rattle.job.specs.Fields.instructionAt j p i) (words .procedure) (words .position)
+  instruction-is = ap₂ (λ (k i : ℕ). instructionAt j k i) (words .procedure) (words .position)
 
   -- program order has the rights of the task's procedure
   pub rights-is : rightsAt t xs ≡ rightsOf j (u .task)
-  unfolding taskOf numberOf Rattle.order.specs.Steps.rightsOf
+  unfolding taskOf numberOf rightsWith
   rights-is =
-      let v = located j a b n h in
+      let v = located j a b n (p .beside) in
       ap (rightsAt t) (v .here) ∙ rights-are m (v .before) (v .behind) (taskOf j n) (subst (Represents m) (v .here) represents)
 
-  blocked-is : Rattle.calls.specs.Waits.blocked m t ≡ blocked t xs
+  blocked-is : blockedIn m t ≡ blocked t xs
   unfolding taskOf numberOf
   blocked-is =
-      let v = located j a b n h in
+      let v = located j a b n (p .beside) in
       blocked-same m (v .before) (v .behind) (taskOf j n) (subst (Represents m) (v .here) represents) ∙ ap (blocked t) (sym (v .here))
 
   tested-is : stepOutcome j m r t ≡ stepTested j m r t
   unfolding stepOutcome
-  tested-is = tests-pass j m r xs (a ++ spot n ∷ b) st h w stood e _
+  tested-is = tests-pass j m r xs (a ++ spot n ∷ b) (p .state) (p .beside) (p .written) (p .stood) (p .accepted) _
 
   -- a task that an older sibling blocks waits
   pub blocked-waits : blocked t xs ≡ true → Does j m r xs a b n
   unfolding stepTested
   blocked-waits d =
       stays Waits (waits (for-sibling d))
-      (tested-is ∙ pass _ (ap not (state-unfinished m xs st t ∙ is-unfinished)) (Rattle.words.specs.Words.halt _ _ (blocked-is ∙ d)))
+      (tested-is ∙ pass _ (ap not (state-unfinished m xs (p .state) t ∙ is-unfinished)) (halt _ _ (blocked-is ∙ d)))
 
   -- an instruction of the task, which nobody blocks
   module _ (free : blocked t xs ≡ false) (i : Instruction) (is : instructionOf j u ≡ i) where
@@ -129,7 +139,7 @@ module _ (j : List ℕ) (e : jobAnswer j ≡ Moved 0) (m r : List ℕ) (xs : Lis
     unfolding stepTested
     makes-it =
         tested-is
-        ∙ pass _ (ap not (state-unfinished m xs st t ∙ is-unfinished))
+        ∙ pass _ (ap not (state-unfinished m xs (p .state) t ∙ is-unfinished))
         (pass _ (blocked-is ∙ free)
         (ap₂ (λ (s : Instruction) (x : ℕ). makes t s (callOf (operationAt (s .operation)) j t x s) m r) (instruction-is ∙ is) (words .register)))
 
@@ -137,11 +147,12 @@ module _ (j : List ℕ) (e : jobAnswer j ≡ Moved 0) (m r : List ℕ) (xs : Lis
     call-is = ap₂ (λ (s : Instruction) (x : ℕ). callOf (operationAt (s .operation)) j t x s) (instruction-is ∙ is) (words .register)
 
     -- what the step leaves, in terms of the task
-    pub done-is : (f : Option ℕ) (c : ℕ) (k : List ℕ) → done t i f c k r ≡ outcome (answerWith (does u i f .word) (does u i f .value) c) k (runnerAfter (operationAt (i .operation)) t c i (does u i f) r)
+    pub done-is : (f : Option ℕ) (c : ℕ) (k : List ℕ)
+        → done t i f c k r ≡ outcome (answerWith (does u i f .word) (does u i f .value) c) k (runnerAfter (operationAt (i .operation)) t c i (does u i f) r)
     unfolding done does
     done-is f c k =
         ap (λ (d : Effect). outcome (answerWith (d .word) (d .value) c) k (runnerAfter (operationAt (i .operation)) t c i d r))
-        (ap₂ (λ (p x : ℕ). effect (operationAt (i .operation)) p x (i .operand) f) (words .position) (words .register))
+        (ap₂ (λ (k x : ℕ). effect (operationAt (i .operation)) k x (i .operand) f) (words .position) (words .register))
 
     -- with a core call c that is answered x
     module _ (c : Call) (which : callOf (operationAt (i .operation)) j t (u .task .register) i ≡ some c) (x : Answer) (answer : answered c m xs ≡ x) where
@@ -153,17 +164,17 @@ module _ (j : List ℕ) (e : jobAnswer j ≡ Moved 0) (m r : List ℕ) (xs : Lis
       call-replied =
           makes-it
           ∙ ap (λ (o : Option Call). makes t i o m r) which
-          ∙ ap (λ (o : CoreOutcome). repliedTo t i o m r) (behind-test m xs st c)
+          ∙ ap (λ (o : CoreOutcome). repliedTo t i o m r) (behind-test m xs (p .state) c)
           ∙ parts (outcomeOf c m)
-          ∙ ap (λ (y : Answer). replied t i (replyOf y) core m r) (call-does c m xs st .answer ∙ answer)
+          ∙ ap (λ (y : Answer). replied t i (replyOf y) core m r) (call-does c m xs (p .state) .answer ∙ answer)
         where
           parts : (o : CoreOutcome) → repliedTo t i o m r ≡ replied t i (replyOf (coreAnswer o)) (wordsOf o) m r
           parts (core-outcome y k) = unfold repliedTo coreAnswer wordsOf in refl
 
       pub call-state : State core (noted c x xs)
-      call-state = subst (λ (y : Answer). State core (noted c y xs)) answer (call-does c m xs st .holds)
+      call-state = subst (λ (y : Answer). State core (noted c y xs)) answer (call-does c m xs (p .state) .holds)
 
       pub call-noted : notedBy (callOf (operationAt (instructionFor j r t .operation)) j t (registerOf r t) (instructionFor j r t)) m xs ≡ noted c x xs
       unfolding notedBy
       call-noted =
-          ap (λ (o : Option Call). notedBy o m xs) (call-is ∙ which) ∙ ap (λ (y : Answer). noted c y xs) (call-does c m xs st .answer ∙ answer)
+          ap (λ (o : Option Call). notedBy o m xs) (call-is ∙ which) ∙ ap (λ (y : Answer). noted c y xs) (call-does c m xs (p .state) .answer ∙ answer)

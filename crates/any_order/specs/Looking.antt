@@ -1,13 +1,12 @@
 -- What a step does that looks in a queue; and with that the step of any operation.
 use mathlib.Core.Path.{_≡_, refl, ap, sym, _∙_, subst}
 use mathlib.Core.Bool.{Bool, true, false, false≢true}
-use mathlib.Core.List.{List, _∷_, _++_}
+use mathlib.Core.List.{List}
 use mathlib.Core.Option.{none, some}
 use Prim.Native.Nat.{ℕ, _≤_, _<_}
 use native.Mathlib.Omega.{arith}
 use borrow.Author.Tests.{ltb-true}
 use Rattle.words.specs.Words.{pick, both-true}
-use Rattle.gaps.specs.Maps.{All}
 use Rattle.tree.specs.Rights.{pops as mayPop}
 use Rattle.answers.specs.declared.Answer.the-variants.{Moved, Empty, NotEmpty, Waits, Refused}
 use Rattle.answers.specs.declared.Finding.{Finding}
@@ -18,29 +17,25 @@ use Rattle.order.specs.Waits.{blocked}
 use Rattle.order.specs.Finding.{finding}
 use Rattle.order.specs.Ordered.{rightsAt, popAnswer, testAnswer}
 use Rattle.order_waits.specs.Played.{Played}
-use Rattle.in_order.specs.State.{State}
 use Rattle.job.specs.Operations.{Row, rowOf, operationOf, operationAt}
 use Rattle.job.specs.Effects.{effect}
 use Rattle.job.specs.Rows.{from, row-past}
-use Rattle.job.specs.Test.{whichHolds, jobAnswer}
+use Rattle.job.specs.Test.{whichHolds}
 use Rattle.job.specs.Accepted.{Accepted, accepted}
 use Rattle.plain.specs.Stack.{Stands, rightsOf}
-use Rattle.exchange.specs.Line.{Item, spot}
+use Rattle.exchange.specs.Line.{Item}
 use Rattle.job_line.specs.Tasks.{Runner, instructionOf}
-use Rattle.job_order.specs.Beside.{Numbered, standing, Beside}
+use Rattle.job_order.specs.Beside.{Numbered}
 use Rattle.job_order.specs.Instructions.{instruction, which-holds}
 use Rattle.job_order.specs.Finds.{pop-after, pop-empty-after, test-after, test-empty-after}
 use Rattle.runner.specs.declared.StepAnswer.the-variants.{Waits as Held}
 use Rattle.runner.specs.Step.{callOf, replyOf, runnerAfter, done, replied}
-use Rattle.any_order.specs.Written.{Written}
 use Rattle.any_order.specs.Answered.{pop-answer, test-answer}
-use Rattle.any_order.specs.Goes.{waits, for-queue, Does}
+use Rattle.any_order.specs.Goes.{Place, waits, for-queue, Does}
 use Rattle.any_order.specs.Goes as common
 use Rattle.any_order.specs.Operations as other
 
-module _ (j : List ℕ) (e : jobAnswer j ≡ Moved 0) (m r : List ℕ) (xs : List Mark) (a b : List (Item Numbered)) (n : Numbered) (st : State m xs)
-    (h : Beside j xs (a ++ spot n ∷ b)) (w : Written r (standing (a ++ spot n ∷ b))) (stood : All (λ k. Stands j (k .runner .task)) (standing (a ++ spot n ∷ b)))
-    (free : blocked (n .number) xs ≡ false) where
+module _ {j m r : List ℕ} {xs : List Mark} {a b : List (Item Numbered)} {n : Numbered} (p : Place j m r xs a b n) (free : blocked (n .number) xs ≡ false) where
   abbrev t : ℕ
   t = n .number
 
@@ -48,20 +43,20 @@ module _ (j : List ℕ) (e : jobAnswer j ≡ Moved 0) (m r : List ℕ) (xs : Lis
   u = n .runner
 
   acc : Accepted j
-  acc = accepted j e
+  acc = accepted j (p .accepted)
 
   played : Played xs
-  played = common.represents j e m r xs a b n st h w stood .played
+  played = common.represents p .played
 
   stands : Stands j (u .task)
-  stands = common.stands j e m r xs a b n st h w stood
+  stands = common.stands p
 
   abbrev Result : Type 0
   Result = Does j m r xs a b n
 
   -- program order has the pop right too
   held-right : (q : ℕ) → mayPop (rightsOf j (u .task)) q ≡ true → mayPop (rightsAt t xs) q ≡ true
-  held-right q may = subst (λ (k : ℕ). mayPop k q ≡ true) (sym (common.rights-is j e m r xs a b n st h w stood)) may
+  held-right q may = subst (λ (k : ℕ). mayPop k q ≡ true) (sym (common.rights-is p)) may
 
   pop-case : (q x : ℕ) → instructionOf j u ≡ instruction 3 q x → Result
   unfolding rowOf operationOf operationAt callOf runnerAfter replyOf replied noted counted whichHolds pick popAnswer
@@ -78,16 +73,16 @@ module _ (j : List ℕ) (e : jobAnswer j ≡ Moved 0) (m r : List ℕ) (xs : Lis
 
       go : (f : Finding) → finding t q xs ≡ f → Result
       go (Found v) d =
-          other.called j e m r xs a b n st h w stood free (instruction 3 q x) is (pop-call t q) refl (Moved v)
-          (pop-answer m xs t (common.is-unfinished j e m r xs a b n st h w stood) free q small (held-right q may) ∙ ap popAnswer d)
-          (some v) v _ refl (pop-after j acc played a b n stands h q x v is d) (other.on-written j e m r xs a b n st h w stood free (instruction 3 q x) is (some v))
+          other.called p free (instruction 3 q x) is (pop-call t q) refl (Moved v)
+          (pop-answer m xs t (common.is-unfinished p) free q small (held-right q may) ∙ ap popAnswer d)
+          (some v) v _ refl (pop-after j acc played a b n stands (p .beside) q x v is d) (other.on-written p free (instruction 3 q x) is (some v))
       go Nothing d =
-          other.called j e m r xs a b n st h w stood free (instruction 3 q x) is (pop-call t q) refl (Refused 7)
-          (pop-answer m xs t (common.is-unfinished j e m r xs a b n st h w stood) free q small (held-right q may) ∙ ap popAnswer d)
-          none 0 _ refl (pop-empty-after j acc played a b n stands h q x is d) (other.on-written j e m r xs a b n st h w stood free (instruction 3 q x) is none)
+          other.called p free (instruction 3 q x) is (pop-call t q) refl (Refused 7)
+          (pop-answer m xs t (common.is-unfinished p) free q small (held-right q may) ∙ ap popAnswer d)
+          none 0 _ refl (pop-empty-after j acc played a b n stands (p .beside) q x is d) (other.on-written p free (instruction 3 q x) is none)
       go Later d =
-          other.held j e m r xs a b n st h w stood free (instruction 3 q x) is (pop-call t q) refl Waits
-          (pop-answer m xs t (common.is-unfinished j e m r xs a b n st h w stood) free q small (held-right q may) ∙ ap popAnswer d)
+          other.held p free (instruction 3 q x) is (pop-call t q) refl Waits
+          (pop-answer m xs t (common.is-unfinished p) free q small (held-right q may) ∙ ap popAnswer d)
           Held (waits (for-queue q small may d)) refl
 
   test-case : (q x : ℕ) → instructionOf j u ≡ instruction 4 q x → Result
@@ -105,16 +100,16 @@ module _ (j : List ℕ) (e : jobAnswer j ≡ Moved 0) (m r : List ℕ) (xs : Lis
 
       go : (f : Finding) → finding t q xs ≡ f → Result
       go (Found v) d =
-          other.called j e m r xs a b n st h w stood free (instruction 4 q x) is (test-call t q) refl NotEmpty
-          (test-answer m xs t (common.is-unfinished j e m r xs a b n st h w stood) free q small (held-right q may) ∙ ap testAnswer d)
-          (some v) 0 _ refl (test-after j acc played a b n stands h q x v is d) (other.on-written j e m r xs a b n st h w stood free (instruction 4 q x) is (some v))
+          other.called p free (instruction 4 q x) is (test-call t q) refl NotEmpty
+          (test-answer m xs t (common.is-unfinished p) free q small (held-right q may) ∙ ap testAnswer d)
+          (some v) 0 _ refl (test-after j acc played a b n stands (p .beside) q x v is d) (other.on-written p free (instruction 4 q x) is (some v))
       go Nothing d =
-          other.called j e m r xs a b n st h w stood free (instruction 4 q x) is (test-call t q) refl Empty
-          (test-answer m xs t (common.is-unfinished j e m r xs a b n st h w stood) free q small (held-right q may) ∙ ap testAnswer d)
-          none 0 _ refl (test-empty-after j acc played a b n stands h q x is d) (other.on-written j e m r xs a b n st h w stood free (instruction 4 q x) is none)
+          other.called p free (instruction 4 q x) is (test-call t q) refl Empty
+          (test-answer m xs t (common.is-unfinished p) free q small (held-right q may) ∙ ap testAnswer d)
+          none 0 _ refl (test-empty-after j acc played a b n stands (p .beside) q x is d) (other.on-written p free (instruction 4 q x) is none)
       go Later d =
-          other.held j e m r xs a b n st h w stood free (instruction 4 q x) is (test-call t q) refl Waits
-          (test-answer m xs t (common.is-unfinished j e m r xs a b n st h w stood) free q small (held-right q may) ∙ ap testAnswer d)
+          other.held p free (instruction 4 q x) is (test-call t q) refl Waits
+          (test-answer m xs t (common.is-unfinished p) free q small (held-right q may) ∙ ap testAnswer d)
           Held (waits (for-queue q small may d)) refl
 
   -- THE STEP OF ANY OPERATION, where no older sibling blocks it
@@ -123,11 +118,11 @@ module _ (j : List ℕ) (e : jobAnswer j ≡ Moved 0) (m r : List ℕ) (xs : Lis
 
   by-number : (k : ℕ) → 0 ≤ k → Case k
   by-number =
-      from Case 0 (other.finish-case j e m r xs a b n st h w stood free) (from Case 1 (other.push-case j e m r xs a b n st h w stood free)
-      (from Case 2 (other.sum-case j e m r xs a b n st h w stood free) (from Case 3 pop-case (from Case 4 test-case
-      (from Case 5 (other.go-case j e m r xs a b n st h w stood free) (from Case 6 (other.zero-case j e m r xs a b n st h w stood free)
-      (from Case 7 (other.add-case j e m r xs a b n st h w stood free) (from Case 8 (other.spawn-case j e m r xs a b n st h w stood free)
-      (from Case 9 (other.sync-case j e m r xs a b n st h w stood free) (λ k past q x is. none-past k past q x is))))))))))
+      from Case 0 (other.finish-case p free) (from Case 1 (other.push-case p free)
+      (from Case 2 (other.sum-case p free) (from Case 3 pop-case (from Case 4 test-case
+      (from Case 5 (other.go-case p free) (from Case 6 (other.zero-case p free)
+      (from Case 7 (other.add-case p free) (from Case 8 (other.spawn-case p free)
+      (from Case 9 (other.sync-case p free) (λ k past q x is. none-past k past q x is))))))))))
     where
       none-past : (k : ℕ) → 10 ≤ k → (q x : ℕ) → instructionOf j u ≡ instruction k q x → Result
       none-past k past q x is =
@@ -138,11 +133,9 @@ module _ (j : List ℕ) (e : jobAnswer j ≡ Moved 0) (m r : List ℕ) (xs : Lis
   unblocked = let s = instructionOf j u in by-number (s .operation) (omega arith) (s .which) (s .operand) refl
 
 -- THE STEP OF A TASK THAT STANDS
-pub step-does : (j : List ℕ) (e : jobAnswer j ≡ Moved 0) (m r : List ℕ) (xs : List Mark) (a b : List (Item Numbered)) (n : Numbered) (st : State m xs)
-    (h : Beside j xs (a ++ spot n ∷ b)) (w : Written r (standing (a ++ spot n ∷ b))) → All (λ k. Stands j (k .runner .task)) (standing (a ++ spot n ∷ b))
-    → Does j m r xs a b n
-step-does j e m r xs a b n st h w stood = go (blocked (n .number) xs) refl
+pub step-does : {j m r : List ℕ} {xs : List Mark} {a b : List (Item Numbered)} {n : Numbered} → Place j m r xs a b n → Does j m r xs a b n
+step-does {j} {m} {r} {xs} {a} {b} {n} p = go (blocked (n .number) xs) refl
   where
     go : (d : Bool) → blocked (n .number) xs ≡ d → Does j m r xs a b n
-    go true d = common.blocked-waits j e m r xs a b n st h w stood d
-    go false d = unblocked j e m r xs a b n st h w stood d
+    go true d = common.blocked-waits p d
+    go false d = unblocked p d

@@ -38,7 +38,8 @@ name-behind t (place o ∷ ys) zs s c e = go (eqb (numberOf o) t) refl (name-beh
     go false d rest = pass _ d rest
 
 -- the name of a task that stands on the line
-pub name-is : (j : List ℕ) (xs : List Mark) (a b : List (Item Numbered)) (n : Numbered) → Played xs → Beside j xs (a ++ spot n ∷ b) → nameAt (n .number) xs ≡ n .runner .task .name
+pub name-is : (j : List ℕ) (xs : List Mark) (a b : List (Item Numbered)) (n : Numbered) → Played xs → Beside j xs (a ++ spot n ∷ b)
+    → nameAt (n .number) xs ≡ n .runner .task .name
 unfolding taskOf numberOf nameOf count spotNumbered
 name-is j xs a b n p h =
     let t = n .number in

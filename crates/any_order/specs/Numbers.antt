@@ -44,7 +44,8 @@ module _ (j : List ℕ) where
         none-numbered t (w .behind) (standing b) (omega (arith, once, here, me)) (w .last),
       )
 
-  pub there : (xs : List Mark) (l : List (Item Numbered)) (a b : List Numbered) (n : Numbered) → Beside j xs l → standing l ≡ a ++ n ∷ b → unfinished (n .number) xs ≡ true
+  pub there : (xs : List Mark) (l : List (Item Numbered)) (a b : List Numbered) (n : Numbered) → Beside j xs l → standing l ≡ a ++ n ∷ b
+      → unfinished (n .number) xs ≡ true
   unfolding taskOf numberOf
   there xs l a b n h e =
       let w = place-at xs (map (taskOf j) a) (map (taskOf j) b) (taskOf j n) (h .tasks ∙ ap (map (taskOf j)) e ∙ map-append (taskOf j) a (n ∷ b)) in

@@ -24,13 +24,13 @@ use Rattle.job.specs.declared.Instruction.{Instruction}
 use Rattle.job.specs.Fields.{rights}
 use Rattle.job.specs.Operations.{rowOf, operationOf, operationAt}
 use Rattle.job.specs.Effects.{sum, effect}
-use Rattle.job.specs.Test.{whichHolds, jobAnswer}
+use Rattle.job.specs.Test.{whichHolds}
 use Rattle.job.specs.Accepted.{Accepted, accepted}
 use Rattle.plain.specs.Machine.{advanced, parent, child}
 use Rattle.plain.specs.Stack.{Stands, rightsOf}
 use Rattle.exchange.specs.Line.{Item, spot}
 use Rattle.job_line.specs.Tasks.{Runner, does, goesOn, afterSpawn, newTask, instructionOf}
-use Rattle.job_order.specs.Beside.{Numbered, standing, Beside}
+use Rattle.job_order.specs.Beside.{Numbered, standing}
 use Rattle.job_order.specs.Points.{standing-append}
 use Rattle.job_order.specs.After.{After}
 use Rattle.job_order.specs.Instructions.{instruction, which-holds}
@@ -47,12 +47,10 @@ use Rattle.any_order.specs.Written.{Written, Other}
 use Rattle.any_order.specs.Rewritten as words
 use Rattle.any_order.specs.Tested.{nobody}
 use Rattle.any_order.specs.Answered.{push-answer, spawn-answer, sync-answer, finish-answer}
-use Rattle.any_order.specs.Goes.{Stays, waits, eight, nine, for-child, Does, stays, goes}
+use Rattle.any_order.specs.Goes.{Place, Stays, waits, eight, nine, for-child, Does, stays, goes}
 use Rattle.any_order.specs.Goes as common
 
-module _ (j : List ℕ) (e : jobAnswer j ≡ Moved 0) (m r : List ℕ) (xs : List Mark) (a b : List (Item Numbered)) (n : Numbered) (st : State m xs)
-    (h : Beside j xs (a ++ spot n ∷ b)) (w : Written r (standing (a ++ spot n ∷ b))) (stood : All (λ k. Stands j (k .runner .task)) (standing (a ++ spot n ∷ b)))
-    (free : blocked (n .number) xs ≡ false) where
+module _ {j m r : List ℕ} {xs : List Mark} {a b : List (Item Numbered)} {n : Numbered} (p : Place j m r xs a b n) (free : blocked (n .number) xs ≡ false) where
   abbrev t : ℕ
   t = n .number
 
@@ -60,20 +58,20 @@ module _ (j : List ℕ) (e : jobAnswer j ≡ Moved 0) (m r : List ℕ) (xs : Lis
   u = n .runner
 
   acc : Accepted j
-  acc = accepted j e
+  acc = accepted j (p .accepted)
 
   played : Played xs
-  played = common.represents j e m r xs a b n st h w stood .played
+  played = common.represents p .played
 
   stands : Stands j (u .task)
-  stands = common.stands j e m r xs a b n st h w stood
+  stands = common.stands p
 
   apart : All (Other t) (standing a) × All (Other t) (standing b)
-  apart = others j xs a b n played h
+  apart = others j xs a b n played (p .beside)
 
   written : Written r (standing a ++ n ∷ standing b)
   unfolding standing
-  written = subst (Written r) (standing-append a (spot n ∷ b)) w
+  written = subst (Written r) (standing-append a (spot n ∷ b)) (p .written)
 
   abbrev Result : Type 0
   Result = Does j m r xs a b n
@@ -81,17 +79,19 @@ module _ (j : List ℕ) (e : jobAnswer j ≡ Moved 0) (m r : List ℕ) (xs : Lis
   -- AN INSTRUCTION of the task
   module _ (i : Instruction) (is : instructionOf j u ≡ i) where
     -- the runner's words of a task that goes on
-    pub on-written : (f : Option ℕ) → Written (put r t (procedureOf r t) (does u i f .next) (does u i f .register)) (standing a ++ on n (goesOn u i f) ∷ standing b)
+    pub on-written : (f : Option ℕ)
+        → Written (put r t (procedureOf r t) (does u i f .next) (does u i f .register)) (standing a ++ on n (goesOn u i f) ∷ standing b)
     unfolding advanced
     on-written f =
-        subst (λ (p : ℕ). Written (put r t p (does u i f .next) (does u i f .register)) (standing a ++ on n (goesOn u i f) ∷ standing b))
-        (sym (common.words j e m r xs a b n st h w stood .procedure))
+        subst (λ (k : ℕ). Written (put r t k (does u i f .next) (does u i f .register)) (standing a ++ on n (goesOn u i f) ∷ standing b))
+        (sym (common.words p .procedure))
         (words.goes-on r (standing a) (standing b) n written (apart .0) (apart .1) (on n (goesOn u i f)) refl)
 
     -- the step goes on
     pub goes-with : (f : Option ℕ) (c : ℕ) (core : List ℕ) (order : List Mark) (ns : List Numbered) → stepOutcome j m r t ≡ done t i f c core r
         → notedBy (callOf (operationAt (instructionFor j r t .operation)) j t (registerOf r t) (instructionFor j r t)) m xs ≡ order
-        → State core order → After j order a b n ns f → Written (runnerAfter (operationAt (i .operation)) t c i (does u i f) r) (standing a ++ (ns ++ standing b)) → Result
+        → State core order → After j order a b n ns f
+        → Written (runnerAfter (operationAt (i .operation)) t c i (does u i f) r) (standing a ++ (ns ++ standing b)) → Result
     goes-with f c core order ns o d s x y =
         goes
         (record {
@@ -103,7 +103,7 @@ module _ (j : List ℕ) (e : jobAnswer j ≡ Moved 0) (m r : List ℕ) (xs : Lis
           tasks = ns;
           outcome-is =
               o
-              ∙ common.done-is j e m r xs a b n st h w stood free i is f c core
+              ∙ common.done-is p free i is f c core
               ∙ ap (λ (s : Instruction). outcome (answerWith (does u s f .word) (does u s f .value) c) core (runnerAfter (operationAt (i .operation)) t c i (does u i f) r)) (sym is);
           noted-is = d;
           state = s;
@@ -117,24 +117,25 @@ module _ (j : List ℕ) (e : jobAnswer j ≡ Moved 0) (m r : List ℕ) (xs : Lis
     unfolding makes notedBy
     alone which ns x y =
         goes-with none 0 m xs ns
-        (common.makes-it j e m r xs a b n st h w stood free i is ∙ ap (λ (o : Option Call). makes t i o m r) which)
-        (ap (λ (o : Option Call). notedBy o m xs) (common.call-is j e m r xs a b n st h w stood free i is ∙ which))
-        st x y
+        (common.makes-it p free i is ∙ ap (λ (o : Option Call). makes t i o m r) which)
+        (ap (λ (o : Option Call). notedBy o m xs) (common.call-is p free i is ∙ which))
+        (p .state) x y
 
     -- with a core call that does not move
     pub held : (c : Call) → callOf (operationAt (i .operation)) j t (u .task .register) i ≡ some c → (x : Answer) → answered c m xs ≡ x → (y : StepAnswer)
         → Stays j xs n y → replied t i (replyOf x) (wordsOf (outcomeOf c m)) m r ≡ outcome y m r → Result
-    held c which x answer y why o = stays y why (common.call-replied j e m r xs a b n st h w stood free i is c which x answer ∙ o)
+    held c which x answer y why o = stays y why (common.call-replied p free i is c which x answer ∙ o)
 
     -- with a core call that moves
     pub called : (c : Call) → callOf (operationAt (i .operation)) j t (u .task .register) i ≡ some c → (x : Answer) → answered c m xs ≡ x
         → (f : Option ℕ) (v : ℕ) (ns : List Numbered) → replied t i (replyOf x) (wordsOf (outcomeOf c m)) m r ≡ done t i f v (wordsOf (outcomeOf c m)) r
-        → After j (noted c x xs) a b n ns f → Written (runnerAfter (operationAt (i .operation)) t v i (does u i f) r) (standing a ++ (ns ++ standing b)) → Result
+        → After j (noted c x xs) a b n ns f → Written (runnerAfter (operationAt (i .operation)) t v i (does u i f) r) (standing a ++ (ns ++ standing b))
+        → Result
     called c which x answer f v ns o after y =
         goes-with f v (wordsOf (outcomeOf c m)) (noted c x xs) ns
-        (common.call-replied j e m r xs a b n st h w stood free i is c which x answer ∙ o)
-        (common.call-noted j e m r xs a b n st h w stood free i is c which x answer)
-        (common.call-state j e m r xs a b n st h w stood free i is c which x answer)
+        (common.call-replied p free i is c which x answer ∙ o)
+        (common.call-noted p free i is c which x answer)
+        (common.call-state p free i is c which x answer)
         after y
 
   -- BY THE OPERATION'S NUMBER
@@ -143,19 +144,21 @@ module _ (j : List ℕ) (e : jobAnswer j ≡ Moved 0) (m r : List ℕ) (xs : Lis
 
   pub go-case : Case 5
   unfolding rowOf operationOf operationAt callOf runnerAfter
-  go-case q x is = alone (instruction 5 q x) is refl _ (go-after j acc played a b n stands h q x is) (on-written (instruction 5 q x) is none)
+  go-case q x is = alone (instruction 5 q x) is refl _ (go-after j acc played a b n stands (p .beside) q x is) (on-written (instruction 5 q x) is none)
 
   pub zero-case : Case 6
   unfolding rowOf operationOf operationAt callOf runnerAfter
-  zero-case q x is = alone (instruction 6 q x) is refl _ (zero-after j acc played a b n stands h q x is) (on-written (instruction 6 q x) is none)
+  zero-case q x is = alone (instruction 6 q x) is refl _ (zero-after j acc played a b n stands (p .beside) q x is) (on-written (instruction 6 q x) is none)
 
   pub add-case : Case 7
   unfolding rowOf operationOf operationAt callOf runnerAfter
-  add-case q x is = alone (instruction 7 q x) is refl _ (add-after j acc played a b n stands h q x is) (on-written (instruction 7 q x) is none)
+  add-case q x is = alone (instruction 7 q x) is refl _ (add-after j acc played a b n stands (p .beside) q x is) (on-written (instruction 7 q x) is none)
 
   -- a push moves, or is refused with 9
-  push-with : (i : Instruction) → instructionOf j u ≡ i → (v : ℕ) → callOf (operationAt (i .operation)) j t (u .task .register) i ≡ some (push-call t (i .which) v)
-      → i .which < 4 → mayPush (rightsOf j (u .task)) (i .which) ≡ true → done t i (some v) v (wordsOf (outcomeOf (push-call t (i .which) v) m)) r ≡ done t i none v (wordsOf (outcomeOf (push-call t (i .which) v) m)) r
+  push-with : (i : Instruction) → instructionOf j u ≡ i → (v : ℕ)
+      → callOf (operationAt (i .operation)) j t (u .task .register) i ≡ some (push-call t (i .which) v)
+      → i .which < 4 → mayPush (rightsOf j (u .task)) (i .which) ≡ true
+      → done t i (some v) v (wordsOf (outcomeOf (push-call t (i .which) v) m)) r ≡ done t i none v (wordsOf (outcomeOf (push-call t (i .which) v) m)) r
       → After j (advance t (pushes (i .which) v) xs) a b n (on n (goesOn u i none) ∷ []) none
       → runnerAfter (operationAt (i .operation)) t v i (does u i none) r ≡ put r t (procedureOf r t) (does u i none .next) (does u i none .register) → Result
   unfolding replyOf replied noted counted pick
@@ -164,39 +167,39 @@ module _ (j : List ℕ) (e : jobAnswer j ≡ Moved 0) (m r : List ℕ) (xs : Lis
       (λ d. called i is (push-call t (i .which) v) which (Moved v) d none v _ same after
       (subst (λ (k : List ℕ). Written k (standing a ++ on n (goesOn u i none) ∷ standing b)) (sym words) (on-written i is none)))
       (λ d. held i is (push-call t (i .which) v) which (Refused 9) d (TurnedDown 9) nine refl)
-      (push-answer m xs t (common.is-unfinished j e m r xs a b n st h w stood) free (i .which) v small
-      (subst (λ (k : ℕ). mayPush k (i .which) ≡ true) (sym (common.rights-is j e m r xs a b n st h w stood)) may))
+      (push-answer m xs t (common.is-unfinished p) free (i .which) v small
+      (subst (λ (k : ℕ). mayPush k (i .which) ≡ true) (sym (common.rights-is p)) may))
 
   pub push-case : Case 1
   unfolding rowOf operationOf operationAt callOf runnerAfter whichHolds done effect does
   push-case q x is =
       let holds = both-true _ _ (which-holds j u (instruction 1 q x) is acc stands) in
-      push-with (instruction 1 q x) is x refl (ltb-true q 4 (holds .0)) (holds .1) refl (push-after j acc played a b n stands h q x is) refl
+      push-with (instruction 1 q x) is x refl (ltb-true q 4 (holds .0)) (holds .1) refl (push-after j acc played a b n stands (p .beside) q x is) refl
 
   pub sum-case : Case 2
   unfolding rowOf operationOf operationAt callOf runnerAfter whichHolds done effect does
   sum-case q x is =
       let holds = both-true _ _ (which-holds j u (instruction 2 q x) is acc stands) in
-      push-with (instruction 2 q x) is (sum (u .task .register) x) refl (ltb-true q 4 (holds .0)) (holds .1) refl (sum-after j acc played a b n stands h q x is) refl
+      push-with (instruction 2 q x) is (sum (u .task .register) x) refl (ltb-true q 4 (holds .0)) (holds .1) refl (sum-after j acc played a b n stands (p .beside) q x is) refl
 
   pub sync-case : Case 9
   unfolding rowOf operationOf operationAt callOf runnerAfter replyOf replied noted counted done effect
   sync-case q x is =
       let i = instruction 9 q x in
       ⊎-elim
-      (λ d. called i is (sync-call t) refl (Moved 0) d none 0 _ refl (sync-after j acc played a b n stands h q x is) (on-written i is none))
+      (λ d. called i is (sync-call t) refl (Moved 0) d none 0 _ refl (sync-after j acc played a b n stands (p .beside) q x is) (on-written i is none))
       (λ d. held i is (sync-call t) refl Waits (d .1) Later (waits (for-child (d .0))) refl)
-      (sync-answer m xs t (common.is-unfinished j e m r xs a b n st h w stood) free)
+      (sync-answer m xs t (common.is-unfinished p) free)
 
   pub finish-case : Case 0
   unfolding rowOf operationOf operationAt callOf runnerAfter replyOf replied noted counted done effect
   finish-case q x is =
       let i = instruction 0 q x in
       ⊎-elim
-      (λ d. called i is (finish-call t) refl (Moved 0) d none 0 [] refl (finish-after j acc played a b n stands h q x is)
+      (λ d. called i is (finish-call t) refl (Moved 0) d none 0 [] refl (finish-after j acc played a b n stands (p .beside) q x is)
       (words.finishes r (standing a) (standing b) n written (apart .0) (apart .1)))
       (λ d. held i is (finish-call t) refl Waits (d .1) Later (waits (for-child (d .0))) refl)
-      (finish-answer m xs t (common.is-unfinished j e m r xs a b n st h w stood) free)
+      (finish-answer m xs t (common.is-unfinished p) free)
 
   -- A SPAWN moves, or is refused with 8.
   module _ (q x : ℕ) (is : instructionOf j u ≡ instruction 8 q x) where
@@ -219,13 +222,13 @@ module _ (j : List ℕ) (e : jobAnswer j ≡ Moved 0) (m r : List ℕ) (xs : Lis
         → Written (put (put r t (procedureOf r t) (does u i none .next) (does u i none .register)) c q 0 (sum (registerOf r t) x)) (standing a ++ new ∷ old ∷ standing b)
     unfolding advanced parent child standing
     spawn-written d s =
-        let after = spawn-after j acc played a b n stands h q x c is in
+        let after = spawn-after j acc played a b n stands (p .beside) q x c is in
         let here = there j _ (after .line) (standing a) (old ∷ standing b) new (after .beside) (after .stand) in
-        let v = common.words j e m r xs a b n st h w stood in
-        subst (λ (p : ℕ). Written (put (put r t p (does u i none .next) (does u i none .register)) c q 0 (sum (registerOf r t) x)) (standing a ++ new ∷ old ∷ standing b)) (sym (v .procedure))
-        (subst (λ (p : ℕ). Written (put (put r t (u .task .procedure) (does u i none .next) (does u i none .register)) c q 0 (sum p x)) (standing a ++ new ∷ old ∷ standing b)) (sym (v .register))
+        let v = common.words p in
+        subst (λ (k : ℕ). Written (put (put r t k (does u i none .next) (does u i none .register)) c q 0 (sum (registerOf r t) x)) (standing a ++ new ∷ old ∷ standing b)) (sym (v .procedure))
+        (subst (λ (k : ℕ). Written (put (put r t (u .task .procedure) (does u i none .next) (does u i none .register)) c q 0 (sum k x)) (standing a ++ new ∷ old ∷ standing b)) (sym (v .register))
         (words.spawns r (standing a) (standing b) n written (apart .0) (apart .1) old new refl (few _ _ s c here)
-        (subst (All (Other c)) (standing-append a (spot n ∷ b)) (nobody j xs (a ++ spot n ∷ b) c h (fresh m xs st t (rights j q) c d)))))
+        (subst (All (Other c)) (standing-append a (spot n ∷ b)) (nobody j xs (a ++ spot n ∷ b) c (p .beside) (fresh m xs (p .state) t (rights j q) c d)))))
 
     pub spawn-does : Result
     unfolding rowOf operationOf operationAt callOf runnerAfter replyOf replied noted counted done effect whichHolds pick
@@ -233,11 +236,11 @@ module _ (j : List ℕ) (e : jobAnswer j ≡ Moved 0) (m r : List ℕ) (xs : Lis
         let holds = both-true _ _ (which-holds j u i is acc stands) in
         ⊎-elim
         (λ d.
-        called i is call refl (Moved c) d none c _ refl (spawn-after j acc played a b n stands h q x c is)
-        (spawn-written d (common.call-state j e m r xs a b n st h w stood free i is call refl (Moved c) d)))
+        called i is call refl (Moved c) d none c _ refl (spawn-after j acc played a b n stands (p .beside) q x c is)
+        (spawn-written d (common.call-state p free i is call refl (Moved c) d)))
         (λ d. held i is call refl (Refused 8) d (TurnedDown 8) eight refl)
-        (spawn-answer m xs t (common.is-unfinished j e m r xs a b n st h w stood) free (rights j q)
-        (subst (λ (k : ℕ). subset (rights j q) k ≡ true) (sym (common.rights-is j e m r xs a b n st h w stood)) (holds .1)))
+        (spawn-answer m xs t (common.is-unfinished p) free (rights j q)
+        (subst (λ (k : ℕ). subset (rights j q) k ≡ true) (sym (common.rights-is p)) (holds .1)))
 
   pub spawn-case : Case 8
   spawn-case q x is = spawn-does q x is

@@ -78,7 +78,8 @@ module _ (j : List ℕ) (s : Stand) (t : ℕ) where
 
   -- a call that moves
   pub next-stand : (x : StepAnswer) (m r : List ℕ) (l : List Mark) (e : Event) → hasMoved x ≡ true → stepOutcome j (s .core) (s .runner) t ≡ outcome x m r
-      → notedBy Call-of (s .core) (s .order) ≡ l → eventFor j s t x ≡ e → stepped j t s ≡ record { core = m; runner = r; order = l; events = s .events ++ e ∷ [] }
+      → notedBy Call-of (s .core) (s .order) ≡ l → eventFor j s t x ≡ e
+      → stepped j t s ≡ record { core = m; runner = r; order = l; events = s .events ++ e ∷ [] }
   unfolding coreOf runnerOf answerOf standAfter
   next-stand x m r l e d o n v =
       stepped-is (outcome x m r) o

@@ -44,12 +44,14 @@ unfolding standing
 stands-at P a b n h = subst (All P) (standing-append a (spot n ∷ b)) h
 
 -- a number that no spot of a line has
-other-numbers : (t : ℕ) (l : List (Item Numbered)) → ((a b : List (Item Numbered)) (n : Numbered) → l ≡ a ++ spot n ∷ b → n .number ≡ t → ⊥) → All (Other t) (standing l)
+other-numbers : (t : ℕ) (l : List (Item Numbered)) → ((a b : List (Item Numbered)) (n : Numbered) → l ≡ a ++ spot n ∷ b → n .number ≡ t → ⊥)
+    → All (Other t) (standing l)
 unfolding standing
 other-numbers t [] g = tt
 other-numbers t (x ∷ l) g = go x g (other-numbers t l (λ a b n e. g (x ∷ a) b n (ap (λ (k : List (Item Numbered)). x ∷ k) e)))
   where
-    go : (x : Item Numbered) → ((a b : List (Item Numbered)) (n : Numbered) → x ∷ l ≡ a ++ spot n ∷ b → n .number ≡ t → ⊥) → All (Other t) (standing l) → All (Other t) (standing (x ∷ l))
+    go : (x : Item Numbered) → ((a b : List (Item Numbered)) (n : Numbered) → x ∷ l ≡ a ++ spot n ∷ b → n .number ≡ t → ⊥) → All (Other t) (standing l)
+        → All (Other t) (standing (x ∷ l))
     go (value q v) g rest = rest
     go (finished n) g rest = rest
     go (spot n) g rest = (g [] l n refl, rest)

@@ -66,7 +66,8 @@ module _ (m r : List ℕ) where
   fair-says (outcome a n s) f e = f e
 
   -- "no refused or waiting call changes a word"
-  pub step-keeps : (j : List ℕ) (t : ℕ) → hasMoved (answerOf (stepOutcome j m r t)) ≡ false → (coreOf (stepOutcome j m r t) ≡ m) × (runnerOf (stepOutcome j m r t) ≡ r)
+  pub step-keeps : (j : List ℕ) (t : ℕ) → hasMoved (answerOf (stepOutcome j m r t)) ≡ false
+      → (coreOf (stepOutcome j m r t) ≡ m) × (runnerOf (stepOutcome j m r t) ≡ r)
   unfolding stepOutcome tested jobTested refused stepTested
   step-keeps j t =
       fair-says _
