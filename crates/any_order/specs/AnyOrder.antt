@@ -173,7 +173,8 @@ module _ (j : List ℕ) (e : jobAnswer j ≡ Moved 0) where
     unfolding outcomeOf answered ordered
     left-is f q i small =
         call-does (left-call q i) (s .core) (s .order) (run .state) .answer
-        ∙ pass _ (lt-leb 4 q small) (pass _ (sym (state-unfinished (s .core) (s .order) (run .state) 0) ∙ f 0) (ap leftAnswer (left-along j (run .beside) q i small)))
+        ∙ pass _ (lt-leb 4 q small)
+        (pass _ (sym (state-unfinished (s .core) (s .order) (run .state) 0) ∙ f 0) (ap leftAnswer (left-along j (run .beside) q i small)))
 
     -- with the plain machine, which ends after n steps
     agreed : (n : ℕ) → stackOf (plain-run n j) ≡ [] → Agreed j n s

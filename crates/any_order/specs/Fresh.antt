@@ -30,7 +30,10 @@ use Rattle.any_order.specs.Running.{Running}
 no-word : (a : ℕ) → load (replicate RUNNER 0) a ≡ 0
 unfolding load
 no-word a =
-    ⊎-elim (λ l. getD-replicate RUNNER a 0 0 l) (λ l. List·getD-eq-default (replicate RUNNER 0) 0 (subst (λ (k : ℕ). k ≤ a) (sym (length-replicate {A = ℕ} RUNNER 0)) l)) (below? a RUNNER)
+    ⊎-elim
+    (λ l. getD-replicate RUNNER a 0 0 l)
+    (λ l. List·getD-eq-default (replicate RUNNER 0) 0 (subst (λ (k : ℕ). k ≤ a) (sym (length-replicate {A = ℕ} RUNNER 0)) l))
+    (below? a RUNNER)
 
 zeros : (t : ℕ) → Words (replicate RUNNER 0) t 0 0 0
 unfolding procedureOf positionOf registerOf

@@ -143,7 +143,8 @@ module _ {j m r : List ℕ} {xs : List Mark} {a b : List (Item Numbered)} {n : N
         (pass _ (blocked-is ∙ free)
         (ap₂ (λ (s : Instruction) (x : ℕ). makes t s (callOf (operationAt (s .operation)) j t x s) m r) (instruction-is ∙ is) (words .register)))
 
-    pub call-is : callOf (operationAt (instructionFor j r t .operation)) j t (registerOf r t) (instructionFor j r t) ≡ callOf (operationAt (i .operation)) j t (u .task .register) i
+    pub call-is : callOf (operationAt (instructionFor j r t .operation)) j t (registerOf r t) (instructionFor j r t)
+        ≡ callOf (operationAt (i .operation)) j t (u .task .register) i
     call-is = ap₂ (λ (s : Instruction) (x : ℕ). callOf (operationAt (s .operation)) j t x s) (instruction-is ∙ is) (words .register)
 
     -- what the step leaves, in terms of the task

@@ -104,7 +104,8 @@ module _ {j m r : List ℕ} {xs : List Mark} {a b : List (Item Numbered)} {n : N
           outcome-is =
               o
               ∙ common.done-is p free i is f c core
-              ∙ ap (λ (s : Instruction). outcome (answerWith (does u s f .word) (does u s f .value) c) core (runnerAfter (operationAt (i .operation)) t c i (does u i f) r)) (sym is);
+              ∙ ap (λ (s : Instruction). outcome (answerWith (does u s f .word) (does u s f .value) c) core (runnerAfter (operationAt (i .operation)) t c i (does u i f) r))
+              (sym is);
           noted-is = d;
           state = s;
           after = x;
@@ -180,7 +181,8 @@ module _ {j m r : List ℕ} {xs : List Mark} {a b : List (Item Numbered)} {n : N
   unfolding rowOf operationOf operationAt callOf runnerAfter whichHolds done effect does
   sum-case q x is =
       let holds = both-true _ _ (which-holds j u (instruction 2 q x) is acc stands) in
-      push-with (instruction 2 q x) is (sum (u .task .register) x) refl (ltb-true q 4 (holds .0)) (holds .1) refl (sum-after j acc played a b n stands (p .beside) q x is) refl
+      push-with (instruction 2 q x) is (sum (u .task .register) x) refl (ltb-true q 4 (holds .0)) (holds .1) refl
+      (sum-after j acc played a b n stands (p .beside) q x is) refl
 
   pub sync-case : Case 9
   unfolding rowOf operationOf operationAt callOf runnerAfter replyOf replied noted counted done effect
@@ -218,15 +220,19 @@ module _ {j m r : List ℕ} {xs : List Mark} {a b : List (Item Numbered)} {n : N
     abbrev old : Numbered
     old = on n (afterSpawn u i)
 
+    -- the spawner's words with procedure k, then the child's with register y
+    abbrev words-with : ℕ → ℕ → List ℕ
+    words-with k y = put (put r t k (does u i none .next) (does u i none .register)) c q 0 y
+
     spawn-written : answered call m xs ≡ Moved c → State (wordsOf (outcomeOf call m)) (advance t (spawns c (rights j q)) xs)
-        → Written (put (put r t (procedureOf r t) (does u i none .next) (does u i none .register)) c q 0 (sum (registerOf r t) x)) (standing a ++ new ∷ old ∷ standing b)
+        → Written (words-with (procedureOf r t) (sum (registerOf r t) x)) (standing a ++ new ∷ old ∷ standing b)
     unfolding advanced parent child standing
     spawn-written d s =
         let after = spawn-after j acc played a b n stands (p .beside) q x c is in
         let here = there j _ (after .line) (standing a) (old ∷ standing b) new (after .beside) (after .stand) in
         let v = common.words p in
-        subst (λ (k : ℕ). Written (put (put r t k (does u i none .next) (does u i none .register)) c q 0 (sum (registerOf r t) x)) (standing a ++ new ∷ old ∷ standing b)) (sym (v .procedure))
-        (subst (λ (k : ℕ). Written (put (put r t (u .task .procedure) (does u i none .next) (does u i none .register)) c q 0 (sum k x)) (standing a ++ new ∷ old ∷ standing b)) (sym (v .register))
+        subst (λ (k : ℕ). Written (words-with k (sum (registerOf r t) x)) (standing a ++ new ∷ old ∷ standing b)) (sym (v .procedure))
+        (subst (λ (k : ℕ). Written (words-with (u .task .procedure) (sum k x)) (standing a ++ new ∷ old ∷ standing b)) (sym (v .register))
         (words.spawns r (standing a) (standing b) n written (apart .0) (apart .1) old new refl (few _ _ s c here)
         (subst (All (Other c)) (standing-append a (spot n ∷ b)) (nobody j xs (a ++ spot n ∷ b) c (p .beside) (fresh m xs (p .state) t (rights j q) c d)))))
 

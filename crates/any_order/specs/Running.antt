@@ -83,4 +83,5 @@ module _ (j : List ℕ) (s : Stand) (t : ℕ) where
   unfolding coreOf runnerOf answerOf standAfter
   next-stand x m r l e d o n v =
       stepped-is (outcome x m r) o
-      ∙ ap₂ (λ (k : List Mark) (es : List Event). record { core = m; runner = r; order = k; events = es }) (halt _ _ d ∙ n) (halt _ _ d ∙ ap (λ (y : Event). s .events ++ y ∷ []) v)
+      ∙ ap₂ (λ (k : List Mark) (es : List Event). record { core = m; runner = r; order = k; events = es })
+      (halt _ _ d ∙ n) (halt _ _ d ∙ ap (λ (y : Event). s .events ++ y ∷ []) v)

@@ -76,16 +76,20 @@ module _ (j m r : List ℕ) (xs : List Mark) (l : List (Item Numbered)) (st : St
   task-holds : (a b : List (Item Numbered)) (n : Numbered) → l ≡ a ++ spot n ∷ b → Represents m xs → taskHolds j m r (n .number) ≡ true
   unfolding taskHolds rightsOf
   task-holds a b n e p =
-      let held = all-behind (Holds r) (standing a) (n ∷ standing b) (stands-at (Holds r) a b n (subst (λ (k : List (Item Numbered)). All (Holds r) (standing k)) e (w .held))) .0 .words in
+      let held = all-behind (Holds r) (standing a) (n ∷ standing b)
+      (stands-at (Holds r) a b n (subst (λ (k : List (Item Numbered)). All (Holds r) (standing k)) e (w .held))) .0 .words in
       let stands = all-behind (λ n. Stands j (n .runner .task)) (standing a) (n ∷ standing b)
-      (stands-at (λ n. Stands j (n .runner .task)) a b n (subst (λ (k : List (Item Numbered)). All (λ n. Stands j (n .runner .task)) (standing k)) e stood)) .0 in
+      (stands-at (λ n. Stands j (n .runner .task)) a b n
+      (subst (λ (k : List (Item Numbered)). All (λ n. Stands j (n .runner .task)) (standing k)) e stood)) .0 in
       let same = rights-held j m xs a b n p (subst (Beside j xs) e h) in
       let one = held .procedure in
       let two = held .position in
       let x = stands .procedure in
       let y = stands .position in
       true-both (lt-ltb _ _ (subst (λ (k : ℕ). k < procedures j) (sym one) x))
-      (true-both (lt-ltb _ _ (subst (λ (k : ℕ). positionOf r (n .number) < count j k) (sym one) (subst (λ (k : ℕ). k < count j (n .runner .task .procedure)) (sym two) y)))
+      (true-both
+      (lt-ltb _ _ (subst (λ (k : ℕ). positionOf r (n .number) < count j k) (sym one)
+      (subst (λ (k : ℕ). k < count j (n .runner .task .procedure)) (sym two) y)))
       (eq-eqb _ _ (same ∙ ap (rights j) (sym one))))
 
   record-holds : (t : ℕ) → recordHolds j m r t ≡ true
