@@ -75,19 +75,45 @@ const PARTS: [Part; 4] = [
     },
 ];
 
+/// The answers that have to come at least once, call by call.
+const DUE: [(&str, &[u32]); 3] = [
+    ("open", &[1, 10, 11, 12, 44]),
+    (
+        "step",
+        &[1, 2, 4, 8, 9, 10, 11, 12, 32, 33, 34, 40, 41, 42, 43, 44],
+    ),
+    ("ready", &[1, 2, 10, 11, 12, 44]),
+];
+
 #[derive(Default)]
 struct State {
-    /// How often each answer came, by its number.
-    counts: BTreeMap<u32, u64>,
+    /// How often each answer came, by call and number.
+    counts: BTreeMap<(&'static str, u32), u64>,
     calls: u64,
     /// Runs in which all tasks finished.
     ended: u64,
 }
 
 impl State {
-    fn count(&mut self, answer: Stepped) {
-        *self.counts.entry(answer.status()).or_default() += 1;
+    fn count(&mut self, call: &'static str, answer: Stepped) {
+        *self.counts.entry((call, answer.status())).or_default() += 1;
         self.calls += 1;
+    }
+
+    fn open(&mut self, pair: &mut RunnerPair) -> Outcome {
+        self.count("open", pair.open()?);
+        Ok(())
+    }
+
+    fn step(&mut self, pair: &mut RunnerPair, t: u32) -> Result<Stepped, String> {
+        let answer = pair.step(t)?;
+        self.count("step", answer);
+        Ok(answer)
+    }
+
+    fn ready(&mut self, pair: &mut RunnerPair) -> Outcome {
+        self.count("ready", pair.ready()?);
+        Ok(())
     }
 }
 
@@ -106,15 +132,14 @@ fn orders(state: &mut State, r: &mut Random) -> Outcome {
     let plain = Plain::run(&Job::read(&job).expect("a job"), MOST_STEPS);
     let steps = plain.as_ref().map_or(MOST_STEPS, |plain| plain.steps);
     let mut pair = RunnerPair::new(job, &noise(r, WORDS as u32), &noise(r, RUNNER as u32));
-    pair.open()?;
+    state.open(&mut pair)?;
     let mut log = Log::default();
     for _ in 0..MOST_CALLS.min(CALLS_A_STEP * steps) {
         let t = somebody(r, &log);
-        let answer = pair.step(t)?;
+        let answer = state.step(&mut pair, t)?;
         log.note(t, answer);
-        state.count(answer);
         if r.chance(4) {
-            pair.ready()?;
+            state.ready(&mut pair)?;
         }
         if log.unfinished().is_empty() && r.chance(25) {
             break;
@@ -133,13 +158,13 @@ fn orders(state: &mut State, r: &mut Random) -> Outcome {
 fn crowd(state: &mut State, r: &mut Random) -> Outcome {
     let job = assemble(r.pick(&CROWDS)).expect("the crowd assembles");
     let mut pair = RunnerPair::new(job, &noise(r, WORDS as u32), &noise(r, RUNNER as u32));
-    pair.open()?;
+    state.open(&mut pair)?;
     let (calls, own) = (r.within(500, 1_500), r.within(50, 95));
     for _ in 0..calls {
         let t = if r.chance(own) { 0 } else { r.below(128) };
-        state.count(pair.step(t)?);
+        state.step(&mut pair, t)?;
         if r.chance(2) {
-            pair.ready()?;
+            state.ready(&mut pair)?;
         }
     }
     Ok(())
@@ -162,9 +187,9 @@ fn damaged_memories(state: &mut State, r: &mut Random) -> Outcome {
     let other = damaged(r, &whole);
     let job = if r.chance(90) { whole } else { other };
     let mut pair = RunnerPair::new(job, &noise(r, WORDS as u32), &noise(r, RUNNER as u32));
-    state.count(pair.open()?);
+    state.open(&mut pair)?;
     for _ in 0..r.below(30) {
-        state.count(pair.step(r.below(4))?);
+        state.step(&mut pair, r.below(4))?;
     }
     for _ in 0..10 {
         damage_one(r, &mut pair);
@@ -173,9 +198,9 @@ fn damaged_memories(state: &mut State, r: &mut Random) -> Outcome {
         } else {
             any_word(r)
         };
-        state.count(pair.step(t)?);
+        state.step(&mut pair, t)?;
         if r.chance(20) {
-            pair.ready()?;
+            state.ready(&mut pair)?;
         }
     }
     Ok(())
@@ -189,9 +214,9 @@ fn lengths(state: &mut State, r: &mut Random) -> Outcome {
     };
     let (core, runner) = (near(r, WORDS), near(r, RUNNER));
     let mut pair = RunnerPair::new(accepted(r), &noise(r, core), &noise(r, runner));
-    state.count(pair.open()?);
-    state.count(pair.step(any_word(r))?);
-    pair.ready().map(|_| ())
+    state.open(&mut pair)?;
+    state.step(&mut pair, any_word(r))?;
+    state.ready(&mut pair)
 }
 
 fn make_round(state: &mut State, seed: u64, at: usize, round: u32) -> Outcome {
@@ -210,12 +235,13 @@ fn run_all(state: &mut State, seed: u64) -> Outcome {
         }
         println!("{}: {} calls", part.name, state.calls - before);
     }
-    // Every way of moving, the wait, and 1, 2, 4, 8, 9 and the job's refusals.
-    let due = [1, 2, 4, 8, 9, 10, 11, 12, 32, 33, 34, 40, 41, 42, 43, 44];
-    match due.iter().find(|number| !state.counts.contains_key(number)) {
-        Some(number) => Err(format!("seed {seed}: no call was answered {number}")),
-        None => Ok(()),
+    for (call, numbers) in DUE {
+        let missing = |number: &&u32| !state.counts.contains_key(&(call, **number));
+        if let Some(number) = numbers.iter().find(missing) {
+            return Err(format!("seed {seed}: no {call} was answered {number}"));
+        }
     }
+    Ok(())
 }
 
 fn main() -> ExitCode {
@@ -233,7 +259,7 @@ fn main() -> ExitCode {
         let counts: Vec<String> = state
             .counts
             .iter()
-            .map(|(k, n)| format!("{k}: {n}"))
+            .map(|((call, number), times)| format!("{call} {number}: {times}"))
             .collect();
         println!("answers by number: {}", counts.join(", "));
         println!("{} calls agree, {} runs ended", state.calls, state.ended);
