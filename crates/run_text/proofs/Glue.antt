@@ -8,7 +8,7 @@ use borrow.Author.Tests.{lt-ltb, le-ltb, le-leb, lt-leb}
 use Rattle.words.specs.Words.{either, halt, pass}
 use Rattle.text.specs.Text.{ascii, decimal}
 use Rattle.text.specs.Puts.{Puts, puts-then, puts-first}
-use Rattle.run_text.specs.Few.{number-ends}
+use Rattle.run_text.specs.Few.{number-ends, long-ends}
 use Rattle.run_text.specs.Lines.{answerTexts, answerText, hasValue, valueText, spaced, ended, line, leftLine, refusedLine, endLine}
 use Rattle.serial.specs.declared.End.{End}
 use Rattle.serial.specs.declared.End.the-variants.{Ended, Spent, Refused}
@@ -33,6 +33,11 @@ pub spaced-few : {m ws m1 m2 : List ℕ} {a b r : ℕ} (n : ℕ) → n < 2 ^ 32 
     → Puts m a (spaced (decimal n)) m2 r × (r ≤ a + 11)
 unfolding spaced ascii
 spaced-few n h e p q = (puts-then p (named e q), one-more n h (ap length e) p q)
+
+pub spaced-long : {m ws m1 m2 : List ℕ} {a b r : ℕ} (n : ℕ) → n < 2 ^ 64 → ws ≡ ascii " " → Puts m a (decimal n) m1 b → Puts m1 b ws m2 r
+    → Puts m a (spaced (decimal n)) m2 r × (r ≤ a + 21)
+unfolding spaced ascii
+spaced-long n h e p q = (puts-then p (named e q), let f = long-ends n h p in let g = q .end in let l = ap length e in omega (arith, f, g, l))
 
 pub ended-few : {m ws m1 m2 : List ℕ} {a b r : ℕ} (n : ℕ) → n < 2 ^ 32 → ws ≡ ascii "\n" → Puts m a (decimal n) m1 b → Puts m1 b ws m2 r
     → Puts m a (ended (decimal n)) m2 r × (r ≤ a + 11)

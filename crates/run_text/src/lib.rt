@@ -16,6 +16,15 @@ fn spaced_number(out: &mut [u8], at: usize, n: u32) -> usize
     text::put(out, b, b" ")
 }
 
+// The same for a number of a call, which may need 64 bits.
+fn spaced_long(out: &mut [u8], at: usize, n: u64) -> usize
+    requires { ⌜ at < 2 ^ 39 ⌝ }
+    ensures { λ r. ⌜ Puts (now (out .entry)) at (spaced (decimal n)) (now (out .exit)) r × (r ≤ at + 21) ⌝ }
+{
+    let b = text::long_number(out, at, n);
+    text::put(out, b, b" ")
+}
+
 // A number that ends a line.
 fn ended_number(out: &mut [u8], at: usize, n: u32) -> usize
     requires { ⌜ at < 2 ^ 39 ⌝ }
@@ -56,11 +65,11 @@ fn value(out: &mut [u8], at: usize, k: u32, v: u32) -> usize
 }
 
 // The line of call n, counted from 1: task t was answered k with value v.
-pub fn line(out: &mut [u8], at: usize, n: u32, t: u32, k: u32, v: u32) -> usize
+pub fn line(out: &mut [u8], at: usize, n: u64, t: u32, k: u32, v: u32) -> usize
     requires { ⌜ at < 2 ^ 38 ⌝ }
-    ensures { λ r. ⌜ Puts (now (out .entry)) at (line n t k v) (now (out .exit)) r × (r ≤ at + 42) ⌝ }
+    ensures { λ r. ⌜ Puts (now (out .entry)) at (line n t k v) (now (out .exit)) r × (r ≤ at + 52) ⌝ }
 {
-    let a = spaced_number(out, at, n);
+    let a = spaced_long(out, at, n);
     let b = spaced_number(out, a, t);
     let c = answer(out, b, k);
     value(out, c, k, v)

@@ -9,3 +9,4 @@ pub mod Ready
 pub mod ReadyLaws
 pub mod Moves
 pub mod MovesLaws
+pub mod Run

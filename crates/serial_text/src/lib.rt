@@ -12,14 +12,14 @@ use serial::End;
 
 // The line of step number i, counted from 0.
 fn step_line(out: &mut [u8], at: usize, a: &[u32], i: u32) -> usize
-    requires { ⌜ (at < 2 ^ 38) × (i + 1 < 2 ^ 32) ⌝ }
-    ensures { λ r. ⌜ Puts (now (out .entry)) at (stepLine (now (a .entry)) i) (now (out .exit)) r × (r ≤ at + 42) ⌝ }
+    requires { ⌜ at < 2 ^ 38 ⌝ }
+    ensures { λ r. ⌜ Puts (now (out .entry)) at (stepLine (now (a .entry)) i) (now (out .exit)) r × (r ≤ at + 52) ⌝ }
 {
     let b = i as usize * 3;
     let task = memory::get(a, b);
     let answer = memory::get(a, b + 1);
     let value = memory::get(a, b + 2);
-    run_text::line(out, at, i + 1, task, answer, value)
+    run_text::line(out, at, i as u64 + 1, task, answer, value)
 }
 
 // The lines of n steps from step `first` on.
