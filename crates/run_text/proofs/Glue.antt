@@ -9,7 +9,7 @@ use Rattle.words.specs.Words.{either, halt, pass}
 use Rattle.text.specs.Text.{ascii, decimal}
 use Rattle.text.specs.Puts.{Puts, puts-then, puts-first}
 use Rattle.run_text.specs.Few.{number-ends, long-ends}
-use Rattle.run_text.specs.Lines.{answerTexts, answerText, hasValue, valueText, spaced, ended, line, leftLine, refusedLine, endLine}
+use Rattle.run_text.specs.Lines.{answerTexts, answerText, hasValue, valueText, spaced, ended, line, leftLine, openLine, refusedLine, endLine}
 use Rattle.serial.specs.declared.End.{End}
 use Rattle.serial.specs.declared.End.the-variants.{Ended, Spent, Refused}
 
@@ -77,6 +77,11 @@ pub whole-left : {m ws m1 m2 m3 : List ℕ} {p0 p1 p2 p3 : ℕ} (q v : ℕ) → 
     → Puts m2 p2 (ended (decimal v)) m3 p3 → Puts m p0 (leftLine q v) m3 p3
 unfolding leftLine
 whole-left q v e a b c = puts-then (puts-then (named e a) b) c
+
+pub whole-open : {m ws m1 m2 : List ℕ} {p0 p1 p2 : ℕ} (n : ℕ) → ws ≡ ascii "open " → Puts m p0 ws m1 p1 → Puts m1 p1 (ended (decimal n)) m2 p2
+    → Puts m p0 (openLine n) m2 p2
+unfolding openLine
+whole-open n e a b = puts-then (named e a) b
 
 pub whole-refused : {m ws m1 m2 : List ℕ} {p0 p1 p2 : ℕ} (k : ℕ) → ws ≡ ascii "refused " → Puts m p0 ws m1 p1 → Puts m1 p1 (ended (decimal k)) m2 p2
     → Puts m p0 (refusedLine k) m2 p2

@@ -4,7 +4,7 @@ ghost use mathlib.Core.Path.{_≡_};
 ghost use Prim.Native.Nat.{_+_, _^_, _<_, _≤_};
 ghost use Rattle.text.specs.Text.{decimal};
 ghost use Rattle.text.specs.Puts.{Puts};
-ghost use Rattle.run_text.specs.Lines.{answerText, valueText, spaced, ended, line, leftLine, refusedLine, endLine};
+ghost use Rattle.run_text.specs.Lines.{answerText, valueText, spaced, ended, line, leftLine, openLine, refusedLine, endLine};
 use serial::End;
 
 // A number and a space behind it.
@@ -83,6 +83,14 @@ pub fn left_line(out: &mut [u8], at: usize, q: u32, v: u32) -> usize
     let a = text::put(out, at, b"left ");
     let b = spaced_number(out, a, q);
     ended_number(out, b, v)
+}
+
+// The line of a run with n tasks unfinished.
+pub fn open_line(out: &mut [u8], n: u32) -> usize
+    ensures { λ r. ⌜ Puts (now (out .entry)) 0 (openLine n) (now (out .exit)) r × (r ≤ 16) ⌝ }
+{
+    let a = text::put(out, 0, b"open ");
+    ended_number(out, a, n)
 }
 
 // "refused" and the number k.

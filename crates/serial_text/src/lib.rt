@@ -10,6 +10,15 @@ ghost use Rattle.serial_text.specs.Whole.{linesFrom, stepLine, valueLine
 ghost use Rattle.serial_text.specs.Blocks.{Block};
 use serial::End;
 
+// How many of n lines stand in the block that begins with line `first`: at most 1,024, and one at least.
+pub fn part(n: u32, first: u32) -> u32
+    requires { ⌜ first < n ⌝ }
+    ensures { λ r. ⌜ (r ≤ 1024) × (0 < r) × (first + r ≤ n) ⌝ }
+{
+    let rest = n - first;
+    if rest < 1024 { rest } else { 1024 }
+}
+
 // The line of step number i, counted from 0.
 fn step_line(out: &mut [u8], at: usize, a: &[u32], i: u32) -> usize
     requires { ⌜ at < 2 ^ 38 ⌝ }
