@@ -8,8 +8,8 @@ use borrow.Author.Tests.{lt-ltb, le-ltb, le-leb, lt-leb}
 use Rattle.words.specs.Words.{either, halt, pass}
 use Rattle.text.specs.Text.{ascii, decimal}
 use Rattle.text.specs.Puts.{Puts, puts-then, puts-first}
-use Rattle.run_text.specs.Few.{number-ends}
-use Rattle.run_text.specs.Lines.{answerTexts, answerText, hasValue, valueText, spaced, ended, line, leftLine, refusedLine, endLine}
+use Rattle.run_text.specs.Few.{number-ends, long-ends}
+use Rattle.run_text.specs.Lines.{answerTexts, answerText, hasValue, valueText, spaced, ended, line, leftLine, openLine, refusedLine, endLine}
 use Rattle.serial.specs.declared.End.{End}
 use Rattle.serial.specs.declared.End.the-variants.{Ended, Spent, Refused}
 
@@ -33,6 +33,11 @@ pub spaced-few : {m ws m1 m2 : List ℕ} {a b r : ℕ} (n : ℕ) → n < 2 ^ 32 
     → Puts m a (spaced (decimal n)) m2 r × (r ≤ a + 11)
 unfolding spaced ascii
 spaced-few n h e p q = (puts-then p (named e q), one-more n h (ap length e) p q)
+
+pub spaced-long : {m ws m1 m2 : List ℕ} {a b r : ℕ} (n : ℕ) → n < 2 ^ 64 → ws ≡ ascii " " → Puts m a (decimal n) m1 b → Puts m1 b ws m2 r
+    → Puts m a (spaced (decimal n)) m2 r × (r ≤ a + 21)
+unfolding spaced ascii
+spaced-long n h e p q = (puts-then p (named e q), let f = long-ends n h p in let g = q .end in let l = ap length e in omega (arith, f, g, l))
 
 pub ended-few : {m ws m1 m2 : List ℕ} {a b r : ℕ} (n : ℕ) → n < 2 ^ 32 → ws ≡ ascii "\n" → Puts m a (decimal n) m1 b → Puts m1 b ws m2 r
     → Puts m a (ended (decimal n)) m2 r × (r ≤ a + 11)
@@ -72,6 +77,11 @@ pub whole-left : {m ws m1 m2 m3 : List ℕ} {p0 p1 p2 p3 : ℕ} (q v : ℕ) → 
     → Puts m2 p2 (ended (decimal v)) m3 p3 → Puts m p0 (leftLine q v) m3 p3
 unfolding leftLine
 whole-left q v e a b c = puts-then (puts-then (named e a) b) c
+
+pub whole-open : {m ws m1 m2 : List ℕ} {p0 p1 p2 : ℕ} (n : ℕ) → ws ≡ ascii "open " → Puts m p0 ws m1 p1 → Puts m1 p1 (ended (decimal n)) m2 p2
+    → Puts m p0 (openLine n) m2 p2
+unfolding openLine
+whole-open n e a b = puts-then (named e a) b
 
 pub whole-refused : {m ws m1 m2 : List ℕ} {p0 p1 p2 : ℕ} (k : ℕ) → ws ≡ ascii "refused " → Puts m p0 ws m1 p1 → Puts m1 p1 (ended (decimal k)) m2 p2
     → Puts m p0 (refusedLine k) m2 p2

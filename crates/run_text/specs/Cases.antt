@@ -3,7 +3,7 @@ use mathlib.Core.Path.{_≡_, refl}
 use Rattle.words.specs.Words.{pick, either}
 use Rattle.serial.specs.declared.End.the-variants.{Spent, Refused}
 use Rattle.text.specs.Text.{ascii, digits, decimal}
-use Rattle.run_text.specs.Lines.{answerText, hasValue, valueText, spaced, ended, line, leftLine, refusedLine, endLine}
+use Rattle.run_text.specs.Lines.{answerText, hasValue, valueText, spaced, ended, line, leftLine, openLine, refusedLine, endLine}
 
 pub record Cases : Type 0 where
   pub spawns : line 3 0 0 3 ≡ ascii "3 0 spawned 3\n"
@@ -16,12 +16,13 @@ pub record Cases : Type 0 where
   pub filled : line 1 1 6 0 ≡ ascii "1 1 not -\n"
   pub turned : line 1 0 8 9 ≡ ascii "1 0 refused 9\n"
   pub left : leftLine 0 20 ≡ ascii "left 0 20\n"
+  pub unfinished : openLine 3 ≡ ascii "open 3\n"
   pub spent : endLine Spent ≡ ascii "spent\n"
   pub bound : endLine (Refused 8) ≡ ascii "refused 8\n"
   pub noJob : endLine (Refused 10) ≡ ascii "job refused 10\n"
 
 pub cases : Cases
-unfolding pick either ascii digits decimal answerText hasValue valueText spaced ended line leftLine refusedLine endLine
+unfolding pick either ascii digits decimal answerText hasValue valueText spaced ended line leftLine openLine refusedLine endLine
 cases =
     record {
       spawns = refl;
@@ -34,6 +35,7 @@ cases =
       filled = refl;
       turned = refl;
       left = refl;
+      unfinished = refl;
       spent = refl;
       bound = refl;
       noJob = refl;

@@ -1,5 +1,5 @@
 -- THE LINES OF A RUN in document 01's form: "the call's number from 1, task, answer, value or "-"", and at the end ""left"
--- gives queue and value". Each ends with a line feed.
+-- gives queue and value", or "open" and how many tasks are unfinished. Each ends with a line feed.
 use mathlib.Core.Path.{_≡_, refl}
 use mathlib.Core.Bool.{Bool}
 use mathlib.Core.List.{List, [], _∷_, _++_}
@@ -66,6 +66,10 @@ line n t k v = spaced (decimal n) ++ spaced (decimal t) ++ spaced (answerText k)
 -- the line of a value v left in queue q
 unfoldable pub leftLine : ℕ → ℕ → List ℕ
 leftLine q v = ascii "left " ++ spaced (decimal q) ++ ended (decimal v)
+
+-- the line of a run with n tasks unfinished
+unfoldable pub openLine : ℕ → List ℕ
+openLine n = ascii "open " ++ ended (decimal n)
 
 unfoldable pub refusedLine : ℕ → List ℕ
 refusedLine k = ascii "refused " ++ ended (decimal k)

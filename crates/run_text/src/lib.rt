@@ -4,7 +4,7 @@ ghost use mathlib.Core.Path.{_≡_};
 ghost use Prim.Native.Nat.{_+_, _^_, _<_, _≤_};
 ghost use Rattle.text.specs.Text.{decimal};
 ghost use Rattle.text.specs.Puts.{Puts};
-ghost use Rattle.run_text.specs.Lines.{answerText, valueText, spaced, ended, line, leftLine, refusedLine, endLine};
+ghost use Rattle.run_text.specs.Lines.{answerText, valueText, spaced, ended, line, leftLine, openLine, refusedLine, endLine};
 use serial::End;
 
 // A number and a space behind it.
@@ -13,6 +13,15 @@ fn spaced_number(out: &mut [u8], at: usize, n: u32) -> usize
     ensures { λ r. ⌜ Puts (now (out .entry)) at (spaced (decimal n)) (now (out .exit)) r × (r ≤ at + 11) ⌝ }
 {
     let b = text::number(out, at, n);
+    text::put(out, b, b" ")
+}
+
+// The same for a number of a call, which may need 64 bits.
+fn spaced_long(out: &mut [u8], at: usize, n: u64) -> usize
+    requires { ⌜ at < 2 ^ 39 ⌝ }
+    ensures { λ r. ⌜ Puts (now (out .entry)) at (spaced (decimal n)) (now (out .exit)) r × (r ≤ at + 21) ⌝ }
+{
+    let b = text::long_number(out, at, n);
     text::put(out, b, b" ")
 }
 
@@ -56,11 +65,11 @@ fn value(out: &mut [u8], at: usize, k: u32, v: u32) -> usize
 }
 
 // The line of call n, counted from 1: task t was answered k with value v.
-pub fn line(out: &mut [u8], at: usize, n: u32, t: u32, k: u32, v: u32) -> usize
+pub fn line(out: &mut [u8], at: usize, n: u64, t: u32, k: u32, v: u32) -> usize
     requires { ⌜ at < 2 ^ 38 ⌝ }
-    ensures { λ r. ⌜ Puts (now (out .entry)) at (line n t k v) (now (out .exit)) r × (r ≤ at + 42) ⌝ }
+    ensures { λ r. ⌜ Puts (now (out .entry)) at (line n t k v) (now (out .exit)) r × (r ≤ at + 52) ⌝ }
 {
-    let a = spaced_number(out, at, n);
+    let a = spaced_long(out, at, n);
     let b = spaced_number(out, a, t);
     let c = answer(out, b, k);
     value(out, c, k, v)
@@ -74,6 +83,14 @@ pub fn left_line(out: &mut [u8], at: usize, q: u32, v: u32) -> usize
     let a = text::put(out, at, b"left ");
     let b = spaced_number(out, a, q);
     ended_number(out, b, v)
+}
+
+// The line of a run with n tasks unfinished.
+pub fn open_line(out: &mut [u8], n: u32) -> usize
+    ensures { λ r. ⌜ Puts (now (out .entry)) 0 (openLine n) (now (out .exit)) r × (r ≤ 16) ⌝ }
+{
+    let a = text::put(out, 0, b"open ");
+    ended_number(out, a, n)
 }
 
 // "refused" and the number k.

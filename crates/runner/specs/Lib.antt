@@ -10,3 +10,4 @@ pub mod ReadyLaws
 pub mod Moves
 pub mod MovesLaws
 pub mod Held
+pub mod Run

@@ -1,20 +1,10 @@
 // Runs the job in the file that the first argument names, without overlap, and prints the run in document 01's lines. Where
 // the file cannot be read it says why on standard error and prints nothing.
-ghost use mathlib.Core.Path.{_≡_};
 ghost use Prim.Native.Nat.{_+_, _^_, _<_, _≤_};
-ghost use Rattle.serial_program.specs.Inside.{Inside};
 use libc::STDERR_FILENO;
 use libc::STDOUT_FILENO;
+use reading::Bytes;
 use serial::End;
-
-// How many of n lines stand in the block that begins with line `first`: at most 1,024, and one at least.
-fn part(n: u32, first: u32) -> u32
-    requires { ⌜ first < n ⌝ }
-    ensures { λ r. ⌜ (r ≤ 1024) × (0 < r) × (first + r ≤ n) ⌝ }
-{
-    let rest = n - first;
-    if rest < 1024 { rest } else { 1024 }
-}
 
 // Prints the lines of n steps from step `first` on.
 fn print_step_block(a: &[u32], first: u32, n: u32) -> bool
@@ -29,7 +19,7 @@ fn print_step_block(a: &[u32], first: u32, n: u32) -> bool
 fn print_steps(a: &[u32], steps: u32) -> bool {
     let mut first: u32 = 0;
     while first < steps {
-        let n = part(steps, first);
+        let n = serial_text::part(steps, first);
         if !print_step_block(a, first, n) {
             return false;
         }
@@ -52,7 +42,7 @@ fn print_queue(w: &[u32], q: u32) -> bool {
     let values = serial_queues::count(w, q);
     let mut first: u32 = 0;
     while first < values {
-        let n = part(values, first);
+        let n = serial_text::part(values, first);
         if !print_value_block(w, q, first, n) {
             return false;
         }
@@ -101,41 +91,6 @@ fn run(job: &[u8]) {
     }
 }
 
-// How many bytes were read.
-enum Bytes {
-    Read(usize),
-    Unread,
-}
-
-// Reads once, at most as many bytes as are lent; none at the end of the file.
-fn read_some(fd: i32, bytes: &mut [u8]) -> Bytes
-    ensures { λ r. ⌜ Inside r (now (bytes .exit)) ⌝ }
-{
-    let got = libc::read(fd, bytes);
-    if got < 0 {
-        return Bytes::Unread;
-    }
-    Bytes::Read(io::count(got, bytes))
-}
-
-// Reads the start of a file, as far as the lent bytes go.
-fn read_start(fd: i32, bytes: &mut [u8]) -> Bytes
-    ensures { λ r. ⌜ Inside r (now (bytes .exit)) ⌝ }
-{
-    let mut n: usize = 0;
-    while n < bytes.len() {
-        let some = read_some(fd, &mut bytes[n..]);
-        let Bytes::Read(k) = some else {
-            return Bytes::Unread;
-        };
-        if k == 0 {
-            return Bytes::Read(n);
-        }
-        n += k;
-    }
-    Bytes::Read(n)
-}
-
 fn main() {
     let mut path = io::buffer();
     let length = os::arg(1, &mut path);
@@ -150,7 +105,7 @@ fn main() {
     }
     // The largest job has 49,540 bytes. A longer file is none, and is refused by its first 49,541 bytes as by all of them.
     let mut file = [0u8; 49541];
-    match read_start(fd, &mut file) {
+    match reading::read_start(fd, &mut file) {
         Bytes::Read(n) => run(&file[..n]),
         Bytes::Unread => os::fail(&path[..length]),
     }

@@ -37,7 +37,7 @@ pub one-line : (f : ℕ → List ℕ) (i n : ℕ) {m m1 m2 : List ℕ} {a b : �
 one-line f i n p q = rw (lines-more f n i) (puts-then p q)
 
 -- all lines of a block
-pub all-lines : (f : ℕ → List ℕ) (first i n : ℕ) {m m1 : List ℕ} {a : ℕ} → length m1 ≡ length m → 65536 ≤ length m → n ≤ 1024 → i ≤ n → n ≤ i → a ≤ i * 42
+pub all-lines : (f : ℕ → List ℕ) (first i n : ℕ) {m m1 : List ℕ} {a : ℕ} → length m1 ≡ length m → 65536 ≤ length m → n ≤ 1024 → i ≤ n → n ≤ i → a ≤ i * 52
     → Puts m 0 (linesFrom f first i) m1 a → Block m1 a (linesFrom f first n)
 all-lines f first i n e h k l g b p = rw (← le-antisymm l g) (block e (omega arith) p)
 

@@ -3,7 +3,7 @@ use mathlib.Core.List.{List, [], _∷_}
 use Prim.Native.Nat.{ℕ, _+_, _/_, _%_, _^_, _<_, _≤_}
 use native.Mathlib.Omega.{arith}
 use Rattle.text.specs.Text.{decimal}
-use Rattle.text.specs.Decimal.{decimal-one, decimal-more, decimal-few}
+use Rattle.text.specs.Decimal.{decimal-one, decimal-more, decimal-long}
 use Rattle.text.specs.Puts.{Puts, puts-then}
 
 pub one-digit : {m m1 : List ℕ} {a r n : ℕ} → n < 10 → Puts m a ((48 + n) ∷ []) m1 r → Puts m a (decimal n) m1 r
@@ -13,5 +13,5 @@ pub more-digits : {m m1 m2 : List ℕ} {a b r n : ℕ} → 10 ≤ n → Puts m a
 more-digits {n = n} h p q = rw (decimal-more n h) (puts-then p q)
 
 -- where the last digit goes
-pub digit-position : {m m1 : List ℕ} {a b n : ℕ} → Puts m a (decimal n) m1 b → n < 2 ^ 32 → a < 2 ^ 40 → b < 2 ^ 41
-digit-position {n = n} p l h = let e = p .end in let f = decimal-few n l in omega (arith, e, f, h)
+pub digit-position : {m m1 : List ℕ} {a b n : ℕ} → Puts m a (decimal n) m1 b → n < 2 ^ 64 → a < 2 ^ 40 → b < 2 ^ 41
+digit-position {n = n} p l h = let e = p .end in let f = decimal-long n l in omega (arith, e, f, h)

@@ -52,3 +52,7 @@ few (suc k) (suc f) n h = go (ltb n 10) refl (few k f (n / 10) (tenth-below n (1
 pub decimal-few : (n : ℕ) → n < 2 ^ 32 → length (decimal n) ≤ 10
 unfolding decimal
 decimal-few n h = few 9 (suc n) n (omega arith)
+
+pub decimal-long : (n : ℕ) → n < 2 ^ 64 → length (decimal n) ≤ 20
+unfolding decimal
+decimal-long n h = few 19 (suc n) n (omega arith)

@@ -28,7 +28,7 @@ pub fn put(out: &mut [u8], at: usize, text: &[u8]) -> usize
     at + text.len()
 }
 
-fn digit(out: &mut [u8], at: usize, d: u32) -> usize
+fn digit(out: &mut [u8], at: usize, d: u64) -> usize
     requires { ⌜ (at < 2 ^ 41) × (d < 10) ⌝ }
     ensures { λ r. ⌜ Puts (now (out .entry)) at ((48 + d) ∷ []) (now (out .exit)) r ⌝ }
 {
@@ -37,13 +37,21 @@ fn digit(out: &mut [u8], at: usize, d: u32) -> usize
 }
 
 // A number in decimal digits.
-pub fn number(out: &mut [u8], at: usize, n: u32) -> usize
+pub fn long_number(out: &mut [u8], at: usize, n: u64) -> usize
     requires { ⌜ at < 2 ^ 40 ⌝ }
     ensures { λ r. ⌜ Puts (now (out .entry)) at (decimal n) (now (out .exit)) r ⌝ }
 {
     if n < 10 {
         return digit(out, at, n);
     }
-    let b = number(out, at, n / 10);
+    let b = long_number(out, at, n / 10);
     digit(out, b, n % 10)
+}
+
+// A word in decimal digits.
+pub fn number(out: &mut [u8], at: usize, n: u32) -> usize
+    requires { ⌜ at < 2 ^ 40 ⌝ }
+    ensures { λ r. ⌜ Puts (now (out .entry)) at (decimal n) (now (out .exit)) r ⌝ }
+{
+    long_number(out, at, n as u64)
 }

@@ -7,14 +7,15 @@ use Rattle.run_text.proofs.line.Tie as tie
 use Rattle.run_text.proofs.line.Reads as reads
 use Rattle.run_text.proofs.line.Lts as lts
 use Rattle.run_text.proofs.answer.Reads as answer-reads
+use Rattle.run_text.proofs.spaced_long.Reads as spaced-long-reads
 use Rattle.run_text.proofs.spaced_number.Reads as spaced-number-reads
 use Rattle.run_text.proofs.value.Reads as value-reads
 
+spaced-long-requires : tie.Need-spaced-long-requires
+spaced-long-requires c κs = search needs
+
 spaced-number-requires : tie.Need-spaced-number-requires
 spaced-number-requires c κs = search needs
-
-spaced-number-requires-2 : tie.Need-spaced-number-requires-2
-spaced-number-requires-2 c κs = search needs
 
 answer-requires : tie.Need-answer-requires
 answer-requires c κs = search needs
@@ -26,14 +27,14 @@ same-length : tie.Need-same-length
 same-length c = search needs
 
 returns : tie.Need-returns
-returns c = (whole-line _ _ _ _ (c .before .before .before .before .before .before .before .before .before .before .before .before .before .before .spaced-number .ensures .0) (c .before .before .before .before .before .before .before .before .before .before .spaced-number2 .ensures .0) (c .before .before .before .before .before .before .answer .ensures) (c .before .before .value .ensures .0), let h = answer-ends _ (c .before .before .before .before .before .before .answer .ensures) in omega arith)
+returns c = (whole-line _ _ _ _ (c .before .before .before .before .before .before .before .before .before .before .before .before .before .before .spaced-long .ensures .0) (c .before .before .before .before .before .before .before .before .before .before .spaced-number .ensures .0) (c .before .before .before .before .before .before .answer .ensures) (c .before .before .value .ensures .0), let h = answer-ends _ (c .before .before .before .before .before .before .answer .ensures) in omega arith)
 
 pub line-spec : {M : Type 1} → statement M
 line-spec =
     tie.close
     (tie.spec
+    spaced-long-requires
     spaced-number-requires
-    spaced-number-requires-2
     answer-requires
     value-requires
     same-length

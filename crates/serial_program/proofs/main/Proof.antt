@@ -1,4 +1,4 @@
-use Rattle.serial_program.proofs.Glue.{read-counts}
+use Rattle.reading.specs.Inside.{read-counts}
 use borrow.Author.Needs.{needs}
 use Rattle.serial_program.proofs.main.Statement.{statement}
 use Rattle.serial_program.proofs.main.Tie as tie
@@ -11,7 +11,7 @@ use Rattle.os.proofs.arg.Reads as arg-reads
 use Rattle.os.proofs.errno.Reads as errno-reads
 use Rattle.os.proofs.fail.Reads as fail-reads
 use Rattle.os.proofs.open_read.Reads as open-read-reads
-use Rattle.serial_program.proofs.read_start.Reads as read-start-reads
+use Rattle.reading.proofs.read_start.Reads as read-start-reads
 use Rattle.serial_program.proofs.run.Reads as run-reads
 
 buffer-requires : tie.Need-buffer-requires

@@ -13,7 +13,7 @@ use Rattle.serial_text.proofs.step_lines.Lts as lts
 use Rattle.serial_text.proofs.step_line.Reads as step-line-reads
 
 abbrev Inv-loop : tie.InvT-loop
-Inv-loop out₀ a first n at₀ i₀ out at i = (i ≤ n) × (at ≤ i * 42) × (length out ≡ length out₀) × Puts out₀ 0 (linesFrom (stepLine a) first i) out at
+Inv-loop out₀ a first n at₀ i₀ out at i = (i ≤ n) × (at ≤ i * 52) × (length out ≡ length out₀) × Puts out₀ 0 (linesFrom (stepLine a) first i) out at
 
 abbrev μ-loop : tie.MeasureT-loop
 μ-loop out₀ a first n at₀ i₀ out at i = n - i

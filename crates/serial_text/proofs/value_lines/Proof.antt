@@ -14,7 +14,7 @@ use Rattle.serial_text.proofs.value_lines.Lts as lts
 use Rattle.serial_text.proofs.value_line.Reads as value-line-reads
 
 abbrev Inv-loop : tie.InvT-loop
-Inv-loop out₀ w q first n at₀ i₀ out at i = (i ≤ n) × (at ≤ i * 42) × (length out ≡ length out₀) × Puts out₀ 0 (linesFrom (valueLine (lists w) q) first i) out at
+Inv-loop out₀ w q first n at₀ i₀ out at i = (i ≤ n) × (at ≤ i * 52) × (length out ≡ length out₀) × Puts out₀ 0 (linesFrom (valueLine (lists w) q) first i) out at
 
 abbrev μ-loop : tie.MeasureT-loop
 μ-loop out₀ w q first n at₀ i₀ out at i = n - i

@@ -1,14 +1,14 @@
-use Rattle.serial_program.proofs.Glue.{counts, whole-kept, more-inside}
+use Rattle.reading.proofs.Glue.{counts, whole-kept, more-inside}
 use borrow.Author.Needs.{needs}
 use native.Mathlib.Omega.{arith}
 use lib.ListN.{length}
 use mathlib.Core.Path.{_≡_, refl, _∙_}
 use Prim.Native.Nat.{_-_, _≤_}
-use Rattle.serial_program.proofs.read_start.Statement.{statement}
-use Rattle.serial_program.proofs.read_start.Tie as tie
-use Rattle.serial_program.proofs.read_start.Reads as reads
-use Rattle.serial_program.proofs.read_start.Lts as lts
-use Rattle.serial_program.proofs.read_some.Reads as read-some-reads
+use Rattle.reading.proofs.read_start.Statement.{statement}
+use Rattle.reading.proofs.read_start.Tie as tie
+use Rattle.reading.proofs.read_start.Reads as reads
+use Rattle.reading.proofs.read_start.Lts as lts
+use Rattle.reading.proofs.read_some.Reads as read-some-reads
 
 abbrev Inv-loop : tie.InvT-loop
 Inv-loop fd bytes₀ n₀ bytes n = (n ≤ length bytes) × (length bytes ≡ length bytes₀)

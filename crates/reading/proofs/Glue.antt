@@ -7,16 +7,12 @@ use lib.ListN.{length, take}
 use lib.Seq.{length-take-le}
 use borrow.Rule.Slice.PartMut.{putMid, midOf, mid-len, same-len-mid}
 use Rattle.io.specs.Counts.{Counts}
-use Rattle.serial_program.specs.Inside.{Inside}
-use Rattle.serial_program.specs.declared.Bytes.{Bytes}
-use Rattle.serial_program.specs.declared.Bytes.the-variants.{Read}
+use Rattle.reading.specs.Inside.{Inside, read-counts}
+use Rattle.reading.specs.declared.Bytes.{Bytes}
+use Rattle.reading.specs.declared.Bytes.the-variants.{Read}
 
 pub counts : (n : ℕ) (xs : List ℕ) → n ≤ length xs → Counts n xs
 counts n xs h = (h, sym (length-take-le n xs h))
-
--- what a read of k bytes says
-pub read-counts : (r : Bytes) (k : ℕ) (ys : List ℕ) → Inside r ys → r ≡ Read k → Counts k ys
-read-counts r k ys i e = rw e at i
 
 module _ (n : ℕ) (xs ys : List ℕ) (e : length ys ≡ length (midOf n (length xs - n) xs)) where
   -- the part comes back with its length

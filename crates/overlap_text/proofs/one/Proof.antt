@@ -1,0 +1,20 @@
+use Rattle.lists.specs.Counting.{one}
+use Rattle.words.specs.Words.{halt, pass}
+use mathlib.Core.Path.{refl, sym}
+use Rattle.overlap_text.proofs.one.Statement.{statement}
+use Rattle.overlap_text.proofs.one.Tie as tie
+use Rattle.overlap_text.proofs.one.Reads as reads
+use Rattle.overlap_text.proofs.one.Lts as lts
+
+-- src/lib.rt:118:1
+returns : tie.Need-returns
+unfolding one
+returns c = sym (halt _ _ (c .if1 .taken))
+
+-- src/lib.rt:118:1
+returns-2 : tie.Need-returns-2
+unfolding one
+returns-2 c = sym (pass _ (c .if1 .left) refl)
+
+pub one-spec : {M : Type 1} → statement M
+one-spec = tie.close (tie.spec returns returns-2)

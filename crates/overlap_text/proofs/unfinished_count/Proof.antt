@@ -1,0 +1,64 @@
+use Rattle.overlap_text.specs.Blocks.{unfinishedTo, none-counted, one-small, one-counted, all-counted}
+use Prim.Native.Nat.{_-_, _≤_}
+use native.Mathlib.Omega.{arith}
+use mathlib.Core.Path.{_≡_, sym}
+use borrow.Author.Needs.{needs}
+use Rattle.overlap_text.proofs.unfinished_count.Statement.{statement}
+use Rattle.overlap_text.proofs.unfinished_count.Tie as tie
+use Rattle.overlap_text.proofs.unfinished_count.Reads as reads
+use Rattle.overlap_text.proofs.unfinished_count.Lts as lts
+use Rattle.overlap_text.proofs.one.Reads as one-reads
+use Rattle.walks.proofs.unfinished.Reads as unfinished-reads
+
+abbrev Inv-loop : tie.InvT-loop
+Inv-loop m n₀ t₀ n t = (t ≤ 128) × (n ≤ t) × (n ≡ unfinishedTo t m)
+
+abbrev μ-loop : tie.MeasureT-loop
+μ-loop m n₀ t₀ n t = 128 - t
+
+-- src/lib.rt:130:5
+loop-holds : tie.Need-loop-holds Inv-loop μ-loop
+loop-holds c = (omega arith, omega arith, sym (none-counted _))
+
+-- src/lib.rt:131:18
+unfinished-requires : tie.Need-unfinished-requires Inv-loop μ-loop
+unfinished-requires c κs = search needs
+
+-- src/lib.rt:131:14
+one-requires : tie.Need-one-requires Inv-loop μ-loop
+one-requires c κs = search needs
+
+-- src/lib.rt:131:9
+add-n : tie.Need-add-n Inv-loop μ-loop
+add-n c = let h = one-small _ (c .one .ensures) in omega (arith, h)
+
+-- src/lib.rt:132:9
+add-t : tie.Need-add-t Inv-loop μ-loop
+add-t c = omega arith
+
+-- src/lib.rt:130:5
+loop-less : tie.Need-loop-less Inv-loop μ-loop
+loop-less c = omega arith
+
+-- src/lib.rt:130:5
+loop-again : tie.Need-loop-again Inv-loop μ-loop
+loop-again c = (omega arith, (let h = one-small _ (c .one .ensures) in omega (arith, h)), one-counted _ _ _ (c .before .before .before .loop .inv .2) (c .before .unfinished .ensures) (c .one .ensures))
+
+-- src/lib.rt:125:1
+returns : tie.Need-returns Inv-loop μ-loop
+returns c = all-counted _ _ _ (c .loop-test .left) (c .before .loop .inv .0) (c .before .loop .inv .2)
+
+pub unfinished-count-spec : {M : Type 1} → statement M
+unfinished-count-spec =
+    tie.close
+    (tie.spec
+    Inv-loop
+    μ-loop
+    loop-holds
+    unfinished-requires
+    one-requires
+    add-n
+    add-t
+    loop-less
+    loop-again
+    returns)

@@ -1,0 +1,151 @@
+// The text of a job's run with overlap in blocks of at most 1,024 lines, put at the start of lent bytes. A block gives the
+// number of its bytes.
+ghost use mathlib.Core.Path.{_≡_};
+ghost use Prim.Native.Nat.{_+_, _^_, _<_, _≤_};
+ghost use lib.ListN.{length};
+ghost use Rattle.lists.specs.Counting.{one};
+ghost use Rattle.answers.specs.Answers.{valueOf};
+ghost use Rattle.text.specs.Puts.{Puts};
+ghost use Rattle.run_text.specs.Lines.{openLine};
+ghost use Rattle.serial_text.specs.Whole.{linesFrom};
+ghost use Rattle.serial_text.specs.Blocks.{Block};
+ghost use Rattle.overlap_text.specs.Whole.{leftAt, isValue, leftIn, valueLine, unfinishedIn};
+ghost use Rattle.overlap_text.specs.Laws.{rowLine};
+ghost use Rattle.overlap_text.specs.Blocks.{Called};
+use answers::Answer;
+
+// The line of row i, where `before` calls were made before row 0.
+fn row_line(out: &mut [u8], at: usize, a: &[u32], before: u64, i: usize) -> usize
+    requires { ⌜ (at < 2 ^ 38) × (i < 1024) × (before + i + 1 < 2 ^ 64) ⌝ }
+    ensures { λ r. ⌜ Puts (now (out .entry)) at (rowLine (now (a .entry)) before i) (now (out .exit)) r × (r ≤ at + 52) ⌝ }
+{
+    let b = i * 3;
+    let task = memory::get(a, b);
+    let answer = memory::get(a, b + 1);
+    let value = memory::get(a, b + 2);
+    run_text::line(out, at, before + i as u64 + 1, task, answer, value)
+}
+
+// The lines of n rows.
+fn row_lines(out: &mut [u8], a: &[u32], before: u64, n: usize) -> usize
+    requires { ⌜ (65536 ≤ length (now out)) × (n ≤ 1024) × (before + 1024 < 2 ^ 64) ⌝ }
+    ensures { λ r. ⌜ Block (now (out .exit)) r (linesFrom (rowLine (now (a .entry)) before) 0 n) ⌝ }
+{
+    let mut at: usize = 0;
+    let mut i: usize = 0;
+    while i < n {
+        at = row_line(out, at, a, before, i);
+        i += 1;
+    }
+    at
+}
+
+// Makes the calls of the tasks, where `before` calls were made before, and writes their lines.
+pub fn call_lines(
+    out: &mut [u8],
+    job: &[u8],
+    tasks: &[u8],
+    m: &mut [u32],
+    r: &mut [u32],
+    before: u64,
+) -> usize
+    requires { ⌜ (65536 ≤ length (now out)) × (length (now tasks) ≤ 1024) × (before + 1024 < 2 ^ 64) ⌝ }
+    ensures { λ n. ⌜ Called (now (job .entry)) (now (tasks .entry)) (now (m .entry)) (now (r .entry)) before (now (out .exit)) n (now (m .exit)) (now (r .exit)) ⌝ }
+{
+    let mut a = [0u32; 3072];
+    let n = running::run(job, tasks, m, r, &mut a);
+    row_lines(out, &a, before, n)
+}
+
+// Whether value number i of queue q is left.
+fn is_left(m: &[u32], q: u32, i: u32) -> bool
+    ensures { λ b. ⌜ b ≡ isValue (leftAt (now (m .entry)) q i) ⌝ }
+{
+    let a = leaving::left(m, q, i);
+    match a {
+        Answer::Moved(_) => true,
+        Answer::Empty => false,
+        Answer::NotEmpty => false,
+        Answer::Waits => false,
+        Answer::Refused(_) => false,
+    }
+}
+
+// How many values are left in queue q.
+pub fn left_count(m: &[u32], q: u32) -> u32
+    ensures { λ n. ⌜ n ≡ leftIn (now (m .entry)) q ⌝ }
+{
+    let mut i: u32 = 0;
+    while i < 16384 {
+        if !is_left(m, q, i) {
+            return i;
+        }
+        i += 1;
+    }
+    i
+}
+
+// Value number i of queue q.
+fn left_value(m: &[u32], q: u32, i: u32) -> u32
+    ensures { λ v. ⌜ v ≡ valueOf (leftAt (now (m .entry)) q i) ⌝ }
+{
+    let a = leaving::left(m, q, i);
+    match a {
+        Answer::Moved(v) => v,
+        Answer::Empty => 0,
+        Answer::NotEmpty => 0,
+        Answer::Waits => 0,
+        Answer::Refused(_) => 0,
+    }
+}
+
+// The line of value number i of queue q.
+fn value_line(out: &mut [u8], at: usize, m: &[u32], q: u32, i: u32) -> usize
+    requires { ⌜ at < 2 ^ 38 ⌝ }
+    ensures { λ r. ⌜ Puts (now (out .entry)) at (valueLine (now (m .entry)) q i) (now (out .exit)) r × (r ≤ at + 27) ⌝ }
+{
+    let v = left_value(m, q, i);
+    run_text::left_line(out, at, q, v)
+}
+
+// The lines of n values of queue q from value `first` on.
+pub fn value_lines(out: &mut [u8], m: &[u32], q: u32, first: u32, n: u32) -> usize
+    requires { ⌜ (65536 ≤ length (now out)) × (first + n < 2 ^ 32) × (n ≤ 1024) ⌝ }
+    ensures { λ r. ⌜ Block (now (out .exit)) r (linesFrom (valueLine (now (m .entry)) q) first n) ⌝ }
+{
+    let mut at: usize = 0;
+    let mut i: u32 = 0;
+    while i < n {
+        at = value_line(out, at, m, q, first + i);
+        i += 1;
+    }
+    at
+}
+
+fn one(b: bool) -> u32
+    ensures { λ n. ⌜ n ≡ one b ⌝ }
+{
+    if b { 1 } else { 0 }
+}
+
+// How many tasks are unfinished.
+fn unfinished_count(m: &[u32]) -> u32
+    ensures { λ n. ⌜ n ≡ unfinishedIn (now (m .entry)) ⌝ }
+{
+    let mut n: u32 = 0;
+    let mut t: u32 = 0;
+    while t < 128 {
+        n += one(walks::unfinished(m, t));
+        t += 1;
+    }
+    n
+}
+
+// The line of a run whose top is unfinished.
+pub fn open_line(out: &mut [u8], m: &[u32]) -> usize
+    requires { ⌜ 65536 ≤ length (now out) ⌝ }
+    ensures { λ r. ⌜ Block (now (out .exit)) r (openLine (unfinishedIn (now (m .entry)))) ⌝ }
+{
+    let n = unfinished_count(m);
+    run_text::open_line(out, n)
+}

@@ -1,0 +1,21 @@
+use Rattle.running.specs.Made.{fitting}
+use Rattle.words.specs.Words.{halt, pass}
+use borrow.Author.Tests.{lt-ltb, le-ltb}
+use mathlib.Core.Path.{refl, sym}
+use Rattle.running.proofs.fit.Statement.{statement}
+use Rattle.running.proofs.fit.Tie as tie
+use Rattle.running.proofs.fit.Reads as reads
+use Rattle.running.proofs.fit.Lts as lts
+
+-- src/lib.rt:71:1
+returns : tie.Need-returns
+unfolding fitting
+returns c = sym (halt _ _ (lt-ltb _ _ (c .if1 .taken)))
+
+-- src/lib.rt:71:1
+returns-2 : tie.Need-returns-2
+unfolding fitting
+returns-2 c = sym (pass _ (le-ltb _ _ (c .if1 .left)) refl)
+
+pub fit-spec : {M : Type 1} → statement M
+fit-spec = tie.close (tie.spec returns returns-2)
