@@ -21,6 +21,7 @@ pub mod memory;
 pub mod operations;
 pub mod order;
 pub mod overlap;
+pub mod overlap_text;
 pub mod plain;
 pub mod play;
 pub mod pools;

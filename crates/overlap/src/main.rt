@@ -1,0 +1,148 @@
+// Runs the job in the file that the first argument names, with the order of calls from standard input: each byte is the
+// number of a task, which makes a step. It prints the run in document 01's lines. Where the file cannot be read it says why on
+// standard error and prints nothing.
+ghost use Prim.Native.Nat.{_+_, _^_, _<_, _≤_};
+ghost use lib.ListN.{length};
+use libc::STDERR_FILENO;
+use libc::STDIN_FILENO;
+use libc::STDOUT_FILENO;
+use reading::Bytes;
+use runner::StepAnswer;
+use serial::End;
+
+// Makes the calls of the tasks and prints their lines; `before` calls were made before.
+fn print_block(job: &[u8], tasks: &[u8], m: &mut [u32], r: &mut [u32], before: u64) -> bool
+    requires { ⌜ (length (now tasks) ≤ 1024) × (before + 1024 < 2 ^ 64) ⌝ }
+{
+    let mut out = io::large_buffer();
+    let n = overlap_text::call_lines(&mut out, job, tasks, m, r, before);
+    io::write_all(STDOUT_FILENO, &out[..n])
+}
+
+// Makes and prints the calls of standard input, as many at a time as one read gives.
+fn print_calls(job: &[u8], tasks: &mut [u8], m: &mut [u32], r: &mut [u32]) -> bool
+    requires { ⌜ length (now tasks) ≤ 1024 ⌝ }
+{
+    let mut before: u64 = 0;
+    // No run gets to the bound. It keeps the number of a call within 64 bits.
+    while before < 9223372036854775808 {
+        let some = reading::read_some(STDIN_FILENO, tasks);
+        let Bytes::Read(k) = some else {
+            os::fail(b"standard input");
+            return false;
+        };
+        if k == 0 {
+            return true;
+        }
+        if !print_block(job, &tasks[..k], m, r, before) {
+            os::fail(b"standard output");
+            return false;
+        }
+        before += k as u64;
+    }
+    true
+}
+
+// Prints the lines of n values of queue q from value `first` on.
+fn print_value_block(m: &[u32], q: u32, first: u32, n: u32) -> bool
+    requires { ⌜ (first + n < 2 ^ 32) × (n ≤ 1024) ⌝ }
+{
+    let mut out = io::large_buffer();
+    let k = overlap_text::value_lines(&mut out, m, q, first, n);
+    io::write_all(STDOUT_FILENO, &out[..k])
+}
+
+// Prints a line for each value left in queue q.
+fn print_queue(m: &[u32], q: u32) -> bool {
+    let values = overlap_text::left_count(m, q);
+    let mut first: u32 = 0;
+    while first < values {
+        let n = serial_text::part(values, first);
+        if !print_value_block(m, q, first, n) {
+            return false;
+        }
+        first += n;
+    }
+    true
+}
+
+// Prints a line for each value left, queues in order.
+fn print_left(m: &[u32]) -> bool {
+    for q in 0..4 {
+        if !print_queue(m, q) {
+            return false;
+        }
+    }
+    true
+}
+
+// Prints how many tasks are unfinished.
+fn print_open(m: &[u32]) -> bool {
+    let mut out = io::large_buffer();
+    let n = overlap_text::open_line(&mut out, m);
+    io::write_all(STDOUT_FILENO, &out[..n])
+}
+
+// Prints the end of a run: the values left, or that the top is unfinished.
+fn print_end(m: &[u32]) -> bool {
+    if walks::unfinished(m, 0) {
+        return print_open(m);
+    }
+    print_left(m)
+}
+
+// Prints the line of a job that was refused with number k.
+fn print_refused(k: u32) -> bool {
+    let mut out = io::large_buffer();
+    let n = serial_text::end_line(&mut out, End::Refused(k));
+    io::write_all(STDOUT_FILENO, &out[..n])
+}
+
+// Makes the calls of standard input and prints the run.
+fn run_open(job: &[u8], m: &mut [u32], r: &mut [u32]) {
+    let mut tasks = [0u8; 1024];
+    if !print_calls(job, &mut tasks, m, r) {
+        return;
+    }
+    if !print_end(m) {
+        os::fail(b"standard output");
+    }
+}
+
+// Opens a job and runs it.
+fn run(job: &[u8]) {
+    let mut m = [0u32; 16384];
+    let mut r = [0u32; 384];
+    let a = job_opening::open(job, &mut m, &mut r);
+    let StepAnswer::Refused(k) = a else {
+        run_open(job, &mut m, &mut r);
+        return;
+    };
+    if !print_refused(k) {
+        os::fail(b"standard output");
+    }
+}
+
+fn main() {
+    let mut path = io::buffer();
+    let length = os::arg(1, &mut path);
+    if os::errno() != 0 {
+        io::write_all(
+            STDERR_FILENO,
+            b"usage: overlap FILE, with task numbers as bytes on standard input\n",
+        );
+        return;
+    }
+    let fd = os::open_read(&path[..length]);
+    if fd < 0 {
+        os::fail(&path[..length]);
+        return;
+    }
+    // The largest job has 49,540 bytes. A longer file is none, and is refused by its first 49,541 bytes as by all of them.
+    let mut file = [0u8; 49541];
+    match reading::read_start(fd, &mut file) {
+        Bytes::Read(n) => run(&file[..n]),
+        Bytes::Unread => os::fail(&path[..length]),
+    }
+    libc::close(fd);
+}
