@@ -23,7 +23,7 @@ pub fn damage(r: &mut Random, m: &mut [u32]) {
 }
 
 /// A task, mostly an unfinished one.
-fn some_task(r: &mut Random, m: &[u32]) -> u32 {
+pub fn some_task(r: &mut Random, m: &[u32]) -> u32 {
     let tries: Vec<u32> = (0..6).map(|_| r.below(TASKS)).collect();
     let unfinished = tries.iter().find(|t| status(m, **t) == UNFINISHED);
     let low = r.below(8);

@@ -18,6 +18,8 @@ pub mod job;
 pub mod late;
 pub mod layout;
 pub mod memory;
+pub mod mutate;
+pub mod names;
 pub mod operations;
 pub mod order;
 pub mod overlap;

@@ -11,7 +11,7 @@ use crate::plain::Reply;
 
 /// Words of the runner's memory: three a task record.
 pub const RUNNER: usize = 384;
-const RECORD: usize = 3;
+pub const RECORD: usize = 3;
 /// The most segments that a job opens with.
 const MOST: u32 = 256;
 

@@ -53,6 +53,15 @@ impl Counts {
         self.calls += 1;
     }
 
+    /// How many calls of each kind there were, `KINDS` in order.
+    pub fn by_kind(&self) -> [u64; KINDS.len()] {
+        let mut sums = [0; KINDS.len()];
+        for ((kind, _, _), times) in &self.cases {
+            sums[*kind] += times;
+        }
+        sums
+    }
+
     /// The first case that no call reached.
     pub fn missing(&self) -> Option<String> {
         let early = REACHED

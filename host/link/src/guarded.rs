@@ -41,3 +41,21 @@ impl Guarded {
         before.iter().chain(behind).any(|word| *word != GUARD_WORD)
     }
 }
+
+#[cfg(test)]
+mod tests {
+    use super::*;
+
+    /// A change of the words lent is none of the guards; any of a guard is seen.
+    #[test]
+    fn guards() {
+        let mut guarded = Guarded::new(&[1, 2]);
+        guarded.lend().copy_from_slice(&[5, 6]);
+        assert!(!guarded.overrun());
+        for at in [0, GUARD - 1, GUARD + 2, 2 * GUARD + 1] {
+            guarded.set(&[1, 2]);
+            guarded.0[at] ^= 1;
+            assert!(guarded.overrun(), "word {at}");
+        }
+    }
+}

@@ -1,6 +1,10 @@
 //! The proved core as a linked library, and what compares it with the model.
 
 pub mod counts;
+#[cfg(test)]
+mod faults;
+pub mod fuzzing;
+pub mod ground;
 pub mod guarded;
 pub mod linked;
 pub mod linked_jobs;
@@ -14,3 +18,4 @@ pub mod rounds;
 pub mod runner_pair;
 pub mod scenes;
 pub mod serial_pair;
+pub mod shrink;

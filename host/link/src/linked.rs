@@ -3,6 +3,7 @@
 
 use host::answer::Answer;
 use host::call::Call;
+use std::mem::MaybeUninit;
 
 extern "C" {
     fn hq_open(words: *mut u32, len: usize, length: u32, segments: u32) -> u64;
@@ -17,6 +18,11 @@ extern "C" {
 
 pub fn open(words: &mut [u32], length: u32, segments: u32) -> u64 {
     unsafe { hq_open(words.as_mut_ptr(), words.len(), length, segments) }
+}
+
+/// The same on words that nobody has written yet.
+pub fn open_unset(words: &mut [MaybeUninit<u32>], length: u32, segments: u32) -> u64 {
+    unsafe { hq_open(words.as_mut_ptr().cast(), words.len(), length, segments) }
 }
 
 pub fn spawn(words: &mut [u32], task: u32, rights: u32) -> u64 {

@@ -4,6 +4,7 @@
 
 use host::plain::Reply;
 use host::serial::End;
+use std::mem::MaybeUninit;
 
 /// Words for working and for answers; any other numbers are refused with 1.
 pub const WORKING: usize = 16_392;
@@ -36,6 +37,24 @@ pub fn run_serially(job: &[u8], working: &mut [u32], answers: &mut [u32]) -> u64
             working.as_mut_ptr(),
             working.len(),
             answers.as_mut_ptr(),
+            answers.len(),
+        )
+    }
+}
+
+/// The same on words that nobody has written yet.
+pub fn run_serially_unset(
+    job: &[u8],
+    working: &mut [MaybeUninit<u32>],
+    answers: &mut [MaybeUninit<u32>],
+) -> u64 {
+    unsafe {
+        hq_run_serially(
+            job.as_ptr(),
+            job.len(),
+            working.as_mut_ptr().cast(),
+            working.len(),
+            answers.as_mut_ptr().cast(),
             answers.len(),
         )
     }

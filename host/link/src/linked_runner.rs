@@ -2,6 +2,7 @@
 //! give an answer, and only the words of the slices are read or written.
 
 use host::runner::{Ready, Stepped};
+use std::mem::MaybeUninit;
 
 extern "C" {
     fn hq_job_open(
@@ -45,6 +46,24 @@ pub fn open(job: &[u8], core: &mut [u32], runner: &mut [u32]) -> u64 {
     }
 }
 
+/// The same on words that nobody has written yet.
+pub fn open_unset(
+    job: &[u8],
+    core: &mut [MaybeUninit<u32>],
+    runner: &mut [MaybeUninit<u32>],
+) -> u64 {
+    unsafe {
+        hq_job_open(
+            job.as_ptr(),
+            job.len(),
+            core.as_mut_ptr().cast(),
+            core.len(),
+            runner.as_mut_ptr().cast(),
+            runner.len(),
+        )
+    }
+}
+
 pub fn step(job: &[u8], core: &mut [u32], runner: &mut [u32], task: u32) -> u64 {
     unsafe {
         hq_job_step(
@@ -59,11 +78,20 @@ pub fn step(job: &[u8], core: &mut [u32], runner: &mut [u32], task: u32) -> u64 
     }
 }
 
-/// The answer and the six words: the map, the number of set bits, the lowest
-/// ready task or the mark for none.
-pub fn ready(job: &[u8], core: &[u32], runner: &[u32]) -> (u64, [u32; 6]) {
+/// The ready map, the number of set bits, the lowest ready task or the mark for
+/// none.
+pub type Map = [u32; 6];
+
+/// The answer and the map.
+pub fn ready(job: &[u8], core: &[u32], runner: &[u32]) -> (u64, Map) {
     let mut out = [9; 6];
-    let answer = unsafe {
+    let answer = ready_into(job, core, runner, &mut out);
+    (answer, out)
+}
+
+/// The same with the six words lent.
+pub fn ready_into(job: &[u8], core: &[u32], runner: &[u32], out: &mut Map) -> u64 {
+    unsafe {
         hq_job_ready(
             job.as_ptr(),
             job.len(),
@@ -73,8 +101,7 @@ pub fn ready(job: &[u8], core: &[u32], runner: &[u32]) -> (u64, [u32; 6]) {
             runner.len(),
             out.as_mut_ptr(),
         )
-    };
-    (answer, out)
+    }
 }
 
 /// The model's answer as the library gives it.
@@ -83,7 +110,7 @@ pub fn packed(answer: Stepped) -> u64 {
 }
 
 /// The model's map as the library gives it.
-pub fn map_words(map: Ready) -> [u32; 6] {
+pub fn map_words(map: Ready) -> Map {
     let [a, b, c, d] = map.words;
     [a, b, c, d, map.count, map.lowest.unwrap_or(u32::MAX)]
 }

@@ -13,7 +13,12 @@ use std::fmt::Write;
 /// How many of the words that differ are shown.
 const SHOWN: usize = 40;
 
+/// How the library makes a call.
+pub type Library = fn(Call, &mut [u32]) -> u64;
+
 pub struct Pair {
+    /// The linked library; a test puts one that errs in its place.
+    pub library: Library,
     linked: Guarded,
     pub model: Vec<u32>,
     pub counts: Counts,
@@ -22,6 +27,7 @@ pub struct Pair {
 impl Default for Pair {
     fn default() -> Pair {
         let mut pair = Pair {
+            library: linked::make,
             linked: Guarded::default(),
             model: Vec::new(),
             counts: Counts::default(),
@@ -42,7 +48,7 @@ impl Pair {
     /// Makes the call on both; says what differs.
     pub fn make(&mut self, call: Call) -> Result<Answer, String> {
         let due = call.make(&mut self.model);
-        let given = linked::make(call, self.linked.lend());
+        let given = (self.library)(call, self.linked.lend());
         if given != linked::packed(due) || self.linked.words() != &self.model[..] {
             return Err(self.difference(call, given, due));
         }

@@ -2,13 +2,31 @@
 //! and the answers, all words of both memories and the ready maps are compared.
 
 use crate::guarded::Guarded;
-use crate::linked_runner::{self, map_words, packed};
+use crate::linked_runner::{self, map_words, packed, Map};
 use host::runner::{self, Stepped};
 
+/// How the library opens a job, makes a step and gives the ready map.
+#[derive(Clone, Copy)]
+pub struct RunnerLibrary {
+    pub open: fn(&[u8], &mut [u32], &mut [u32]) -> u64,
+    pub step: fn(&[u8], &mut [u32], &mut [u32], u32) -> u64,
+    pub ready: fn(&[u8], &[u32], &[u32], &mut Map) -> u64,
+}
+
+/// The linked library.
+pub const LINKED: RunnerLibrary = RunnerLibrary {
+    open: linked_runner::open,
+    step: linked_runner::step,
+    ready: linked_runner::ready_into,
+};
+
 pub struct RunnerPair {
-    job: Vec<u8>,
+    /// The linked library; a test puts one that errs in its place.
+    pub library: RunnerLibrary,
+    pub job: Vec<u8>,
     core: Guarded,
     runner: Guarded,
+    map: Guarded,
     pub model_core: Vec<u32>,
     pub model_runner: Vec<u32>,
 }
@@ -17,9 +35,11 @@ impl RunnerPair {
     /// A job, and words that both are lent.
     pub fn new(job: Vec<u8>, core: &[u32], runner: &[u32]) -> RunnerPair {
         RunnerPair {
+            library: LINKED,
             job,
             core: Guarded::new(core),
             runner: Guarded::new(runner),
+            map: Guarded::new(&[9; 6]),
             model_core: core.to_vec(),
             model_runner: runner.to_vec(),
         }
@@ -33,21 +53,23 @@ impl RunnerPair {
 
     pub fn open(&mut self) -> Result<Stepped, String> {
         let due = runner::open(&self.job, &mut self.model_core, &mut self.model_runner);
-        let given = linked_runner::open(&self.job, self.core.lend(), self.runner.lend());
+        let given = (self.library.open)(&self.job, self.core.lend(), self.runner.lend());
         self.same("open", given, due)
     }
 
     pub fn step(&mut self, t: u32) -> Result<Stepped, String> {
         let due = runner::step(&self.job, &mut self.model_core, &mut self.model_runner, t);
-        let given = linked_runner::step(&self.job, self.core.lend(), self.runner.lend(), t);
+        let given = (self.library.step)(&self.job, self.core.lend(), self.runner.lend(), t);
         self.same(&format!("step {t}"), given, due)
     }
 
     /// The ready map of both.
     pub fn ready(&mut self) -> Result<Stepped, String> {
         let (due, map) = runner::ready(&self.job, &self.model_core, &self.model_runner);
-        let (given, words) =
-            linked_runner::ready(&self.job, self.core.words(), self.runner.words());
+        let (core, runner) = (self.core.words(), self.runner.words());
+        let lent = self.map.lend().try_into().expect("six words");
+        let given = (self.library.ready)(&self.job, core, runner, lent);
+        let words = self.map.words();
         if words != map_words(map) {
             return Err(format!("ready map {words:?}, model {map:?}"));
         }
@@ -67,7 +89,7 @@ impl RunnerPair {
         if let Some(at) = first_other(self.runner.words(), &self.model_runner) {
             return Err(format!("{call}: word {at} of the runner"));
         }
-        if self.core.overrun() || self.runner.overrun() {
+        if self.core.overrun() || self.runner.overrun() || self.map.overrun() {
             return Err(format!("{call}: words outside those lent changed"));
         }
         Ok(due)

@@ -1,0 +1,145 @@
+//! Calls of the linked library alone, on words lent from heap blocks of exactly
+//! their size, to be run under a checker of memory: reading or writing a word
+//! outside those lent is an error there, and so is reading one never written.
+//!
+//! `lent SEED MEMORIES` makes every call on so many memories, half of them
+//! mutated. Two errors on purpose: `lent beyond` claims one word more than it
+//! lends, `lent unset` makes a call on words that nobody has written.
+
+use host::layout::WORDS;
+use host::random::Random;
+use host::random_jobs::accepted;
+use host::runner::RUNNER;
+use link::fuzzing::{calls, Made};
+use link::ground::Ground;
+use link::linked_jobs::{job_test, run_serially_unset, ANSWERS, WORKING};
+use link::linked_runner::Map;
+use link::rounds::random_of;
+use link::{linked, linked_runner};
+use std::process::ExitCode;
+
+/// One of so many memories is followed by calls on words not yet written.
+const UNSET_EVERY: u64 = 10;
+
+/// Blocks with no word to spare.
+struct Lent {
+    job: Box<[u8]>,
+    core: Box<[u32]>,
+    runner: Box<[u32]>,
+    map: Box<Map>,
+}
+
+impl Lent {
+    fn new(ground: &Ground) -> Lent {
+        Lent {
+            job: Box::from(&ground.job[..]),
+            core: Box::from(&ground.core[..]),
+            runner: Box::from(&ground.runner[..]),
+            map: Box::new([9; 6]),
+        }
+    }
+
+    /// The number of the answer.
+    fn make(&mut self, call: Made) -> u64 {
+        let Lent {
+            job,
+            core,
+            runner,
+            map,
+        } = self;
+        let answer = match call {
+            Made::Core(call) => linked::make(call, core),
+            Made::Open => linked_runner::open(job, core, runner),
+            Made::Step(task) => linked_runner::step(job, core, runner, task),
+            Made::Ready => linked_runner::ready_into(job, core, runner, map),
+        };
+        answer >> 32
+    }
+}
+
+/// Every call of core and runner on a ground, and the test of its job.
+fn every_call(r: &mut Random, ground: &Ground, made: &mut [u64; 2]) {
+    let mut lent = Lent::new(ground);
+    job_test(&lent.job);
+    for call in calls(r, ground) {
+        let number = lent.make(call);
+        made[0] += 1;
+        // Only these leave the words as they were for certain.
+        if !(1..=32).contains(&number) {
+            made[1] += 1;
+            lent = Lent::new(ground);
+        }
+    }
+}
+
+/// What opens and what runs a job serially, on words that nobody has written:
+/// the checker sees a word that is read before it is written. The calls behind
+/// an opening find all words written.
+fn on_unset_words(r: &mut Random) {
+    let job = accepted(r).into_boxed_slice();
+    let mut core = Box::new_uninit_slice(WORDS);
+    linked::open_unset(&mut core, r.within(1, 32), r.within(4, 256));
+    let mut core = Box::new_uninit_slice(WORDS);
+    let mut runner = Box::new_uninit_slice(RUNNER);
+    linked_runner::open_unset(&job, &mut core, &mut runner);
+    // Both were opened, as the job is one.
+    let ground = Ground {
+        core: unsafe { core.assume_init() }.into_vec(),
+        runner: unsafe { runner.assume_init() }.into_vec(),
+        job: job.to_vec(),
+    };
+    every_call(r, &ground, &mut [0; 2]);
+    let mut working = Box::new_uninit_slice(WORKING);
+    let mut answers = Box::new_uninit_slice(ANSWERS);
+    run_serially_unset(&job, &mut working, &mut answers);
+    // A word too few is refused.
+    run_serially_unset(&job, &mut working[1..], &mut answers);
+}
+
+fn run(seed: u64, memories: u64) {
+    let mut made = [0; 2];
+    for round in 0..memories {
+        let r = &mut random_of(seed, 0, round as u32);
+        let mut ground = Ground::reached(r);
+        if r.chance(50) {
+            ground = ground.mutated(r);
+        }
+        every_call(r, &ground, &mut made);
+        if round % UNSET_EVERY == 0 {
+            on_unset_words(r);
+        }
+    }
+    let [calls, moved] = made;
+    println!("seed {seed}: {calls} calls on {memories} memories, {moved} of them moved");
+}
+
+/// A call on words that nobody has written.
+fn unset() {
+    // The error is the purpose: the checker has to see it.
+    let mut words = unsafe { Box::new_uninit_slice(WORDS).assume_init() };
+    println!("answer {}", linked::sync(&mut words, 0) >> 32);
+}
+
+/// Opens a core on a block that is one word too short.
+fn beyond() {
+    let mut block = vec![0u32; WORDS - 1].into_boxed_slice();
+    // The error is the purpose: the checker has to see it.
+    let words = unsafe { std::slice::from_raw_parts_mut(block.as_mut_ptr(), WORDS) };
+    println!("answer {}", linked::open(words, 4, 64) >> 32);
+}
+
+fn main() -> ExitCode {
+    let words: Vec<String> = std::env::args().skip(1).collect();
+    let words: Vec<&str> = words.iter().map(String::as_str).collect();
+    let numbers: Vec<u64> = words.iter().flat_map(|word| word.parse()).collect();
+    match (&words[..], &numbers[..]) {
+        (["beyond"], _) => beyond(),
+        (["unset"], _) => unset(),
+        ([_, _], [seed, memories]) => run(*seed, *memories),
+        _ => {
+            eprintln!("lent SEED MEMORIES, lent beyond or lent unset");
+            return ExitCode::from(2);
+        }
+    }
+    ExitCode::SUCCESS
+}

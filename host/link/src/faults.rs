@@ -1,0 +1,150 @@
+//! That the fuzzer can fail: libraries that err on some damaged memories, made
+//! from the linked one, whose errors have to be found and brought to one word.
+
+use crate::fuzzing::{Failure, Fuzzer, Made};
+use crate::ground::Ground;
+use crate::linked_runner::Map;
+use crate::rounds::random_of;
+use crate::runner_pair::RunnerLibrary;
+use crate::shrink::{changes, shrunk};
+use crate::{linked, linked_runner, runner_pair};
+use host::call::Call;
+use host::layout::*;
+use host::random::Random;
+
+const SEED: u64 = 5;
+
+/// The top lacks a right, which it does in no memory that passes.
+fn strange(m: &[u32]) -> bool {
+    m.len() == WORDS && rights(m, 0) != ALL_RIGHTS
+}
+
+fn flip(m: &mut [u32], address: usize) {
+    let word = get(m, address);
+    put(m, address, word ^ 1);
+}
+
+fn other_word(call: Call, m: &mut [u32]) -> u64 {
+    let errs = strange(m) && matches!(call, Call::Pop { .. });
+    let answer = linked::make(call, m);
+    if errs {
+        flip(m, VALUES + 5);
+    }
+    answer
+}
+
+fn other_answer(call: Call, m: &mut [u32]) -> u64 {
+    let errs = strange(m) && matches!(call, Call::Sync { .. });
+    linked::make(call, m) ^ u64::from(errs)
+}
+
+fn other_runner_word(job: &[u8], m: &mut [u32], runner: &mut [u32], t: u32) -> u64 {
+    let errs = strange(m);
+    let answer = linked_runner::step(job, m, runner, t);
+    if errs {
+        flip(runner, 7);
+    }
+    answer
+}
+
+fn other_map(job: &[u8], m: &[u32], runner: &[u32], map: &mut Map) -> u64 {
+    let answer = linked_runner::ready_into(job, m, runner, map);
+    map[1] ^= u32::from(strange(m));
+    answer
+}
+
+/// The first failure, which a fresh fuzzer finds again in that round alone.
+fn found(fuzzer: fn() -> Fuzzer) -> Failure {
+    let mut first = fuzzer();
+    for round in 0..2_000 {
+        if let Err(failure) = first.round(&mut random_of(SEED, 0, round)) {
+            let again = fuzzer().round(&mut random_of(SEED, 0, round));
+            assert_eq!(again.as_ref(), Err(&failure));
+            return *failure;
+        }
+    }
+    panic!("no call differs");
+}
+
+/// One word is left: the rights of the top.
+fn brought_to_one_word(failure: &Failure) {
+    let [change] = &failure.changes[..] else {
+        panic!("{failure}");
+    };
+    assert!(
+        change.of_core && change.address == task(0) + RIGHTS,
+        "{failure}"
+    );
+    let text = failure.to_string();
+    assert!(text.contains("core word 1473 (task 0, rights): "), "{text}");
+}
+
+fn with_runner(library: RunnerLibrary) -> Fuzzer {
+    let mut fuzzer = Fuzzer::default();
+    fuzzer.runner.library = library;
+    fuzzer
+}
+
+#[test]
+fn a_word_of_the_core() {
+    let failure = found(|| {
+        let mut fuzzer = Fuzzer::default();
+        fuzzer.core.library = other_word;
+        fuzzer
+    });
+    brought_to_one_word(&failure);
+    assert!(matches!(failure.call, Made::Core(Call::Pop { .. })));
+    assert!(failure.what.contains("word 8197: "), "{failure}");
+}
+
+#[test]
+fn an_answer() {
+    let failure = found(|| {
+        let mut fuzzer = Fuzzer::default();
+        fuzzer.core.library = other_answer;
+        fuzzer
+    });
+    brought_to_one_word(&failure);
+    assert!(matches!(failure.call, Made::Core(Call::Sync { .. })));
+}
+
+#[test]
+fn a_word_of_the_runner() {
+    let failure = found(|| {
+        with_runner(RunnerLibrary {
+            step: other_runner_word,
+            ..runner_pair::LINKED
+        })
+    });
+    brought_to_one_word(&failure);
+    assert!(matches!(failure.call, Made::Step(_)));
+    assert!(failure.what.contains("word 7 of the runner"), "{failure}");
+}
+
+#[test]
+fn a_map() {
+    let failure = found(|| {
+        with_runner(RunnerLibrary {
+            ready: other_map,
+            ..runner_pair::LINKED
+        })
+    });
+    brought_to_one_word(&failure);
+    assert_eq!(failure.call, Made::Ready);
+}
+
+/// Many changes of both memories, of which only two together are to blame.
+#[test]
+fn two_words_of_many() {
+    let r = &mut Random::new(SEED);
+    let from = Ground::reached(r);
+    let mut to = from.clone();
+    for address in (0..WORDS).step_by(200) {
+        to.core[address] ^= 1;
+    }
+    to.runner.fill(77);
+    let differs = |g: &Ground| g.core[400] != from.core[400] && g.runner[8] == 77;
+    let left = changes(&from, &shrunk(&from, &to, differs));
+    let places: Vec<_> = left.iter().map(|c| (c.of_core, c.address)).collect();
+    assert_eq!(places, [(true, 400), (false, 8)]);
+}

@@ -1,0 +1,76 @@
+//! A ground on which a call differs, brought back word by word to the one it
+//! was made from.
+
+use crate::ground::Ground;
+use host::names;
+
+/// A word that stays changed.
+#[derive(Clone, Debug, PartialEq, Eq)]
+pub struct Change {
+    /// The core's memory, or the runner's.
+    pub of_core: bool,
+    pub address: usize,
+    pub was: u32,
+    pub is: u32,
+}
+
+impl Change {
+    fn place<'a>(&self, ground: &'a mut Ground) -> &'a mut u32 {
+        let memory = if self.of_core {
+            &mut ground.core
+        } else {
+            &mut ground.runner
+        };
+        &mut memory[self.address]
+    }
+}
+
+impl std::fmt::Display for Change {
+    fn fmt(&self, f: &mut std::fmt::Formatter) -> std::fmt::Result {
+        let Change {
+            address, was, is, ..
+        } = self;
+        let (memory, name) = if self.of_core {
+            ("core", names::core_word(*address))
+        } else {
+            ("runner", names::runner_word(*address))
+        };
+        write!(f, "{memory} word {address} ({name}): {is}, was {was}")
+    }
+}
+
+/// The words in which two grounds differ, as far as both have them.
+pub fn changes(from: &Ground, to: &Ground) -> Vec<Change> {
+    let of = |of_core: bool, from: &[u32], to: &[u32]| -> Vec<Change> {
+        let words = from.iter().zip(to).enumerate();
+        words
+            .filter(|(_, (was, is))| was != is)
+            .map(|(address, (was, is))| Change {
+                of_core,
+                address,
+                was: *was,
+                is: *is,
+            })
+            .collect()
+    };
+    let core = of(true, &from.core, &to.core);
+    [core, of(false, &from.runner, &to.runner)].concat()
+}
+
+/// Takes back changes as long as the rest still differs: none of those left can
+/// be done without.
+pub fn shrunk(from: &Ground, to: &Ground, mut differs: impl FnMut(&Ground) -> bool) -> Ground {
+    let mut ground = to.clone();
+    loop {
+        let before = changes(from, &ground);
+        for change in &before {
+            *change.place(&mut ground) = change.was;
+            if !differs(&ground) {
+                *change.place(&mut ground) = change.is;
+            }
+        }
+        if changes(from, &ground).len() == before.len() {
+            return ground;
+        }
+    }
+}
