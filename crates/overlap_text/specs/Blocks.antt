@@ -2,7 +2,7 @@
 use mathlib.Core.Path.{_≡_, refl, ap, sym, _∙_}
 use mathlib.Core.Bool.{Bool, true, false}
 use mathlib.Core.List.{List}
-use Prim.Native.Nat.{ℕ, zero, suc, _+_, _-_, _*_, _/_, _<_, _≤_}
+use Prim.Native.Nat.{ℕ, suc, _+_, _-_, _*_, _/_, _<_, _≤_}
 use native.Mathlib.Nat.{zero-add, le-antisymm}
 use native.Mathlib.Numerals.{add-one}
 use native.Mathlib.Omega.{arith}
@@ -37,7 +37,8 @@ pub left-says : {a : Answer} {w : List ℕ} (m : List ℕ) (q i : ℕ) → outco
 unfolding leftAt answerOf
 left-says m q i e = ap answerOf e
 
-pub value-line : {m m1 : List ℕ} {p r v : ℕ} (w : List ℕ) (q i : ℕ) → v ≡ valueOf (leftAt w q i) → Puts m p (leftLine q v) m1 r → Puts m p (valueLine w q i) m1 r
+pub value-line : {m m1 : List ℕ} {p r v : ℕ} (w : List ℕ) (q i : ℕ) → v ≡ valueOf (leftAt w q i) → Puts m p (leftLine q v) m1 r
+    → Puts m p (valueLine w q i) m1 r
 unfolding valueLine
 value-line w q i e p = rw (← e) p
 

@@ -1,17 +1,17 @@
 -- Lines of calls in blocks: a block behind another goes on with the calls' numbers.
 use mathlib.Core.Path.{_≡_, refl, ap, ap₂, sym, _∙_}
 use mathlib.Core.List.{List, [], _∷_, _++_, append-assoc}
-use Prim.Native.Nat.{ℕ, zero, suc, _+_, _*_, _<_, _≤_}
+use Prim.Native.Nat.{ℕ, suc, _+_, _*_, _<_, _≤_}
 use native.Mathlib.Nat.{add-zero}
 use native.Mathlib.Omega.{arith}
 use lib.ListN.{length}
 use Rattle.words.specs.Words.{load, size}
 use Rattle.words.specs.Blocks.{storeAll, block-same}
 use Rattle.runner.specs.declared.StepAnswer.{StepAnswer}
-use Rattle.runner.specs.Run.{Steps, behind, stepsFrom, steps-append, as-many}
+use Rattle.runner.specs.Run.{Steps, stepsFrom, steps-append, as-many}
 use Rattle.run_text.specs.Lines.{line}
 use Rattle.serial_text.specs.Whole.{linesFrom}
-use Rattle.running.specs.Rows.{numbered, printed, row, rowsOf, rows-length}
+use Rattle.running.specs.Rows.{numbered, printed, rowsOf, rows-length}
 use Rattle.overlap_text.specs.Whole.{callLines}
 
 -- the line of row i of the words a, where c calls were made before row 0

@@ -24,7 +24,8 @@ stepsFrom j (t ∷ ts) m r = let o = stepOutcome j m r t in let s = stepsFrom j 
 
 module _ (j : List ℕ) where
   -- steps of further tasks go on where the first end
-  pub steps-append : (ts us m r : List ℕ) → let s = stepsFrom j ts m r in stepsFrom j (ts ++ us) m r ≡ behind (s .answers) (stepsFrom j us (s .core) (s .runner))
+  pub steps-append : (ts us m r : List ℕ) → let s = stepsFrom j ts m r in
+      stepsFrom j (ts ++ us) m r ≡ behind (s .answers) (stepsFrom j us (s .core) (s .runner))
   unfolding stepsFrom
   steps-append [] us m r = refl
   steps-append (t ∷ ts) us m r =

@@ -1,7 +1,7 @@
 -- THE ANSWERS OF STEPS AS WORDS: three a step, the task, the number that stands for the answer, and its value as printed.
 use mathlib.Core.Path.{_≡_, refl, ap}
 use mathlib.Core.List.{List, [], _∷_, _++_}
-use Prim.Native.Nat.{ℕ, zero, suc, _+_, _*_}
+use Prim.Native.Nat.{ℕ, _*_}
 use native.Mathlib.Omega.{arith}
 use lib.ListN.{length}
 use Rattle.runner.specs.declared.StepAnswer.{StepAnswer}

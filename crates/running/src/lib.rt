@@ -1,7 +1,6 @@
 // A list of steps, one after the other, and their answers as words.
 ghost use mathlib.Core.Path.{_≡_};
 ghost use Prim.Native.Nat.{_+_, _*_, _^_, _<_};
-ghost use lib.ListN.{length};
 ghost use Rattle.words.specs.Blocks.{storeAll};
 ghost use Rattle.running.specs.Rows.{printed, numbered, row};
 ghost use Rattle.running.specs.Made.{fitting, Step, Ran};

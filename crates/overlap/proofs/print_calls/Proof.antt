@@ -1,6 +1,6 @@
 use Rattle.overlap.proofs.Glue.{read-few}
 use Rattle.reading.specs.Inside.{read-counts}
-use Prim.Native.Nat.{_-_, _+_, _^_, _≤_, _<_}
+use Prim.Native.Nat.{_-_, _+_, _<_}
 use mathlib.Core.Path.{_≡_, refl, _∙_}
 use lib.ListN.{length}
 use native.Mathlib.Omega.{arith}

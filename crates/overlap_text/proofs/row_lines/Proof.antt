@@ -7,7 +7,6 @@ use Prim.Native.Nat.{_*_, _-_, _≤_}
 use native.Mathlib.Omega.{arith}
 use lib.ListN.{length}
 use mathlib.Core.Path.{_≡_, refl, _∙_}
-use borrow.Author.Needs.{needs}
 use Rattle.overlap_text.proofs.row_lines.Statement.{statement}
 use Rattle.overlap_text.proofs.row_lines.Tie as tie
 use Rattle.overlap_text.proofs.row_lines.Reads as reads
