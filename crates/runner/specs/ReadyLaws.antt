@@ -2,15 +2,15 @@
 use mathlib.Core.Path.{_≡_, refl, ap, sym, _∙_, subst, fun-ext}
 use mathlib.Core.Bool.{Bool, true, false, not, false≢true}
 use mathlib.Core.List.{List, [], _∷_}
-use mathlib.Core.Logic.{_⊎_, inl, inr, ⊎-elim}
+use mathlib.Core.Logic.{⊎-elim}
 use Prim.Native.Nat.{ℕ, zero, suc, _+_, _*_, _-_, _/_, _%_, _^_, _<_, _≤_}
 use native.Mathlib.Nat.{le-of-suc-le-suc, pow-suc, pow-succ', mul-assoc, div-div-eq-div-mul, div-add-mod'}
 use native.Mathlib.Omega.{arith}
 use lib.Count.{ones, ones-cat, trailingZeros, under}
-use lib.Dec.{eqb, ltb}
-use borrow.Author.Tests.{eq-eqb, eqb-true, eqb-false, ltb-true, ltb-false}
+use lib.Dec.{eqb}
+use borrow.Author.Tests.{eq-eqb, eqb-true, eqb-false}
 use Rattle.words.specs.Words.{load, size, pick, pass, halt}
-use Rattle.lists.specs.Counting.{one, over, total, total-ext, equal?}
+use Rattle.lists.specs.Counting.{below?, one, over, total, total-ext, equal?}
 use Rattle.layout.specs.Layout.{NONE}
 use Rattle.runner.specs.declared.StepAnswer.the-variants.{Moved, Refused}
 use Rattle.runner.specs.Answers.{hasMoved, Outcome, outcome, answerOf}
@@ -202,13 +202,6 @@ leads f (suc n) i h = go (f i) refl (leads f n (i + 1))
 pub data Lowest (f : ℕ → Bool) (i : ℕ) : ℕ → Type 0 where
   unset : ((t : ℕ) → i ≤ t → t < 128 → f t ≡ false) → Lowest f i NONE
   least : (t : ℕ) → i ≤ t → t < 128 → f t ≡ true → ((x : ℕ) → i ≤ x → x < t → f x ≡ false) → Lowest f i t
-
-below? : (x n : ℕ) → (x < n) ⊎ (n ≤ x)
-below? x n = go (ltb x n) refl
-  where
-    go : (b : Bool) → ltb x n ≡ b → (x < n) ⊎ (n ≤ x)
-    go true e = inl (ltb-true x n e)
-    go false e = inr (ltb-false x n e)
 
 lowest-next : (f : ℕ → Bool) (i : ℕ) (ws : List ℕ) → i + 32 ≤ 128 → Lowest f (i + 32) (lowestFrom (i + 32) ws)
     → Lowest f i (lowestFrom i (bitsFrom f 32 i ∷ ws))

@@ -1,14 +1,13 @@
 -- What the pieces of a function come to, over plain variables.
 use mathlib.Core.Path.{_≡_, refl, ap, ap₂, sym, _∙_}
 use mathlib.Core.Bool.{Bool, true, false, not}
-use mathlib.Core.List.{List, [], _∷_}
-use Prim.Native.Nat.{ℕ, suc, _+_, _*_, _<_, _≤_}
-use native.Mathlib.Omega.{arith}
+use mathlib.Core.List.{List}
+use Prim.Native.Nat.{ℕ, _+_, _*_, _<_, _≤_}
 use lib.Dec.{ltb, eqb}
 use lib.ListN.{length}
 use borrow.Author.Tests.{lt-ltb, le-ltb, eq-eqb, ne-eqb}
 use Rattle.words.specs.Words.{store, size, halt, pass, both-off}
-use Rattle.words.specs.Blocks.{store-none, store-more}
+use Rattle.words.specs.Blocks.{store-three}
 use Rattle.layout.specs.Layout.{task, read}
 use Rattle.answers.specs.declared.Answer.{Answer}
 use Rattle.calls.specs.Waits.{rightsOf, unfinished}
@@ -23,16 +22,7 @@ use Rattle.runner_words.specs.Refusals.{refusalIn, jobRefusal}
 -- three stores in a row
 pub three : (m m1 m2 m3 : List ℕ) (t x y z : ℕ) → m1 ≡ store m (t * 3) x → m2 ≡ store m1 (t * 3 + 1) y → m3 ≡ store m2 (t * 3 + 2) z → m3 ≡ put m t x y z
 unfolding put
-three m m1 m2 m3 t x y z e1 e2 e3 =
-    e3
-    ∙ ap₂ (λ (l : List ℕ) (a : ℕ). store l a z)
-    (e2 ∙ ap₂ (λ (l : List ℕ) (a : ℕ). store l a y) e1 (let w : t * 3 + 1 ≡ suc (t * 3) = omega arith in w))
-    (let w : t * 3 + 2 ≡ suc (suc (t * 3)) = omega arith in w)
-    ∙ sym
-    (store-more m (t * 3) x (y ∷ z ∷ [])
-    ∙ store-more _ (suc (t * 3)) y (z ∷ [])
-    ∙ store-more _ (suc (suc (t * 3))) z []
-    ∙ store-none _ _)
+three m m1 m2 m3 t x y z e1 e2 e3 = store-three m m1 m2 m3 (t * 3) x y z e1 e2 e3
 
 pub instruction-for : (j r : List ℕ) (t : ℕ) {p i : ℕ} {s : Instruction} → p ≡ procedureOf r t → i ≡ positionOf r t
     → s ≡ instructionAt j p i → s ≡ instructionFor j r t
