@@ -19,123 +19,93 @@ Inv-loop job tasks₀ m₀ r₀ before₀ t8 t9 tasks m r before = (length tasks
 abbrev μ-loop : tie.MeasureT-loop
 μ-loop job tasks₀ m₀ r₀ before₀ t8 t9 tasks m r before = 9223372036854775808 + 1024 - before
 
--- src/main.rt:28:5
 loop-holds : tie.Need-loop-holds Inv-loop μ-loop
 loop-holds c = (refl, refl, refl, omega arith)
 
--- src/main.rt:29:13
 read-some-requires : tie.Need-read-some-requires Inv-loop μ-loop
 read-some-requires c κs = search needs
 
--- src/main.rt:30:25
 enum-known-some : tie.Need-enum-known-some Inv-loop μ-loop
 enum-known-some c = c .match .keys1
 
--- src/main.rt:31:22
 enum-told : tie.Need-enum-told Inv-loop μ-loop
 enum-told c = c .match .keys2
 
--- src/main.rt:31:22
 slice-aggregate-fail : tie.Need-slice-aggregate-fail Inv-loop μ-loop
 slice-aggregate-fail c = search needs
 
--- src/main.rt:31:13
 fail-requires : tie.Need-fail-requires Inv-loop μ-loop
 fail-requires c κs = search needs
 
--- src/main.rt:32:13
 same-length : tie.Need-same-length Inv-loop μ-loop
 same-length c = c .before .before .before .before .before .before .read-some .kept .1 .0 ∙ c .before .before .before .before .before .before .before .before .before .loop .inv .0
 
--- src/main.rt:32:13
 same-length-2 : tie.Need-same-length-2 Inv-loop μ-loop
 same-length-2 c = c .before .before .before .before .before .before .before .before .before .loop .inv .1
 
--- src/main.rt:32:13
 same-length-3 : tie.Need-same-length-3 Inv-loop μ-loop
 same-length-3 c = c .before .before .before .before .before .before .before .before .before .loop .inv .2
 
--- src/main.rt:32:13
 returns : tie.Need-returns Inv-loop μ-loop
 returns c = search needs
 
--- src/main.rt:35:13
 same-length-4 : tie.Need-same-length-4 Inv-loop μ-loop
 same-length-4 c = c .before .before .before .before .before .before .read-some .kept .1 .0 ∙ c .before .before .before .before .before .before .before .before .before .loop .inv .0
 
--- src/main.rt:35:13
 same-length-5 : tie.Need-same-length-5 Inv-loop μ-loop
 same-length-5 c = c .before .before .before .before .before .before .before .before .before .loop .inv .1
 
--- src/main.rt:35:13
 same-length-6 : tie.Need-same-length-6 Inv-loop μ-loop
 same-length-6 c = c .before .before .before .before .before .before .before .before .before .loop .inv .2
 
--- src/main.rt:35:13
 returns-2 : tie.Need-returns-2 Inv-loop μ-loop
 returns-2 c = search needs
 
--- src/main.rt:37:30
 slice-reshare-prefix-print-block : tie.Need-slice-reshare-prefix-print-block Inv-loop μ-loop
 slice-reshare-prefix-print-block c = read-counts _ (c .before .before .some .given .0 .0) (c .before .before .before .before .before .before .read-some .last .1 .0) (c .before .before .before .before .before .before .read-some .ensures) (c .before .before .some .given .1) .0
 
--- src/main.rt:37:30
 slice-aggregate-print-block : tie.Need-slice-aggregate-print-block Inv-loop μ-loop
 slice-aggregate-print-block c = read-counts _ (c .before .before .before .some .given .0 .0) (c .before .before .before .before .before .before .before .read-some .last .1 .0) (c .before .before .before .before .before .before .before .read-some .ensures) (c .before .before .before .some .given .1) .1
 
--- src/main.rt:37:13
 print-block-requires : tie.Need-print-block-requires Inv-loop μ-loop
 print-block-requires c κs = ((read-few _ (c .before .before .before .before .before .some .given .0 .0) (c .before .before .before .before .before .before .before .before .before .read-some .last .1 .0) (c .before .before .before .before .before .before .before .before .before .read-some .ensures) (c .before .before .before .before .before .some .given .1) (c .before .before .before .before .before .before .before .before .before .read-some .kept .1 .0) (c .before .before .before .before .before .before .before .before .before .before .before .before .loop .inv .0) (c .before .before .before .before .before .before .before .before .before .before .before .before .before .before .before .before .before .pre)) .1, omega arith)
 
--- src/main.rt:38:22
 slice-aggregate-fail-2 : tie.Need-slice-aggregate-fail-2 Inv-loop μ-loop
 slice-aggregate-fail-2 c = search needs
 
--- src/main.rt:38:13
 fail-requires-2 : tie.Need-fail-requires-2 Inv-loop μ-loop
 fail-requires-2 c κs = search needs
 
--- src/main.rt:39:13
 same-length-7 : tie.Need-same-length-7 Inv-loop μ-loop
 same-length-7 c = c .before .before .before .before .before .before .before .before .before .before .before .before .before .before .before .before .before .read-some .kept .1 .0 ∙ c .before .before .before .before .before .before .before .before .before .before .before .before .before .before .before .before .before .before .before .before .loop .inv .0
 
--- src/main.rt:39:13
 same-length-8 : tie.Need-same-length-8 Inv-loop μ-loop
 same-length-8 c = c .before .before .before .before .before .before .before .print-block .kept .1 .1 .0 ∙ c .before .before .before .before .before .before .before .before .before .before .before .before .before .before .before .before .before .before .before .before .loop .inv .1
 
--- src/main.rt:39:13
 same-length-9 : tie.Need-same-length-9 Inv-loop μ-loop
 same-length-9 c = c .before .before .before .before .before .before .before .print-block .kept .1 .1 .1 .0 ∙ c .before .before .before .before .before .before .before .before .before .before .before .before .before .before .before .before .before .before .before .before .loop .inv .2
 
--- src/main.rt:39:13
 returns-3 : tie.Need-returns-3 Inv-loop μ-loop
 returns-3 c = search needs
 
--- src/main.rt:41:9
 add-before : tie.Need-add-before Inv-loop μ-loop
 add-before c = let h = (read-few _ (c .before .before .before .before .before .before .before .before .before .before .before .some .given .0 .0) (c .before .before .before .before .before .before .before .before .before .before .before .before .before .before .before .read-some .last .1 .0) (c .before .before .before .before .before .before .before .before .before .before .before .before .before .before .before .read-some .ensures) (c .before .before .before .before .before .before .before .before .before .before .before .some .given .1) (c .before .before .before .before .before .before .before .before .before .before .before .before .before .before .before .read-some .kept .1 .0) (c .before .before .before .before .before .before .before .before .before .before .before .before .before .before .before .before .before .before .loop .inv .0) (c .before .before .before .before .before .before .before .before .before .before .before .before .before .before .before .before .before .before .before .before .before .before .before .pre)) .0 in omega (arith, h)
 
--- src/main.rt:28:5
 loop-less : tie.Need-loop-less Inv-loop μ-loop
 loop-less c = let h = (read-few _ (c .before .before .before .before .before .before .before .before .before .before .before .some .given .0 .0) (c .before .before .before .before .before .before .before .before .before .before .before .before .before .before .before .read-some .last .1 .0) (c .before .before .before .before .before .before .before .before .before .before .before .before .before .before .before .read-some .ensures) (c .before .before .before .before .before .before .before .before .before .before .before .some .given .1) (c .before .before .before .before .before .before .before .before .before .before .before .before .before .before .before .read-some .kept .1 .0) (c .before .before .before .before .before .before .before .before .before .before .before .before .before .before .before .before .before .before .loop .inv .0) (c .before .before .before .before .before .before .before .before .before .before .before .before .before .before .before .before .before .before .before .before .before .before .before .pre)) .0 in omega (arith, h)
 
--- src/main.rt:28:5
 loop-again : tie.Need-loop-again Inv-loop μ-loop
 loop-again c = let h = (read-few _ (c .before .before .before .before .before .before .before .before .before .before .before .some .given .0 .0) (c .before .before .before .before .before .before .before .before .before .before .before .before .before .before .before .read-some .last .1 .0) (c .before .before .before .before .before .before .before .before .before .before .before .before .before .before .before .read-some .ensures) (c .before .before .before .before .before .before .before .before .before .before .before .some .given .1) (c .before .before .before .before .before .before .before .before .before .before .before .before .before .before .before .read-some .kept .1 .0) (c .before .before .before .before .before .before .before .before .before .before .before .before .before .before .before .before .before .before .loop .inv .0) (c .before .before .before .before .before .before .before .before .before .before .before .before .before .before .before .before .before .before .before .before .before .before .before .pre)) .0 in (c .before .before .before .before .before .before .before .before .before .before .before .before .before .before .before .read-some .kept .1 .0 ∙ c .before .before .before .before .before .before .before .before .before .before .before .before .before .before .before .before .before .before .loop .inv .0, c .before .before .before .before .before .print-block .kept .1 .1 .0 ∙ c .before .before .before .before .before .before .before .before .before .before .before .before .before .before .before .before .before .before .loop .inv .1, c .before .before .before .before .before .print-block .kept .1 .1 .1 .0 ∙ c .before .before .before .before .before .before .before .before .before .before .before .before .before .before .before .before .before .before .loop .inv .2, omega (arith, h))
 
--- src/main.rt:23:1
 same-length-10 : tie.Need-same-length-10 Inv-loop μ-loop
 same-length-10 c = c .before .loop .inv .0
 
--- src/main.rt:23:1
 same-length-11 : tie.Need-same-length-11 Inv-loop μ-loop
 same-length-11 c = c .before .loop .inv .1
 
--- src/main.rt:23:1
 same-length-12 : tie.Need-same-length-12 Inv-loop μ-loop
 same-length-12 c = c .before .loop .inv .2
 
--- src/main.rt:23:1
 returns-4 : tie.Need-returns-4 Inv-loop μ-loop
 returns-4 c = search needs
 

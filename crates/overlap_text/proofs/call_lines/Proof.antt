@@ -8,35 +8,27 @@ use Rattle.overlap_text.proofs.call_lines.Lts as lts
 use Rattle.overlap_text.proofs.row_lines.Reads as row-lines-reads
 use Rattle.running.proofs.run.Reads as run-reads
 
--- src/lib.rt:49:44
 slice-aggregate-run : tie.Need-slice-aggregate-run
 slice-aggregate-run c = search needs
 
--- src/lib.rt:49:9
 run-requires : tie.Need-run-requires
 run-requires c κs = search needs
 
--- src/lib.rt:50:20
 slice-aggregate-row-lines : tie.Need-slice-aggregate-row-lines
 slice-aggregate-row-lines c = search needs
 
--- src/lib.rt:50:5
 row-lines-requires : tie.Need-row-lines-requires
 row-lines-requires c κs = (c .before .before .before .before .before .before .before .before .before .before .before .before .before .before .before .before .pre .0, ran-few (c .before .before .before .before .before .before .before .before .before .before .before .before .before .before .before .before .pre .1) refl (c .before .before .before .before .before .before .before .run .ensures .steps), c .before .before .before .before .before .before .before .before .before .before .before .before .before .before .before .before .pre .2)
 
--- src/lib.rt:44:1
 same-length : tie.Need-same-length
 same-length c = search needs
 
--- src/lib.rt:44:1
 same-length-2 : tie.Need-same-length-2
 same-length-2 c = search needs
 
--- src/lib.rt:44:1
 same-length-3 : tie.Need-same-length-3
 same-length-3 c = search needs
 
--- src/lib.rt:44:1
 returns : tie.Need-returns
 returns c = called _ _ _ _ _ _ (c .before .before .before .before .before .before .before .before .before .before .before .before .before .before .before .before .before .before .before .pre .1) refl (c .before .before .before .before .before .before .before .before .before .before .run .ensures) (c .before .before .row-lines .ensures)
 

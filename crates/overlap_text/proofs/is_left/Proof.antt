@@ -8,51 +8,40 @@ use Rattle.overlap_text.proofs.is_left.Reads as reads
 use Rattle.overlap_text.proofs.is_left.Lts as lts
 use Rattle.leaving.proofs.left.Reads as left-reads
 
--- src/lib.rt:57:9
 left-requires : tie.Need-left-requires
 left-requires c κs = search needs
 
--- src/lib.rt:59:29
 enum-told : tie.Need-enum-told
 enum-told c = search needs
 
--- src/lib.rt:60:26
 enum-told-2 : tie.Need-enum-told-2
 enum-told-2 c = search needs
 
--- src/lib.rt:61:29
 enum-told-3 : tie.Need-enum-told-3
 enum-told-3 c = search needs
 
--- src/lib.rt:62:26
 enum-told-4 : tie.Need-enum-told-4
 enum-told-4 c = search needs
 
--- src/lib.rt:63:31
 enum-told-5 : tie.Need-enum-told-5
 enum-told-5 c = search needs
 
--- src/lib.rt:54:1
 returns : tie.Need-returns
 unfolding isValue
 returns c = sym (ap isValue (c .enum-told .given .1)) ∙ ap isValue (left-says _ _ _ (c .before .before .left .ensures))
 
--- src/lib.rt:54:1
 returns-2 : tie.Need-returns-2
 unfolding isValue
 returns-2 c = sym (ap isValue (c .enum-told2 .given .1)) ∙ ap isValue (left-says _ _ _ (c .before .before .left .ensures))
 
--- src/lib.rt:54:1
 returns-3 : tie.Need-returns-3
 unfolding isValue
 returns-3 c = sym (ap isValue (c .enum-told3 .given .1)) ∙ ap isValue (left-says _ _ _ (c .before .before .left .ensures))
 
--- src/lib.rt:54:1
 returns-4 : tie.Need-returns-4
 unfolding isValue
 returns-4 c = sym (ap isValue (c .enum-told4 .given .1)) ∙ ap isValue (left-says _ _ _ (c .before .before .left .ensures))
 
--- src/lib.rt:54:1
 returns-5 : tie.Need-returns-5
 unfolding isValue
 returns-5 c = sym (ap isValue (c .enum-told5 .given .1)) ∙ ap isValue (left-says _ _ _ (c .before .before .left .ensures))

@@ -15,31 +15,24 @@ Inv-loop m q i₀ i = (i ≤ 16384) × Counted m q i
 abbrev μ-loop : tie.MeasureT-loop
 μ-loop m q i₀ i = 16384 - i
 
--- src/lib.rt:72:5
 loop-holds : tie.Need-loop-holds Inv-loop μ-loop
 loop-holds c = (omega arith, count-starts _ _)
 
--- src/lib.rt:73:13
 is-left-requires : tie.Need-is-left-requires Inv-loop μ-loop
 is-left-requires c κs = search needs
 
--- src/lib.rt:74:13
 returns : tie.Need-returns Inv-loop μ-loop
 returns c = count-ends _ _ _ (c .before .before .loop-test .taken) (c .before .is-left .ensures) (not-true _ (c .if1 .taken)) (c .before .before .before .loop .inv .1)
 
--- src/lib.rt:76:9
 add-i : tie.Need-add-i Inv-loop μ-loop
 add-i c = omega arith
 
--- src/lib.rt:72:5
 loop-less : tie.Need-loop-less Inv-loop μ-loop
 loop-less c = omega arith
 
--- src/lib.rt:72:5
 loop-again : tie.Need-loop-again Inv-loop μ-loop
 loop-again c = (omega arith, count-goes-on _ _ _ (c .before .before .loop-test .taken) (c .before .is-left .ensures) (not-false _ (c .if1 .left)) (c .before .before .before .loop .inv .1))
 
--- src/lib.rt:68:1
 returns-2 : tie.Need-returns-2 Inv-loop μ-loop
 returns-2 c = count-full _ _ _ (c .loop-test .left) (c .before .loop .inv .1)
 

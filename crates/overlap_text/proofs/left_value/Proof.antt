@@ -8,51 +8,40 @@ use Rattle.overlap_text.proofs.left_value.Reads as reads
 use Rattle.overlap_text.proofs.left_value.Lts as lts
 use Rattle.leaving.proofs.left.Reads as left-reads
 
--- src/lib.rt:85:9
 left-requires : tie.Need-left-requires
 left-requires c κs = search needs
 
--- src/lib.rt:87:23
 enum-known-a : tie.Need-enum-known-a
 enum-known-a c = search needs
 
--- src/lib.rt:88:26
 enum-told : tie.Need-enum-told
 enum-told c = search needs
 
--- src/lib.rt:89:29
 enum-told-2 : tie.Need-enum-told-2
 enum-told-2 c = search needs
 
--- src/lib.rt:90:26
 enum-told-3 : tie.Need-enum-told-3
 enum-told-3 c = search needs
 
--- src/lib.rt:91:31
 enum-told-4 : tie.Need-enum-told-4
 enum-told-4 c = search needs
 
--- src/lib.rt:82:1
 returns : tie.Need-returns
 unfolding valueOf
 returns c = sym (ap valueOf (c .before .a .given .1)) ∙ ap valueOf (left-says _ _ _ (c .before .before .before .left .ensures))
 
--- src/lib.rt:82:1
 returns-2 : tie.Need-returns-2
 unfolding valueOf
 returns-2 c = sym (ap valueOf (c .enum-told .given .1)) ∙ ap valueOf (left-says _ _ _ (c .before .before .left .ensures))
 
--- src/lib.rt:82:1
 returns-3 : tie.Need-returns-3
 unfolding valueOf
 returns-3 c = sym (ap valueOf (c .enum-told2 .given .1)) ∙ ap valueOf (left-says _ _ _ (c .before .before .left .ensures))
 
--- src/lib.rt:82:1
 returns-4 : tie.Need-returns-4
 unfolding valueOf
 returns-4 c = sym (ap valueOf (c .enum-told3 .given .1)) ∙ ap valueOf (left-says _ _ _ (c .before .before .left .ensures))
 
--- src/lib.rt:82:1
 returns-5 : tie.Need-returns-5
 unfolding valueOf
 returns-5 c = sym (ap valueOf (c .enum-told4 .given .1)) ∙ ap valueOf (left-says _ _ _ (c .before .before .left .ensures))

@@ -6,12 +6,10 @@ use Rattle.overlap_text.proofs.one.Tie as tie
 use Rattle.overlap_text.proofs.one.Reads as reads
 use Rattle.overlap_text.proofs.one.Lts as lts
 
--- src/lib.rt:118:1
 returns : tie.Need-returns
 unfolding one
 returns c = sym (halt _ _ (c .if1 .taken))
 
--- src/lib.rt:118:1
 returns-2 : tie.Need-returns-2
 unfolding one
 returns-2 c = sym (pass _ (c .if1 .left) refl)

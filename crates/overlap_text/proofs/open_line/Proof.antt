@@ -9,19 +9,15 @@ use Rattle.overlap_text.proofs.open_line.Lts as lts
 use Rattle.overlap_text.proofs.unfinished_count.Reads as unfinished-count-reads
 use Rattle.run_text.proofs.open_line.Reads as open-line-reads
 
--- src/lib.rt:142:9
 unfinished-count-requires : tie.Need-unfinished-count-requires
 unfinished-count-requires c κs = search needs
 
--- src/lib.rt:143:5
 open-line-requires : tie.Need-open-line-requires
 open-line-requires c κs = search needs
 
--- src/lib.rt:138:1
 same-length : tie.Need-same-length
 same-length c = search needs
 
--- src/lib.rt:138:1
 returns : tie.Need-returns
 returns c = open-block _ (c .before .before .before .before .unfinished-count .ensures) (block (c .before .before .open-line .kept .0) (let h = c .before .before .open-line .ensures .1 in omega arith) (c .before .before .open-line .ensures .0))
 

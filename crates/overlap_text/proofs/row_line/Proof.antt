@@ -7,47 +7,36 @@ use Rattle.overlap_text.proofs.row_line.Lts as lts
 use Rattle.memory.proofs.get.Reads as get-reads
 use Rattle.run_text.proofs.line.Reads as line-reads
 
--- src/lib.rt:22:13
 mul-b : tie.Need-mul-b
 mul-b c = search needs
 
--- src/lib.rt:23:9
 get-requires : tie.Need-get-requires
 get-requires c κs = search needs
 
--- src/lib.rt:24:33
 add-get : tie.Need-add-get
 add-get c = search needs
 
--- src/lib.rt:24:9
 get-requires-2 : tie.Need-get-requires-2
 get-requires-2 c κs = search needs
 
--- src/lib.rt:25:32
 add-get-2 : tie.Need-add-get-2
 add-get-2 c = search needs
 
--- src/lib.rt:25:9
 get-requires-3 : tie.Need-get-requires-3
 get-requires-3 c κs = search needs
 
--- src/lib.rt:26:29
 add-line : tie.Need-add-line
 add-line c = search needs
 
--- src/lib.rt:26:29
 add-line-2 : tie.Need-add-line-2
 add-line-2 c = search needs
 
--- src/lib.rt:26:5
 line-requires : tie.Need-line-requires
 line-requires c κs = search needs
 
--- src/lib.rt:18:1
 same-length : tie.Need-same-length
 same-length c = search needs
 
--- src/lib.rt:18:1
 returns : tie.Need-returns
 returns c = (row-line _ _ _ (c .before .before .before .before .before .before .get .ensures) (c .before .before .before .before .before .get2 .ensures) (c .before .before .before .before .get3 .ensures) (c .before .before .line .ensures .0), c .before .before .line .ensures .1)
 

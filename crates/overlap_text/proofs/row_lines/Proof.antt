@@ -19,31 +19,24 @@ Inv-loop out₀ a before n at₀ i₀ out at i = (i ≤ n) × (at ≤ i * 52) ×
 abbrev μ-loop : tie.MeasureT-loop
 μ-loop out₀ a before n at₀ i₀ out at i = n - i
 
--- src/lib.rt:36:5
 loop-holds : tie.Need-loop-holds Inv-loop μ-loop
 loop-holds c = (omega arith, omega arith, refl, no-lines _ _ _)
 
--- src/lib.rt:37:9
 row-line-requires : tie.Need-row-line-requires Inv-loop μ-loop
 row-line-requires c κs = (omega arith, omega arith, omega arith)
 
--- src/lib.rt:38:9
 add-i : tie.Need-add-i Inv-loop μ-loop
 add-i c = omega arith
 
--- src/lib.rt:36:5
 loop-less : tie.Need-loop-less Inv-loop μ-loop
 loop-less c = omega arith
 
--- src/lib.rt:36:5
 loop-again : tie.Need-loop-again Inv-loop μ-loop
 loop-again c = (omega arith, omega arith, c .before .before .row-line .kept .0 ∙ c .before .before .before .before .before .loop .inv .2, one-line _ _ _ (c .before .before .before .before .before .loop .inv .3) (from-first (rowLine _ _) _ (c .before .before .row-line .ensures .0)))
 
--- src/lib.rt:30:1
 same-length : tie.Need-same-length Inv-loop μ-loop
 same-length c = c .before .loop .inv .2
 
--- src/lib.rt:30:1
 returns : tie.Need-returns Inv-loop μ-loop
 returns c = all-lines _ _ _ _ (c .before .loop .inv .2) (c .before .before .before .before .pre .0) (c .before .before .before .before .pre .1) (c .before .loop .inv .0) (c .loop-test .left) (c .before .loop .inv .1) (c .before .loop .inv .3)
 

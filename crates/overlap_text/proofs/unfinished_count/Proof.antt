@@ -16,35 +16,27 @@ Inv-loop m n₀ t₀ n t = (t ≤ 128) × (n ≤ t) × (n ≡ unfinishedTo t m)
 abbrev μ-loop : tie.MeasureT-loop
 μ-loop m n₀ t₀ n t = 128 - t
 
--- src/lib.rt:130:5
 loop-holds : tie.Need-loop-holds Inv-loop μ-loop
 loop-holds c = (omega arith, omega arith, sym (none-counted _))
 
--- src/lib.rt:131:18
 unfinished-requires : tie.Need-unfinished-requires Inv-loop μ-loop
 unfinished-requires c κs = search needs
 
--- src/lib.rt:131:14
 one-requires : tie.Need-one-requires Inv-loop μ-loop
 one-requires c κs = search needs
 
--- src/lib.rt:131:9
 add-n : tie.Need-add-n Inv-loop μ-loop
 add-n c = let h = one-small _ (c .one .ensures) in omega (arith, h)
 
--- src/lib.rt:132:9
 add-t : tie.Need-add-t Inv-loop μ-loop
 add-t c = omega arith
 
--- src/lib.rt:130:5
 loop-less : tie.Need-loop-less Inv-loop μ-loop
 loop-less c = omega arith
 
--- src/lib.rt:130:5
 loop-again : tie.Need-loop-again Inv-loop μ-loop
 loop-again c = (omega arith, (let h = one-small _ (c .one .ensures) in omega (arith, h)), one-counted _ _ _ (c .before .before .before .loop .inv .2) (c .before .unfinished .ensures) (c .one .ensures))
 
--- src/lib.rt:125:1
 returns : tie.Need-returns Inv-loop μ-loop
 returns c = all-counted _ _ _ (c .loop-test .left) (c .before .loop .inv .0) (c .before .loop .inv .2)
 

@@ -7,19 +7,15 @@ use Rattle.overlap_text.proofs.value_line.Lts as lts
 use Rattle.overlap_text.proofs.left_value.Reads as left-value-reads
 use Rattle.run_text.proofs.left_line.Reads as left-line-reads
 
--- src/lib.rt:100:9
 left-value-requires : tie.Need-left-value-requires
 left-value-requires c κs = search needs
 
--- src/lib.rt:101:5
 left-line-requires : tie.Need-left-line-requires
 left-line-requires c κs = search needs
 
--- src/lib.rt:96:1
 same-length : tie.Need-same-length
 same-length c = search needs
 
--- src/lib.rt:96:1
 returns : tie.Need-returns
 returns c = (value-line _ _ _ (c .before .before .before .before .left-value .ensures) (c .before .before .left-line .ensures .0), c .before .before .left-line .ensures .1)
 

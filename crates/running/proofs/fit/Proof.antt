@@ -7,12 +7,10 @@ use Rattle.running.proofs.fit.Tie as tie
 use Rattle.running.proofs.fit.Reads as reads
 use Rattle.running.proofs.fit.Lts as lts
 
--- src/lib.rt:71:1
 returns : tie.Need-returns
 unfolding fitting
 returns c = sym (halt _ _ (lt-ltb _ _ (c .if1 .taken)))
 
--- src/lib.rt:71:1
 returns-2 : tie.Need-returns-2
 unfolding fitting
 returns-2 c = sym (pass _ (le-ltb _ _ (c .if1 .left)) refl)

@@ -8,83 +8,65 @@ use Rattle.running.proofs.number.Tie as tie
 use Rattle.running.proofs.number.Reads as reads
 use Rattle.running.proofs.number.Lts as lts
 
--- src/lib.rt:15:35
 enum-told : tie.Need-enum-told
 enum-told c = search needs
 
--- src/lib.rt:16:34
 enum-told-2 : tie.Need-enum-told-2
 enum-told-2 c = search needs
 
--- src/lib.rt:17:32
 enum-told-3 : tie.Need-enum-told-3
 enum-told-3 c = search needs
 
--- src/lib.rt:18:30
 enum-told-4 : tie.Need-enum-told-4
 enum-told-4 c = search needs
 
--- src/lib.rt:19:33
 enum-told-5 : tie.Need-enum-told-5
 enum-told-5 c = search needs
 
--- src/lib.rt:20:30
 enum-told-6 : tie.Need-enum-told-6
 enum-told-6 c = search needs
 
--- src/lib.rt:21:33
 enum-told-7 : tie.Need-enum-told-7
 enum-told-7 c = search needs
 
--- src/lib.rt:22:30
 enum-told-8 : tie.Need-enum-told-8
 enum-told-8 c = search needs
 
--- src/lib.rt:23:35
 enum-told-9 : tie.Need-enum-told-9
 enum-told-9 c = search needs
 
--- src/lib.rt:11:1
 returns : tie.Need-returns
 unfolding numbered numberOf wordOf
 returns c = sym (ap numbered (c .enum-told .given .1))
 
--- src/lib.rt:11:1
 returns-2 : tie.Need-returns-2
 unfolding numbered numberOf wordOf
 returns-2 c = sym (ap numbered (c .enum-told2 .given .1))
 
--- src/lib.rt:11:1
 returns-3 : tie.Need-returns-3
 unfolding numbered numberOf wordOf
 returns-3 c = sym (ap numbered (c .enum-told3 .given .1))
 
--- src/lib.rt:11:1
 returns-4 : tie.Need-returns-4
 unfolding numbered numberOf wordOf
 returns-4 c = sym (ap numbered (c .enum-told4 .given .1))
 
--- src/lib.rt:11:1
 returns-5 : tie.Need-returns-5
 unfolding numbered numberOf wordOf
 returns-5 c = sym (ap numbered (c .enum-told5 .given .1))
 
--- src/lib.rt:11:1
 returns-6 : tie.Need-returns-6
 unfolding numbered numberOf wordOf
 returns-6 c = sym (ap numbered (c .enum-told6 .given .1))
 
--- src/lib.rt:11:1
 returns-7 : tie.Need-returns-7
 unfolding numbered numberOf wordOf
 returns-7 c = sym (ap numbered (c .enum-told7 .given .1))
 
--- src/lib.rt:11:1
 returns-8 : tie.Need-returns-8
 unfolding numbered numberOf wordOf
 returns-8 c = sym (ap numbered (c .enum-told8 .given .1))
 
--- src/lib.rt:11:1
 returns-9 : tie.Need-returns-9
 unfolding numbered numberOf wordOf
 returns-9 c = sym (ap numbered (c .enum-told9 .given .1))

@@ -10,43 +10,33 @@ use Rattle.memory.proofs.put.Reads as put-reads
 use Rattle.running.proofs.number.Reads as number-reads
 use Rattle.running.proofs.value.Reads as value-reads
 
--- src/lib.rt:49:13
 mul-b : tie.Need-mul-b
 mul-b c = search needs
 
--- src/lib.rt:50:5
 put-requires : tie.Need-put-requires
 put-requires c κs = search needs
 
--- src/lib.rt:51:20
 add-put : tie.Need-add-put
 add-put c = search needs
 
--- src/lib.rt:51:27
 number-requires : tie.Need-number-requires
 number-requires c κs = search needs
 
--- src/lib.rt:51:5
 put-requires-2 : tie.Need-put-requires-2
 put-requires-2 c κs = search needs
 
--- src/lib.rt:52:20
 add-put-2 : tie.Need-add-put-2
 add-put-2 c = search needs
 
--- src/lib.rt:52:27
 value-requires : tie.Need-value-requires
 value-requires c κs = search needs
 
--- src/lib.rt:52:5
 put-requires-3 : tie.Need-put-requires-3
 put-requires-3 c κs = search needs
 
--- src/lib.rt:45:1
 same-length : tie.Need-same-length
 same-length c = search needs
 
--- src/lib.rt:45:1
 returns : tie.Need-returns
 returns c = store-three _ _ _ _ _ _ _ _ (c .before .before .before .before .before .before .before .before .before .before .before .before .put .ensures) (c .before .before .before .before .before .before .before .put2 .ensures ∙ ap (store _ _) (c .before .before .before .before .before .before .before .before .number .ensures)) (c .before .before .put3 .ensures ∙ ap (store _ _) (c .before .before .before .value .ensures))
 
