@@ -1,10 +1,11 @@
 -- ANY ORDER OF MOVES of an accepted job's tasks agrees with its plain run, where that ends.
 use mathlib.Core.Path.{_≡_, refl, ap, _∙_}
 use mathlib.Core.List.{List, [], _∷_, append-nil}
-use Prim.Native.Nat.{ℕ, zero, suc, _+_, _<_}
+use Prim.Native.Nat.{ℕ, _+_, _<_}
 use lib.ListN.{getD}
 use native.Mathlib.Omega.{arith}
 use Rattle.gaps.specs.Maps.{All}
+use Rattle.tree.specs.Queues.{by-four}
 use Rattle.job.specs.Accepted.{Accepted}
 use Rattle.plain.specs.Machine.{begin, queue}
 use Rattle.plain.specs.Run.{queuesOf, stackOf, stepsOf, run, events}
@@ -25,11 +26,7 @@ abbrev pub start : List (Item Runner)
 start = spot top ∷ []
 
 no-value : (q : ℕ) → q < 4 → [] ≡ getD {A = List ℕ} ([] ∷ [] ∷ [] ∷ [] ∷ []) q []
-no-value zero i = refl
-no-value (suc zero) i = refl
-no-value (suc (suc zero)) i = refl
-no-value (suc (suc (suc zero))) i = refl
-no-value (suc (suc (suc (suc q)))) i = refl
+no-value = by-four (λ q. [] ≡ getD {A = List ℕ} ([] ∷ [] ∷ [] ∷ [] ∷ []) q []) refl refl refl refl
 
 begins : Serially ([] ∷ [] ∷ [] ∷ [] ∷ []) (top ∷ []) start
 unfolding valuesOf queue

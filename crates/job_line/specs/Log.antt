@@ -4,7 +4,6 @@ use mathlib.Core.Path.{_≡_, refl, ap, sym, _∙_, subst}
 use mathlib.Core.Logic.{_⊎_, inl, inr, ⊎-elim}
 use mathlib.Core.List.{List, [], _∷_, _++_, append-assoc, append-nil}
 use Prim.Native.Nat.{ℕ}
-use native.Mathlib.Omega.{arith}
 use Rattle.words.specs.Words.{halt, pass}
 use Rattle.gaps.specs.Maps.{All}
 use Rattle.order.specs.Steps.{Name}
@@ -130,25 +129,3 @@ has? p (x ∷ l) = ⊎-elim (λ h. inl (record { task = h .task; on = behind (h 
 -- the answers of name p are those of the task that has it
 pub has-answers : (p : Name) {l : List (Item Runner)} {es : List Event} → Logged l es → (h : Has p l) → h .task .answers ≡ answersOf p es
 has-answers p {l} {es} g h = own-answers (h .task) es (h .on) (g .own) ∙ ap (λ (q : Name). answersOf q es) (h .name)
-
-first-heard : (e : Event) (es : List Event) → answersOf (e .name) (e ∷ es) ≡ e ∷ answersOf (e .name) es
-unfolding answersOf
-first-heard e es = halt _ _ (same-yes (e .name) (e .name) refl)
-
--- EVERY EVENT is that of a task on the line
-pub events-have : {l : List (Item Runner)} (es : List Event) → Logged l es → All (λ (e : Event). Has (e .name) l) es
-events-have {l} es g = each [] es refl
-  where
-    some : (xs ys : List Event) (e : Event) → xs ++ (e ∷ ys) ≡ [] → ⊥
-    some [] ys e h = let z : _≡_ {A = ℕ} 0 1 = cc in absurd (omega (arith, z))
-    some (x ∷ xs) ys e h = let z : _≡_ {A = ℕ} 0 1 = cc in absurd (omega (arith, z))
-
-    named : (xs ys : List Event) (e : Event) → xs ++ (e ∷ ys) ≡ es → All (Unnamed (e .name)) l → ⊥
-    named xs ys e h n =
-        some (answersOf (e .name) xs) (answersOf (e .name) ys) e
-        (ap (λ (x : List Event). answersOf (e .name) xs ++ x) (sym (first-heard e ys))
-        ∙ sym (answers-join (e .name) xs (e ∷ ys)) ∙ ap (answersOf (e .name)) h ∙ g .heard (e .name) n)
-
-    each : (xs ys : List Event) → xs ++ ys ≡ es → All (λ (e : Event). Has (e .name) l) ys
-    each xs [] h = tt
-    each xs (e ∷ ys) h = (⊎-elim (λ c. c) (λ n. absurd (named xs ys e h n)) (has? (e .name) l), each (xs ++ (e ∷ [])) ys (append-assoc xs (e ∷ []) ys ∙ h))

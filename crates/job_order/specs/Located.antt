@@ -3,15 +3,13 @@ use mathlib.Core.Path.{_≡_, refl, ap, ap₂, sym, _∙_, subst}
 use mathlib.Core.Bool.{true}
 use mathlib.Core.List.{List, [], _∷_, _++_, map, map-append, nil≢cons, head-eq-of-cons-eq, tail-eq-of-cons-eq}
 use mathlib.Core.Logic.{inl}
-use Prim.Native.Nat.{ℕ, zero, suc, _<_}
-use native.Mathlib.Omega.{arith}
-use lib.ListN.{length, length-map}
+use Prim.Native.Nat.{ℕ, _<_}
 use borrow.Author.Tests.{eqb-true}
 use Rattle.words.specs.Words.{halt}
 use Rattle.tree.specs.Rights.{bits, uses}
+use Rattle.tree.specs.Queues.{by-four}
 use Rattle.order.specs.Steps.{Task, task, Item as Mark, step, spot as place, numberOf, begin}
 use Rattle.order.specs.Waits.{unfinished}
-use Rattle.order.specs.Ordered.{spots}
 use Rattle.order_laws.specs.Items.{in-split}
 use Rattle.order_waits.specs.Spots.{some-says, says-unfinished}
 use Rattle.order_waits.specs.Changes.{in-right}
@@ -89,12 +87,6 @@ one-stands j s (finished n ∷ l) ts us e = on-past (finished n) (one-stands j s
 one-stands j s (spot n ∷ l) [] us e = record { before = []; behind = l; who = n; here = refl; number = ap numberOf (head-eq-of-cons-eq e) }
 one-stands j s (spot n ∷ l) (t ∷ ts) us e = on-past (spot n) (one-stands j s l ts us (tail-eq-of-cons-eq e))
 
-spots-length : (xs : List Mark) → spots xs ≡ length (places xs)
-unfolding spots places
-spots-length [] = refl
-spots-length (step p a ∷ xs) = spots-length xs
-spots-length (place s ∷ xs) = let e = spots-length xs in omega (arith, e)
-
 module _ (j : List ℕ) where
   -- an unfinished task stands on the line
   pub unfinished-stands : {xs : List Mark} {l : List (Item Numbered)} → Beside j xs l → (t : ℕ) → unfinished t xs ≡ true → On t l
@@ -105,21 +97,13 @@ module _ (j : List ℕ) where
       let o = one-stands j (w .0) l (places (v .0)) (places (v .1)) (sym (h .tasks) ∙ ap places (v .2) ∙ places-append (v .0) (place (w .0) ∷ v .1)) in
       record { before = o .before; behind = o .behind; who = o .who; here = o .here; number = o .number ∙ eqb-true _ _ (w .2) }
 
-  -- as many tasks are unfinished as stand on the line
-  pub spots-standing : {xs : List Mark} {l : List (Item Numbered)} → Beside j xs l → spots xs ≡ length (standing l)
-  spots-standing {xs} {l} h = spots-length xs ∙ ap length (h .tasks) ∙ length-map (standing l) (taskOf j)
-
 -- AT THE BEGINNING the top stands alone.
 abbrev pub topNumbered : Numbered
 topNumbered = record { number = 0; runner = top }
 
 all-used : (q : ℕ) → q < 4 → uses 255 q ≡ true
 unfolding uses bits
-all-used zero i = refl
-all-used (suc zero) i = refl
-all-used (suc (suc zero)) i = refl
-all-used (suc (suc (suc zero))) i = refl
-all-used (suc (suc (suc (suc q)))) i = let z : ⊥ = omega (arith, i) in absurd z
+all-used = by-four (λ q. uses 255 q ≡ true) refl refl refl refl
 
 pub begins : (j : List ℕ) → Accepted j → Beside j begin (spot topNumbered ∷ [])
 unfolding begin places standing taskOf rightsOf pointsOf
