@@ -8,6 +8,7 @@ pub mod broken;
 pub mod call;
 pub mod calls;
 pub mod check;
+pub mod command;
 pub mod damage;
 pub mod damaged_jobs;
 pub mod dis;

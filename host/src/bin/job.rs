@@ -8,6 +8,7 @@
 //! `job random SEED OUT.job` writes a random job.
 
 use host::asm::assemble;
+use host::command::status;
 use host::dis::disassemble;
 use host::job::Job;
 use host::overlap_text;
@@ -90,11 +91,5 @@ fn main() -> ExitCode {
         ["random", seed, out] => random(seed, out),
         _ => Err(USAGE.to_string()),
     };
-    match outcome {
-        Ok(()) => ExitCode::SUCCESS,
-        Err(what) => {
-            eprintln!("{what}");
-            ExitCode::FAILURE
-        }
-    }
+    status(outcome)
 }

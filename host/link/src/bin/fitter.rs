@@ -9,6 +9,7 @@
 //! JOB is a job as text (.txt) or a job file.
 
 use host::asm::assemble;
+use host::command::status;
 use host::random::Random;
 use link::on_off::{name, off, on};
 use link::picture::svg;
@@ -97,11 +98,5 @@ fn main() -> ExitCode {
         ["draw", file, tasks] => draw(file, tasks),
         _ => Err(USAGE.to_string()),
     };
-    match outcome {
-        Ok(()) => ExitCode::SUCCESS,
-        Err(what) => {
-            eprintln!("{what}");
-            ExitCode::FAILURE
-        }
-    }
+    status(outcome)
 }
