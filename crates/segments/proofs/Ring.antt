@@ -7,7 +7,9 @@ use native.Mathlib.Nat.{mul-le-mul, mul-le-mul-left, mul-suc, mul-comm}
 use lib.ListN.{length}
 use borrow.Rule.Slice.PartMut.{putMid, midOf, mid-len, set-mid-at}
 use Rattle.words.specs.Words.{load, store, size}
-use Rattle.layout.specs.Layout.{lengthWord, numberWord, segment, value, first, count, address, read, write}
+use Rattle.layout.specs.Layout.{lengthWord, numberWord, segment, value, first, count, next, address, read, write}
+use Rattle.segment_record.specs.Ring.{oneMore, oneLess}
+use Rattle.segment_record.specs.declared.Record.{Record}
 use Rattle.calls.specs.Segments.{place, valueAt, stored, dropped}
 use Rattle.calls.specs.Places.{place-below}
 
@@ -47,15 +49,19 @@ values-inside m k s l e h g el ek = fits s l (read m numberWord) h (rw (← el) 
         let d = mul-comm l s in
         omega (arith, a, b, d)
 
-pub one-more : (m m1 m2 : List ℕ) (s v l n f p : ℕ) → l ≡ read m lengthWord → n ≡ read m (count s) → f ≡ read m (first s) → p ≡ place l f n
-    → m1 ≡ write m (value (s * l + p)) v → m2 ≡ write m1 (segment s 1) (n + 1) → m2 ≡ stored m s v
-unfolding stored
-one-more m m1 m2 s v l n f p el en ef ep e1 e2 = simp (e2, e1, ep, ef, en, el)
+-- the words of the record of segment s
+abbrev pub OfSegment : List ℕ → ℕ → Record → Type 0
+OfSegment m s r = (r .first ≡ read m (first s)) × (r .count ≡ read m (count s)) × (r .next ≡ read m (next s))
 
-pub one-less : (m m1 m2 : List ℕ) (s l n f p : ℕ) → l ≡ read m lengthWord → f ≡ read m (first s) → p ≡ place l f 1 → n ≡ read m (count s)
-    → m1 ≡ write m (segment s 0) p → m2 ≡ write m1 (segment s 1) (n - 1) → m2 ≡ dropped m s
+pub one-more : (m m1 m2 : List ℕ) (s v l p : ℕ) (r r1 : Record) → l ≡ read m lengthWord → OfSegment m s r → p ≡ place l (r .first) (r .count)
+    → m1 ≡ write m (value (s * l + p)) v → r1 ≡ oneMore r → m2 ≡ write m1 (segment s 1) (r1 .count) → m2 ≡ stored m s v
+unfolding stored
+one-more m m1 m2 s v l p r r1 el er ep e1 e e2 = simp (e2, e, e1, ep, er .0, er .1, el)
+
+pub one-less : (m m1 m2 : List ℕ) (s l p : ℕ) (r r1 : Record) → OfSegment m s r → l ≡ read m lengthWord → p ≡ place l (r .first) 1 → r1 ≡ oneLess r p
+    → m1 ≡ write m (segment s 0) (r1 .first) → m2 ≡ write m1 (segment s 1) (r1 .count) → m2 ≡ dropped m s
 unfolding dropped
-one-less m m1 m2 s l n f p el ef ep en e1 e2 = simp (e2, e1, ep, ef, en, el)
+one-less m m1 m2 s l p r r1 er el ep e e1 e2 = simp (e2, e1, e, ep, er .0, er .1, el)
 
 pub place-inside : (m : List ℕ) (s l n f p : ℕ) → l ≡ read m lengthWord → n ≡ read m (count s) → read m (count s) < read m lengthWord → p ≡ place l f n → p < l
 place-inside m s l n f p el en h ep = rw ep (place-below l f n (omega arith))

@@ -1,4 +1,5 @@
 // Segments: the ring of values, the stack of free segments, linking two segments.
+use segment_record::Record;
 ghost use mathlib.Core.Path.{_≡_};
 ghost use mathlib.Core.List.{[], _∷_};
 ghost use Prim.Native.Nat.{_+_, _*_, _<_, _≤_};
@@ -6,7 +7,7 @@ ghost use lib.ListN.{length};
 ghost use Rattle.words.specs.Words.{store, size};
 ghost use Rattle.words.specs.Blocks.{storeAll};
 ghost use Rattle.lists.specs.Marks.{marking};
-ghost use Rattle.layout.specs.Layout.{recordOf, lengthWord, numberWord, freeSegments, segment, value, count, address, read, write};
+ghost use Rattle.layout.specs.Layout.{recordOf, lengthWord, numberWord, freeSegments, segment, value, first, count, next, address, read, write};
 ghost use Rattle.tree.specs.Tour.{MARKS, seek};
 ghost use Rattle.calls.specs.Segments.{place, valueAt, stored, dropped, noneFree, nextFree, taken, released};
 ghost use Rattle.calls.specs.Segments.{headIndex, linkedBy, renamed, linked};
@@ -54,17 +55,29 @@ fn store_at(m: &mut [u32], s: u32, l: u32, at: u32, v: u32)
     store(&mut m[a..b], at, v);
 }
 
-// One value more behind the others of segment s.
+// The record of segment s.
+fn read_record(m: &[u32], s: u32) -> Record
+    ensures { λ r. ⌜ (r .first ≡ read (now (m .entry)) (first s)) × (r .count ≡ read (now (m .entry)) (count s))
+        × (r .next ≡ read (now (m .entry)) (next s)) ⌝ }
+{
+    Record {
+        first: memory::segment(m, s, 0),
+        count: memory::segment(m, s, 1),
+        next: memory::segment(m, s, 2),
+    }
+}
+
+// One value more behind the others of segment s. Of the record, only the word that changed is written back.
 pub fn store_one(m: &mut [u32], s: u32, v: u32)
     requires { ⌜ (size (now m) ≡ 16384) × (s < read (now m) numberWord)
         × (read (now m) lengthWord * read (now m) numberWord ≤ 8192) × (read (now m) (count s) < read (now m) lengthWord) ⌝ }
     ensures { λ _. ⌜ now (m .exit) ≡ stored (now (m .entry)) s v ⌝ }
 {
     let l = memory::header(m, 0);
-    let n = memory::segment(m, s, 1);
-    let p = place(l, memory::segment(m, s, 0), n);
-    store_at(m, s, l, p, v);
-    memory::set_segment(m, s, 1, n + 1);
+    let r = read_record(m, s);
+    store_at(m, s, l, place(l, r.first, r.count), v);
+    let r = segment_record::with_one_more(r);
+    memory::set_segment(m, s, 1, r.count);
 }
 
 // The first value of segment s is gone.
@@ -72,10 +85,11 @@ pub fn drop_one(m: &mut [u32], s: u32)
     requires { ⌜ 0 < read (now m) (count s) ⌝ }
     ensures { λ _. ⌜ now (m .exit) ≡ dropped (now (m .entry)) s ⌝ }
 {
-    let p = place(memory::header(m, 0), memory::segment(m, s, 0), 1);
-    let n = memory::segment(m, s, 1);
-    memory::set_segment(m, s, 0, p);
-    memory::set_segment(m, s, 1, n - 1);
+    let r = read_record(m, s);
+    let p = place(memory::header(m, 0), r.first, 1);
+    let r = segment_record::with_one_less(r, p);
+    memory::set_segment(m, s, 0, r.first);
+    memory::set_segment(m, s, 1, r.count);
 }
 
 pub fn none_free(m: &[u32]) -> bool

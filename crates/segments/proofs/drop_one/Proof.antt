@@ -5,27 +5,25 @@ use Rattle.segments.proofs.drop_one.Tie as tie
 use Rattle.segments.proofs.drop_one.Reads as reads
 use Rattle.segments.proofs.drop_one.Lts as lts
 use Rattle.memory.proofs.header.Reads as header-reads
-use Rattle.memory.proofs.segment.Reads as segment-reads
 use Rattle.memory.proofs.set_segment.Reads as set-segment-reads
+use Rattle.segment_record.proofs.with_one_less.Reads as with-one-less-reads
 use Rattle.segments.proofs.place.Reads as place-reads
+use Rattle.segments.proofs.read_record.Reads as read-record-reads
+
+read-record-requires : tie.Need-read-record-requires
+read-record-requires c κs = search needs
 
 header-requires : tie.Need-header-requires
 header-requires c κs = search needs
 
-segment-requires : tie.Need-segment-requires
-segment-requires c κs = search needs
-
 place-requires : tie.Need-place-requires
 place-requires c κs = search needs
 
-segment-requires-2 : tie.Need-segment-requires-2
-segment-requires-2 c κs = search needs
+with-one-less-requires : tie.Need-with-one-less-requires
+with-one-less-requires c κs = search needs
 
 set-segment-requires : tie.Need-set-segment-requires
 set-segment-requires c κs = search needs
-
-sub-set-segment : tie.Need-sub-set-segment
-sub-set-segment c = search needs
 
 set-segment-requires-2 : tie.Need-set-segment-requires-2
 set-segment-requires-2 c κs = search needs
@@ -34,18 +32,22 @@ same-length : tie.Need-same-length
 same-length c = search needs
 
 returns : tie.Need-returns
-returns c = one-less _ _ _ _ _ _ _ _ (c .before .before .before .before .before .before .before .before .before .before .before .before .before .header .ensures) (c .before .before .before .before .before .before .before .before .before .before .before .segment .ensures) (c .before .before .before .before .before .before .before .before .before .before .place .ensures) (c .before .before .before .before .before .before .before .before .segment2 .ensures) (c .before .before .before .before .before .before .set-segment .ensures) (c .before .before .set-segment2 .ensures)
+returns c =
+    one-less _ _ _ _ _ _ _ _ (c .before .before .before .before .before .before .before .before .before .before .before .before .read-record
+    .ensures) (c .before .before .before .before .before .before .before .before .before .before .header .ensures)
+    (c .before .before .before .before .before .before .before .before .before .place .ensures)
+    (c .before .before .before .before .before .before .before .before .with-one-less .ensures)
+    (c .before .before .before .before .before .before .set-segment .ensures) (c .before .before .set-segment2 .ensures)
 
 pub drop-one-spec : {M : Type 1} → statement M
 drop-one-spec =
     tie.close
     (tie.spec
+    read-record-requires
     header-requires
-    segment-requires
     place-requires
-    segment-requires-2
+    with-one-less-requires
     set-segment-requires
-    sub-set-segment
     set-segment-requires-2
     same-length
     returns)

@@ -35,7 +35,11 @@ loop-less : tie.Need-loop-less Inv-loop μ-loop
 loop-less c = omega arith
 
 loop-again : tie.Need-loop-again Inv-loop μ-loop
-loop-again c = (omega arith, head-next _ _ _ _ _ (c .before .before .loop-test .taken) (c .before .task .ensures) (c .if1 .left) ∙ c .before .before .before .loop .inv .1)
+loop-again c = (
+  omega arith,
+  head-next _ _ _ _ _ (c .before .before .loop-test .taken) (c .before .task .ensures) (c .if1 .left)
+      ∙ c .before .before .before .loop .inv .1,
+)
 
 returns-2 : tie.Need-returns-2 Inv-loop μ-loop
 returns-2 c = head-none _ _ _ _ (c .before .loop .inv .0) (c .loop-test .left) ∙ c .before .loop .inv .1

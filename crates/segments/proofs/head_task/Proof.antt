@@ -29,7 +29,8 @@ head-here-requires : tie.Need-head-here-requires Inv-loop μ-loop
 head-here-requires c κs = search needs
 
 returns-2 : tie.Need-returns-2 Inv-loop μ-loop
-returns-2 c = seek-here _ _ _ _ (c .before .before .before .loop-test .taken) (c .before .before .if1 .left) (sym (c .before .head-here .ensures) ∙ c .if2 .taken) ∙ c .before .before .before .before .loop .inv .1
+returns-2 c = seek-here _ _ _ _ (c .before .before .before .loop-test .taken) (c .before .before .if1 .left)
+    (sym (c .before .head-here .ensures) ∙ c .if2 .taken) ∙ c .before .before .before .before .loop .inv .1
 
 after-requires : tie.Need-after-requires Inv-loop μ-loop
 after-requires c κs = search needs
@@ -41,7 +42,12 @@ loop-less : tie.Need-loop-less Inv-loop μ-loop
 loop-less c = omega arith
 
 loop-again : tie.Need-loop-again Inv-loop μ-loop
-loop-again c = (search needs, seek-on _ _ _ _ _ (c .before .before .before .before .loop-test .taken) (c .before .before .before .if1 .left) (sym (c .before .before .head-here .ensures) ∙ c .before .if2 .left) (c .after .ensures) ∙ c .before .before .before .before .before .loop .inv .1)
+loop-again c = (
+  search needs,
+  seek-on _ _ _ _ _ (c .before .before .before .before .loop-test .taken) (c .before .before .before .if1 .left)
+      (sym (c .before .before .head-here .ensures) ∙ c .before .if2 .left) (c .after .ensures)
+      ∙ c .before .before .before .before .before .loop .inv .1,
+)
 
 returns-3 : tie.Need-returns-3 Inv-loop μ-loop
 returns-3 c = seek-none _ _ _ _ (c .loop-test .left) ∙ c .before .loop .inv .1

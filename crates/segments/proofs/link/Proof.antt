@@ -31,7 +31,11 @@ same-length-2 : tie.Need-same-length-2
 same-length-2 c = search needs
 
 returns-2 : tie.Need-returns-2
-returns-2 c = link-empty _ _ _ _ _ (c .before .before .before .before .before .before .before .before .before .before .before .before .before .segment .ensures) (c .before .before .before .before .before .before .before .before .before .before .before .set-segment .ensures) _ _ (c .before .before .before .before .before .before .before .before .if1 .left) (c .before .before .before .before .before .before .rename .ensures) (c .before .before .release .ensures)
+returns-2 c = link-empty _ _ _ _ _
+    (c .before .before .before .before .before .before .before .before .before .before .before .before .before .segment .ensures)
+    (c .before .before .before .before .before .before .before .before .before .before .before .set-segment .ensures) _ _
+    (c .before .before .before .before .before .before .before .before .if1 .left)
+    (c .before .before .before .before .before .before .rename .ensures) (c .before .before .release .ensures)
 
 pub link-spec : {M : Type 1} → statement M
 link-spec =

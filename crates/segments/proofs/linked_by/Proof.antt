@@ -37,7 +37,8 @@ unfolding freeMarks
 next-is-requires c κs = c .before .before .before .before .before .mark-free .ensures
 
 returns : tie.Need-returns Inv-loop μ-loop
-returns c = by-found _ _ _ _ (c .before .before .before .loop-test .taken) (sym (c .before .next-is .ensures) ∙ c .if1 .taken) ∙ c .before .before .before .before .loop .inv .2
+returns c = by-found _ _ _ _ (c .before .before .before .loop-test .taken) (sym (c .before .next-is .ensures) ∙ c .if1 .taken)
+    ∙ c .before .before .before .before .loop .inv .2
 
 add-y : tie.Need-add-y Inv-loop μ-loop
 add-y c = omega arith
@@ -46,7 +47,12 @@ loop-less : tie.Need-loop-less Inv-loop μ-loop
 loop-less c = omega arith
 
 loop-again : tie.Need-loop-again Inv-loop μ-loop
-loop-again c = (omega arith, omega arith, by-next _ _ _ _ (c .before .before .before .loop-test .taken) (sym (c .before .next-is .ensures) ∙ c .if1 .left) ∙ c .before .before .before .before .loop .inv .2)
+loop-again c = (
+  omega arith,
+  omega arith,
+  by-next _ _ _ _ (c .before .before .before .loop-test .taken)
+      (sym (c .before .next-is .ensures) ∙ c .if1 .left) ∙ c .before .before .before .before .loop .inv .2,
+)
 
 returns-2 : tie.Need-returns-2 Inv-loop μ-loop
 returns-2 c = by-end _ _ _ _ (c .loop-test .left) ∙ c .before .loop .inv .2

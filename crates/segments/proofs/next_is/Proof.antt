@@ -18,7 +18,8 @@ element-copy-out-result : tie.Need-element-copy-out-result
 element-copy-out-result c = search needs
 
 returns-2 : tie.Need-returns-2
-returns-2 c = next-same _ _ _ _ _ (c .before .before .before .segment .ensures) (c .before .before .if1 .left) (unmarked-held _ _ _ (c .before .before .before .before .before .pre) (c .before .if2 .taken))
+returns-2 c = next-same _ _ _ _ _ (c .before .before .before .segment .ensures) (c .before .before .if1 .left)
+    (unmarked-held _ _ _ (c .before .before .before .before .before .pre) (c .before .if2 .taken))
 
 held-requires : tie.Need-held-requires
 held-requires c κs = search needs

@@ -34,7 +34,11 @@ same-length-2 : tie.Need-same-length-2
 same-length-2 c = search needs
 
 returns-2 : tie.Need-returns-2
-returns-2 c = give-back _ _ _ _ _ _ (c .before .before .before .before .before .before .before .before .before .before .before .before .before .header .ensures) (c .before .before .before .before .before .before .before .before .before .before .before .set-record .ensures) (c .before .before .before .before .before .before .before .before .if1 .left) (c .before .before .before .before .before .before .set-free-segment .ensures) (c .before .before .set-header .ensures)
+returns-2 c = give-back _ _ _ _ _ _
+    (c .before .before .before .before .before .before .before .before .before .before .before .before .before .header .ensures)
+    (c .before .before .before .before .before .before .before .before .before .before .before .set-record .ensures)
+    (c .before .before .before .before .before .before .before .before .if1 .left)
+    (c .before .before .before .before .before .before .set-free-segment .ensures) (c .before .before .set-header .ensures)
 
 pub release-spec : {M : Type 1} → statement M
 release-spec =

@@ -19,7 +19,8 @@ same-length : tie.Need-same-length
 same-length c = search needs
 
 returns : tie.Need-returns
-returns c = three-words _ _ _ _ _ _ _ _ (c .before .before .before .before .before .before .before .before .before .before .set-segment .ensures) (c .before .before .before .before .before .before .set-segment2 .ensures) (c .before .before .set-segment3 .ensures)
+returns c = three-words _ _ _ _ _ _ _ _ (c .before .before .before .before .before .before .before .before .before .before .set-segment .ensures)
+    (c .before .before .before .before .before .before .set-segment2 .ensures) (c .before .before .set-segment3 .ensures)
 
 pub set-record-spec : {M : Type 1} → statement M
 set-record-spec =

@@ -1,34 +1,37 @@
 use mathlib.Core.Path.{refl}
-use Rattle.segments.proofs.Ring.{place-inside}
-use Rattle.segments.proofs.Ring.{values-inside, one-more}
+use Rattle.segments.proofs.Ring.{place-inside, values-inside, one-more}
 use borrow.Author.Needs.{needs}
 use Rattle.segments.proofs.store_one.Statement.{statement}
 use Rattle.segments.proofs.store_one.Tie as tie
 use Rattle.segments.proofs.store_one.Reads as reads
 use Rattle.segments.proofs.store_one.Lts as lts
 use Rattle.memory.proofs.header.Reads as header-reads
-use Rattle.memory.proofs.segment.Reads as segment-reads
 use Rattle.memory.proofs.set_segment.Reads as set-segment-reads
+use Rattle.segment_record.proofs.with_one_more.Reads as with-one-more-reads
 use Rattle.segments.proofs.place.Reads as place-reads
+use Rattle.segments.proofs.read_record.Reads as read-record-reads
 use Rattle.segments.proofs.store_at.Reads as store-at-reads
 
 header-requires : tie.Need-header-requires
 header-requires c κs = search needs
 
-segment-requires : tie.Need-segment-requires
-segment-requires c κs = search needs
-
-segment-requires-2 : tie.Need-segment-requires-2
-segment-requires-2 c κs = search needs
+read-record-requires : tie.Need-read-record-requires
+read-record-requires c κs = search needs
 
 place-requires : tie.Need-place-requires
 place-requires c κs = search needs
 
 store-at-requires : tie.Need-store-at-requires
-store-at-requires c κs = (place-inside _ _ _ _ _ _ (c .before .before .before .before .before .before .header .ensures) (c .before .before .before .before .segment .ensures) (c .before .before .before .before .before .before .before .before .before .pre .3) (c .before .place .ensures), values-inside _ _ _ _ (c .before .before .before .before .before .before .before .before .before .pre .0) (c .before .before .before .before .before .before .before .before .before .pre .1) (c .before .before .before .before .before .before .before .before .before .pre .2) (c .before .before .before .before .before .before .header .ensures) refl)
+store-at-requires c κs = (
+  place-inside _ _ _ _ _ _ (c .before .before .before .before .header .ensures) (c .before .before .read-record .ensures .1)
+      (c .before .before .before .before .before .before .before .pre .3) (c .place .ensures),
+  values-inside _ _ _ _ (c .before .before .before .before .before .before .before .pre .0)
+      (c .before .before .before .before .before .before .before .pre .1) (c .before .before .before .before .before .before .before .pre .2)
+      (c .before .before .before .before .header .ensures) refl,
+)
 
-add-set-segment : tie.Need-add-set-segment
-add-set-segment c = search needs
+with-one-more-requires : tie.Need-with-one-more-requires
+with-one-more-requires c κs = search needs
 
 set-segment-requires : tie.Need-set-segment-requires
 set-segment-requires c κs = search needs
@@ -37,18 +40,22 @@ same-length : tie.Need-same-length
 same-length c = search needs
 
 returns : tie.Need-returns
-returns c = one-more _ _ _ _ _ _ _ _ _ (c .before .before .before .before .before .before .before .before .before .before .before .before .before .header .ensures) (c .before .before .before .before .before .before .before .before .before .before .before .segment .ensures) (c .before .before .before .before .before .before .before .before .before .segment2 .ensures) (c .before .before .before .before .before .before .before .before .place .ensures) (c .before .before .before .before .before .before .store-at .ensures) (c .before .before .set-segment .ensures)
+returns c =
+    one-more _ _ _ _ _ _ _ _ _ (c .before .before .before .before .before .before .before .before .before .before .before .before .header .ensures)
+    (c .before .before .before .before .before .before .before .before .before .before .read-record .ensures)
+    (c .before .before .before .before .before .before .before .before .place .ensures)
+    (c .before .before .before .before .before .before .before .store-at .ensures)
+    (c .before .before .before .before .with-one-more .ensures) (c .before .before .set-segment .ensures)
 
 pub store-one-spec : {M : Type 1} → statement M
 store-one-spec =
     tie.close
     (tie.spec
     header-requires
-    segment-requires
-    segment-requires-2
+    read-record-requires
     place-requires
     store-at-requires
-    add-set-segment
+    with-one-more-requires
     set-segment-requires
     same-length
     returns)

@@ -34,13 +34,28 @@ set-record-requires : tie.Need-set-record-requires
 set-record-requires c κs = search needs
 
 store-at-requires : tie.Need-store-at-requires
-store-at-requires c κs = (search needs, values-inside _ _ _ _ (c .before .before .before .before .before .before .before .before .before .before .before .before .before .before .before .before .pre .0) (below _ _ _ (top-of _ _ _ (c .before .before .before .before .before .before .before .before .before .before .before .header2 .ensures) (c .before .before .before .before .before .before .before .before .before .free-segment .ensures)) (c .before .before .before .before .before .before .before .before .before .before .before .before .before .before .before .before .pre .2)) (c .before .before .before .before .before .before .before .before .before .before .before .before .before .before .before .before .pre .4) (c .before .before .before .before .before .before .before .before .before .before .before .before .before .header .ensures) (c .before .before .before .set-record .kept .0 ∙ c .before .before .before .before .before .before .before .set-header .kept .0))
+store-at-requires c κs = (
+  search needs,
+  values-inside _ _ _ _
+      (c .before .before .before .before .before .before .before .before .before .before .before .before .before .before .before .before .pre .0)
+      (below _ _ _ (top-of _ _ _ (c .before .before .before .before .before .before .before .before .before .before .before .header2 .ensures)
+      (c .before .before .before .before .before .before .before .before .before .free-segment .ensures))
+      (c .before .before .before .before .before .before .before .before .before .before .before .before .before .before .before .before .pre .2))
+      (c .before .before .before .before .before .before .before .before .before .before .before .before .before .before .before .before .pre .4)
+      (c .before .before .before .before .before .before .before .before .before .before .before .before .before .header .ensures)
+      (c .before .before .before .set-record .kept .0 ∙ c .before .before .before .before .before .before .before .set-header .kept .0),
+)
 
 same-length : tie.Need-same-length
 same-length c = search needs
 
 returns : tie.Need-returns
-returns c = take-it _ _ _ _ _ _ _ _ (c .before .before .before .before .before .before .before .before .before .before .before .before .before .before .before .before .header .ensures) (c .before .before .before .before .before .before .before .before .before .before .before .before .before .before .header2 .ensures) (c .before .before .before .before .before .before .before .before .before .before .before .before .free-segment .ensures) (c .before .before .before .before .before .before .before .before .before .before .set-header .ensures) (c .before .before .before .before .before .before .set-record .ensures) (c .before .before .store-at .ensures)
+returns c = take-it _ _ _ _ _ _ _ _
+    (c .before .before .before .before .before .before .before .before .before .before .before .before .before .before .before .before .header
+    .ensures) (c .before .before .before .before .before .before .before .before .before .before .before .before .before .before .header2 .ensures)
+    (c .before .before .before .before .before .before .before .before .before .before .before .before .free-segment .ensures)
+    (c .before .before .before .before .before .before .before .before .before .before .set-header .ensures)
+    (c .before .before .before .before .before .before .set-record .ensures) (c .before .before .store-at .ensures)
 
 pub take-spec : {M : Type 1} → statement M
 take-spec =

@@ -23,22 +23,26 @@ cast-get : tie.Need-cast-get
 cast-get c = search needs
 
 mul-get : tie.Need-mul-get
-mul-get c = let h = product-fits (c .before .before .before .before .args .s) (c .before .before .header .result) (search needs) (search needs) in record { fits = omega (arith, h) }
+mul-get c = let h = product-fits (c .before .before .before .before .args .s) (c .before .before .header .result) (search needs) (search needs)
+    in record { fits = omega (arith, h) }
 
 cast-get-2 : tie.Need-cast-get-2
 cast-get-2 c = search needs
 
 add-get : tie.Need-add-get
-add-get c = let h = product-fits (c .before .before .before .before .args .s) (c .before .before .header .result) (search needs) (search needs) in record { fits = omega (arith, h) }
+add-get c = let h = product-fits (c .before .before .before .before .args .s) (c .before .before .header .result) (search needs) (search needs)
+    in record { fits = omega (arith, h) }
 
 add-get-2 : tie.Need-add-get-2
-add-get-2 c = let h = product-fits (c .before .before .before .before .args .s) (c .before .before .header .result) (search needs) (search needs) in record { fits = omega (arith, h) }
+add-get-2 c = let h = product-fits (c .before .before .before .before .args .s) (c .before .before .header .result) (search needs) (search needs)
+    in record { fits = omega (arith, h) }
 
 get-requires : tie.Need-get-requires
 get-requires c κs = search needs
 
 returns : tie.Need-returns
-returns c = value-read _ _ _ _ _ _ _ (c .before .before .before .header .ensures) (c .before .before .segment .ensures) (c .before .place .ensures) (c .get .ensures)
+returns c = value-read _ _ _ _ _ _ _ (c .before .before .before .header .ensures) (c .before .before .segment .ensures) (c .before .place .ensures)
+    (c .get .ensures)
 
 pub value-at-spec : {M : Type 1} → statement M
 value-at-spec =
