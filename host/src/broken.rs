@@ -3,7 +3,7 @@
 
 use crate::hand::{with_child, Named};
 use crate::layout::*;
-use crate::memory::{Core, E};
+use crate::memory::{Calls, Core, E};
 
 /// A rule, and words of `with_two_children` so changed that it is broken.
 type Change = (&'static str, Vec<(usize, u32)>);

@@ -2,7 +2,7 @@
 
 use crate::broken;
 use crate::layout::*;
-use crate::memory::{Core, E};
+use crate::memory::{Calls, Core, E};
 
 /// A memory with a name.
 pub type Named = (String, Vec<u32>);

@@ -9,6 +9,39 @@ use crate::{fast, rules};
 
 pub use crate::answer::Answer::{Empty, Moved, NotEmpty, Refused, Waits};
 
+/// Short names for the calls, by what makes a call.
+pub trait Calls {
+    fn make(&mut self, call: Call) -> Answer;
+
+    fn spawn(&mut self, task: u32, rights: u32) -> Answer {
+        self.make(Call::Spawn { task, rights })
+    }
+
+    fn push(&mut self, task: u32, queue: u32, value: u32) -> Answer {
+        self.make(Call::Push { task, queue, value })
+    }
+
+    fn pop(&mut self, task: u32, queue: u32) -> Answer {
+        self.make(Call::Pop { task, queue })
+    }
+
+    fn test(&mut self, task: u32, queue: u32) -> Answer {
+        self.make(Call::Test { task, queue })
+    }
+
+    fn sync(&mut self, task: u32) -> Answer {
+        self.make(Call::Sync { task })
+    }
+
+    fn finish(&mut self, task: u32) -> Answer {
+        self.make(Call::Finish { task })
+    }
+
+    fn left(&mut self, queue: u32, index: u32) -> Answer {
+        self.make(Call::Left { queue, index })
+    }
+}
+
 /// A core's memory. Every call checks that a call that does not move changes
 /// no word, and that the two forms of the memory rules agree afterwards.
 #[derive(Clone)]
@@ -21,44 +54,6 @@ impl Core {
         let answer = core.make(Call::Open { length, segments });
         assert_eq!(answer, Moved(0));
         core
-    }
-
-    pub fn make(&mut self, call: Call) -> Answer {
-        let before = self.0.clone();
-        let answer = call.make(&mut self.0);
-        if !answer.moved() {
-            assert!(self.0 == before, "{call} is {answer:?} and changes words");
-        }
-        assert_eq!(fast::hold(&self.0), rules::hold(&self.0), "after {call}");
-        answer
-    }
-
-    pub fn spawn(&mut self, task: u32, rights: u32) -> Answer {
-        self.make(Call::Spawn { task, rights })
-    }
-
-    pub fn push(&mut self, task: u32, queue: u32, value: u32) -> Answer {
-        self.make(Call::Push { task, queue, value })
-    }
-
-    pub fn pop(&mut self, task: u32, queue: u32) -> Answer {
-        self.make(Call::Pop { task, queue })
-    }
-
-    pub fn test(&mut self, task: u32, queue: u32) -> Answer {
-        self.make(Call::Test { task, queue })
-    }
-
-    pub fn sync(&mut self, task: u32) -> Answer {
-        self.make(Call::Sync { task })
-    }
-
-    pub fn finish(&mut self, task: u32) -> Answer {
-        self.make(Call::Finish { task })
-    }
-
-    pub fn left(&mut self, queue: u32, index: u32) -> Answer {
-        self.make(Call::Left { queue, index })
     }
 
     pub fn passes(&self) -> bool {
@@ -121,6 +116,18 @@ impl Core {
     /// The free segments, the next one to be used last.
     pub fn free_segments(&self) -> Vec<u32> {
         rules::free_segments(&self.0)
+    }
+}
+
+impl Calls for Core {
+    fn make(&mut self, call: Call) -> Answer {
+        let before = self.0.clone();
+        let answer = call.make(&mut self.0);
+        if !answer.moved() {
+            assert!(self.0 == before, "{call} is {answer:?} and changes words");
+        }
+        assert_eq!(fast::hold(&self.0), rules::hold(&self.0), "after {call}");
+        answer
     }
 }
 

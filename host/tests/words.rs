@@ -160,6 +160,28 @@ fn head_goes_to_the_right_view_of_the_child() {
     assert_eq!(core.views(0, 0), [E, (NL, 4), E]);
 }
 
+/// A push behind what a finished child left: the new segment is linked.
+#[test]
+fn new_segment_is_linked_behind_values() {
+    let mut core = Core::open(4, 8);
+    core.spawn(0, 1);
+    core.push(1, 0, 6);
+    core.finish(1);
+    let before = core.clone();
+    assert_eq!(core.push(0, 0, 7), Moved(7));
+    let due = [
+        (FREE_SEGMENTS, 3),
+        (segment(0) + NEXT, 4),
+        (segment(4) + COUNT, 1),
+        (segment(4) + NEXT, NONE),
+        (user_view(0, 0), NL),
+        (children_view(0, 0) + TAIL_FROM_HEAD, NL),
+        (user_view(0, 0) + TAIL_FROM_HEAD, 4),
+        (value_place(4, 4, 0), 7),
+    ];
+    assert_eq!(changes(&before, &core), due);
+}
+
 /// A finish frees one segment for each queue, queue 0 first.
 #[test]
 fn order_of_freeing_in_one_finish() {

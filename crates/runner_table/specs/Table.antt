@@ -1,12 +1,13 @@
 -- Runs of jobs, tried on the outcomes of the runner's calls: each call with the answer that it must get.
-use mathlib.Core.Bool.{Bool, true}
+use mathlib.Core.Bool.{Bool, true, false}
 use mathlib.Core.List.{List, [], _∷_}
 use Prim.Native.Nat.{ℕ}
+use lib.Count.{onesIn, ones, trailingZeros}
 use lib.Dec.{eqb}
 use lib.ListN.{replicate}
 use Rattle.words.specs.Words.{load, store, size, pick, both, either}
 use Rattle.words.specs.Blocks.{storeAll, rows}
-use Rattle.lists.specs.Counting.{one, occurrences}
+use Rattle.lists.specs.Counting.{one, occurrences, over, total}
 use Rattle.lists.specs.Tests.{each, upto, eachWord}
 use Rattle.lists.specs.Distinct.{fresh, distinct}
 use Rattle.layout.specs.Layout.{WORDS, address, read, write, recordOf}
@@ -32,24 +33,36 @@ use Rattle.job.specs.Effects.{sum, effect}
 use Rattle.job.specs.Test.{between, headHolds, refusal10, entryHolds, entriesHold, contentsHold, refusal11, whichHolds, operandHolds, fitting, instructionHolds, lastHolds, bodyHolds, refusal12}
 use Rattle.runner.specs.declared.StepAnswer.{StepAnswer}
 use Rattle.runner.specs.Words.{RUNNER, procedureOf, positionOf, registerOf, put, instructionFor}
-use Rattle.runner.specs.Answers.{answerWith, valueOf, statusOf, outcome}
+use Rattle.runner.specs.Answers.{answerWith, valueOf, statusOf, hasMoved, outcome, answerOf}
 use Rattle.runner.specs.Rules.{taskHolds, zeros, recordHolds, runnerHolds, refused, jobTested, tested}
 use Rattle.runner.specs.Open.{segmentsFor, jobOpened, openOutcome}
 use Rattle.runner.specs.Step.{callOf, replyOf, runnerAfter, done, replied, coreOutcome, repliedTo, makes, stepTested, stepOutcome}
+use Rattle.runner.specs.Ready.{readyBit, bitsFrom, wordsFor, lowestFrom, mapOf, readyMap, testAnswer, mapped, readyOutcome}
 
--- a step of a task with its answer; what left gives for a queue and an index
+-- a step of a task with its answer; the ready map, asked for with words lent, its answer and the words then; what left gives for
+-- a queue and an index
 pub data Row : Type 0 where
   step : ℕ → StepAnswer → Row
+  map : List ℕ → StepAnswer → List ℕ → Row
   left : ℕ → ℕ → Answer → Row
 
 -- two answers have the same number and the same value
 unfoldable pub sameAnswer : StepAnswer → StepAnswer → Bool
 sameAnswer a b = both (eqb (statusOf a) (statusOf b)) (eqb (valueOf a) (valueOf b))
 
+unfoldable pub sameWords : List ℕ → List ℕ → Bool
+sameWords [] [] = true
+sameWords [] (y ∷ ys) = false
+sameWords (x ∷ xs) [] = false
+sameWords (x ∷ xs) (y ∷ ys) = let rest = sameWords xs ys in both (eqb x y) rest
+
 -- every call of a run of job j gets its answer, where the first finds the core's words m and the runner's words r
 unfoldable pub ran : List ℕ → List Row → List ℕ → List ℕ → Bool
 ran j [] m r = true
 ran j (step t a ∷ rest) m r = elim (stepOutcome j m r t) [ outcome b n s ↦ let more = ran j rest n s in both (sameAnswer b a) more ]
+ran j (map o a p ∷ rest) m r =
+    let more = ran j rest m r in
+    elim (readyOutcome j m r o) [ mapped b q ↦ both (both (sameAnswer b a) (sameWords q p)) more ]
 ran j (left q i a ∷ rest) m r = let more = ran j rest m r in both (sameLeft (coreAnswer (leftOutcome m q i)) a) more
 
 -- from a fresh opening, which finds the words m and r
@@ -65,5 +78,5 @@ lentRunner = replicate RUNNER 7
 
 -- the same, with every definition open, so that it can be computed
 unfoldable pub right : List ℕ → List Row → List ℕ → List ℕ → Bool
-unfolding load store size pick both either storeAll rows one occurrences each upto eachWord fresh distinct address read write recordOf coreAnswer wordsOf coreStatus coreValue sameLeft bits pushes pops uses eachQueue someQueue sharesPop subset leaving entering after tour met seek sibling oldest segmentOf tables look scan word part locals heads tails owners within inRange topTest idleTest kin linkTest treeTest viewWord viewsTest marked passed passedAt orderAt orderOf orderTest ownersTest segmentTest chain chains heldTest viewTests test rulesHold down stacked segmented topped opened place valueAt stored dropped noneFree nextFree taken released indexOf headIndex linkedBy renamed linked viewOf isEmpty headOf tailOf reducible frees behind reduced setView joined merged taskAt kindAt takesPart standsAt justBefore returnedTo coreTested rightsOf unfinished blocked childPops hasChild pusherBefore forQueues passedUser passedQueue keptUser keptQueue childViews passedOn childMade spawned spawnTested pushedApart pushedBehind pushed pushTested hasValue finding popped popGives testGives popAllowed popTested testTested syncs syncedQueue synced whenReduced syncTested returned finishes viewsReturned heir queueReturned finishedQueue unlinked recordFreed finished topFinished finishTested queued leftTested leftOutcome bytes2 bytes4 procedures segmentLength offset count rights reserved instructionFrom instructionAt rowOf operationOf operationAt sum effect between headHolds refusal10 entryHolds entriesHold contentsHold refusal11 whichHolds operandHolds fitting instructionHolds lastHolds bodyHolds refusal12 procedureOf positionOf registerOf put instructionFor answerWith valueOf statusOf taskHolds zeros recordHolds runnerHolds refused jobTested tested segmentsFor jobOpened openOutcome callOf replyOf runnerAfter done replied coreOutcome repliedTo makes stepTested stepOutcome sameAnswer ran ranFresh
+unfolding load store size pick both either storeAll rows one occurrences each upto eachWord fresh distinct address read write recordOf coreAnswer wordsOf coreStatus coreValue sameLeft bits pushes pops uses eachQueue someQueue sharesPop subset leaving entering after tour met seek sibling oldest segmentOf tables look scan word part locals heads tails owners within inRange topTest idleTest kin linkTest treeTest viewWord viewsTest marked passed passedAt orderAt orderOf orderTest ownersTest segmentTest chain chains heldTest viewTests test rulesHold down stacked segmented topped opened place valueAt stored dropped noneFree nextFree taken released indexOf headIndex linkedBy renamed linked viewOf isEmpty headOf tailOf reducible frees behind reduced setView joined merged taskAt kindAt takesPart standsAt justBefore returnedTo coreTested rightsOf unfinished blocked childPops hasChild pusherBefore forQueues passedUser passedQueue keptUser keptQueue childViews passedOn childMade spawned spawnTested pushedApart pushedBehind pushed pushTested hasValue finding popped popGives testGives popAllowed popTested testTested syncs syncedQueue synced whenReduced syncTested returned finishes viewsReturned heir queueReturned finishedQueue unlinked recordFreed finished topFinished finishTested queued leftTested leftOutcome bytes2 bytes4 procedures segmentLength offset count rights reserved instructionFrom instructionAt rowOf operationOf operationAt sum effect between headHolds refusal10 entryHolds entriesHold contentsHold refusal11 whichHolds operandHolds fitting instructionHolds lastHolds bodyHolds refusal12 procedureOf positionOf registerOf put instructionFor answerWith valueOf statusOf taskHolds zeros recordHolds runnerHolds refused jobTested tested segmentsFor jobOpened openOutcome callOf replyOf runnerAfter done replied coreOutcome repliedTo makes stepTested stepOutcome hasMoved answerOf over total onesIn ones trailingZeros readyBit bitsFrom wordsFor lowestFrom mapOf readyMap testAnswer readyOutcome sameAnswer sameWords ran ranFresh
 right j rows m r = ranFresh j rows m r

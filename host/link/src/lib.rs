@@ -6,11 +6,15 @@ mod faults;
 pub mod fuzzing;
 pub mod ground;
 pub mod guarded;
+#[cfg(test)]
+mod job_outcomes;
 pub mod linked;
 pub mod linked_jobs;
 pub mod linked_runner;
 pub mod long_job;
 pub mod on_off;
+#[cfg(test)]
+mod outcomes;
 pub mod pair;
 pub mod picture;
 pub mod proved_run;

@@ -76,6 +76,11 @@ impl RunnerPair {
         self.same("ready", given, due)
     }
 
+    /// The six words that the library wrote last.
+    pub fn map(&self) -> Map {
+        self.map.words().try_into().expect("six words")
+    }
+
     fn same(&self, call: &str, given: u64, due: Stepped) -> Result<Stepped, String> {
         if given != packed(due) {
             let (status, value) = (given >> 32, given & 0xFFFF_FFFF);

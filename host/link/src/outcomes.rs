@@ -1,0 +1,283 @@
+//! Every outcome of the eight calls that docs/OUTCOMES.md lists, in its order: a
+//! few calls lead to each, made on the linked library and on the model, and the
+//! answer has to be the one named here.
+
+use crate::pair::Pair;
+use host::answer::Answer;
+use host::call::Call;
+use host::hand;
+use host::layout::*;
+use host::memory::*;
+
+impl Calls for Pair {
+    fn make(&mut self, call: Call) -> Answer {
+        Pair::make(self, call).unwrap_or_else(|what| panic!("{what}"))
+    }
+}
+
+fn on(words: &[u32]) -> Pair {
+    let mut core = Pair::default();
+    core.set(words);
+    core
+}
+
+fn opened(length: u32, segments: u32) -> Pair {
+    let mut core = on(&[7; WORDS]);
+    let open = Call::Open { length, segments };
+    assert_eq!(Calls::make(&mut core, open), Moved(0));
+    core
+}
+
+/// After spawns by the top, with these rights.
+fn spawned(all: &[u32]) -> Pair {
+    let mut core = opened(4, 8);
+    for (rights, number) in all.iter().zip(1..) {
+        assert_eq!(core.spawn(0, *rights), Moved(number));
+    }
+    core
+}
+
+/// The call gets 1 on one word too few or too many, and 2 on zeros.
+fn tests_memory(call: Call) {
+    for (number, due) in [(WORDS - 1, 1), (WORDS + 1, 1), (WORDS, 2)] {
+        let mut core = on(&vec![0; number]);
+        assert_eq!(Calls::make(&mut core, call), Refused(due), "{call}");
+    }
+}
+
+fn view(core: &Pair, place: usize) -> (u32, u32) {
+    (
+        get(&core.model, place),
+        get(&core.model, place + TAIL_FROM_HEAD),
+    )
+}
+
+fn free_segments(core: &Pair) -> Vec<u32> {
+    host::rules::free_segments(&core.model)
+}
+
+#[test]
+fn open() {
+    for (number, length, segments, due) in [
+        (WORDS - 1, 4, 8, Refused(1)),
+        (WORDS + 1, 0, 0, Refused(1)),
+        (WORDS, 0, 8, Refused(3)),
+        (WORDS, 65, 4, Refused(3)),
+        (WORDS, 4, 3, Refused(3)),
+        (WORDS, 4, 257, Refused(3)),
+        (WORDS, 64, 129, Refused(3)),
+        (WORDS, 64, 128, Moved(0)),
+    ] {
+        let mut core = on(&vec![7; number]);
+        let call = Call::Open { length, segments };
+        assert_eq!(Calls::make(&mut core, call), due, "{call}");
+    }
+}
+
+#[test]
+fn spawn() {
+    tests_memory(Call::Spawn { task: 0, rights: 0 });
+    let mut core = opened(4, 8);
+    assert_eq!(core.spawn(128, 0), Refused(4));
+    assert_eq!(core.spawn(1, 0), Refused(4));
+    assert_eq!(core.spawn(0, 256), Refused(6));
+    assert_eq!(core.spawn(0, 2), Moved(1));
+    assert_eq!(core.spawn(0, 2), Moved(2));
+    assert_eq!([youngest(&core.model, 0), older(&core.model, 2)], [2, 1]);
+    assert_eq!(core.spawn(2, 0), Waits);
+    for number in 3..128 {
+        assert_eq!(core.spawn(0, 0), Moved(number));
+    }
+    assert_eq!(core.spawn(0, 0), Refused(8));
+}
+
+#[test]
+fn push() {
+    tests_memory(Call::Push {
+        task: 0,
+        queue: 0,
+        value: 5,
+    });
+    let mut core = spawned(&[2, 3]);
+    assert_eq!(core.push(3, 0, 5), Refused(4));
+    assert_eq!(core.push(0, 4, 5), Refused(5));
+    assert_eq!(core.push(1, 0, 5), Refused(6));
+    assert_eq!(core.push(2, 0, 5), Waits);
+    // 9: the user view is empty, no segment is free.
+    let mut core = opened(1, 4);
+    core.spawn(0, 1);
+    assert_eq!(core.push(0, 0, 5), Refused(9));
+    // The late 2, by the view just before and by the user view.
+    assert_eq!(on(&hand::nonlocal_tail(8).0).push(0, 0, 9), Refused(2));
+    assert_eq!(on(&hand::nonlocal_user_tail(8).0).push(0, 0, 9), Refused(2));
+}
+
+#[test]
+fn push_into_its_user_view() {
+    let mut core = opened(1, 5);
+    assert_eq!(core.push(0, 0, 5), Moved(5));
+    assert_eq!(view(&core, user_view(0, 0)), (NL, 0));
+    // A new segment behind the full one, then none is free.
+    assert_eq!(core.push(0, 0, 6), Moved(6));
+    assert_eq!(view(&core, user_view(0, 0)), (NL, 4));
+    assert_eq!(next(&core.model, 0), 4);
+    assert_eq!(core.push(0, 0, 7), Refused(9));
+}
+
+/// The head of the new segment goes into an empty view, behind an empty segment
+/// and behind one with values.
+#[test]
+fn push_of_a_new_segment() {
+    let mut core = spawned(&[1]);
+    assert_eq!(core.push(0, 0, 7), Moved(7));
+    assert_eq!(view(&core, right_view(1, 0)), (4, NL));
+
+    let mut core = spawned(&[1]);
+    core.finish(1);
+    assert_eq!(core.push(0, 0, 7), Moved(7));
+    assert_eq!(get(&core.model, queue_head(0, 0)), 4);
+    assert_eq!(free_segments(&core), [7, 6, 5, 0]);
+
+    let mut core = spawned(&[1]);
+    core.push(1, 0, 6);
+    core.finish(1);
+    assert_eq!(core.push(0, 0, 7), Moved(7));
+    assert_eq!(next(&core.model, 0), 4);
+    assert_eq!(free_segments(&core), [7, 6, 5]);
+    assert_eq!([core.pop(0, 0), core.pop(0, 0)], [Moved(6), Moved(7)]);
+}
+
+/// The tests of pop and test, which both make.
+fn finding(make: fn(&mut Pair, u32, u32) -> Answer) {
+    let mut core = spawned(&[1, 2]);
+    assert_eq!(make(&mut core, 3, 0), Refused(4));
+    assert_eq!(make(&mut core, 0, 4), Refused(5));
+    assert_eq!(make(&mut core, 1, 0), Refused(6));
+    // For a pusher, an older sibling and a popping child.
+    assert_eq!(make(&mut core, 2, 0), Waits);
+    assert_eq!(make(&mut spawned(&[2, 2]), 2, 0), Waits);
+    assert_eq!(make(&mut spawned(&[2]), 0, 0), Waits);
+}
+
+#[test]
+fn pop() {
+    tests_memory(Call::Pop { task: 0, queue: 0 });
+    finding(Calls::pop);
+    let mut core = opened(2, 8);
+    for value in 5..8 {
+        core.push(0, 0, value);
+    }
+    // The segment stays, then it is freed.
+    for (value, free) in [(5, vec![7, 6, 5]), (6, vec![7, 6, 5, 0])] {
+        assert_eq!(core.pop(0, 0), Moved(value));
+        assert_eq!(free_segments(&core), free);
+    }
+    assert_eq!([core.pop(0, 0), core.pop(0, 0)], [Moved(7), Refused(7)]);
+}
+
+#[test]
+fn test() {
+    tests_memory(Call::Test { task: 0, queue: 0 });
+    finding(Calls::test);
+    let mut core = opened(4, 8);
+    assert_eq!(core.test(0, 0), Empty);
+    core.push(0, 0, 5);
+    assert_eq!(core.test(0, 0), NotEmpty);
+}
+
+/// The tests of sync and finish, which both make; the late 2 is the top's.
+fn ending(make: fn(&mut Pair, u32) -> Answer) {
+    let mut core = spawned(&[2, 2]);
+    assert_eq!(make(&mut core, 3), Refused(4));
+    // For an older sibling and for a child.
+    assert_eq!(make(&mut core, 2), Waits);
+    assert_eq!(make(&mut core, 0), Waits);
+    let late = hand::sync_to_itself(&[6]).0;
+    assert_eq!(make(&mut on(&late), 0), Refused(2));
+}
+
+#[test]
+fn sync() {
+    tests_memory(Call::Sync { task: 0 });
+    ending(Calls::sync);
+    let mut core = spawned(&[1]);
+    core.finish(1);
+    assert_eq!(view(&core, children_view(0, 0)), (NL, 0));
+    assert_eq!(core.sync(0), Moved(0));
+    assert_eq!(view(&core, children_view(0, 0)), E);
+    assert_eq!(view(&core, user_view(0, 0)), (NL, 0));
+}
+
+#[test]
+fn finish() {
+    tests_memory(Call::Finish { task: 0 });
+    ending(Calls::finish);
+    assert_eq!(on(&hand::finish_to_itself().0).finish(1), Refused(2));
+    let mut core = opened(4, 8);
+    assert_eq!(core.finish(0), Moved(0));
+    assert_eq!(status(&core.model, 0), FINISHED);
+}
+
+/// A view with a non-local head goes to the older sibling's right view, or to
+/// the parent's children view; the record is used next.
+#[test]
+fn finish_with_a_nonlocal_head() {
+    let mut core = spawned(&[1, 1]);
+    core.push(2, 0, 7);
+    assert_eq!(core.finish(2), Moved(0));
+    assert_eq!(view(&core, right_view(1, 0)), (4, 4));
+    assert_eq!(core.spawn(0, 0), Moved(2));
+
+    let mut core = spawned(&[1]);
+    assert_eq!(core.finish(1), Moved(0));
+    assert_eq!(view(&core, children_view(0, 0)), (NL, 0));
+}
+
+#[test]
+fn finish_with_a_local_head() {
+    let mut core = spawned(&[1, 1]);
+    core.spawn(2, 1);
+    core.spawn(2, 1);
+    core.push(4, 0, 9);
+    assert_eq!(view(&core, right_view(3, 0)), (4, NL));
+    assert_eq!(core.finish(3), Moved(0));
+    assert_eq!(view(&core, children_view(2, 0)), E);
+    assert_eq!(view(&core, right_view(1, 0)), (4, NL));
+}
+
+/// The link of a finish frees an empty segment, and the queue view that named it
+/// is re-pointed.
+#[test]
+fn finish_that_frees_a_segment() {
+    let mut core = spawned(&[1, 1, 2]);
+    core.push(2, 0, 7);
+    assert_eq!(get(&core.model, queue_head(3, 0)), 0);
+    assert_eq!(core.finish(1), Moved(0));
+    assert_eq!(get(&core.model, queue_head(3, 0)), 4);
+    assert_eq!(free_segments(&core), [7, 6, 5, 0]);
+}
+
+#[test]
+fn finish_of_a_popper() {
+    let mut core = spawned(&[2, 1, 2]);
+    for (t, heir) in [(1, 3), (3, 0)] {
+        assert_eq!(core.finish(t), Moved(0));
+        assert_eq!(get(&core.model, queue_head(heir, 0)), 0);
+    }
+}
+
+#[test]
+fn left() {
+    tests_memory(Call::Left { queue: 0, index: 0 });
+    let mut core = opened(2, 8);
+    for value in 5..8 {
+        core.push(0, 0, value);
+    }
+    assert_eq!(core.left(4, 0), Refused(5));
+    assert_eq!(core.left(0, 0), Waits);
+    core.finish(0);
+    // Two values in the first segment, one in the next.
+    for (index, due) in [(0, Moved(5)), (1, Moved(6)), (2, Moved(7)), (3, Refused(7))] {
+        assert_eq!(core.left(0, index), due);
+    }
+}
