@@ -1,3 +1,4 @@
 pub mod Whole
 pub mod Laws
 pub mod Blocks
+pub mod Left

@@ -42,7 +42,7 @@ isValue (Refused k) = false
 -- how many values left gives of queue q from number i on until it gives none, at most k
 unfoldable pub leftFrom : ℕ → List ℕ → ℕ → ℕ → ℕ
 leftFrom zero m q i = 0
-leftFrom (suc k) m q i = let rest = leftFrom k m q (i + 1) in pick (isValue (leftAt m q i)) (suc rest) 0
+leftFrom (suc k) m q i = let more = suc (leftFrom k m q (i + 1)) in pick (isValue (leftAt m q i)) more 0
 
 -- a queue holds no more values than the core has words
 unfoldable pub leftIn : List ℕ → ℕ → ℕ

@@ -1,0 +1,163 @@
+-- THE LINES OF WHAT IS LEFT ARE WHOLE: where left gives the values of a list by index, and 7 past its end, the lines of a queue are
+-- those of the list. The text asks for at most 16,384 values; on memory that passes the rules there are never more, since a queue has
+-- at most 256 segments of at most 64 values.
+use mathlib.Core.Path.{_≡_, refl, ap, ap₂, sym, _∙_}
+use mathlib.Core.Bool.{Bool, true, false, not, false≢true}
+use mathlib.Core.List.{List, [], _∷_, _++_}
+use mathlib.Core.Logic.{inl, ⊎-elim}
+use mathlib.Core.Option.{Option, none, some}
+use Prim.Native.Nat.{ℕ, zero, suc, _+_, _-_, _*_, _<_, _≤_}
+use native.Mathlib.Omega.{arith}
+use lib.Dec.{ltb, leb, eqb}
+use lib.ListN.{length, getD, getElem?}
+use borrow.Author.Tests.{ltb-true, ltb-false, leb-false, eqb-true, le-ltb}
+use Rattle.words.specs.Words.{size, pick, halt, pass}
+use Rattle.layout.specs.Layout.{WORDS, NL, FINISHED, STATUS, numberWord, count, next, task, queueHead, read}
+use Rattle.answers.specs.declared.Answer.{Answer}
+use Rattle.answers.specs.declared.Answer.the-variants.{Moved, Waits, Refused}
+use Rattle.answers.specs.Answers.{outcome, answerOf, statusOf, valueOf}
+use Rattle.order.specs.Ordered.{leftAnswer}
+use Rattle.rules.specs.Test.{rulesHold}
+use Rattle.sound.specs.Sound.{Sound, rules-sound}
+use Rattle.calls.specs.Segments.{valueAt}
+use Rattle.calls.specs.Waits.{tested, unfinished}
+use Rattle.calls.specs.Left.{queued, leftTested, leftOutcome}
+use Rattle.plain.specs.Machine.{queue}
+use Rattle.run_text.specs.Lines.{leftLine}
+use Rattle.serial.specs.declared.End.the-variants.{Ended}
+use Rattle.serial_text.specs.Whole.{linesFrom, valueLine as lineOf, queueLines as linesOf, endText as lastLines}
+use Rattle.overlap_text.specs.Whole.{leftAt, isValue, leftFrom, leftIn, valueLine, queueLines, endText}
+
+-- LISTS BY INDEX
+elem-at : (xs : List ℕ) (i : ℕ) → i < length xs → getElem? xs i ≡ some (getD xs i 0)
+elem-at [] i h = let z : ⊥ = omega (arith, h) in absurd z
+elem-at (x ∷ xs) zero h = refl
+elem-at (x ∷ xs) (suc i) h = elem-at xs i (omega (arith, h))
+
+elem-past : (xs : List ℕ) (i : ℕ) → length xs ≤ i → getElem? xs i ≡ none
+elem-past [] i h = refl
+elem-past (x ∷ xs) zero h = let z : ⊥ = omega (arith, h) in absurd z
+elem-past (x ∷ xs) (suc i) h = elem-past xs i (omega (arith, h))
+
+-- lines that are the same for the numbers asked for
+lines-same : (f g : ℕ → List ℕ) (n i : ℕ) → ((k : ℕ) → i ≤ k → k < i + n → f k ≡ g k) → linesFrom f i n ≡ linesFrom g i n
+unfolding linesFrom
+lines-same f g zero i e = refl
+lines-same f g (suc n) i e =
+    ap₂ (λ (u v : List ℕ). u ++ v) (e i (omega arith) (omega arith)) (lines-same f g n (i + 1) (λ k a b. e k (omega (arith, a)) (omega (arith, b))))
+
+-- THE BOUND: a chain of k segments has at most 64 k values.
+module _ (m : List ℕ) (w : Sound m) where
+  abbrev Opened : ℕ → Type 0
+  Opened s = s < NL → s < read m numberWord
+
+  next-opened : (s : ℕ) → s < read m numberWord → Opened (read m (next s))
+  next-opened s l h = ⊎-elim (λ x. x) (λ e. let z : ⊥ = omega (arith, h, e) in absurd z) (w .nexts s l)
+
+  chain-ends : (k s i : ℕ) → Opened s → k * 64 ≤ i → queued k m s i ≡ Refused 7
+  unfolding queued
+  chain-ends zero s i o h = refl
+  chain-ends (suc k) s i o h = go (leb NL s) refl (chain-ends k)
+    where
+      rest : Answer
+      rest = queued k m (read m (next s)) (i - read m (count s))
+
+      go : (b : Bool) → leb NL s ≡ b → ((s i : ℕ) → Opened s → k * 64 ≤ i → queued k m s i ≡ Refused 7)
+          → pick (leb NL s) (Refused 7) (pick (ltb i (read m (count s))) (Moved (valueAt m s i)) rest) ≡ Refused 7
+      go true e f = halt _ _ e
+      go false e f =
+          let l = o (leb-false _ _ e) in
+          let c = w .counts s l in
+          let d = w .length-range .1 in
+          let past = le-ltb i (read m (count s)) (omega (arith, c, d, h)) in
+          pass _ e (pass _ past (f _ _ (next-opened s l) (omega (arith, c, d, h))))
+
+  -- no value is left from number 16,384 on
+  pub none-past : (q i : ℕ) → 16384 ≤ i → isValue (leftAt m q i) ≡ false
+  unfolding leftAt leftTested answerOf isValue pick
+  none-past q i h = go (leb 4 q) refl (not (eqb (read m (task 0 STATUS)) FINISHED))
+    where
+      go : (b : Bool) → leb 4 q ≡ b → (c : Bool)
+          → isValue (answerOf (pick b (outcome (Refused 5) m) (pick c (outcome Waits m) (outcome (queued 256 m (read m (queueHead 0 q)) i) m)))) ≡ false
+      go true e c = refl
+      go false e true = refl
+      go false e false =
+          let s = leb-false 4 q e in
+          ap isValue (chain-ends 256 (read m (queueHead 0 q)) i (w .heads-open 0 q (inl refl) (omega (arith, s))) (omega (arith, h)))
+
+-- WHAT LEFT SAYS of queue q is the list xs.
+module _ (m xs : List ℕ) (q : ℕ) (says : (i : ℕ) → answerOf (leftOutcome m q i) ≡ leftAnswer (getElem? xs i)) where
+  -- it is neither 1 nor 2
+  late : (x : Option ℕ) (k : ℕ) → k ≤ 2 → 1 ≤ k → answerOf (outcome (Refused k) m) ≡ leftAnswer x → ⊥
+  unfolding answerOf leftAnswer statusOf
+  late (some v) k a b e = let z = ap statusOf e in omega (arith, z, b)
+  late none k a b e = let z = ap statusOf e in omega (arith, z, a)
+
+  -- so the memory passes, and what the text asks behind the test is the same
+  passes : (size m ≡ 16384) × (rulesHold m ≡ true) × ((i : ℕ) → leftAt m q i ≡ leftAnswer (getElem? xs i))
+  unfolding leftAt leftOutcome tested pick
+  passes = go (eqb (size m) WORDS) refl (rulesHold m) says
+    where
+      go : (b : Bool) → eqb (size m) WORDS ≡ b → (c : Bool)
+          → ((i : ℕ) → answerOf (pick (not b) (outcome (Refused 1) m) (pick (not c) (outcome (Refused 2) m) (leftTested m q i))) ≡ leftAnswer (getElem? xs i))
+          → (size m ≡ 16384) × (c ≡ true) × ((i : ℕ) → answerOf (leftTested m q i) ≡ leftAnswer (getElem? xs i))
+      go true e true f = (eqb-true _ _ e, refl, f)
+      go true e false f = absurd (late _ 2 (omega arith) (omega arith) (f 0))
+      go false e c f = absurd (late _ 1 (omega arith) (omega arith) (f 0))
+
+  value-at : (i : ℕ) → i < length xs → leftAt m q i ≡ Moved (getD xs i 0)
+  unfolding leftAnswer
+  value-at i h = passes .2 i ∙ ap leftAnswer (elem-at xs i h)
+
+  none-at : (i : ℕ) → length xs ≤ i → leftAt m q i ≡ Refused 7
+  unfolding leftAnswer
+  none-at i h = passes .2 i ∙ ap leftAnswer (elem-past xs i h)
+
+  few : length xs ≤ 16384
+  unfolding isValue
+  few = go (ltb 16384 (length xs)) refl
+    where
+      go : (b : Bool) → ltb 16384 (length xs) ≡ b → length xs ≤ 16384
+      go false e = ltb-false _ _ e
+      go true e =
+          let p = none-past m (rules-sound m (passes .0) (passes .1)) q 16384 (omega arith) in
+          absurd (false≢true (sym p ∙ ap isValue (value-at 16384 (ltb-true _ _ e))))
+
+  counted : (k i : ℕ) → i ≤ length xs → length xs ≤ i + k → i + leftFrom k m q i ≡ length xs
+  unfolding leftFrom isValue
+  counted zero i a b = omega (arith, a, b)
+  counted (suc k) i a b = go (ltb i (length xs)) refl (counted k (i + 1))
+    where
+      more : ℕ
+      more = leftFrom k m q (i + 1)
+
+      go : (c : Bool) → ltb i (length xs) ≡ c → (i + 1 ≤ length xs → length xs ≤ i + 1 + k → i + 1 + more ≡ length xs)
+          → i + pick (isValue (leftAt m q i)) (suc more) 0 ≡ length xs
+      go true e f =
+          let l = ltb-true _ _ e in
+          let t = halt (suc more) 0 (ap isValue (value-at i l)) in
+          let c = f (omega (arith, l)) (omega (arith, b)) in
+          omega (arith, t, c)
+      go false e f =
+          let l = ltb-false _ _ e in
+          let t : pick (isValue (leftAt m q i)) (suc more) 0 ≡ 0 = pass (suc more) (ap isValue (none-at i l)) refl in
+          omega (arith, t, l, a)
+
+  pub left-counted : leftIn m q ≡ length xs
+  unfolding leftIn
+  left-counted = let f = few in let c = counted 16384 0 (omega arith) (omega (arith, f)) in omega (arith, c)
+
+  line-same : (i : ℕ) → i < length xs → valueLine m q i ≡ leftLine q (getD xs i 0)
+  unfolding valueLine valueOf
+  line-same i h = ap (λ (a : Answer). leftLine q (valueOf a)) (value-at i h)
+
+  pub left-lines : queueLines m q ≡ linesFrom (λ i. leftLine q (getD xs i 0)) 0 (length xs)
+  unfolding queueLines
+  left-lines = ap (linesFrom (valueLine m q) 0) left-counted ∙ lines-same (valueLine m q) _ (length xs) 0 (λ k a b. line-same k (omega (arith, b)))
+
+-- THE END OF THE TEXT: once the top has finished, and left gives the lists qs, its lines are those of the serial run that leaves qs.
+-- Demand 3 gives the premise with the plain machine's lists (`left` of `Agreed`, crates/any_order/specs/Statement.antt).
+pub left-whole : (m : List ℕ) (qs : List (List ℕ)) → unfinished m 0 ≡ false
+    → ((q i : ℕ) → q < 4 → answerOf (leftOutcome m q i) ≡ leftAnswer (getElem? (queue qs q) i)) → endText m ≡ lastLines Ended qs
+unfolding endText lastLines linesOf lineOf
+left-whole m qs e f = pass _ e (lines-same _ _ 4 0 (λ q a b. left-lines m (queue qs q) q (λ i. f q i (omega (arith, b)))))
