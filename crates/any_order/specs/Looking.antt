@@ -5,8 +5,9 @@ use mathlib.Core.List.{List}
 use mathlib.Core.Option.{none, some}
 use Prim.Native.Nat.{ℕ, _≤_, _<_}
 use native.Mathlib.Omega.{arith}
+use lib.Dec.{ltb}
 use borrow.Author.Tests.{ltb-true}
-use Rattle.words.specs.Words.{pick, both-true}
+use Rattle.words.specs.Words.{pick, both-true, both}
 use Rattle.tree.specs.Rights.{pops as mayPop}
 use Rattle.answers.specs.declared.Answer.the-variants.{Moved, Empty, NotEmpty, Waits, Refused}
 use Rattle.answers.specs.declared.Finding.{Finding}
@@ -30,6 +31,7 @@ use Rattle.job_order.specs.Instructions.{instruction, which-holds}
 use Rattle.job_order.specs.Finds.{pop-after, pop-empty-after, test-after, test-empty-after}
 use Rattle.runner.specs.declared.StepAnswer.the-variants.{Waits as Held}
 use Rattle.runner.specs.Step.{callOf, replyOf, runnerAfter, done, replied}
+use Rattle.job.specs.declared.Instruction.{Instruction}
 use Rattle.any_order.specs.Answered.{pop-answer, test-answer}
 use Rattle.any_order.specs.Goes.{Place, waits, for-queue, Does}
 use Rattle.any_order.specs.Goes as common
@@ -58,18 +60,21 @@ module _ {j m r : List ℕ} {xs : List Mark} {a b : List (Item Numbered)} {n : N
   held-right : (q : ℕ) → mayPop (rightsOf j (u .task)) q ≡ true → mayPop (rightsAt t xs) q ≡ true
   held-right q may = subst (λ (k : ℕ). mayPop k q ≡ true) (sym (common.rights-is p)) may
 
+  -- what the job test says of an instruction that needs the pop right
+  may-look : (i : Instruction) → instructionOf j u ≡ i
+      → whichHolds j (rightsOf j (u .task)) (rowOf (i .operation)) (i .which) ≡ both (ltb (i .which) 4) (mayPop (rightsOf j (u .task)) (i .which))
+      → (i .which < 4) × (mayPop (rightsOf j (u .task)) (i .which) ≡ true)
+  may-look i is e = let w = both-true _ _ (sym e ∙ which-holds j u i is acc stands) in (ltb-true (i .which) 4 (w .0), w .1)
+
   pop-case : (q x : ℕ) → instructionOf j u ≡ instruction 3 q x → Result
   unfolding rowOf operationOf operationAt callOf runnerAfter replyOf replied noted counted whichHolds pick popAnswer
   pop-case q x is = go (finding t q xs) refl
     where
-      holds : whichHolds j (rightsOf j (u .task)) (rowOf 3) q ≡ true
-      holds = which-holds j u (instruction 3 q x) is acc stands
-
       small : q < 4
-      small = unfold whichHolds rowOf in ltb-true q 4 (both-true _ _ holds .0)
+      small = may-look (instruction 3 q x) is (unfold whichHolds rowOf in refl) .0
 
       may : mayPop (rightsOf j (u .task)) q ≡ true
-      may = unfold whichHolds rowOf in both-true _ _ holds .1
+      may = may-look (instruction 3 q x) is (unfold whichHolds rowOf in refl) .1
 
       go : (f : Finding) → finding t q xs ≡ f → Result
       go (Found v) d =
@@ -89,14 +94,11 @@ module _ {j m r : List ℕ} {xs : List Mark} {a b : List (Item Numbered)} {n : N
   unfolding rowOf operationOf operationAt callOf runnerAfter replyOf replied noted counted whichHolds testAnswer done effect
   test-case q x is = go (finding t q xs) refl
     where
-      holds : whichHolds j (rightsOf j (u .task)) (rowOf 4) q ≡ true
-      holds = which-holds j u (instruction 4 q x) is acc stands
-
       small : q < 4
-      small = unfold whichHolds rowOf in ltb-true q 4 (both-true _ _ holds .0)
+      small = may-look (instruction 4 q x) is (unfold whichHolds rowOf in refl) .0
 
       may : mayPop (rightsOf j (u .task)) q ≡ true
-      may = unfold whichHolds rowOf in both-true _ _ holds .1
+      may = may-look (instruction 4 q x) is (unfold whichHolds rowOf in refl) .1
 
       go : (f : Finding) → finding t q xs ≡ f → Result
       go (Found v) d =

@@ -104,7 +104,8 @@ module _ {j m r : List ℕ} {xs : List Mark} {a b : List (Item Numbered)} {n : N
           outcome-is =
               o
               ∙ common.done-is p free i is f c core
-              ∙ ap (λ (s : Instruction). outcome (answerWith (does u s f .word) (does u s f .value) c) core (runnerAfter (operationAt (i .operation)) t c i (does u i f) r))
+              ∙ ap (λ (s : Instruction). outcome (answerWith (does u s f .word) (does u s f .value) c) core
+              (runnerAfter (operationAt (i .operation)) t c i (does u i f) r))
               (sym is);
           noted-is = d;
           state = s;

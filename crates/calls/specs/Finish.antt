@@ -1,13 +1,13 @@
 -- finish (task)
-use mathlib.Core.Bool.{Bool, true, false, not}
-use mathlib.Core.List.{List, [], _∷_}
+use mathlib.Core.Bool.{Bool, not}
+use mathlib.Core.List.{List}
 use Prim.Native.Nat.{ℕ, _+_}
 use lib.Dec.{ltb, eqb}
 use lib.ListN.{replicate}
 use Rattle.words.specs.Words.{pick, both, either}
 use Rattle.words.specs.Blocks.{storeAll}
-use Rattle.layout.specs.Layout.{NONE, FINISHED, STATUS, PARENT, OLDER, YOUNGER, YOUNGEST, CHILDREN, USER, RIGHT, freeTasks, freeTask, task, queueHead, address, read, write, recordOf}
-use Rattle.answers.specs.declared.Answer.{Answer}
+use Rattle.layout.specs.Layout.{NONE, FINISHED, STATUS, PARENT, OLDER, YOUNGER, YOUNGEST, CHILDREN, USER, RIGHT, freeTasks, freeTask, task, queueHead, address}
+use Rattle.layout.specs.Layout.{read, write, recordOf}
 use Rattle.answers.specs.declared.Answer.the-variants.{Moved}
 use Rattle.answers.specs.Answers.{Outcome, outcome}
 use Rattle.tree.specs.Rights.{pops, eachQueue}

@@ -15,7 +15,7 @@ use Rattle.calls.specs.Waits.{tested}
 use Rattle.calls.specs.Open.{openOutcome}
 use Rattle.calls.specs.Spawn.{spawned, spawnTested, spawnOutcome}
 use Rattle.calls.specs.Push.{pushedApart, pushedBehind, pushed, pushTested, pushOutcome}
-use Rattle.calls.specs.Find.{finding, popGives, testGives, popAllowed, popTested, testTested, popOutcome, testOutcome}
+use Rattle.calls.specs.Find.{popGives, testGives, popAllowed, popTested, testTested, popOutcome, testOutcome}
 use Rattle.calls.specs.Sync.{whenReduced, syncTested, syncOutcome}
 use Rattle.calls.specs.Finish.{finishTested, finishOutcome}
 use Rattle.calls.specs.Left.{queued, leftTested, leftOutcome}

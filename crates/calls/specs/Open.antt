@@ -1,13 +1,12 @@
 -- open (length, segments)
-use mathlib.Core.Bool.{Bool, true, false, not}
+use mathlib.Core.Bool.{not}
 use mathlib.Core.List.{List, [], _∷_}
-use Prim.Native.Nat.{ℕ, zero, suc, _+_, _-_}
+use Prim.Native.Nat.{ℕ, zero, suc, _-_}
 use lib.Dec.{eqb}
 use lib.ListN.{replicate}
 use Rattle.words.specs.Words.{size, pick}
 use Rattle.words.specs.Blocks.{storeAll}
-use Rattle.layout.specs.Layout.{WORDS, NONE, NL, UNFINISHED, lengthWord, numberWord, freeSegments, freeTasks, freeSegment, freeTask, segment, task, address, write}
-use Rattle.answers.specs.declared.Answer.{Answer}
+use Rattle.layout.specs.Layout.{WORDS, NONE, NL, UNFINISHED, freeSegment, freeTask, segment, task, address}
 use Rattle.answers.specs.declared.Answer.the-variants.{Moved, Refused}
 use Rattle.answers.specs.Answers.{Outcome, outcome}
 use Rattle.rules.specs.Test.{inRange}

@@ -1,8 +1,7 @@
 -- The outcome of each of the core's calls.
 use mathlib.Core.List.{List, [], _∷_}
 use Prim.Native.Nat.{ℕ}
-use Rattle.answers.specs.declared.Answer.{Answer}
-use Rattle.answers.specs.Answers.{Outcome, outcome, answerOf, wordsOf}
+use Rattle.answers.specs.Answers.{Outcome, wordsOf}
 use Rattle.answers.specs.Calls.{Call, open-call, spawn-call, push-call, pop-call, test-call, sync-call, finish-call, left-call}
 use Rattle.calls.specs.Open.{openOutcome}
 use Rattle.calls.specs.Spawn.{spawnOutcome}
@@ -27,8 +26,3 @@ outcomeOf (left-call q i) m = leftOutcome m q i
 unfoldable pub wordsAfter : List Call → List ℕ → List ℕ
 wordsAfter [] m = m
 wordsAfter (a ∷ rest) m = wordsAfter rest (wordsOf (outcomeOf a m))
-
--- the answers to a list of calls
-unfoldable pub answersTo : List Call → List ℕ → List Answer
-answersTo [] m = []
-answersTo (a ∷ rest) m = answerOf (outcomeOf a m) ∷ answersTo rest (wordsOf (outcomeOf a m))

@@ -1,15 +1,14 @@
 -- push (task, queue, value)
-use mathlib.Core.Bool.{Bool, true, false, not}
+use mathlib.Core.Bool.{not}
 use mathlib.Core.List.{List}
 use Prim.Native.Nat.{ℕ}
 use lib.Dec.{leb, ltb}
 use Rattle.words.specs.Words.{pick}
 use Rattle.layout.specs.Layout.{NL, USER, lengthWord, count, next, tail, read, write}
-use Rattle.answers.specs.declared.Answer.{Answer}
 use Rattle.answers.specs.declared.Answer.the-variants.{Moved, Waits, Refused}
 use Rattle.answers.specs.Answers.{Outcome, outcome}
 use Rattle.tree.specs.Rights.{pushes}
-use Rattle.rules.specs.Views.{View, view}
+use Rattle.rules.specs.Views.{view}
 use Rattle.calls.specs.Segments.{stored, noneFree, nextFree, taken}
 use Rattle.calls.specs.Views.{viewOf, isEmpty, tailOf, reducible, setView, joined, taskAt, kindAt, justBefore}
 use Rattle.calls.specs.Waits.{tested, rightsOf, unfinished, blocked}

@@ -1,5 +1,5 @@
 -- Segments: the ring of values, taking a free segment, giving one back, linking two.
-use mathlib.Core.Bool.{Bool, true, false, not}
+use mathlib.Core.Bool.{Bool}
 use mathlib.Core.List.{List, [], _∷_}
 use Prim.Native.Nat.{ℕ, zero, suc, _+_, _-_, _*_}
 use lib.Dec.{ltb, eqb}
@@ -7,7 +7,8 @@ use lib.ListN.{take, drop}
 use Rattle.words.specs.Words.{load, pick, both}
 use Rattle.words.specs.Blocks.{storeAll}
 use Rattle.lists.specs.Counting.{occurrences}
-use Rattle.layout.specs.Layout.{NONE, lengthWord, numberWord, freeSegments, freeSegment, segment, task, value, first, count, next, address, read, write, recordOf}
+use Rattle.layout.specs.Layout.{NONE, lengthWord, numberWord, freeSegments, freeSegment, segment, task, value, first, count, next, address, read, write}
+use Rattle.layout.specs.Layout.{recordOf}
 use Rattle.tree.specs.Tour.{MARKS, seek}
 
 -- "A segment holds up to L values as a ring": the place of value number k, where the first value stands at place f.

@@ -1,14 +1,13 @@
 -- sync (task)
-use mathlib.Core.Bool.{Bool, true, false, not}
+use mathlib.Core.Bool.{Bool, not}
 use mathlib.Core.List.{List}
 use Prim.Native.Nat.{ℕ}
 use Rattle.words.specs.Words.{pick, either}
 use Rattle.layout.specs.Layout.{NONE, CHILDREN, USER}
-use Rattle.answers.specs.declared.Answer.{Answer}
 use Rattle.answers.specs.declared.Answer.the-variants.{Moved, Waits, Refused}
 use Rattle.answers.specs.Answers.{Outcome, outcome}
 use Rattle.tree.specs.Rights.{eachQueue}
-use Rattle.rules.specs.Views.{View, view}
+use Rattle.rules.specs.Views.{view}
 use Rattle.calls.specs.Views.{viewOf, reducible, setView, merged}
 use Rattle.calls.specs.Waits.{tested, unfinished, blocked, hasChild}
 

@@ -15,19 +15,23 @@ use Rattle.answers.specs.Answers.{Outcome, outcome, answerOf, wordsOf, statusOf
 use Rattle.tree.specs.Rights.{bits, pushes, pops, uses, eachQueue, someQueue, sharesPop, subset}
 use Rattle.tree.specs.Tour.{leaving, entering, after, tour, met, seek, sibling, oldest}
 use Rattle.rules.specs.Contents.{segmentOf, tables, look, scan, word, part, locals, heads, tails, owners}
-use Rattle.rules.specs.Test.{within, inRange, topTest, idleTest, kin, linkTest, treeTest, viewWord, viewsTest, marked, passed, passedAt, orderAt, orderOf, orderTest, ownersTest, segmentTest, chain, chains, heldTest, viewTests, test, rulesHold}
+use Rattle.rules.specs.Test.{within, inRange, topTest, idleTest, kin, linkTest, treeTest, viewWord, viewsTest, marked, passed, passedAt, orderAt, orderOf}
+use Rattle.rules.specs.Test.{orderTest, ownersTest, segmentTest, chain, chains, heldTest, viewTests, test, rulesHold}
 use Rattle.calls.specs.Open.{down, stacked, segmented, topped, opened, openOutcome}
 use Rattle.calls.specs.Segments.{place, valueAt, stored, dropped, noneFree, nextFree, taken, released, indexOf, headIndex, linkedBy, renamed, linked}
-use Rattle.calls.specs.Views.{viewOf, isEmpty, headOf, tailOf, reducible, frees, behind, reduced, setView, joined, merged, taskAt, kindAt, takesPart, standsAt, justBefore, returnedTo}
+use Rattle.calls.specs.Views.{viewOf, isEmpty, headOf, tailOf, reducible, frees, behind, reduced, setView, joined, merged, taskAt, kindAt, takesPart}
+use Rattle.calls.specs.Views.{standsAt, justBefore, returnedTo}
 use Rattle.calls.specs.Waits.{tested, rightsOf, unfinished, blocked, childPops, hasChild, pusherBefore}
-use Rattle.calls.specs.Spawn.{forQueues, passedUser, passedQueue, keptUser, keptQueue, childViews, passedOn, childMade, spawned, spawnTested, spawnOutcome}
+use Rattle.calls.specs.Spawn.{forQueues, passedUser, passedQueue, keptUser, keptQueue, childViews, passedOn, childMade, spawned, spawnTested}
+use Rattle.calls.specs.Spawn.{spawnOutcome}
 use Rattle.calls.specs.Push.{pushedApart, pushedBehind, pushed, pushTested, pushOutcome}
 use Rattle.calls.specs.Find.{hasValue, finding, popped, popGives, testGives, popAllowed, popTested, testTested, popOutcome, testOutcome}
 use Rattle.calls.specs.Sync.{syncs, syncedQueue, synced, whenReduced, syncTested, syncOutcome}
-use Rattle.calls.specs.Finish.{returned, finishes, viewsReturned, heir, queueReturned, finishedQueue, unlinked, recordFreed, finished, topFinished, finishTested, finishOutcome}
+use Rattle.calls.specs.Finish.{returned, finishes, viewsReturned, heir, queueReturned, finishedQueue, unlinked, recordFreed, finished, topFinished}
+use Rattle.calls.specs.Finish.{finishTested, finishOutcome}
 use Rattle.calls.specs.Left.{queued, leftTested, leftOutcome}
 use Rattle.calls.specs.Outcomes.{outcomeOf}
-use Rattle.cases.specs.Rows.{Case, Row, row}
+use Rattle.cases.specs.Rows.{Case, row}
 
 -- The words after the calls of a case, where the first call finds the words m; none where a call gets another answer.
 unfoldable pub tried : Case → List ℕ → Option (List ℕ)
@@ -60,7 +64,16 @@ lent = replicate WORDS 7
 
 -- the same, with every definition open, so that it can be computed
 unfoldable pub computed : Case → List ℕ → Option (List ℕ)
-unfolding load store size pick both either storeAll rows one occurrences each upto eachWord fresh distinct address read write recordOf answerOf wordsOf statusOf valueOf sameAnswer bits pushes pops uses eachQueue someQueue sharesPop subset leaving entering after tour met seek sibling oldest segmentOf tables look scan word part locals heads tails owners within inRange topTest idleTest kin linkTest treeTest viewWord viewsTest marked passed passedAt orderAt orderOf orderTest ownersTest segmentTest chain chains heldTest viewTests test rulesHold down stacked segmented topped opened openOutcome place valueAt stored dropped noneFree nextFree taken released indexOf headIndex linkedBy renamed linked viewOf isEmpty headOf tailOf reducible frees behind reduced setView joined merged taskAt kindAt takesPart standsAt justBefore returnedTo tested rightsOf unfinished blocked childPops hasChild pusherBefore forQueues passedUser passedQueue keptUser keptQueue childViews passedOn childMade spawned spawnTested spawnOutcome pushedApart pushedBehind pushed pushTested pushOutcome hasValue finding popped popGives testGives popAllowed popTested testTested popOutcome testOutcome syncs syncedQueue synced whenReduced syncTested syncOutcome returned finishes viewsReturned heir queueReturned finishedQueue unlinked recordFreed finished topFinished finishTested finishOutcome queued leftTested leftOutcome outcomeOf tried
+unfolding load store size pick both either storeAll rows one occurrences each upto eachWord fresh distinct address read write recordOf answerOf wordsOf
+    statusOf valueOf sameAnswer bits pushes pops uses eachQueue someQueue sharesPop subset leaving entering after tour met seek sibling oldest segmentOf
+    tables look scan word part locals heads tails owners within inRange topTest idleTest kin linkTest treeTest viewWord viewsTest marked passed passedAt
+    orderAt orderOf orderTest ownersTest segmentTest chain chains heldTest viewTests test rulesHold down stacked segmented topped opened openOutcome place
+    valueAt stored dropped noneFree nextFree taken released indexOf headIndex linkedBy renamed linked viewOf isEmpty headOf tailOf reducible frees behind
+    reduced setView joined merged taskAt kindAt takesPart standsAt justBefore returnedTo tested rightsOf unfinished blocked childPops hasChild pusherBefore
+    forQueues passedUser passedQueue keptUser keptQueue childViews passedOn childMade spawned spawnTested spawnOutcome pushedApart pushedBehind pushed
+    pushTested pushOutcome hasValue finding popped popGives testGives popAllowed popTested testTested popOutcome testOutcome syncs syncedQueue synced
+    whenReduced syncTested syncOutcome returned finishes viewsReturned heir queueReturned finishedQueue unlinked recordFreed finished topFinished finishTested
+    finishOutcome queued leftTested leftOutcome outcomeOf tried
 computed c m = tried c m
 
 pub computes : (c : Case) (m : List ℕ) → computed c m ≡ tried c m

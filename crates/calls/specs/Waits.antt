@@ -1,11 +1,12 @@
 -- What every call tests first, and the waits.
-use mathlib.Core.Bool.{Bool, true, false, not}
+use mathlib.Core.Path.{_≡_, refl, ap}
+use mathlib.Core.Bool.{Bool, true, not}
 use mathlib.Core.List.{List}
 use Prim.Native.Nat.{ℕ}
 use lib.Dec.{ltb, eqb}
-use Rattle.words.specs.Words.{size, pick, both}
+use borrow.Author.Tests.{eq-eqb}
+use Rattle.words.specs.Words.{size, pick, pass, both}
 use Rattle.layout.specs.Layout.{WORDS, NONE, UNFINISHED, STATUS, RIGHTS, OLDER, YOUNGEST, task, read, recordOf}
-use Rattle.answers.specs.declared.Answer.{Answer}
 use Rattle.answers.specs.declared.Answer.the-variants.{Refused}
 use Rattle.answers.specs.Answers.{Outcome, outcome}
 use Rattle.tree.specs.Rights.{pushes, pops, sharesPop}
@@ -15,6 +16,10 @@ use Rattle.rules.specs.Test.{rulesHold}
 -- 1 "a lent memory has another length", 2 "the memory rules fail", else what the call itself gives
 unfoldable pub tested : List ℕ → Outcome → Outcome
 tested m o = pick (not (eqb (size m) WORDS)) (outcome (Refused 1) m) (pick (not (rulesHold m)) (outcome (Refused 2) m) o)
+
+pub test-passes : (m : List ℕ) → size m ≡ WORDS → rulesHold m ≡ true → (o : Outcome) → tested m o ≡ o
+unfolding tested
+test-passes m s h o = pass _ (ap not (eq-eqb _ _ s)) (pass _ (ap not h) refl)
 
 unfoldable pub rightsOf : List ℕ → ℕ → ℕ
 rightsOf m t = read m (task t RIGHTS)

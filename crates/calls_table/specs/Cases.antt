@@ -1,6 +1,6 @@
 -- The table of cases: one test over all of them.
 use mathlib.Core.Path.{_≡_, refl, ap, _∙_}
-use mathlib.Core.Bool.{Bool, true, false}
+use mathlib.Core.Bool.{Bool, true}
 use mathlib.Core.List.{List, [], _∷_}
 use Rattle.words.specs.Words.{both, true-both}
 use Rattle.cases.specs.Rows.{Case}
@@ -15,7 +15,8 @@ use Rattle.calls.specs.Cases.{parent-push-right, hidden-right, local-head-right
 
 abbrev pub table : List Case
 table =
-    oneSegment ∷ longest ∷ manyChildren ∷ newQueue ∷ fullRun ∷ noPush ∷ laterPush ∷ moreRights ∷ parentPush ∷ reachable ∷ hidden ∷ olderSibling ∷ waitBeforeNine ∷ childPopping ∷ pushersBefore ∷ leftLater ∷ unopened ∷ notAllowed ∷ ring ∷ localHead ∷ emptyFreed ∷ stillNine ∷ queueView ∷ numbers ∷ []
+    oneSegment ∷ longest ∷ manyChildren ∷ newQueue ∷ fullRun ∷ noPush ∷ laterPush ∷ moreRights ∷ parentPush ∷ reachable ∷ hidden ∷ olderSibling ∷
+    waitBeforeNine ∷ childPopping ∷ pushersBefore ∷ leftLater ∷ unopened ∷ notAllowed ∷ ring ∷ localHead ∷ emptyFreed ∷ stillNine ∷ queueView ∷ numbers ∷ []
 
 unfoldable pub allRight : List Case → Bool
 allRight [] = true
@@ -101,4 +102,9 @@ numbers-right = refl
 pub table-right : allRight table ≡ true
 unfolding allRight
 table-right =
-    (true-both one-segment-right (true-both longest-right (true-both many-children-right (true-both new-queue-right (true-both full-run-right (true-both no-push-right (true-both later-push-right (true-both more-rights-right (true-both parent-push-right (true-both reachable-right (true-both hidden-right (true-both older-sibling-right (true-both wait-before-nine-right (true-both child-popping-right (true-both pushers-before-right (true-both left-later-right (true-both unopened-right (true-both not-allowed-right (true-both ring-right (true-both local-head-right (true-both empty-freed-right (true-both still-nine-right (true-both queue-view-right (true-both numbers-right refl))))))))))))))))))))))))
+    (true-both one-segment-right (true-both longest-right (true-both many-children-right (true-both new-queue-right (true-both full-run-right
+    (true-both no-push-right (true-both later-push-right (true-both more-rights-right (true-both parent-push-right (true-both reachable-right
+    (true-both hidden-right (true-both older-sibling-right (true-both wait-before-nine-right (true-both child-popping-right
+    (true-both pushers-before-right (true-both left-later-right (true-both unopened-right (true-both not-allowed-right (true-both ring-right
+    (true-both local-head-right (true-both empty-freed-right (true-both still-nine-right (true-both queue-view-right
+    (true-both numbers-right refl))))))))))))))))))))))))

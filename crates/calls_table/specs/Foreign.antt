@@ -2,12 +2,12 @@
 use mathlib.Core.Path.{_≡_, refl}
 use mathlib.Core.Bool.{true}
 use mathlib.Core.List.{List, [], _∷_}
-use Prim.Native.Nat.{ℕ, _+_}
+use Prim.Native.Nat.{ℕ}
 use lib.ListN.{replicate}
-use Rattle.words.specs.Words.{load, store}
+use Rattle.words.specs.Words.{store}
 use Rattle.words.specs.Blocks.{storeAll}
-use Rattle.layout.specs.Layout.{NONE, NL, CHILDREN, USER, RIGHT, freeSegments, segment, value, head, tail, queueHead, address, write}
-use Rattle.answers.specs.declared.Answer.the-variants.{Moved, Empty, NotEmpty, Waits, Refused}
+use Rattle.layout.specs.Layout.{NONE, NL, CHILDREN, USER, RIGHT, freeSegments, segment, value, head, tail, address, write}
+use Rattle.answers.specs.declared.Answer.the-variants.{Moved, Empty, Refused}
 use Rattle.answers.specs.Calls.{open-call, spawn-call, push-call, pop-call, test-call, sync-call, finish-call, left-call}
 use Rattle.cases.specs.Rows.{Case, row}
 use Rattle.calls.specs.Open.{down, stacked, segmented, topped, opened}

@@ -1,8 +1,7 @@
 -- "The 127th child moves": the first 64 children. The checker computes them in parts, each from where the one before ends.
-use mathlib.Core.Path.{_≡_, refl, ap, sym, _∙_}
-use mathlib.Core.Bool.{Bool, true, false}
+use mathlib.Core.Path.{_≡_, refl, sym, _∙_}
 use mathlib.Core.List.{List, [], _∷_, _++_}
-use mathlib.Core.Option.{Option, some}
+use mathlib.Core.Option.{some}
 use Prim.Native.Nat.{ℕ}
 use Rattle.words.specs.Words.{pick}
 use Rattle.answers.specs.declared.Answer.the-variants.{Moved}

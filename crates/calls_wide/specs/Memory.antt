@@ -1,12 +1,12 @@
 -- The words of a core with k children of the top that have no rights, opened with L = 1 and 4 segments: written out, so
 -- that the checker can begin there.
-use mathlib.Core.Bool.{Bool, true, false}
-use mathlib.Core.List.{List, [], _∷_, _++_}
+use mathlib.Core.Bool.{Bool}
+use mathlib.Core.List.{List, _∷_, _++_}
 use Prim.Native.Nat.{ℕ, zero, suc, _+_, _-_, _*_}
 use lib.Dec.{eqb}
 use lib.ListN.{replicate}
 use Rattle.words.specs.Words.{pick}
-use Rattle.layout.specs.Layout.{NONE, NL, UNFINISHED}
+use Rattle.layout.specs.Layout.{NONE, UNFINISHED}
 use Rattle.calls.specs.Open.{down, emptySegment, topViews}
 
 -- task number t where it is below a, else none

@@ -1,7 +1,7 @@
 -- The joining of segments: where views go, which segments are freed, who gets the queue view.
-use mathlib.Core.List.{List, [], _∷_}
-use Rattle.answers.specs.declared.Answer.the-variants.{Moved, Empty, NotEmpty, Waits, Refused}
-use Rattle.answers.specs.Calls.{open-call, spawn-call, push-call, pop-call, test-call, sync-call, finish-call, left-call}
+use mathlib.Core.List.{[], _∷_}
+use Rattle.answers.specs.declared.Answer.the-variants.{Moved, Waits, Refused}
+use Rattle.answers.specs.Calls.{open-call, spawn-call, push-call, pop-call, sync-call, finish-call}
 use Rattle.cases.specs.Rows.{Case, row}
 
 -- Values over several segments come out in order, and segments are used again: 3 are free at any time, 7 are pushed.

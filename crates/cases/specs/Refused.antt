@@ -1,6 +1,6 @@
 -- The table of refusals, and their order.
-use mathlib.Core.List.{List, [], _∷_}
-use Rattle.answers.specs.declared.Answer.the-variants.{Moved, Empty, NotEmpty, Waits, Refused}
+use mathlib.Core.List.{[], _∷_}
+use Rattle.answers.specs.declared.Answer.the-variants.{Moved, Refused}
 use Rattle.answers.specs.Calls.{open-call, spawn-call, push-call, pop-call, test-call, sync-call, finish-call, left-call}
 use Rattle.cases.specs.Rows.{Case, row}
 

@@ -1,7 +1,6 @@
 -- A case is a list of calls, each with the answer that it must get. Each case is tried twice: on program order alone
 -- (crate order), and on the outcomes of the calls on memory (crate calls).
-use mathlib.Core.List.{List, [], _∷_}
-use Prim.Native.Nat.{ℕ}
+use mathlib.Core.List.{List}
 use Rattle.answers.specs.declared.Answer.{Answer}
 use Rattle.answers.specs.Calls.{Call}
 

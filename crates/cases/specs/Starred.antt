@@ -1,7 +1,7 @@
 -- The starred cases of document 01 that concern the core.
-use mathlib.Core.List.{List, [], _∷_, _++_}
+use mathlib.Core.List.{[], _∷_, _++_}
 use Prim.Native.Nat.{ℕ, zero, suc, _+_}
-use Rattle.answers.specs.declared.Answer.the-variants.{Moved, Empty, NotEmpty, Waits, Refused}
+use Rattle.answers.specs.declared.Answer.the-variants.{Moved, Empty, Waits, Refused}
 use Rattle.answers.specs.Calls.{open-call, spawn-call, push-call, pop-call, test-call, sync-call, finish-call, left-call}
 use Rattle.cases.specs.Rows.{Case, row}
 

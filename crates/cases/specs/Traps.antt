@@ -1,7 +1,7 @@
 -- The three traps at the end of document 01: calls that a wrong core would answer otherwise.
-use mathlib.Core.List.{List, [], _∷_}
+use mathlib.Core.List.{[], _∷_}
 use Rattle.answers.specs.declared.Answer.the-variants.{Moved, Empty, NotEmpty, Waits, Refused}
-use Rattle.answers.specs.Calls.{open-call, spawn-call, push-call, pop-call, test-call, sync-call, finish-call, left-call}
+use Rattle.answers.specs.Calls.{open-call, spawn-call, push-call, pop-call, test-call, finish-call}
 use Rattle.cases.specs.Rows.{Case, row}
 
 -- "linking a parent's push to the parent's left sibling while its own child is still pushing": task 2 pushes while its

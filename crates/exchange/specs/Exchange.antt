@@ -2,7 +2,6 @@
 -- line in the end.
 use mathlib.Core.Path.{_≡_, refl, sym, _∙_, ap}
 use mathlib.Core.Bool.{Bool, true, false}
-use mathlib.Core.Option.{some}
 use mathlib.Core.List.{List, [], _∷_, _++_}
 use Prim.Native.Nat.{ℕ}
 use Rattle.gaps.specs.Maps.{All}
@@ -41,7 +40,8 @@ module _ {S : Type 0} (T : Tasks S) where
   walk-left n true x p w = Walk.past p w
   walk-left n false x p w = w
 
-  lead-left : (n : Search) (b : Bool) (x : Item S) {k j : List (Item S)} → NoSpot x → Passes (T .Pushes) (T .Pops) n x → Lead n k j → Lead n (leave b x k) (leave b x j)
+  lead-left : (n : Search) (b : Bool) (x : Item S) {k j : List (Item S)} → NoSpot x → Passes (T .Pushes) (T .Pops) n x → Lead n k j
+      → Lead n (leave b x k) (leave b x j)
   lead-left n true x s p w = Lead.past s p w
   lead-left n false x s p w = w
 

@@ -21,7 +21,8 @@ module _ {S : Type 0} (T : Tasks S) where
   lead-found s b q v f e (spot t ∷ vs) r h = absurd (h .0)
   lead-found s b q v f e (finished t ∷ vs) r h = Lead.past tt tt (lead-found s b q v f e vs r (h .1))
 
-  pub lead-free : (s : S) (xs : List (Item S)) → T .next s ≡ puts xs → (vs r : List (Item S)) → All NoSpot vs → Lead T free (vs ++ (spot s ∷ r)) (vs ++ (xs ++ r))
+  pub lead-free : (s : S) (xs : List (Item S)) → T .next s ≡ puts xs → (vs r : List (Item S)) → All NoSpot vs
+      → Lead T free (vs ++ (spot s ∷ r)) (vs ++ (xs ++ r))
   lead-free s xs e [] r h = Lead.here {m = free} {s = s} xs (rw e refl)
   lead-free s xs e (x ∷ vs) r h = Lead.past (h .0) tt (lead-free s xs e vs r (h .1))
 
@@ -33,7 +34,8 @@ module _ {S : Type 0} (T : Tasks S) where
       is : p ≡ q → (k : List (Item S)) × Lead T (seeking b q) (value p v ∷ (vs ++ (spot s ∷ r))) k
       is i = rw i (leave b (value q v) (vs ++ (f (some v) ++ r)), Lead.finds (lead-found s b q v f e vs r (h .1)))
 
-      other : ((k : List (Item S)) × Lead T (seeking b q) (vs ++ (spot s ∷ r)) k) → (p ≡ q → ⊥) → (k : List (Item S)) × Lead T (seeking b q) (value p v ∷ (vs ++ (spot s ∷ r))) k
+      other : ((k : List (Item S)) × Lead T (seeking b q) (vs ++ (spot s ∷ r)) k) → (p ≡ q → ⊥)
+          → (k : List (Item S)) × Lead T (seeking b q) (value p v ∷ (vs ++ (spot s ∷ r))) k
       other c i = (value p v ∷ c .0, Lead.past tt i (c .1))
   lead-seeking s b q f e (spot t ∷ vs) r h = absurd (h .0)
   lead-seeking s b q f e (finished t ∷ vs) r h = let c = lead-seeking s b q f e vs r (h .1) in (finished t ∷ c .0, Lead.past tt tt (c .1))

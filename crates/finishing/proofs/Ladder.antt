@@ -78,7 +78,8 @@ pub top-done : (m m1 m2 : List ℕ) → m1 ≡ synced m 0 → m2 ≡ write m1 (t
 unfolding topFinished
 top-done m m1 m2 e1 e2 = e2 ∙ ap (λ (x : List ℕ). write x (task 0 STATUS) FINISHED) e1
 
-pub top-finishes : (m : List ℕ) (t : ℕ) {x : Outcome} → t ≡ 0 → x ≡ whenReduced m 0 (eachQueue (syncs m 0)) (outcome (Moved 0) (topFinished m)) → x ≡ finishTested m t
+pub top-finishes : (m : List ℕ) (t : ℕ) {x : Outcome} → t ≡ 0 → x ≡ whenReduced m 0 (eachQueue (syncs m 0)) (outcome (Moved 0) (topFinished m))
+    → x ≡ finishTested m t
 unfolding finishTested
 top-finishes m t f e =
     e ∙ ap (λ (s : ℕ). whenReduced m s (eachQueue (syncs m s)) (outcome (Moved 0) (topFinished m))) (sym f) ∙ sym (halt _ _ (eq-eqb _ _ f))

@@ -159,7 +159,8 @@ pub fn sync(m: &mut [u32], t: u32) -> answers::Answer
 
 // Finish of the top.
 fn finish_top(m: &mut [u32]) -> answers::Answer
-    ensures { λ a. ⌜ outcome a (now (m .exit)) ≡ whenReduced (now (m .entry)) 0 (eachQueue (syncs (now (m .entry)) 0)) (outcome (Moved 0) (topFinished (now (m .entry)))) ⌝ }
+    ensures { λ a. ⌜ outcome a (now (m .exit))
+        ≡ whenReduced (now (m .entry)) 0 (eachQueue (syncs (now (m .entry)) 0)) (outcome (Moved 0) (topFinished (now (m .entry)))) ⌝ }
 {
     if !walks::unfinished(m, 0) {
         return answers::Answer::Refused(4);
@@ -177,7 +178,8 @@ fn finish_top(m: &mut [u32]) -> answers::Answer
 // Finish of another task.
 fn finish_task(m: &mut [u32], t: u32) -> answers::Answer
     requires { ⌜ length (now m) ≡ 16384 ⌝ }
-    ensures { λ a. ⌜ outcome a (now (m .exit)) ≡ whenReduced (now (m .entry)) t (eachQueue (finishes (now (m .entry)) t)) (outcome (Moved 0) (finished (now (m .entry)) t)) ⌝ }
+    ensures { λ a. ⌜ outcome a (now (m .exit))
+        ≡ whenReduced (now (m .entry)) t (eachQueue (finishes (now (m .entry)) t)) (outcome (Moved 0) (finished (now (m .entry)) t)) ⌝ }
 {
     if !walks::unfinished(m, t) {
         return answers::Answer::Refused(4);

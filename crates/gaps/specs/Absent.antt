@@ -1,14 +1,12 @@
 -- TASKS WITHOUT VIEWS in a line: those that the tour does not meet, and those without a right to the queue.
-use mathlib.Core.Path.{_≡_, refl, ap, sym, _∙_}
-use mathlib.Core.Bool.{Bool, false, false≢true}
+use mathlib.Core.Path.{_≡_, ap}
 use mathlib.Core.Logic.{⊎-elim}
 use mathlib.Core.List.{[], _∷_}
 use Prim.Native.Nat.{ℕ, _+_, _≤_}
 use native.Mathlib.Omega.{arith}
 use lib.Dec.{eqb}
 use Rattle.lists.specs.Counting.{one, one-yes, one-no, occurrences, equal?}
-use Rattle.gaps.specs.Maps.{All}
-use Rattle.gaps.specs.Line.{base, left, met, pass, Line, marks, lefts, mets, Fits}
+use Rattle.gaps.specs.Line.{base, left, met, pass, Line, marks, lefts, mets}
 use Rattle.gaps.specs.Lines.{New}
 
 pub met-marks : (x : ℕ) (l : Line) → occurrences x (mets l) ≤ occurrences x (marks l)
@@ -35,18 +33,3 @@ left-marks x (pass y ∷ l) = omega (arith, left-marks x l)
 -- a task that the tour does not meet
 pub new-unmet : (t : ℕ) (l : Line) → occurrences t (marks l) ≡ 0 → occurrences (128 + t) (marks l) ≡ 0 → New t l
 new-unmet t l m n = (omega (arith, n, left-marks t l), omega (arith, m, met-marks t l))
-
--- a task without a right
-pub new-unused : (uses : ℕ → Bool) (t : ℕ) (l : Line) → uses t ≡ false → All (Fits uses) l → New t l
-unfolding occurrences
-new-unused uses t [] u h = (refl, refl)
-new-unused uses t (base c ∷ l) u h = new-unused uses t l u (h .1)
-new-unused uses t (left s ∷ l) u h =
-    let r = new-unused uses t l u (h .1) in
-    let n = one-no s t (λ e. false≢true (sym u ∙ (ap uses (sym e) ∙ h .0))) in
-    (omega (arith, r .0, n), r .1)
-new-unused uses t (met s c ∷ l) u h =
-    let r = new-unused uses t l u (h .1) in
-    let n = one-no s t (λ e. false≢true (sym u ∙ (ap uses (sym e) ∙ h .0))) in
-    (r .0, omega (arith, r .1, n))
-new-unused uses t (pass x ∷ l) u h = new-unused uses t l u (h .1)

@@ -7,7 +7,8 @@ use native.Mathlib.Omega.{arith}
 use lib.Dec.{eqb}
 use Rattle.lists.specs.Counting.{one, one-yes, occurrences}
 use Rattle.order_queue.specs.Points.{Point}
-use Rattle.gaps.specs.Line.{End, nonlocal, local, Extent, vacant, extent, Mark, base, left, met, pass, Line, lefts, mets, Mode, settled, awaiting, Inside, rest, close, Begins, bare, whole, begun, Views, leaving, meeting}
+use Rattle.gaps.specs.Line.{End, nonlocal, local, Extent, vacant, extent, Mark, base, left, met, pass, Line, lefts, mets, Mode, settled, awaiting, Inside}
+use Rattle.gaps.specs.Line.{rest, close, Begins, bare, whole, begun, Views, leaving, meeting}
 use Rattle.gaps.specs.Store.{Store, Held, Closed, Memory, Laid, valuesIn, timeline}
 use Rattle.gaps.specs.Lines.{count-lefts, count-mets, NoBase}
 use Rattle.gaps.specs.Outline.{outline, outline-behind, same-lefts, same-mets}

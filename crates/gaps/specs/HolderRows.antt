@@ -1,7 +1,7 @@
 -- NO MARK CHANGES: the queue view goes to another task; what the line does not have is written.
 use mathlib.Core.Path.{_≡_, refl}
 use Prim.Native.Nat.{ℕ}
-use Rattle.gaps.specs.Line.{Line, segments, firstChain}
+use Rattle.gaps.specs.Line.{Line, firstChain}
 use Rattle.gaps.specs.Store.{headOf, Memory, Laid, timeline}
 use Rattle.gaps.specs.Moves.{queuePassed}
 use Rattle.gaps.specs.Heads.{only-moved, only-still}

@@ -100,7 +100,8 @@ pub data Begins : List ℕ → Extent → Mode → Type 0 where
 -- Views along a line: no gap has a pair of non-local ends that reaches over a spot, every chain has one head and one tail.
 pub data Views (children user right : ℕ → Extent) : Line → Mode → Type 0 where
   queue : {s z : ℕ} {c : List ℕ} → lastOf s c ≡ z → Views children user right (base (s ∷ c) ∷ []) (awaiting z)
-  leaving : {t : ℕ} {l : Line} {m n : Mode} (v : Extent) → children t ≡ v → Inside m v n → Views children user right l m → Views children user right (left t ∷ l) n
+  leaving : {t : ℕ} {l : Line} {m n : Mode} (v : Extent) → children t ≡ v → Inside m v n → Views children user right l m
+      → Views children user right (left t ∷ l) n
   meeting : {t : ℕ} {c : List ℕ} {l : Line} {m n : Mode} (v w : Extent) → user t ≡ v → Inside m v settled → right t ≡ w → Begins c w n
       → Views children user right l m → Views children user right (met t c ∷ l) n
   passing : {x : ℕ} {l : Line} {m : Mode} → Views children user right l m → Views children user right (pass x ∷ l) m

@@ -1,15 +1,16 @@
--- WHO NAMES A SEGMENT: the first segment of a queue is named by the queue head and by nothing else, and no queue names a
+-- WHO NAMES A SEGMENT: the first segment of a queue is named by the queue head and by no view, and no queue names a
 -- segment that it does not have. So what is freed when two chains join is named once, and where is known.
-use mathlib.Core.Path.{_≡_, refl, ap, sym, _∙_, subst}
+use mathlib.Core.Path.{_≡_, refl, ap, sym, _∙_}
 use mathlib.Core.Logic.{⊎-elim}
 use mathlib.Core.Option.{Option, none, some}
 use mathlib.Core.List.{List, [], _∷_, _++_}
 use Prim.Native.Nat.{ℕ, _+_, _≤_}
 use native.Mathlib.Omega.{arith}
 use Rattle.lists.specs.Counting.{one-yes, occurrences, occurs-append, equal?}
-use Rattle.gaps.specs.Maps.{All, put, put-same, put-other, Off, off, all-append, all-front, all-behind}
-use Rattle.gaps.specs.Line.{End, nonlocal, local, Extent, extent, base, left, met, pass, Line, lefts, mets, segments, firstChain, Mode, Inside, rest, mid, close, Begins, bare, whole, begun, Views, queue, leaving, meeting, passing}
-use Rattle.gaps.specs.Store.{LinkedFrom, Linked, Chain, headOf, Memory, Laid}
+use Rattle.gaps.specs.Maps.{All, put, put-same, put-other, Off, off, all-front, all-behind}
+use Rattle.gaps.specs.Line.{End, nonlocal, local, Extent, extent, base, left, met, pass, Line, lefts, mets, segments, firstChain, Mode, Inside, rest, mid}
+use Rattle.gaps.specs.Line.{close, Begins, bare, whole, begun, Views, queue, leaving, meeting, passing}
+use Rattle.gaps.specs.Store.{headOf, Memory, Laid}
 use Rattle.gaps.specs.Frames.{clash}
 
 -- the segments of the gaps but the first
@@ -74,41 +75,12 @@ module _ {children user right : ℕ → Extent} where
       omega (arith, count-parts x r, occurs-append x c (segments l), occurs-append x c (laterSegments l))
   count-parts x (passing r) = count-parts x r
 
--- NEXTS
-module _ (next : ℕ → Option ℕ) (g : ℕ) where
-  linked-names : (s : ℕ) (c : List ℕ) → LinkedFrom next s c → Off g c → All (λ x. next x ≡ some g → ⊥) (s ∷ c)
-  linked-names s [] h o = (λ e. let z : _≡_ {A = ℕ} 0 1 = cc in omega (arith, z), tt)
-  linked-names s (t ∷ c) h o = (λ e. let k : some t ≡ some g = sym (h .0) ∙ e in o .0 (cc), linked-names t c (h .1) (o .1))
-
-  chain-names : (c : List ℕ) → Linked next c → Off g c → All (λ x. next x ≡ some g → ⊥) c
-  chain-names [] h o = tt
-  chain-names (s ∷ c) h o = linked-names s c h (o .1)
-
-  later-names : (contents : ℕ → List ℕ) (l : Line) → All (Chain next contents) l → Off g (laterSegments l)
-      → All (λ x. next x ≡ some g → ⊥) (laterSegments l)
-  later-names contents [] h o = tt
-  later-names contents (base c ∷ l) h o = later-names contents l (h .1) o
-  later-names contents (left t ∷ l) h o = later-names contents l (h .1) o
-  later-names contents (met t c ∷ l) h o =
-      all-append (λ x. next x ≡ some g → ⊥) c (laterSegments l) (chain-names c (h .0 .0) (all-front (λ y. y ≡ g → ⊥) c (laterSegments l) o))
-      (later-names contents l (h .1) (all-behind (λ y. y ≡ g → ⊥) c (laterSegments l) o))
-  later-names contents (pass x ∷ l) h o = later-names contents l (h .1) o
-
-  first-names : (contents : ℕ → List ℕ) {children user right : ℕ → Extent} {m : Mode} {l : Line} (s : ℕ) (c : List ℕ)
-      → Views children user right l m → All (Chain next contents) l → firstChain l ≡ s ∷ c → Off g c → All (λ x. next x ≡ some g → ⊥) (firstChain l)
-  first-names contents s c (queue {s = p} {c = d} e) h f o = let i : d ≡ c = cc in linked-names p d (h .0 .0) (subst (Off g) (sym i) o)
-  first-names contents s c (leaving v e i r) h f o = first-names contents s c r (h .1) f o
-  first-names contents s c (meeting v w e i k b r) h f o = first-names contents s c r (h .1) f o
-  first-names contents s c (passing r) h f o = first-names contents s c r (h .1) f o
-
--- THE FIRST SEGMENT g: the holder's queue head names it; no view of the line and no next of a segment of the queue does.
+-- THE FIRST SEGMENT g: the holder's queue head names it; no view of the line does.
 pub record OnlyHead (m : Memory) (holder : ℕ) (l : Line) (g : ℕ) : Type 0 where
   pub head-names : m .store .heads holder ≡ some g
   pub no-children : All (λ t. (h x : End) → m .children t ≡ extent h x → h ≡ nonlocal) (lefts l)
   pub no-user : All (λ t. (h x : End) → m .user t ≡ extent h x → h ≡ nonlocal) (mets l)
   pub no-right : All (λ t. (x : End) → m .right t ≡ extent (local g) x → ⊥) (mets l)
-  pub no-first : All (λ x. m .store .next x ≡ some g → ⊥) (firstChain l)
-  pub no-later : All (λ x. m .store .next x ≡ some g → ⊥) (laterSegments l)
 
 pub only-head : (own : ℕ → ℕ) → ((x : ℕ) → own x ≤ 1) → (m : Memory) (holder : ℕ) (l : Line) (g : ℕ) (c : List ℕ) → Laid own m holder l
     → firstChain l ≡ g ∷ c
@@ -119,8 +91,6 @@ only-head own single m holder l g c r e = record {
   no-children = children-heads (r .views);
   no-user = user-heads (r .views);
   no-right = right-heads g (r .views) later;
-  no-first = first-names (m .store .next) g (m .store .contents) g c (r .views) (r .held .chains .good) e (off g c (omega (arith, total, one-yes g g refl)));
-  no-later = later-names (m .store .next) g (m .store .contents) l (r .held .chains .good) later;
 }
   where
     total : occurrences g (g ∷ c) + occurrences g (laterSegments l) ≤ 1
@@ -129,14 +99,12 @@ only-head own single m holder l g c r e = record {
     later : Off g (laterSegments l)
     later = off g (laterSegments l) (omega (arith, total, one-yes g g refl))
 
--- A SEGMENT g THAT A QUEUE DOES NOT HAVE: nothing of the queue names it.
+-- A SEGMENT g THAT A QUEUE DOES NOT HAVE: neither a queue head nor a view names it.
 pub record Unnamed (m : Memory) (l : Line) (g : ℕ) : Type 0 where
   pub no-head : (x : ℕ) → m .store .heads x ≡ some g → ⊥
   pub no-children : All (λ t. (h x : End) → m .children t ≡ extent h x → h ≡ nonlocal) (lefts l)
   pub no-user : All (λ t. (h x : End) → m .user t ≡ extent h x → h ≡ nonlocal) (mets l)
   pub no-right : All (λ t. (x : End) → m .right t ≡ extent (local g) x → ⊥) (mets l)
-  pub no-first : All (λ x. m .store .next x ≡ some g → ⊥) (firstChain l)
-  pub no-later : All (λ x. m .store .next x ≡ some g → ⊥) (laterSegments l)
 
 -- the head of a first chain without g is not g
 other-head : (heads : ℕ → Option ℕ) (holder g : ℕ) (c : List ℕ) (x : ℕ) → Off g c → heads x ≡ put (λ y. none) holder (headOf c) x → heads x ≡ some g
@@ -167,13 +135,8 @@ unnamed own m holder l g r n = record {
   no-children = children-heads (r .views);
   no-user = user-heads (r .views);
   no-right = right-heads g (r .views) later;
-  no-first = first-names (m .store .next) g (m .store .contents) (f .0) (f .1) (r .views) (r .held .chains .good) (f .2) (subst (Off g) (f .2) first .1);
-  no-later = later-names (m .store .next) g (m .store .contents) l (r .held .chains .good) later;
 }
   where
-    f : (s : ℕ) × (c : List ℕ) × (firstChain l ≡ s ∷ c)
-    f = first-chain (r .views)
-
     first : Off g (firstChain l)
     first = off g (firstChain l) (omega (arith, n, count-parts g (r .views)))
 

@@ -7,10 +7,10 @@ use Prim.Native.Nat.{ℕ, _+_, _-_, _<_}
 use native.Mathlib.Omega.{arith}
 use lib.Dec.{ltb, eqb}
 use borrow.Author.Tests.{eq-eqb, ne-eqb, lt-ltb, le-ltb}
-use Rattle.words.specs.Words.{pick, both, either, both-on, both-off, true-both, true-left, true-right}
+use Rattle.words.specs.Words.{pick, halt, both, either, both-on, both-off, true-both, true-left, true-right}
 use Rattle.lists.specs.Counting.{equal?}
 use Rattle.tree.specs.Tour.{END}
-use Rattle.gaps.specs.Maps.{All, Off}
+use Rattle.gaps.specs.Maps.{All}
 use Rattle.gaps.specs.Line.{Extent, vacant, extent, base, left, met, pass, Line, marks, mets, Fits, Mode, Views, queue, leaving, meeting, passing}
 use Rattle.gaps.specs.Moves.{Place, childrenOf, rightOf}
 use Rattle.gaps.specs.Places.{Latest, Target}
@@ -39,16 +39,21 @@ takesPart uses x = uses (taskAt x)
 unfoldable pub standsAt : (ℕ → Bool) → (ℕ → Extent) → ℕ → Bool
 standsAt uses children x = both (takesPart uses x) (either (ltb x 128) (either (eqb (x - 128) 0) (occupied (children (x - 128)))))
 
+-- the children view matters only where a task is left
+pub same-views : (x : ℕ) (v w : Extent) → (ltb x 128 ≡ false → v ≡ w)
+    → either (ltb x 128) (either (eqb (x - 128) 0) (occupied v)) ≡ either (ltb x 128) (either (eqb (x - 128) 0) (occupied w))
+same-views x v w f = go (ltb x 128) refl
+  where
+    go : (b : Bool) → ltb x 128 ≡ b
+        → either (ltb x 128) (either (eqb (x - 128) 0) (occupied v)) ≡ either (ltb x 128) (either (eqb (x - 128) 0) (occupied w))
+    go true e = unfold either in halt _ _ e ∙ sym (halt _ _ e)
+    go false e = ap (λ (u : Extent). either (ltb x 128) (either (eqb (x - 128) 0) (occupied u))) (f e)
+
 -- The last mark is that where the top is left, 128, and 128 stands nowhere else.
 abbrev pub Ends : List ℕ → Type 0
 Ends [] = ⊥
 Ends (x ∷ []) = x ≡ 128
 Ends (x ∷ (y ∷ l)) = (x ≡ 128 → ⊥) × Ends (y ∷ l)
-
-pub ends-so : (l : List ℕ) → Off 128 l → Ends (l ++ (128 ∷ []))
-ends-so [] h = refl
-ends-so (x ∷ []) h = (h .0, refl)
-ends-so (x ∷ (y ∷ l)) h = (h .0, ends-so (y ∷ l) (h .1))
 
 pub ends-behind : (a : List ℕ) (x : ℕ) (l : List ℕ) → Ends (a ++ (x ∷ l)) → Ends (x ∷ l)
 ends-behind [] x l h = h

@@ -8,6 +8,7 @@ use Rattle.order_queue.specs.Points.{Point, user, values}
 use Rattle.gaps.specs.Maps.{All, put}
 use Rattle.gaps.specs.Line.{Extent, Mark, base, left, met, pass, Line, lefts, mets, segments, firstChain, settled, Views}
 
+-- as maps by segment and by task
 pub record Store : Type 0 where
   -- the next of a segment, and its values, first in first
   pub next : ℕ → Option ℕ
@@ -35,6 +36,7 @@ pub data Start (contents : ℕ → List ℕ) : List ℕ → Type 0 where
   sole : {s : ℕ} → contents s ≡ [] → Start contents (s ∷ [])
   full : {s : ℕ} {c : List ℕ} → All (Filled contents) (s ∷ c) → Start contents (s ∷ c)
 
+-- the chain that a mark begins is linked, and no segment of it is empty but the sole one of the first gap
 abbrev pub Chain : (ℕ → Option ℕ) → (ℕ → List ℕ) → Mark → Type 0
 Chain next contents (base c) = Linked next c × Start contents c
 Chain next contents (left t) = Unit {0}

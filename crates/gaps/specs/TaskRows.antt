@@ -9,7 +9,8 @@ use lib.Dec.{eqb}
 use Rattle.lists.specs.Counting.{one, one-yes, one-no, occurrences, equal?}
 use Rattle.order_queue.specs.Points.{Point, user}
 use Rattle.gaps.specs.Maps.{All, agree-refl}
-use Rattle.gaps.specs.Line.{nonlocal, local, vacant, extent, base, left, met, pass, Line, lefts, mets, segments, firstChain, settled, rest, close, bare, Views, queue, leaving, meeting}
+use Rattle.gaps.specs.Line.{nonlocal, local, vacant, extent, base, left, met, pass, Line, lefts, mets, segments, firstChain, settled, rest, close, bare}
+use Rattle.gaps.specs.Line.{Views, queue, leaving, meeting}
 use Rattle.gaps.specs.Store.{Chain, Once, Closed, Memory, Laid, valuesIn, timeline}
 use Rattle.gaps.specs.Lines.{count-lefts, count-mets, New, NoBase}
 use Rattle.gaps.specs.Frames.{no-base}

@@ -12,7 +12,7 @@ use Rattle.answers.specs.declared.Answer.{Answer}
 use Rattle.answers.specs.declared.Answer.the-variants.{Moved, Empty, NotEmpty, Waits, Refused}
 use Rattle.answers.specs.Answers.{Outcome, outcome, answerOf, wordsOf, statusOf, valueOf}
 use Rattle.rules.specs.Test.{rulesHold}
-use Rattle.calls.specs.Waits.{tested}
+use Rattle.calls.specs.Waits.{tested, test-passes}
 
 -- an answer as one number of 64 bits: the status in the high half, the value in the low half
 abbrev pub packed : Answer → ℕ
@@ -58,15 +58,14 @@ module _ (m : List ℕ) (o : Outcome) (k : ℕ) (e : k ≡ memoryRefusal m) wher
       go false true f = ap (λ (x : ℕ). outcome (Refused x) m) f
       go false false f = absurd (n f)
 
-  -- one that is not
-  pub goes-on : k ≡ 0 → o ≡ tested m o
-  unfolding memoryRefusal tested
-  goes-on z = let a = rung _ 0 _ (sym e ∙ z) in let b = rung _ 1 _ (a .1) in sym (pass _ (a .0) (pass _ (b .0) refl))
-
--- the memory that the call then finds
+-- the memory that a call finds which is not turned down
 pub passes : (m : List ℕ) {k : ℕ} → k ≡ memoryRefusal m → k ≡ 0 → (size m ≡ 16384) × (rulesHold m ≡ true)
 unfolding memoryRefusal
 passes m e z = let a = rung _ 0 _ (sym e ∙ z) in let b = rung _ 1 _ (a .1) in (eqb-true _ _ (not-false _ (a .0)), not-false _ (b .0))
+
+-- and what that call gives
+pub goes-on : (m : List ℕ) (o : Outcome) (k : ℕ) → k ≡ memoryRefusal m → k ≡ 0 → o ≡ tested m o
+goes-on m o k e z = let p = passes m e z in sym (test-passes m (p .0) (p .1) o)
 
 -- a host is handed the packed answer r and the words m of an outcome
 abbrev pub Handed : ℕ → List ℕ → Outcome → Type 0

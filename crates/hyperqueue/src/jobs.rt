@@ -17,7 +17,8 @@ pub extern "C" fn hq_job_test(job: &[u8]) -> u64
 // The end in the high half, the steps made in the low half; lists and answers as docs/LAYOUT.md says.
 #[no_mangle]
 pub extern "C" fn hq_run_serially(job: &[u8], working: &mut [u32], answers: &mut [u32]) -> u64
-    ensures { λ r. ⌜ Handed r (lists (now (working .exit))) (now (answers .exit)) (serialOutcome (now (job .entry)) (now (working .entry)) (now (answers .entry))) ⌝ }
+    ensures { λ r. ⌜ Handed r (lists (now (working .exit))) (now (answers .exit))
+        (serialOutcome (now (job .entry)) (now (working .entry)) (now (answers .entry))) ⌝ }
 {
     serial_runner::run_packed(job, working, answers)
 }

@@ -90,12 +90,14 @@ module _ (b m : List ℕ) (n : ℕ) (few : n ≤ 256) (same-length : read m leng
           ∙ rest t c j (h .1) (λ x p. below x (inside x p)) (omega (arith, short))
         where
           inside : (x : ℕ) → 0 < occurrences x (t ∷ c) → 0 < occurrences x (s ∷ t ∷ c)
-          inside x p = ⊎-elim (λ e. let f = occurs-here s x (t ∷ c) e in omega (arith, f)) (λ e. let f = occurs-past s x (t ∷ c) e in omega (arith, f, p)) (equal? s x)
+          inside x p =
+              ⊎-elim (λ e. let f = occurs-here s x (t ∷ c) e in omega (arith, f)) (λ e. let f = occurs-past s x (t ∷ c) e in omega (arith, f, p)) (equal? s x)
 
       go : (d : Bool) → ltb i (length (contentsIn b s)) ≡ d
           → ((s : ℕ) (c : List ℕ) (i : ℕ) → LinkedFrom (nextIn b) s c → ((x : ℕ) → 0 < occurrences x (s ∷ c) → x < n) → length (s ∷ c) ≤ k
           → queued k m s i ≡ leftAnswer (nthValue i (valuesIn (contentsIn b) (s ∷ c))))
-          → pick (ltb i (length (contentsIn b s))) (Moved (valueAt m s i)) (queued k m (read m (next s)) (i - length (contentsIn b s))) ≡ leftAnswer (nthValue i (values (contentsIn b s) ++ valuesIn (contentsIn b) c))
+          → pick (ltb i (length (contentsIn b s))) (Moved (valueAt m s i)) (queued k m (read m (next s)) (i - length (contentsIn b s))) ≡ leftAnswer
+          (nthValue i (values (contentsIn b s) ++ valuesIn (contentsIn b) c))
       go true e rest =
           let l = ltb-true i (length (contentsIn b s)) e in
           let f = contents-at b s low in
@@ -103,11 +105,13 @@ module _ (b m : List ℕ) (n : ℕ) (few : n ≤ 256) (same-length : read m leng
           halt _ _ e
           ∙ ap Moved (same-value s i low)
           ∙ left-some (valueAt b s i)
-          ∙ sym (ap leftAnswer (ap (λ (vs : List ℕ). nthValue i (values vs ++ valuesIn (contentsIn b) c)) f ∙ nth-listed (valueAt b s) (read b (count s)) i (valuesIn (contentsIn b) c) (omega (arith, l, g))))
+          ∙ sym (ap leftAnswer (ap (λ (vs : List ℕ). nthValue i (values vs ++ valuesIn (contentsIn b) c)) f
+          ∙ nth-listed (valueAt b s) (read b (count s)) i (valuesIn (contentsIn b) c) (omega (arith, l, g))))
       go false e rest =
           let l = ltb-false i (length (contentsIn b s)) e in
           skip _ e
           (behind c (i - length (contentsIn b s)) h below short rest
           ∙ ap leftAnswer
           (sym (nth-behind (contentsIn b s) (i - length (contentsIn b s)) (valuesIn (contentsIn b) c))
-          ∙ ap (λ (x : ℕ). nthValue x (values (contentsIn b s) ++ valuesIn (contentsIn b) c)) (let z : length (contentsIn b s) + (i - length (contentsIn b s)) ≡ i = omega (arith, l) in z)))
+          ∙ ap (λ (x : ℕ). nthValue x (values (contentsIn b s) ++ valuesIn (contentsIn b) c))
+          (let z : length (contentsIn b s) + (i - length (contentsIn b s)) ≡ i = omega (arith, l) in z)))

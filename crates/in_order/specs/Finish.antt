@@ -41,7 +41,8 @@ unfolding finishTested allowed words
 tested-is m t = go (eqb t 0)
   where
     go : (b : Bool)
-        → pick b (whenReduced m t (eachQueue (syncs m t)) (outcome (Moved 0) (topFinished m))) (whenReduced m t (eachQueue (finishesIn m t)) (outcome (Moved 0) (finished m t)))
+        → pick b (whenReduced m t (eachQueue (syncs m t)) (outcome (Moved 0) (topFinished m)))
+        (whenReduced m t (eachQueue (finishesIn m t)) (outcome (Moved 0) (finished m t)))
         ≡ whenReduced m t (pick b (eachQueue (syncs m t)) (eachQueue (finishesIn m t))) (outcome (Moved 0) (pick b (topFinished m) (finished m t)))
     go true = unfold pick in refl
     go false = unfold pick in refl
@@ -55,7 +56,8 @@ finish-task m ys zs s r n b c =
     let barren = child-same m ys zs s r ∙ c in
     let above : 0 < numberOf s = ⊎-elim (λ e. absurd (n e)) (λ l. l) (eq-zero-or-pos (numberOf s)) in (
       finish-allowed m ys zs s r barren above,
-      finish-represents m ys zs s r barren above b (plays (numberOf s) finishes (r .played) (says-unfinished (ys ++ spot s ∷ zs) s (mine-spot m ys zs s r)) tt b c),
+      finish-represents m ys zs s r barren above b
+          (plays (numberOf s) finishes (r .played) (says-unfinished (ys ++ spot s ∷ zs) s (mine-spot m ys zs s r)) tt b c),
     )
 
 finishes-well : (m : List ℕ) (ys zs : List Item) (s : Task) → Represents m (ys ++ spot s ∷ zs) → blocked (numberOf s) (ys ++ spot s ∷ zs) ≡ false
@@ -69,7 +71,8 @@ finishes-well m ys zs s r b c = go (eqb (numberOf s) 0) refl
 
     go : (d : Bool) → eqb (numberOf s) 0 ≡ d
         → (pick (eqb (numberOf s) 0) (eachQueue (syncs m (numberOf s))) (eachQueue (finishesIn m (numberOf s))) ≡ true)
-        × Does State (ys ++ spot s ∷ zs) (finish-call (numberOf s)) (outcome (Moved 0) (pick (eqb (numberOf s) 0) (topFinished m) (finished m (numberOf s)))) (Moved 0)
+        × Does State (ys ++ spot s ∷ zs) (finish-call (numberOf s)) (outcome (Moved 0) (pick (eqb (numberOf s) 0) (topFinished m) (finished m (numberOf s))))
+        (Moved 0)
     go true e = (
       halt _ _ e ∙ sync-allowed m ys zs s r (child-same m ys zs s r ∙ c),
       record { answer = refl; holds = subst (λ (w : List ℕ). State w New) (sym (halt _ _ e)) (inr (top-ended m ys zs s r (eqb-true (numberOf s) 0 e) b c)) },

@@ -1,20 +1,18 @@
 -- DEMAND 2, PROVED: every call in every state answers as the statement says, and leads to a state.
 use mathlib.Core.Path.{_≡_, refl, ap, sym, _∙_, subst}
-use mathlib.Core.Bool.{Bool, true, false, not}
+use mathlib.Core.Bool.{Bool, true, false}
 use mathlib.Core.List.{List, [], _∷_}
 use mathlib.Core.Logic.{inl, inr}
-use Prim.Native.Nat.{ℕ, _-_}
+use Prim.Native.Nat.{ℕ}
 use native.Mathlib.Omega.{arith}
 use lib.Dec.{eqb}
-use borrow.Author.Tests.{eq-eqb}
-use Rattle.words.specs.Words.{size, pick, pass as skip, both}
-use Rattle.layout.specs.Layout.{WORDS}
+use Rattle.words.specs.Words.{pick, pass as skip, both}
 use Rattle.answers.specs.declared.Answer.{Answer}
 use Rattle.answers.specs.declared.Answer.the-variants.{Moved, Waits, Refused}
 use Rattle.answers.specs.Answers.{Outcome, answerOf, wordsOf, statusOf, valueOf}
 use Rattle.answers.specs.Calls.{Call, open-call, spawn-call, push-call, pop-call, test-call, sync-call, finish-call, left-call}
 use Rattle.tree.specs.Rights.{pushes as mayPush}
-use Rattle.calls.specs.Waits.{tested}
+use Rattle.calls.specs.Waits.{tested, test-passes}
 use Rattle.calls.specs.Segments.{noneFree}
 use Rattle.calls.specs.Open.{openOutcome}
 use Rattle.calls.specs.Spawn.{spawnTested, spawnOutcome}
@@ -47,8 +45,7 @@ runs m xs r = inl r
 -- the tests that every call makes first pass
 module _ (m : List ℕ) (xs : List Item) (st : State m xs) where
   pub tested-is : (o : Outcome) → tested m o ≡ o
-  unfolding tested
-  tested-is o = skip _ (ap not (eq-eqb (size m) WORDS (state-size m xs st))) (skip _ (ap not (state-rules m xs st)) refl)
+  tested-is = test-passes m (state-size m xs st) (state-rules m xs st)
 
   through : {c : Call} {a : Answer} (o : Outcome) → Does State xs c o a → Does State xs c (tested m o) a
   through {c} {a} o d = subst (λ (x : Outcome). Does State xs c x a) (sym (tested-is o)) d
@@ -132,5 +129,8 @@ in-order w l n e cs c =
       rules = state-rules _ _ st;
       answer = d .answer;
       not-two = λ z. never-two c _ _ (ap statusOf (sym (d .answer)) ∙ z);
-      fresh = λ t u v i j. fresh _ _ st t u v (sym (ap (λ (x : Call). answered x (wordsAfter cs (wordsOf (openOutcome w l n))) (stepsAfter cs (wordsOf (openOutcome w l n)) begin)) i) ∙ sym (d .answer) ∙ j);
+      fresh =
+          λ t u v i j. fresh _ _ st t u v
+          (sym (ap (λ (x : Call). answered x (wordsAfter cs (wordsOf (openOutcome w l n))) (stepsAfter cs (wordsOf (openOutcome w l n)) begin)) i)
+          ∙ sym (d .answer) ∙ j);
     }

@@ -98,7 +98,8 @@ module _ (m : List ℕ) (xs : List Item) (e : Ended m xs) where
     holder-top : holders b (e .steps) r q ≡ 0
     holder-top =
         let w = holder-unfinished b (e .steps) r q small in
-        go (holders b (e .steps) r q) (w .0 .0) (subst (λ (l : List ℕ). 0 < occurrences (holders b (e .steps) r q) l) (tour-alone b (e .steps) r (e .alone)) (w .1))
+        go (holders b (e .steps) r q) (w .0 .0)
+        (subst (λ (l : List ℕ). 0 < occurrences (holders b (e .steps) r q) l) (tour-alone b (e .steps) r (e .alone)) (w .1))
       where
         go : (h : ℕ) → h < 128 → 0 < occurrences h (0 ∷ 128 ∷ []) → h ≡ 0
         go h l p =
@@ -116,12 +117,15 @@ module _ (m : List ℕ) (xs : List Item) (e : Ended m xs) where
 
     head-word : read m (queueHead 0 q) ≡ g
     unfolding read address
-    head-word = other (address (queueHead 0 q)) (λ x. omega (arith, x)) ∙ link-word (read b (queueHead 0 q)) g (sym (head-at b q 0 small (omega arith)) ∙ heads-is)
+    head-word =
+        other (address (queueHead 0 q)) (λ x. omega (arith, x)) ∙ link-word (read b (queueHead 0 q)) g (sym (head-at b q 0 small (omega arith)) ∙ heads-is)
       where
         heads-is : headsIn b q 0 ≡ some g
         heads-is =
             unfold queueMemory ofTasks in
-            sym (halt _ _ (here b (e .steps) r 0 (omega arith) (subst (λ (l : List ℕ). 0 < occurrences 0 l) (sym (tour-alone b (e .steps) r (e .alone))) (let o = occurs-here 0 0 (128 ∷ []) refl in omega (arith, o)))))
+            sym (halt _ _ (here b (e .steps) r 0 (omega arith)
+            (subst (λ (l : List ℕ). 0 < occurrences 0 l) (sym (tour-alone b (e .steps) r (e .alone))) (let o = occurs-here 0 0 (128 ∷ []) refl in
+            omega (arith, o)))))
             ∙ ap (λ (x : ℕ). queueMemory b q .store .heads x) (sym holder-top)
             ∙ laid .held .head (holders b (e .steps) r q)
             ∙ put-same (λ y. none) (holders b (e .steps) r q) (headOf (firstChain (r .line q)))
@@ -158,7 +162,8 @@ module _ (m : List ℕ) (xs : List Item) (e : Ended m xs) where
     pub left-values : (i : ℕ) → queued 256 m (read m (queueHead 0 q)) i ≡ leftAnswer (leftOver q i xs)
     left-values i =
         ap (λ (x : ℕ). queued 256 m x i) head-word
-        ∙ queued-chain b m (read b numberWord) (r .sized .number-range .1) (unfold read address in other 0 (λ x. omega (arith, x))) segment-words value-words 256 g d i chained below short
+        ∙ queued-chain b m (read b numberWord) (r .sized .number-range .1) (unfold read address in other 0 (λ x. omega (arith, x))) segment-words value-words
+        256 g d i chained below short
         ∙ ap leftAnswer
         (sym (nth-user i 0 (valuesIn (contentsIn b) (g ∷ d)) [] ∙ ap (nthValue i) (append-nil (valuesIn (contentsIn b) (g ∷ d))))
         ∙ ap (λ (l : Line). nthValue i (timeline (contentsIn b) l)) (sym line-is)
@@ -171,7 +176,8 @@ module _ (m : List ℕ) (xs : List Item) (e : Ended m xs) where
   answers q i none = record { answer = refl; holds = inr e }
   answers q i (some v) = record { answer = refl; holds = inr e }
 
-  pub left-ended : (q i : ℕ) → Does State xs (left-call q i) (leftTested m q i) (pick (leb 4 q) (Refused 5) (pick (unfinished 0 xs) Waits (leftAnswer (leftOver q i xs))))
+  pub left-ended : (q i : ℕ) → Does State xs (left-call q i) (leftTested m q i)
+      (pick (leb 4 q) (Refused 5) (pick (unfinished 0 xs) Waits (leftAnswer (leftOver q i xs))))
   unfolding leftTested
   left-ended q i =
       chooses State (leb 4 q) (leb 4 q) refl (λ d. refuses State m xs (left-call q i) 5 (inr e)) (λ d.
@@ -193,7 +199,8 @@ module _ (m : List ℕ) (xs : List Item) (e : Ended m xs) where
       not-top : t < 128 → read m (task t STATUS) ≡ UNFINISHED → (t ≡ 0 → ⊥) → ⊥
       not-top l f n =
           let u : Unfinished (decode b) t = (l, word-is b t STATUS ∙ status-word t n ∙ f) in
-          let p = subst (λ (k : List ℕ). 0 < occurrences (128 + t) k) (tour-alone b (e .steps) r (e .alone)) (mark-left b (r .tour) (e .steps) (r .linked) t u) in
+          let p = subst (λ (k : List ℕ). 0 < occurrences (128 + t) k) (tour-alone b (e .steps) r (e .alone))
+          (mark-left b (r .tour) (e .steps) (r .linked) t u) in
           let a = occurs-past 0 (128 + t) (128 ∷ []) (λ x. omega (arith, x)) in
           let c = occurs-past 128 (128 + t) [] (λ x. n (omega (arith, x))) in
           let z = occurs-nil (128 + t) in

@@ -76,7 +76,8 @@ module _ (P : List ℕ → List Item → Type 0) (holds-of : (m : List ℕ) (xs 
       (λ t. pick (leb 4 q) (outcome (Refused 5) m) (pick (not (mayPop (rightsIn m t) q)) (outcome (Refused 6) m) (popGives m t q (findingIn m t q))))
       (λ t xs. forQueue q (mayPop (rightsAt t xs) q) (popAnswer (finding t q xs))) m
       (λ ys zs s r.
-      for-queue P holds-of m q (mayPop (rightsIn m (numberOf s)) q) (mayPop (rightsAt (numberOf s) (ys ++ spot s ∷ zs)) q) (ap (λ (x : ℕ). mayPop x q) (rights-same m ys zs s r)) (holds-of m (ys ++ spot s ∷ zs) r) (λ small may.
+      for-queue P holds-of m q (mayPop (rightsIn m (numberOf s)) q) (mayPop (rightsAt (numberOf s) (ys ++ spot s ∷ zs)) q)
+      (ap (λ (x : ℕ). mayPop x q) (rights-same m ys zs s r)) (holds-of m (ys ++ spot s ∷ zs) r) (λ small may.
       pops-well m ys zs s r q small (ap (λ (x : ℕ). mayPop x q) (sym (rights-are m ys zs s r)) ∙ may)))
       xs t
 
@@ -88,6 +89,7 @@ module _ (P : List ℕ → List Item → Type 0) (holds-of : (m : List ℕ) (xs 
       (λ t. pick (leb 4 q) (outcome (Refused 5) m) (pick (not (mayPop (rightsIn m t) q)) (outcome (Refused 6) m) (testGives m (findingIn m t q))))
       (λ t xs. forQueue q (mayPop (rightsAt t xs) q) (testAnswer (finding t q xs))) m
       (λ ys zs s r.
-      for-queue P holds-of m q (mayPop (rightsIn m (numberOf s)) q) (mayPop (rightsAt (numberOf s) (ys ++ spot s ∷ zs)) q) (ap (λ (x : ℕ). mayPop x q) (rights-same m ys zs s r)) (holds-of m (ys ++ spot s ∷ zs) r) (λ small may.
+      for-queue P holds-of m q (mayPop (rightsIn m (numberOf s)) q) (mayPop (rightsAt (numberOf s) (ys ++ spot s ∷ zs)) q)
+      (ap (λ (x : ℕ). mayPop x q) (rights-same m ys zs s r)) (holds-of m (ys ++ spot s ∷ zs) r) (λ small may.
       tests-well m ys zs s r q small (ap (λ (x : ℕ). mayPop x q) (sym (rights-are m ys zs s r)) ∙ may)))
       xs t

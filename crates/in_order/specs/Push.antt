@@ -2,7 +2,7 @@
 use mathlib.Core.Path.{_≡_, refl, ap, sym, _∙_, subst}
 use mathlib.Core.Bool.{Bool, true, false, not}
 use mathlib.Core.List.{List, [], _∷_, _++_}
-use Prim.Native.Nat.{ℕ, zero, suc, _+_, _-_, _<_}
+use Prim.Native.Nat.{ℕ, zero, suc, _<_}
 use native.Mathlib.Omega.{arith}
 use lib.Dec.{leb, ltb, eqb}
 use lib.ListN.{length}
@@ -109,7 +109,8 @@ module _ (P : List ℕ → List Item → Type 0) (runs : (m : List ℕ) (xs : Li
         let g = awaited (user-awaits t (here .chain) (here .earlier) h z d (views .1)) in
         let i = last-in (g .0) (g .1) in
         let j = count-gap (lastOf (g .0) (g .1)) (g .2) in
-        let k : occurrences (lastOf (g .0) (g .1)) (segments (here .earlier)) ≡ occurrences z (segments (here .earlier)) = ap (λ (x : ℕ). occurrences x (segments (here .earlier))) (g .3) in
+        let k : occurrences (lastOf (g .0) (g .1)) (segments (here .earlier)) ≡ occurrences z (segments (here .earlier)) = ap
+        (λ (x : ℕ). occurrences x (segments (here .earlier))) (g .3) in
         let e = ap (λ (l : Line). occurrences z (segments l)) (here .parts) in
         let f = count-segments z (here .later) (met t (here .chain) ∷ here .earlier) in
         let b = occurs-append z (here .chain) (segments (here .earlier)) in
@@ -127,7 +128,8 @@ module _ (P : List ℕ → List Item → Type 0) (runs : (m : List ℕ) (xs : Li
         (chooses P (noneFree m) (noneFree m) refl (λ b. none-left) (λ b.
         let f = some-free m b in
         never P (outcome (Refused 2) m) (not (reducible (viewOf m q (taskAt (justBefore m q t)) (kindAt (justBefore m q t))) (view (nextFree m) NL)))
-        (ap not (apart-reducible m ys zs s r q v small may (f .0) (f .1) (f .2) d)) (moves _ (push-apart m ys zs s r q v small may (f .0) (f .1) (f .2) d play))))
+        (ap not (apart-reducible m ys zs s r q v small may (f .0) (f .1) (f .2) d))
+        (moves _ (push-apart m ys zs s r q v small may (f .0) (f .1) (f .2) d play))))
       where
         needed : isEmpty u ≡ true → both (needsSegment m t q) (noneFree m) ≡ noneFree m
         needed e = unfold needsSegment in both-on (true-left _ e)
@@ -151,7 +153,9 @@ module _ (P : List ℕ → List Item → Type 0) (runs : (m : List ℕ) (xs : Li
         low = segment-below m Old r q z small (tail-held h z d)
 
         needed : isEmpty u ≡ false → Answers ≡ pick (not (ltb (read m (count e0)) (read m lengthWord))) (pick (noneFree m) (Refused 9) (Moved v)) (Moved v)
-        needed e = unfold needsSegment either viewOf tailOf in ap (λ (b : Bool). pick (both b (noneFree m)) (Refused 9) (Moved v)) (skip _ e refl) ∙ cases (not (ltb (read m (count e0)) (read m lengthWord))) (noneFree m)
+        needed e =
+            unfold needsSegment either viewOf tailOf in ap (λ (b : Bool). pick (both b (noneFree m)) (Refused 9) (Moved v)) (skip _ e refl)
+            ∙ cases (not (ltb (read m (count e0)) (read m lengthWord))) (noneFree m)
           where
             cases : (x y : Bool) → pick (both x y) (Refused 9) (Moved v) ≡ pick x (pick y (Refused 9) (Moved v)) (Moved v)
             cases true y = unfold both pick in refl
@@ -176,17 +180,20 @@ module _ (P : List ℕ → List Item → Type 0) (runs : (m : List ℕ) (xs : Li
             omega (arith, a, b, k)
 
         go : (b : Bool) → ltb (read m (count e0)) (read m lengthWord) ≡ b
-            → Does P Old c (pick b (outcome (Moved v) (stored m e0 v)) (pick (noneFree m) (outcome (Refused 9) m) (pushedBehind m t q v e0))) (pick (not b) (pick (noneFree m) (Refused 9) (Moved v)) (Moved v))
+            → Does P Old c (pick b (outcome (Moved v) (stored m e0 v)) (pick (noneFree m) (outcome (Refused 9) m) (pushedBehind m t q v e0)))
+            (pick (not b) (pick (noneFree m) (Refused 9) (Moved v)) (Moved v))
         go true f =
             unfold pick in
             subst (λ (x : ℕ). Does P Old c (outcome (Moved v) (stored m x v)) (Moved v)) (sym tail-is)
-            (moves _ (push-into m ys zs s r q v small may h z d low (let l = ltb-true (read m (count e0)) (read m lengthWord) f in omega (arith, l, count-is)) play))
+            (moves _ (push-into m ys zs s r q v small may h z d low (let l = ltb-true (read m (count e0)) (read m lengthWord) f in omega (arith, l, count-is))
+            play))
         go false f =
             unfold pick pushedBehind in
             chooses P (noneFree m) (noneFree m) refl (λ b. none-left) (λ b.
             let k = some-free m b in
             let w = filled (contentsIn m z) refl (λ l. let j = ltb-false (read m (count e0)) (read m lengthWord) f in omega (arith, l, j, count-is)) in
-            subst (λ (x : ℕ). Does P Old c (outcome (Moved v) (write (write (taken m v) (next x) (nextFree m)) (tail USER t q) (nextFree m))) (Moved v)) (sym tail-is)
+            subst (λ (x : ℕ). Does P Old c (outcome (Moved v) (write (write (taken m v) (next x) (nextFree m)) (tail USER t q) (nextFree m))) (Moved v))
+            (sym tail-is)
             (moves _ (push-behind m ys zs s r q v small may h z (k .0) (k .1) (w .0) (w .1) d low (k .2) (w .2) (apart-from (k .0) (k .1) (k .2)) play)))
 
     pushes-well : Does P Old c (pushed m t q v) Answers
@@ -198,14 +205,18 @@ module _ (P : List ℕ → List Item → Type 0) (runs : (m : List ℕ) (xs : Li
             let w = user-local (views .1) .0 h x d in
             behind h (w .0) (d ∙ ap (extent h) (w .1))
 
-  pub push-does : (m : List ℕ) (xs : List Item) (t q v : ℕ) → Represents m xs → Does P xs (push-call t q v) (pushTested m t q v) (forTask t xs (forQueue q (mayPush (rightsAt t xs) q) (pick (blocked t xs) Waits (pick (both (needsSegment m t q) (noneFree m)) (Refused 9) (Moved v)))))
+  pub push-does : (m : List ℕ) (xs : List Item) (t q v : ℕ) → Represents m xs
+      → Does P xs (push-call t q v) (pushTested m t q v)
+      (forTask t xs (forQueue q (mayPush (rightsAt t xs) q) (pick (blocked t xs) Waits (pick (both (needsSegment m t q) (noneFree m)) (Refused 9) (Moved v)))))
   unfolding pushTested
   push-does m xs t q v =
       for-task P runs (λ t. push-call t q v)
-      (λ t. pick (leb 4 q) (outcome (Refused 5) m) (pick (not (mayPush (rightsIn m t) q)) (outcome (Refused 6) m) (pick (blockedIn m t) (outcome Waits m) (pushed m t q v))))
+      (λ t. pick (leb 4 q) (outcome (Refused 5) m)
+      (pick (not (mayPush (rightsIn m t) q)) (outcome (Refused 6) m) (pick (blockedIn m t) (outcome Waits m) (pushed m t q v))))
       (λ t xs. forQueue q (mayPush (rightsAt t xs) q) (pick (blocked t xs) Waits (pick (both (needsSegment m t q) (noneFree m)) (Refused 9) (Moved v)))) m
       (λ ys zs s r.
-      for-queue P runs m q (mayPush (rightsIn m (numberOf s)) q) (mayPush (rightsAt (numberOf s) (ys ++ spot s ∷ zs)) q) (ap (λ (x : ℕ). mayPush x q) (rights-same m ys zs s r)) (runs m (ys ++ spot s ∷ zs) r) (λ small may.
+      for-queue P runs m q (mayPush (rightsIn m (numberOf s)) q) (mayPush (rightsAt (numberOf s) (ys ++ spot s ∷ zs)) q)
+      (ap (λ (x : ℕ). mayPush x q) (rights-same m ys zs s r)) (runs m (ys ++ spot s ∷ zs) r) (λ small may.
       chooses P (blockedIn m (numberOf s)) (blocked (numberOf s) (ys ++ spot s ∷ zs)) (blocked-same m ys zs s r)
       (λ b. waits P m (ys ++ spot s ∷ zs) (push-call (numberOf s) q v) (runs m (ys ++ spot s ∷ zs) r))
       (λ b. pushes-well m ys zs s r q v small (ap (λ (x : ℕ). mayPush x q) (sym (rights-are m ys zs s r)) ∙ may) b)))

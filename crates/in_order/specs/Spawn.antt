@@ -2,7 +2,7 @@
 use mathlib.Core.Path.{_≡_, refl, ap, sym, _∙_, subst}
 use mathlib.Core.Bool.{Bool, true, false, not}
 use mathlib.Core.List.{List, _∷_, _++_}
-use Prim.Native.Nat.{ℕ, _+_, _-_}
+use Prim.Native.Nat.{ℕ}
 use native.Mathlib.Omega.{arith}
 use lib.Dec.{eqb}
 use borrow.Author.Tests.{eqb-true, eqb-false, eq-eqb}
@@ -55,7 +55,9 @@ module _ (P : List ℕ → List Item → Type 0) (holds-of : (m : List ℕ) (xs 
       chooses P (eqb (read m freeTasks) 0) (eqb (spots Old) 128) (none-idle m Old r) (λ e. refuses P m Old c 8 (holds-of m Old r)) (λ e.
       record {
         answer = refl;
-        holds = holds-of _ _ (spawn-represents m ys zs s r u (ap (subset u) (sym (rights-are m ys zs s r)) ∙ sub) (eqb-false (read m freeTasks) 0 (none-idle m Old r ∙ e)) b);
+        holds =
+            holds-of _ _ (spawn-represents m ys zs s r u (ap (subset u) (sym (rights-are m ys zs s r)) ∙ sub)
+            (eqb-false (read m freeTasks) 0 (none-idle m Old r ∙ e)) b);
       })))
       (λ sub. refuses P m Old c 6 (holds-of m Old r))
     where
@@ -72,11 +74,13 @@ module _ (P : List ℕ → List Item → Type 0) (holds-of : (m : List ℕ) (xs 
   unfolding spawnTested
   spawn-does m xs t u =
       for-task P holds-of (λ t. spawn-call t u)
-      (λ t. pick (not (subset u (rightsIn m t))) (outcome (Refused 6) m) (pick (blockedIn m t) (outcome Waits m) (pick (eqb (read m freeTasks) 0) (outcome (Refused 8) m) (spawned m t u))))
+      (λ t. pick (not (subset u (rightsIn m t))) (outcome (Refused 6) m)
+      (pick (blockedIn m t) (outcome Waits m) (pick (eqb (read m freeTasks) 0) (outcome (Refused 8) m) (spawned m t u))))
       (Answers m u) m (spawns-well m u) xs t
 
 -- the free record used next is that of no unfinished task
-free-number : (m : List ℕ) (xs : List Item) (t u : ℕ) → Represents m xs → unfinished t xs ≡ true → subset u (rightsAt t xs) ≡ true → eqb (spots xs) 128 ≡ false → unfinished (nextTask m) xs ≡ false
+free-number : (m : List ℕ) (xs : List Item) (t u : ℕ) → Represents m xs → unfinished t xs ≡ true → subset u (rightsAt t xs) ≡ true
+    → eqb (spots xs) 128 ≡ false → unfinished (nextTask m) xs ≡ false
 unfolding nextTask
 free-number m xs t u r a b c =
     let w = unfinished-says xs (played-reached (r .played)) t a in
@@ -88,7 +92,8 @@ free-number m xs t u r a b c =
 
 -- the number of a new task is that of no unfinished one
 pub fresh-task : (m : List ℕ) (xs : List Item) (t u v : ℕ) → Represents m xs
-    → forTask t xs (pick (subset u (rightsAt t xs)) (pick (blocked t xs) Waits (pick (eqb (spots xs) 128) (Refused 8) (Moved (nextTask m)))) (Refused 6)) ≡ Moved v
+    → forTask t xs (pick (subset u (rightsAt t xs)) (pick (blocked t xs) Waits (pick (eqb (spots xs) 128) (Refused 8) (Moved (nextTask m)))) (Refused 6))
+    ≡ Moved v
     → unfinished v xs ≡ false
 unfolding forTask pick
 fresh-task m xs t u v r = go (unfinished t xs) (subset u (rightsAt t xs)) (blocked t xs) (eqb (spots xs) 128) refl refl refl

@@ -12,7 +12,8 @@ use Rattle.lists.specs.Tests.{upto, upto-says}
 use Rattle.answers.specs.declared.Answer.{Answer}
 use Rattle.answers.specs.declared.Answer.the-variants.{Moved, Refused}
 use Rattle.job.specs.Fields.{procedures, segmentLength, entryAt, offset, count, rights}
-use Rattle.job.specs.Test.{between, headHolds, refusal10, entryHolds, entriesHold, contentsHold, refusal11, instructionHolds, lastHolds, bodyHolds, refusal12, jobAnswer}
+use Rattle.job.specs.Test.{between, headHolds, refusal10, entryHolds, entriesHold, contentsHold, refusal11, instructionHolds, lastHolds, bodyHolds}
+use Rattle.job.specs.Test.{refusal12, jobAnswer}
 
 -- a procedure's body is not empty, not too long, and within the bytes
 pub record Entry (j : List ℕ) (p : ℕ) : Type 0 where

@@ -14,7 +14,8 @@ use Rattle.tree.specs.Rights.{bits, pushes, pops, eachQueue, subset}
 use Rattle.job.specs.Fields.{bytes2, bytes4, procedures, segmentLength, offset, count, rights, reserved, instructionFrom, instructionAt}
 use Rattle.job.specs.Operations.{pop, rowOf}
 use Rattle.job.specs.Effects.{empty, sum, effect}
-use Rattle.job.specs.Test.{between, headHolds, refusal10, entryHolds, entriesHold, contentsHold, refusal11, whichHolds, operandHolds, fitting, instructionHolds, lastHolds, bodyHolds, refusal12, jobAnswer}
+use Rattle.job.specs.Test.{between, headHolds, refusal10, entryHolds, entriesHold, contentsHold, refusal11, whichHolds, operandHolds, fitting}
+use Rattle.job.specs.Test.{instructionHolds, lastHolds, bodyHolds, refusal12, jobAnswer}
 use Rattle.job.specs.Examples.{head, entry, ins, fullRun, alone, withChild, wrapping, wrappedSpawn, emptyPop, tested, counted}
 
 -- a list of bytes with the answer that it must get
@@ -94,7 +95,9 @@ pub full-run-bytes : length fullRun ≡ 94
 full-run-bytes = refl
 
 pub table-right : right (accepted ++ tens ++ elevens ++ twelves ++ orders) ≡ true
-unfolding load size pick both either upto statusOf valueOf sameAnswer bits pushes pops eachQueue subset bytes2 bytes4 procedures segmentLength offset count rights reserved instructionFrom instructionAt rowOf between headHolds refusal10 entryHolds entriesHold contentsHold refusal11 whichHolds operandHolds fitting instructionHolds lastHolds bodyHolds refusal12 jobAnswer right
+unfolding load size pick both either upto statusOf valueOf sameAnswer bits pushes pops eachQueue subset bytes2 bytes4 procedures segmentLength offset count
+    rights reserved instructionFrom instructionAt rowOf between headHolds refusal10 entryHolds entriesHold contentsHold refusal11 whichHolds operandHolds
+    fitting instructionHolds lastHolds bodyHolds refusal12 jobAnswer right
 table-right = refl
 
 -- "Register 4,294,967,295 plus 1 is 0."

@@ -1,5 +1,7 @@
 -- What a step answers, and what it does to the register and the position of its task. The plain machine and the runner
 -- of tasks differ in the queues, the order of tasks and the waits; all else is said here.
+use mathlib.Core.Path.{_≡_, refl}
+use mathlib.Core.Bool.{Bool, true, false}
 use mathlib.Core.Option.{Option, none, some}
 use Prim.Native.Nat.{ℕ, _+_, _%_}
 use lib.Dec.{eqb}
@@ -40,3 +42,30 @@ effect goIfZero i r x f = gives moved 0 r (pick (eqb r 0) x (i + 1))
 effect add i r x f = gives moved 0 (sum r x) (i + 1)
 effect spawn i r x f = gives spawned 0 r (i + 1)
 effect sync i r x f = gives moved 0 r (i + 1)
+
+-- The plain machine "never waits or refuses": no step that is made is answered so.
+unfoldable pub moves : Word → Bool
+moves spawned = true
+moves pushed = true
+moves took = true
+moves moved = true
+moves finished = true
+moves empty = true
+moves notEmpty = true
+moves waits = false
+moves refused = false
+
+pub always-moves : (o : Operation) (i r x : ℕ) (f : Option ℕ) → moves (effect o i r x f .word) ≡ true
+unfolding moves effect
+always-moves return i r x f = refl
+always-moves push i r x f = refl
+always-moves pushSum i r x f = refl
+always-moves pop i r x none = refl
+always-moves pop i r x (some v) = refl
+always-moves goIfEmpty i r x none = refl
+always-moves goIfEmpty i r x (some v) = refl
+always-moves go i r x f = refl
+always-moves goIfZero i r x f = refl
+always-moves add i r x f = refl
+always-moves spawn i r x f = refl
+always-moves sync i r x f = refl

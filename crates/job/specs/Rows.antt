@@ -1,11 +1,11 @@
 -- Going through the table of operations by number.
-use mathlib.Core.Path.{_≡_, subst}
-use mathlib.Core.Logic.{⊎-elim}
+use mathlib.Core.Path.{_≡_, ap, subst}
+use mathlib.Core.Logic.{_⊎_, ⊎-elim}
 use Prim.Native.Nat.{ℕ, _+_, _≤_}
 use native.Mathlib.Omega.{arith}
 use lib.ListN.{List·getD-eq-default}
 use Rattle.lists.specs.Counting.{equal?}
-use Rattle.job.specs.Operations.{undefined, table, rowOf}
+use Rattle.job.specs.Operations.{return, undefined, table, rowOf, operationOf, operationAt}
 
 -- a number from a on that is not a itself
 pub above : (a k : ℕ) → a ≤ k → (k ≡ a → ⊥) → a + 1 ≤ k
@@ -19,3 +19,8 @@ from P a here more k h = ⊎-elim (λ e. subst P e here) (λ n. more k (omega (a
 pub row-past : (k : ℕ) → 10 ≤ k → rowOf k ≡ undefined
 unfolding rowOf
 row-past k h = List·getD-eq-default table undefined h
+
+-- an instruction with such a number returns, as operation 0 does
+pub returns-at : (k : ℕ) → (k ≡ 0) ⊎ (10 ≤ k) → operationAt k ≡ return
+unfolding operationAt rowOf operationOf
+returns-at k h = ⊎-elim (λ e. ap operationAt e) (λ l. ap operationOf (row-past k l)) h

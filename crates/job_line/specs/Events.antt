@@ -35,7 +35,8 @@ module _ (j : List ℕ) where
   one-more Moves.none m = Moves.moves m Moves.none
   one-more (Moves.moves a ms) m = Moves.moves a (one-more ms m)
 
-  pub more-log : {n : ℕ} {l k i : List (Item Runner)} (ms : Moves (jobTasks j) n l k) (m : Move (jobTasks j) k i) → log (one-more ms m) ≡ log ms ++ (walkEvent (m .walk) ∷ [])
+  pub more-log : {n : ℕ} {l k i : List (Item Runner)} (ms : Moves (jobTasks j) n l k) (m : Move (jobTasks j) k i)
+      → log (one-more ms m) ≡ log ms ++ (walkEvent (m .walk) ∷ [])
   unfolding one-more
   more-log Moves.none m = refl
   more-log (Moves.moves a ms) m = ap (λ (es : List Event). walkEvent (a .walk) ∷ es) (more-log ms m)

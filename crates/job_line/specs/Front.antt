@@ -56,14 +56,17 @@ module _ {S : Type 0} where
   module _ (T : Tasks S) (s : S) (b : Bool) (q : ℕ) (f : Option ℕ → List (Item S)) (does : T .next s ≡ looks b q f) (r : List (Item S)) where
     -- the search finds the front
     pub lead-front : (vs : List (Item S)) → All NoSpot vs → Lead T (seeking b q) (vs ++ (spot s ∷ r)) (remaining b q vs ++ (f (front (valuesOf q vs)) ++ r))
-    lead-front [] h = subst (λ (l : List (Item S)). Lead T (seeking b q) (spot s ∷ r) l) (nothing b) (Lead.here {m = seeking b q} {s = s} (f none) (rw does (refl, refl, refl)))
+    lead-front [] h =
+        subst (λ (l : List (Item S)). Lead T (seeking b q) (spot s ∷ r) l) (nothing b)
+        (Lead.here {m = seeking b q} {s = s} (f none) (rw does (refl, refl, refl)))
       where
         nothing : (c : Bool) → f none ++ r ≡ remaining c q [] ++ (f (front (valuesOf q [])) ++ r)
         nothing true = unfold valuesOf front in refl
         nothing false = unfold valuesOf front without in refl
     lead-front (value p v ∷ vs) h =
         ⊎-elim
-        (λ e. rw e (subst (λ (l : List (Item S)). Lead T (seeking b q) (value q v ∷ (vs ++ (spot s ∷ r))) l) (here b) (Lead.finds (lead-found T s b q v f does vs r (h .1)))))
+        (λ e. rw e (subst (λ (l : List (Item S)). Lead T (seeking b q) (value q v ∷ (vs ++ (spot s ∷ r))) l) (here b)
+        (Lead.finds (lead-found T s b q v f does vs r (h .1)))))
         (past (lead-front vs (h .1)))
         (equal? p q)
       where

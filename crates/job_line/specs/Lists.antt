@@ -22,7 +22,8 @@ module _ {S : Type 0} where
   values-append q [] b = refl
   values-append q (value p v ∷ a) b = go (eqb p q) (values-append q a b)
     where
-      go : (c : Bool) → valuesOf q (a ++ b) ≡ valuesOf q a ++ valuesOf q b → pick c (v ∷ valuesOf q (a ++ b)) (valuesOf q (a ++ b)) ≡ pick c (v ∷ valuesOf q a) (valuesOf q a) ++ valuesOf q b
+      go : (c : Bool) → valuesOf q (a ++ b) ≡ valuesOf q a ++ valuesOf q b → pick c (v ∷ valuesOf q (a ++ b)) (valuesOf q (a ++ b)) ≡ pick c
+          (v ∷ valuesOf q a) (valuesOf q a) ++ valuesOf q b
       go true e = unfold pick in ap (λ (l : List ℕ). v ∷ l) e
       go false e = unfold pick in e
   values-append q (spot s ∷ a) b = values-append q a b
@@ -79,14 +80,16 @@ pub record Lists {S : Type 0} (qs : List (List ℕ)) (vs : List (Item S)) : Type
 
 module _ {S : Type 0} (qs : List (List ℕ)) (vs : List (Item S)) (h : Lists qs vs) where
   -- one list changes
-  lists-changed : (q : ℕ) (l : List ℕ) (ws : List (Item S)) → q < 4 → valuesOf q ws ≡ l → ((p : ℕ) → (p ≡ q → ⊥) → valuesOf p ws ≡ valuesOf p vs) → Lists (set qs q l) ws
+  lists-changed : (q : ℕ) (l : List ℕ) (ws : List (Item S)) → q < 4 → valuesOf q ws ≡ l → ((p : ℕ) → (p ≡ q → ⊥) → valuesOf p ws ≡ valuesOf p vs)
+      → Lists (set qs q l) ws
   unfolding queue
   lists-changed q l ws small e f =
       record {
         four = length-set qs q l ∙ h .four;
         same = λ p i.
             ⊎-elim
-            (λ d. ap (λ (x : ℕ). valuesOf x ws) d ∙ e ∙ sym (ap (λ (x : ℕ). getD (set qs q l) x []) d ∙ getD-set-same qs q l [] (let k = h .four in omega (arith, k, small))))
+            (λ d. ap (λ (x : ℕ). valuesOf x ws) d ∙ e
+            ∙ sym (ap (λ (x : ℕ). getD (set qs q l) x []) d ∙ getD-set-same qs q l [] (let k = h .four in omega (arith, k, small))))
             (λ d. f p d ∙ h .same p i ∙ sym (getD-set-other qs q p l [] d))
             (equal? p q);
       }
@@ -96,8 +99,10 @@ module _ {S : Type 0} (qs : List (List ℕ)) (vs : List (Item S)) (h : Lists qs 
   unfolding valuesOf
   lists-pushed q v small =
       lists-changed q (queue qs q ++ v ∷ []) (vs ++ value q v ∷ []) small
-      (values-append q vs (value q v ∷ []) ∙ ap (λ (l : List ℕ). l ++ valuesOf {S = S} q (value q v ∷ [])) (h .same q small) ∙ ap (λ (l : List ℕ). queue qs q ++ l) (halt _ _ (eq-eqb q q refl)))
-      (λ p n. values-append p vs (value q v ∷ []) ∙ ap (λ (l : List ℕ). valuesOf p vs ++ l) (pass _ (ne-eqb q p (λ e. n (sym e))) refl) ∙ append-nil (valuesOf p vs))
+      (values-append q vs (value q v ∷ []) ∙ ap (λ (l : List ℕ). l ++ valuesOf {S = S} q (value q v ∷ [])) (h .same q small)
+      ∙ ap (λ (l : List ℕ). queue qs q ++ l) (halt _ _ (eq-eqb q q refl)))
+      (λ p n. values-append p vs (value q v ∷ []) ∙ ap (λ (l : List ℕ). valuesOf p vs ++ l) (pass _ (ne-eqb q p (λ e. n (sym e))) refl)
+      ∙ append-nil (valuesOf p vs))
 
   pub lists-popped : (q : ℕ) → q < 4 → Lists (set qs q (drop 1 (queue qs q))) (without q vs)
   lists-popped q small =

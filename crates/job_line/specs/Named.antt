@@ -9,10 +9,9 @@ use Rattle.order_laws.specs.Names.{Under, under-self, under-parent, not-under-c
 use Rattle.job.specs.Effects.{Effect}
 use Rattle.plain.specs.Machine.{Event, advanced, parent, child}
 use Rattle.exchange.specs.Line.{Item, value, spot, finished}
-use Rattle.exchange.specs.Answers.{On, unfinished, over, behind}
 use Rattle.job_line.specs.Tasks.{Runner}
 use Rattle.job_line.specs.Put.{Put, goes, pushes, finishes, spawns, answered}
-use Rattle.job_line.specs.Stood.{Unfinished, Replaces, here, past, takes}
+use Rattle.job_line.specs.Stood.{Replaces, here, past, takes}
 
 abbrev pub Named : Name → Item Runner → Type 0
 Named p (value q v) = ⊥
@@ -176,26 +175,3 @@ module _ (j : List ℕ) where
     unnamed-before p (here {l = l} c) h = put-unnamed p l c h
     unnamed-before p (past r) h = (h .0, unnamed-before p r (h .1))
     unnamed-before p (takes r) h = (λ e. e, unnamed-before p r h)
-
--- one of the items has the name of a task on the line
-of-named : (P : Item Runner → Type 0) (w : Runner) {l : List (Item Runner)} → On w l → All P l → (x : Item Runner) × Named (w .task .name) x × P x
-of-named P w (unfinished {l = l}) h = (spot w, refl, h .0)
-of-named P w (over {l = l}) h = (finished w, refl, h .0)
-of-named P w (behind i) h = of-named P w i (h .1)
-
-of-unfinished : (P : Item Runner → Type 0) (u : Runner) {l : List (Item Runner)} → Unfinished u l → All P l → P (spot u)
-of-unfinished P u Unfinished.first h = h .0
-of-unfinished P u (Unfinished.behind i) h = of-unfinished P u i (h .1)
-
--- A task on the line that descends from a child of an unfinished one descends from a child that was made.
-pub children-made : (u w : Runner) {l : List (Item Runner)} → Pairs l → Unfinished u l → On w l
-    → (k : ℕ) → Under (k ∷ u .task .name) (w .task .name) → k < u .task .children
-children-made u w h Unfinished.first unfinished k d = absurd (not-under-child (under-self _) d)
-children-made u w h Unfinished.first (behind o) k d =
-    let c = of-named (Apart (spot u)) w o (h .0) in
-    c .2 .left (u .task .name) (w .task .name) k (u .task .children) (refl, refl) (c .1) d
-children-made u w h (Unfinished.behind i) unfinished k d =
-    of-unfinished (Apart (spot w)) u i (h .0) .right (u .task .name) (w .task .name) k (u .task .children) (refl, refl) refl d
-children-made u w h (Unfinished.behind i) over k d =
-    of-unfinished (Apart (finished w)) u i (h .0) .right (u .task .name) (w .task .name) k (u .task .children) (refl, refl) refl d
-children-made u w h (Unfinished.behind i) (behind o) k d = children-made u w (h .1) i o k d

@@ -22,7 +22,8 @@ use Rattle.exchange.specs.Line.{Item, value, spot, finished, puts, looks, free,
 use Rattle.exchange.specs.Exchange.{Lead}
 use Rattle.exchange.specs.Agreement.{First}
 use Rattle.exchange.specs.Progress.{lead-free}
-use Rattle.job_line.specs.Tasks.{canPush, canPop, Runner, does as doesNext, answering, goesOn, afterSpawn, newTask, instruction, actionBy, action, instructionOf}
+use Rattle.job_line.specs.Tasks.{canPush, canPop, Runner, does as doesNext, answering, goesOn, afterSpawn, newTask, instruction, actionBy, action}
+use Rattle.job_line.specs.Tasks.{instructionOf}
 use Rattle.job_line.specs.Within.{jobTasks}
 use Rattle.job_line.specs.Front.{valuesOf, remaining, lead-front}
 use Rattle.job_line.specs.Events.{eventWith}

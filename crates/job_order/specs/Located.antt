@@ -3,11 +3,11 @@ use mathlib.Core.Path.{_≡_, refl, ap, ap₂, sym, _∙_, subst}
 use mathlib.Core.Bool.{true}
 use mathlib.Core.List.{List, [], _∷_, _++_, map, map-append, nil≢cons, head-eq-of-cons-eq, tail-eq-of-cons-eq}
 use mathlib.Core.Logic.{inl}
-use Prim.Native.Nat.{ℕ, _<_}
+use Prim.Native.Nat.{ℕ}
 use borrow.Author.Tests.{eqb-true}
 use Rattle.words.specs.Words.{halt}
-use Rattle.tree.specs.Rights.{bits, uses}
-use Rattle.tree.specs.Queues.{by-four}
+use Rattle.tree.specs.Rights.{uses}
+use Rattle.tree.specs.Queues.{all-used}
 use Rattle.order.specs.Steps.{Task, task, Item as Mark, step, spot as place, numberOf, begin}
 use Rattle.order.specs.Waits.{unfinished}
 use Rattle.order_laws.specs.Items.{in-split}
@@ -100,10 +100,6 @@ module _ (j : List ℕ) where
 -- AT THE BEGINNING the top stands alone.
 abbrev pub topNumbered : Numbered
 topNumbered = record { number = 0; runner = top }
-
-all-used : (q : ℕ) → q < 4 → uses 255 q ≡ true
-unfolding uses bits
-all-used = by-four (λ q. uses 255 q ≡ true) refl refl refl refl
 
 pub begins : (j : List ℕ) → Accepted j → Beside j begin (spot topNumbered ∷ [])
 unfolding begin places standing taskOf rightsOf pointsOf

@@ -7,12 +7,12 @@ use Prim.Native.Nat.{ℕ}
 use Rattle.words.specs.Words.{both-true}
 use Rattle.tree.specs.Rights.{pushes as mayPush, pops as mayPop}
 use Rattle.order.specs.Steps.{Item as Mark, rightsOf}
-use Rattle.order_queue.specs.Users.{useless-pops, useless-pushes}
 use Rattle.gaps.specs.Maps.{All}
 use Rattle.plain.specs.Stack.{rightsOf as jobRights}
 use Rattle.exchange.specs.Line.{Item, value, spot, finished, looks, seeking, found, leave}
 use Rattle.job_line.specs.Tasks.{canPush, canPop, Runner, action}
 use Rattle.job_line.specs.Events.{eventWith}
+use Rattle.tree.specs.Users.{useless-pops, useless-pushes}
 use Rattle.job_order.specs.Beside.{Numbered, unnumbered, standing, taskOf, Beside}
 use Rattle.job_order.specs.After.{After}
 use Rattle.job_order.specs.Points.{standing-append, unnumbered-append}

@@ -10,7 +10,6 @@ use Rattle.order.specs.Steps.{Item as Mark, spawns, pushes, syncs, finishes, ad
 use Rattle.order_laws.specs.Moves.{plain-sync}
 use Rattle.order_waits.specs.Played.{Played, played-reached, kidsOf, childOf}
 use Rattle.order_queue.specs.Points.{added, takes}
-use Rattle.order_queue.specs.Users.{pushes-uses}
 use Rattle.job.specs.Fields.{rights}
 use Rattle.job.specs.Operations.{rowOf, operationOf, operationAt}
 use Rattle.job.specs.Test.{whichHolds}
@@ -20,6 +19,7 @@ use Rattle.plain.specs.Stack.{Stands, rightsOf as jobRights}
 use Rattle.exchange.specs.Line.{Item, value, spot, finished, puts, free}
 use Rattle.job_line.specs.Tasks.{canPush, Runner, does, answering, goesOn, afterSpawn, newTask, action, instructionOf}
 use Rattle.job_line.specs.Events.{eventWith}
+use Rattle.tree.specs.Users.{pushes-uses}
 use Rattle.job_order.specs.Beside.{Numbered, unnumbered, standing, taskOf, Beside}
 use Rattle.job_order.specs.After.{After}
 use Rattle.job_order.specs.Points.{standing-append, unnumbered-append}

@@ -1,16 +1,15 @@
 -- One segment of the chain after the other; the answers of left.
 use mathlib.Core.Path.{_≡_, refl, ap, sym, _∙_}
-use mathlib.Core.Bool.{Bool, true, false, not}
+use mathlib.Core.Bool.{not}
 use mathlib.Core.List.{List}
 use Prim.Native.Nat.{ℕ, zero, suc, _+_, _-_, _<_, _≤_}
 use native.Mathlib.Omega.{arith}
-use lib.Dec.{leb, ltb, eqb}
 use borrow.Author.Tests.{le-leb, lt-leb, lt-ltb, le-ltb, eq-eqb, ne-eqb}
-use Rattle.words.specs.Words.{pick, halt, pass}
-use Rattle.layout.specs.Layout.{NL, FINISHED, STATUS, count, next, segment, task, queueHead, read}
+use Rattle.words.specs.Words.{halt, pass}
+use Rattle.layout.specs.Layout.{NL, FINISHED, STATUS, segment, task, read}
 use Rattle.answers.specs.declared.Answer.{Answer}
 use Rattle.answers.specs.declared.Answer.the-variants.{Moved, Waits, Refused}
-use Rattle.answers.specs.Answers.{Outcome, outcome}
+use Rattle.answers.specs.Answers.{outcome}
 use Rattle.calls.specs.Segments.{valueAt}
 use Rattle.calls.specs.Left.{queued, leftTested}
 

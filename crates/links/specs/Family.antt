@@ -91,7 +91,8 @@ module _ (m : List ℕ) (T : List ℕ) (xs : List Item) (play : Played xs) (h : 
       )
 
   -- a child by links is a child by names
-  pub link-child : (p t : ℕ) → Child c p t → (s : Task) × (o : Task) × (k : ℕ) × Spot s × Spot o × (numberOf s ≡ t) × (numberOf o ≡ p) × (nameOf s ≡ k ∷ nameOf o)
+  pub link-child : (p t : ℕ) → Child c p t → (s : Task) × (o : Task) × (k : ℕ) × Spot s × Spot o × (numberOf s ≡ t) × (numberOf o ≡ p)
+      × (nameOf s ≡ k ∷ nameOf o)
   link-child p t w =
       let v = unfinished-spot m T xs h t (w .1 .0) in
       go (v .0) (v .1) (v .2) (nameOf (v .0)) refl
@@ -176,7 +177,8 @@ module _ (m : List ℕ) (T : List ℕ) (xs : List Item) (play : Played xs) (h : 
       (law .younger-linked (numberOf o) (numberOf s) (child-link o s k j i e))
 
   -- every child stands on the list from the youngest; n bounds how many are younger
-  from-youngest : (n : ℕ) (s o : Task) (k : ℕ) → Spot s → Spot o → nameOf o ≡ k ∷ nameOf s → kidsOf s ≤ k + n → On recs (load (recs (numberOf s)) YOUNGEST) (numberOf o)
+  from-youngest : (n : ℕ) (s o : Task) (k : ℕ) → Spot s → Spot o → nameOf o ≡ k ∷ nameOf s → kidsOf s ≤ k + n
+      → On recs (load (recs (numberOf s)) YOUNGEST) (numberOf o)
   from-youngest zero s o k i j e l = let a = kin .below s o k i j e in let z : ⊥ = omega (arith, a, l) in absurd z
   from-youngest (suc n) s o k i j e l = go (λ y k' i' e' l'. from-youngest n s y k' i i' e' l') (next-younger s o k i j e)
     where
@@ -194,7 +196,8 @@ module _ (m : List ℕ) (T : List ℕ) (xs : List Item) (play : Played xs) (h : 
   child-on s o k i j e = from-youngest (kidsOf s) s o k i j e (omega arith)
 
   -- who stands on the list from the youngest is a child
-  pub on-child : (s : Task) (u : ℕ) → Spot s → On recs (load (recs (numberOf s)) YOUNGEST) u → (o : Task) × (k : ℕ) × Spot o × (numberOf o ≡ u) × (nameOf o ≡ k ∷ nameOf s)
+  pub on-child : (s : Task) (u : ℕ) → Spot s → On recs (load (recs (numberOf s)) YOUNGEST) u
+      → (o : Task) × (k : ℕ) × Spot o × (numberOf o ≡ u) × (nameOf o ≡ k ∷ nameOf s)
   unfolding word
   on-child s u i g =
       ⊎-elim
@@ -205,7 +208,8 @@ module _ (m : List ℕ) (T : List ℕ) (xs : List Item) (play : Played xs) (h : 
       by (v .0) (v .2) (v .3) (v .5) (v .7 ∙ ap (λ (x : Task). v .2 ∷ nameOf x) p) g)
       (law .youngest-linked (numberOf s) (inr (spot-unfinished m T xs h s i)))
     where
-      by : (y : Task) (k : ℕ) → Spot y → numberOf y ≡ load (recs (numberOf s)) YOUNGEST → nameOf y ≡ k ∷ nameOf s → On recs (load (recs (numberOf s)) YOUNGEST) u
+      by : (y : Task) (k : ℕ) → Spot y → numberOf y ≡ load (recs (numberOf s)) YOUNGEST → nameOf y ≡ k ∷ nameOf s
+          → On recs (load (recs (numberOf s)) YOUNGEST) u
           → (o : Task) × (k : ℕ) × Spot o × (numberOf o ≡ u) × (nameOf o ≡ k ∷ nameOf s)
       by y k j e n (here l q) = (y, k, j, e ∙ q, n)
       by y k j e n (behind l r) =
@@ -224,7 +228,10 @@ module _ (m : List ℕ) (T : List ℕ) (xs : List Item) (play : Played xs) (h : 
       ⊎-elim forward backward (on-linear recs a b)
     where
       same : numberOf s ≡ numberOf o → ⊥
-      same d = older-apart (nameOf o) (nameOf s) e (subst (λ (x : Task). isOlder (nameOf s) (nameOf x) ≡ true) (same-number xs (played-reached play) s o i j d) (subst (λ (x : Task). isOlder (nameOf x) (nameOf s) ≡ true) (sym (same-number xs (played-reached play) s o i j d)) e))
+      same d =
+          older-apart (nameOf o) (nameOf s) e
+          (subst (λ (x : Task). isOlder (nameOf s) (nameOf x) ≡ true) (same-number xs (played-reached play) s o i j d)
+          (subst (λ (x : Task). isOlder (nameOf x) (nameOf s) ≡ true) (sym (same-number xs (played-reached play) s o i j d)) e))
 
       forward : On recs (numberOf s) (numberOf o) → On recs (load (recs (numberOf s)) OLDER) (numberOf o)
       forward (here l d) = absurd (same d)
@@ -234,4 +241,5 @@ module _ (m : List ℕ) (T : List ℕ) (xs : List Item) (play : Played xs) (h : 
       backward (here l d) = absurd (same (sym d))
       backward (behind l g) =
           let v = on-older o _ (numberOf s) j refl g in
-          absurd (older-apart (nameOf o) (nameOf s) e (subst (λ (x : Task). isOlder (nameOf x) (nameOf o) ≡ true) (same-number xs (played-reached play) (v .0) s (v .1) i (v .2)) (v .3)))
+          absurd (older-apart (nameOf o) (nameOf s) e
+          (subst (λ (x : Task). isOlder (nameOf x) (nameOf o) ≡ true) (same-number xs (played-reached play) (v .0) s (v .1) i (v .2)) (v .3)))

@@ -3,7 +3,7 @@ use mathlib.Core.Path.{_≡_, refl, ap, sym, _∙_, subst}
 use mathlib.Core.Bool.{Bool, true, false}
 use mathlib.Core.List.{List}
 use mathlib.Core.Logic.{_⊎_, inl, inr}
-use Prim.Native.Nat.{ℕ, _+_, _-_, _<_}
+use Prim.Native.Nat.{ℕ, _+_, _<_}
 use native.Mathlib.Omega.{arith}
 use lib.Dec.{eqb}
 use lib.ListN.{replicate}
@@ -67,10 +67,12 @@ module _ (m : List ℕ) (sized : size m ≡ WORDS) (t : ℕ) (o-kind : Kind (rea
           ∙ other-word m x k o YOUNGER y l (omega (arith, i)) (below o o-kind (eqb-false o NONE e)) (omega arith) n
 
   first-older : (o ≡ NONE → ⊥) → read m1 (task o YOUNGER) ≡ y
-  first-older n = ap (λ (w : List ℕ). read w (task o YOUNGER)) (pass m (ne-eqb o NONE n) refl) ∙ read-same m (task o YOUNGER) y sized (below o o-kind n, omega arith)
+  first-older n =
+      ap (λ (w : List ℕ). read w (task o YOUNGER)) (pass m (ne-eqb o NONE n) refl) ∙ read-same m (task o YOUNGER) y sized (below o o-kind n, omega arith)
 
   -- the second
-  second-other : (x k : ℕ) → x < 128 → k < 6 → ((y ≡ NONE) × (x ≡ p) × (k ≡ YOUNGEST) → ⊥) → ((x ≡ y) × (k ≡ OLDER) → ⊥) → read (unlinked m t) (task x k) ≡ read m1 (task x k)
+  second-other : (x k : ℕ) → x < 128 → k < 6 → ((y ≡ NONE) × (x ≡ p) × (k ≡ YOUNGEST) → ⊥) → ((x ≡ y) × (k ≡ OLDER) → ⊥)
+      → read (unlinked m t) (task x k) ≡ read m1 (task x k)
   unfolding unlinked
   second-other x k l i n1 n2 = go (eqb y NONE) refl
     where
@@ -88,7 +90,8 @@ module _ (m : List ℕ) (sized : size m ≡ WORDS) (t : ℕ) (o-kind : Kind (rea
 
   second-older : (y ≡ NONE → ⊥) → read (unlinked m t) (task y OLDER) ≡ o
   unfolding unlinked
-  second-older n = ap (λ (w : List ℕ). read w (task y OLDER)) (pass _ (ne-eqb y NONE n) refl) ∙ read-same m1 (task y OLDER) o size1 (below y y-kind n, omega arith)
+  second-older n =
+      ap (λ (w : List ℕ). read w (task y OLDER)) (pass _ (ne-eqb y NONE n) refl) ∙ read-same m1 (task y OLDER) o size1 (below y y-kind n, omega arith)
 
   pub unlinked-front : (f : Field) → address f < 1472 → read (unlinked m t) f ≡ read m f
   unfolding unlinked

@@ -1,7 +1,7 @@
 -- A FINISH in the words is the finish of program order.
 use mathlib.Core.Path.{_≡_, refl, ap, ap₂, sym, _∙_}
 use mathlib.Core.Bool.{true, false, false≢true}
-use mathlib.Core.List.{List, [], _∷_, _++_}
+use mathlib.Core.List.{List, _∷_, _++_}
 use mathlib.Core.Logic.{inl, ⊎-elim}
 use Prim.Native.Nat.{ℕ, _+_, _<_, _≤_}
 use native.Mathlib.Omega.{arith}
@@ -17,10 +17,9 @@ use Rattle.order_waits.specs.Spots.{same-number}
 use Rattle.order_waits.specs.Played.{Played, played-reached, Like}
 use Rattle.order_waits.specs.Changes.{in-right, back}
 use Rattle.order_waits.specs.Kinship.{says-child-there}
-use Rattle.links.specs.Linked.{numbersBack, back-append, says-back, Linked, spot-unfinished}
+use Rattle.order_waits.specs.Gone.{gone}
+use Rattle.links.specs.Linked.{numbersBack, back-append, Linked, spot-unfinished}
 use Rattle.links.specs.Places.{met-append}
-use Rattle.links.specs.Marks.{mark-once}
-use Rattle.rules_tasks.specs.Holders.{met-count}
 use Rattle.links.specs.Family.{link-child, older-trans}
 use Rattle.links.specs.Finish.{Finished, cut-word, AfterFinish, after-finish}
 use Rattle.links.specs.FinishRow.{cut-row, cut-first}
@@ -66,25 +65,11 @@ module _ (m n : List ℕ) (T : List ℕ) (ys zs : List Item) (s : Task) (play : 
   was : (o : Task) → In (spot o) New → (o' : Task) × In (spot o') Old × Like o o'
   was o i = ⊎-elim (λ v. v) (λ v. let e = v .2 in let z : _≡_ {A = ℕ} 0 1 = cc in absurd (omega (arith, z))) (back ys zs s finishes o i)
 
-  -- and not the one that finished
-  gone : (o : Task) → In (spot o) New → numberOf o ≡ t → ⊥
-  unfolding numbersBack
-  gone o i e =
-      let a0 = says-back o New i in
-      let a1 = ap (λ (x : ℕ). occurrences x (numbersBack New)) e in
-      let a2 = ap (occurrences t) (back-finish ys zs s) ∙ occurs-append t (numbersBack zs) (numbersBack ys) in
-      let b0 = met-count T t small in
-      let b1 = mark-once m T Old h t in
-      let b2 = ap (occurrences t) (h .spots ∙ back-append ys (spot s ∷ zs)) ∙ occurs-append t (numbersBack zs ++ (t ∷ [])) (numbersBack ys) in
-      let b3 = occurs-append t (numbersBack zs) (t ∷ []) in
-      let b4 = occurs-here t t [] refl in
-      omega (arith, a0, a1, a2, b0, b1, b2, b3, b4)
-
   stays : (o : Task) (v : (o' : Task) × In (spot o') Old × Like o o') → In (spot o) New → (k : ℕ) → k ≤ 2
       → read n (task (numberOf o) k) ≡ read m (task (numberOf (v .0)) k)
   stays o v i k l =
       ap (λ (x : ℕ). read n (task x k)) (v .2 .number)
-      ∙ cut-word m n t stay (numberOf (v .0)) k (spot-unfinished m T Old h (v .0) (v .1) .0) l (λ e. gone o i (v .2 .number ∙ e))
+      ∙ cut-word m n t stay (numberOf (v .0)) k (spot-unfinished m T Old h (v .0) (v .1) .0) l (λ e. gone ys zs s play o i (v .2 .number ∙ e))
 
   rights-are : (o : Task) → In (spot o) New → read n (task (numberOf o) RIGHTS) ≡ rightsOf o
   rights-are o i = let v = was o i in stays o v i RIGHTS (omega arith) ∙ h .rights (v .0) (v .1) ∙ sym (v .2 .rights)
@@ -107,7 +92,7 @@ module _ (m n : List ℕ) (T : List ℕ) (ys zs : List Item) (s : Task) (play : 
       (λ g. h .ages (v .0) (x .0) (v .1) (x .1) (sym g ∙ f))
       (λ g.
       older-trans (nameOf (x .0)) (nameOf s) (nameOf (v .0)) (h .ages s (x .0) mine (x .1) (sym (g .1) ∙ f)) (h .ages (v .0) s (v .1) mine (g .0)))
-      (stay .older-now (numberOf (v .0)) (spot-unfinished m T Old h (v .0) (v .1) .0) (λ q. gone o i (v .2 .number ∙ q)))
+      (stay .older-now (numberOf (v .0)) (spot-unfinished m T Old h (v .0) (v .1) .0) (λ q. gone ys zs s play o i (v .2 .number ∙ q)))
 
   pub finish-linked : Linked n (b ++ a) New
   finish-linked =

@@ -1,7 +1,7 @@
 -- What writes no link and no free task record keeps the tree.
 use mathlib.Core.Path.{_≡_, ap, ap₂, sym, _∙_, subst}
 use mathlib.Core.List.{List, [], _∷_}
-use mathlib.Core.Logic.{_⊎_, inl, inr, ⊎-elim}
+use mathlib.Core.Logic.{inl, inr, ⊎-elim}
 use Prim.Native.Nat.{ℕ, _*_, _-_, _<_, _≤_}
 use native.Mathlib.Omega.{arith}
 use lib.ListN.{length, drop, take}
@@ -63,7 +63,9 @@ module _ (m n : List ℕ) (w : SameLinks m n) where
   same-top t =
       let z : 0 < 128 = omega arith in
       record {
-        status = ⊎-elim (λ e. inl (same-word 0 STATUS z (omega arith) ∙ e)) (λ e. inr (same-word 0 STATUS z (omega arith) ∙ e .0, same-word 0 YOUNGEST z (omega arith) ∙ e .1)) (t .status);
+        status =
+            ⊎-elim (λ e. inl (same-word 0 STATUS z (omega arith) ∙ e))
+            (λ e. inr (same-word 0 STATUS z (omega arith) ∙ e .0, same-word 0 YOUNGEST z (omega arith) ∙ e .1)) (t .status);
         rights = same-word 0 RIGHTS z (omega arith) ∙ t .rights;
         parent = same-word 0 PARENT z (omega arith) ∙ t .parent;
         older = same-word 0 OLDER z (omega arith) ∙ t .older;

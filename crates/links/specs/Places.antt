@@ -2,7 +2,7 @@
 use mathlib.Core.Path.{_≡_, refl, ap, ap₂, sym, _∙_, subst}
 use mathlib.Core.Bool.{Bool, true, false}
 use mathlib.Core.List.{List, [], _∷_, _++_, head-eq-of-cons-eq, tail-eq-of-cons-eq, append-assoc, cons-ne-nil, append-ne-nil-of-right-ne-nil}
-use mathlib.Core.Logic.{inl, inr, ⊎-elim}
+use mathlib.Core.Logic.{inl, ⊎-elim}
 use Prim.Native.Nat.{ℕ, zero, suc, _+_, _<_, _≤_}
 use native.Mathlib.Omega.{arith}
 use lib.Dec.{ltb, leb}
@@ -17,7 +17,7 @@ use Rattle.rules_tasks.specs.Tested.{top-says}
 use Rattle.rules_tasks.specs.Holders.{met-here, met-past}
 use Rattle.gaps.specs.Search.{firstOf}
 use Rattle.order.specs.Steps.{Task, Item, spot, numberOf}
-use Rattle.order_laws.specs.Items.{In}
+use Rattle.order_waits.specs.Changes.{in-right}
 use Rattle.links.specs.Row.{Row, leads-after, row-behind, row-tour}
 use Rattle.links.specs.Linked.{numbersBack, back-append, Linked, word-is, spot-unfinished}
 
@@ -104,11 +104,7 @@ module _ (m : List ℕ) (T : List ℕ) (ys zs : List Item) (s : Task) (h : Linke
   childless p e = go (p .earlier) (row-behind c (p .later) (numberOf s) (p .earlier) (subst (Row c) (p .here) (h .row)))
     where
       small : numberOf s < 128
-      small = spot-unfinished m T (ys ++ spot s ∷ zs) h s (there ys) .0
-        where
-          there : (ys : List Item) → In (spot s) (ys ++ spot s ∷ zs)
-          there [] = inl refl
-          there (y ∷ ys) = inr (there ys)
+      small = spot-unfinished m T (ys ++ spot s ∷ zs) h s (in-right (spot s) ys (spot s ∷ zs) (inl refl)) .0
 
       go : (a : List ℕ) → Row c (numberOf s ∷ a) → (b : List ℕ) × (a ≡ (128 + numberOf s) ∷ b)
       go [] r = let z : ⊥ = omega (arith, r, small) in absurd z

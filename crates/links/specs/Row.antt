@@ -10,7 +10,8 @@ use Rattle.layout.specs.Layout.{NONE, PARENT, OLDER, YOUNGEST}
 use Rattle.tree.specs.Tour.{after, tour}
 use Rattle.rules.specs.Contents.{Contents, word}
 use Rattle.rules.specs.Test.{treeTest}
-use Rattle.rules_tasks.specs.Marks.{Kin, tree-last, met-none, met-child, left-none, left-older, after-childless, after-parent, after-oldest, after-younger, tour-cons, tour-past}
+use Rattle.rules_tasks.specs.Marks.{Kin, tree-last, met-none, met-child, left-none, left-older, after-childless, after-parent, after-oldest, after-younger}
+use Rattle.rules_tasks.specs.Marks.{tour-cons, tour-past}
 
 module _ (c : Contents) where
   -- Mark x leads to mark y: a task without children is left, else its youngest child is met; behind a task its older

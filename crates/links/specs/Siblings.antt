@@ -26,10 +26,6 @@ module _ (recs : ℕ → List ℕ) where
   on-below (here l e) = l
   on-below (behind l h) = l
 
-  pub on-last : {c u : ℕ} → On c u → u < 128
-  on-last (here l e) = omega (arith, l, e)
-  on-last (behind l h) = on-last h
-
   -- of two on one list one stands behind the other
   pub on-linear : {c u v : ℕ} → On c u → On c v → On u v ⊎ On v u
   on-linear {c} {u} {v} (here l e) h = inl (subst (λ (x : ℕ). On x v) e h)

@@ -30,18 +30,22 @@ module _ (m n : List ℕ) (T : List ℕ) (xs : List Item) (h : Linked m T xs) (t
   abbrev o : ℕ
   o = read m (task t YOUNGEST)
 
+  -- a word that is neither the youngest child nor the younger sibling
+  link-stays : (x k : ℕ) → Unfinished c x → k < 6 → (k ≡ YOUNGEST → ⊥) → (k ≡ YOUNGER → ⊥) → word d x k ≡ word c x k
+  link-stays x k e l f g = stays x k e l (λ q. absurd (f q)) (λ q. absurd (g q))
+
   kin-stays : (y p z : ℕ) → Unfinished c p → (y ≡ o → ⊥) → Kin c y p z → Kin d y p z
   kin-stays y p z v ne k =
       let e : Unfinished c y = (k .below, k .status) in
       record {
         above = k .above;
         below = k .below;
-        status = stays y STATUS e (omega arith) (λ q. let z : ⊥ = omega (arith, q) in absurd z) (λ q. let z : ⊥ = omega (arith, q) in absurd z) ∙ k .status;
-        parent = stays y PARENT e (omega arith) (λ q. let z : ⊥ = omega (arith, q) in absurd z) (λ q. let z : ⊥ = omega (arith, q) in absurd z) ∙ k .parent;
+        status = link-stays y STATUS e (omega arith) (λ q. omega (arith, q)) (λ q. omega (arith, q)) ∙ k .status;
+        parent = link-stays y PARENT e (omega arith) (λ q. omega (arith, q)) (λ q. omega (arith, q)) ∙ k .parent;
         younger = stays y YOUNGER e (omega arith) (λ q. let z : ⊥ = omega (arith, q) in absurd z) (λ q. ne) ∙ k .younger;
         rights = ap₂ subset
-            (stays y RIGHTS e (omega arith) (λ q. let z : ⊥ = omega (arith, q) in absurd z) (λ q. let z : ⊥ = omega (arith, q) in absurd z))
-            (stays p RIGHTS v (omega arith) (λ q. let z : ⊥ = omega (arith, q) in absurd z) (λ q. let z : ⊥ = omega (arith, q) in absurd z)) ∙ k .rights;
+            (link-stays y RIGHTS e (omega arith) (λ q. omega (arith, q)) (λ q. omega (arith, q)))
+            (link-stays p RIGHTS v (omega arith) (λ q. omega (arith, q)) (λ q. omega (arith, q))) ∙ k .rights;
       }
 
   -- the youngest child of before has no other parent, and no younger sibling
@@ -67,23 +71,15 @@ module _ (m n : List ℕ) (T : List ℕ) (xs : List Item) (h : Linked m T xs) (t
       (kin-stays z v NONE (unfinished-met m T xs h v l p) (not-child z v n k) k)
   leads-stay x y p n (oldest {t = v} {p = q} g l e i f) =
       oldest g l
-      (stays v PARENT (unfinished-left m T xs h v p) (omega arith) (λ s. let z : ⊥ = omega (arith, s) in absurd z)
-      (λ s. let z : ⊥ = omega (arith, s) in absurd z)
-      ∙ e)
+      (link-stays v PARENT (unfinished-left m T xs h v p) (omega arith) (λ s. omega (arith, s)) (λ s. omega (arith, s)) ∙ e)
       i
-      (stays v OLDER (unfinished-left m T xs h v p) (omega arith) (λ s. let z : ⊥ = omega (arith, s) in absurd z)
-      (λ s. let z : ⊥ = omega (arith, s) in absurd z)
-      ∙ f)
+      (link-stays v OLDER (unfinished-left m T xs h v p) (omega arith) (λ s. omega (arith, s)) (λ s. omega (arith, s)) ∙ f)
   leads-stay x y p n (older {t = v} {y = z} {p = q} g l e i f k) =
       let up = rules m T xs h .parents v q ((λ s. omega (arith, s, g)), (unfinished-left m T xs h v p, e)) in
       older g l
-      (stays v PARENT (unfinished-left m T xs h v p) (omega arith) (λ s. let z : ⊥ = omega (arith, s) in absurd z)
-      (λ s. let z : ⊥ = omega (arith, s) in absurd z)
-      ∙ e)
+      (link-stays v PARENT (unfinished-left m T xs h v p) (omega arith) (λ s. omega (arith, s)) (λ s. omega (arith, s)) ∙ e)
       i
-      (stays v OLDER (unfinished-left m T xs h v p) (omega arith) (λ s. let z : ⊥ = omega (arith, s) in absurd z)
-      (λ s. let z : ⊥ = omega (arith, s) in absurd z)
-      ∙ f)
+      (link-stays v OLDER (unfinished-left m T xs h v p) (omega arith) (λ s. omega (arith, s)) (λ s. omega (arith, s)) ∙ f)
       (kin-stays z q v up (not-older z q v l k) k)
 
   each-stays : (l : List ℕ) → ((x : ℕ) → 0 < occurrences x l → (0 < occurrences x T) × (x ≡ t → ⊥)) → Each c d l

@@ -7,7 +7,7 @@ use Prim.Native.Nat.{ℕ, _+_, _-_, _*_, _<_}
 use native.Mathlib.Omega.{arith}
 use lib.ListN.{length, length-append}
 use Rattle.lists.specs.Counting.{occurrences, occurs-here, occurs-append}
-use Rattle.layout.specs.Layout.{STATUS, RIGHTS, PARENT, OLDER, YOUNGER, YOUNGEST, task, read}
+use Rattle.layout.specs.Layout.{STATUS, RIGHTS, PARENT, OLDER, YOUNGER, YOUNGEST}
 use Rattle.rules.specs.Contents.{Contents, decode, word}
 use Rattle.rules.specs.Rules.{Unfinished}
 use Rattle.rules.specs.Test.{topTest, idleTest}
@@ -26,9 +26,6 @@ module _ (m n : List ℕ) (T : List ℕ) (xs : List Item) (h : Linked m T xs) (t
 
   abbrev d : Contents
   d = decode n
-
-  abbrev o : ℕ
-  o = read m (task t YOUNGEST)
 
   free : Idle c
   free = idle-says c (h .idle)

@@ -11,7 +11,8 @@ use borrow.Author.Tests.{eqb-false, ne-eqb}
 use Rattle.words.specs.Words.{size, load-other, pick, pick-true, pick-false, pass, halt}
 use Rattle.words.specs.Blocks.{storeAll, size-storeAll}
 use Rattle.lists.specs.Counting.{equal?}
-use Rattle.layout.specs.Layout.{WORDS, NONE, UNFINISHED, USER, STATUS, RIGHTS, PARENT, OLDER, YOUNGER, YOUNGEST, Field, task, head, tail, queueHead, freeTasks, freeTask, address, read, write}
+use Rattle.layout.specs.Layout.{WORDS, NONE, UNFINISHED, USER, STATUS, RIGHTS, PARENT, OLDER, YOUNGER, YOUNGEST, Field, task, head, tail, queueHead, freeTasks}
+use Rattle.layout.specs.Layout.{freeTask, address, read, write}
 use Rattle.layout.specs.Frame.{size-write, read-same, read-other}
 use Rattle.calls.specs.Spawn.{forQueues, keptQueue, keptUser, childViews, passedOn, childMade}
 use Rattle.links.specs.Blocks.{block-in, block-task, block-word, block-front}
@@ -27,20 +28,23 @@ pub tree-trans : {l m n : List ℕ} → SameTree l m → SameTree m n → SameTr
 tree-trans a b = record { sized = b .sized; words = λ x k l. b .words x k l ∙ a .words x k l; front = λ f l. b .front f l ∙ a .front f l }
 
 -- a block behind the links of a record
-pub block-tree : (m : List ℕ) → size m ≡ WORDS → (c k0 : ℕ) (ws : List ℕ) → c < 128 → 6 ≤ k0 → k0 + length ws ≤ 48 → SameTree m (storeAll m (address (task c k0)) ws)
+pub block-tree : (m : List ℕ) → size m ≡ WORDS → (c k0 : ℕ) (ws : List ℕ) → c < 128 → 6 ≤ k0 → k0 + length ws ≤ 48
+    → SameTree m (storeAll m (address (task c k0)) ws)
 block-tree m s c k0 ws l a f =
     record {
       sized = size-storeAll m (address (task c k0)) ws ∙ s;
       words = λ x k i.
           ⊎-elim
-          (λ e. subst (λ (y : ℕ). read (storeAll m (address (task c k0)) ws) (task y k) ≡ read m (task y k)) (sym e) (block-word m s c k0 ws l f k (inl (omega (arith, i, a)))))
+          (λ e. subst (λ (y : ℕ). read (storeAll m (address (task c k0)) ws) (task y k) ≡ read m (task y k)) (sym e)
+          (block-word m s c k0 ws l f k (inl (omega (arith, i, a)))))
           (λ n. block-task m s c k0 ws l f x k (omega (arith, i)) n)
           (equal? x c);
       front = λ g i. block-front m s c k0 ws l f g i;
     }
 
 -- a write to another word of a task
-pub other-word : (m : List ℕ) (x k y j v : ℕ) → x < 128 → k < 48 → y < 128 → j < 48 → ((x ≡ y) × (k ≡ j) → ⊥) → read (write m (task y j) v) (task x k) ≡ read m (task x k)
+pub other-word : (m : List ℕ) (x k y j v : ℕ) → x < 128 → k < 48 → y < 128 → j < 48 → ((x ≡ y) × (k ≡ j) → ⊥)
+    → read (write m (task y j) v) (task x k) ≡ read m (task x k)
 other-word m x k y j v a b d e n = read-other m (task y j) (task x k) v (d, e) (a, b) (λ q. n (same q))
   where
     same : task x k ≡ task y j → (x ≡ y) × (k ≡ j)
@@ -56,7 +60,8 @@ unfolding childViews forQueues
 views-length m t r = refl
 
 -- four words of a record
-pub four-tree : (m : List ℕ) → size m ≡ WORDS → (c k0 : ℕ) (f : ℕ → ℕ) → c < 128 → 6 ≤ k0 → k0 ≤ 44 → SameTree m (storeAll m (address (task c k0)) (forQueues f))
+pub four-tree : (m : List ℕ) → size m ≡ WORDS → (c k0 : ℕ) (f : ℕ → ℕ) → c < 128 → 6 ≤ k0 → k0 ≤ 44
+    → SameTree m (storeAll m (address (task c k0)) (forQueues f))
 unfolding forQueues
 four-tree m s c k0 f l a b = block-tree m s c k0 (f 0 ∷ f 1 ∷ f 2 ∷ f 3 ∷ []) l a (omega (arith, b))
 
@@ -154,7 +159,8 @@ module _ (m0 : List ℕ) (sized : size m0 ≡ WORDS) (t r c : ℕ) (small : t < 
       go true e = ap (λ (k : List ℕ). read k (task t YOUNGEST)) (halt m3 _ e) ∙ first
       go false e =
           ap (λ (k : List ℕ). read k (task t YOUNGEST)) (pass m3 e refl)
-          ∙ other-word m3 t YOUNGEST o YOUNGER c small (omega arith) (⊎-elim (λ z. absurd (eqb-false o NONE e z)) (λ z. z) some) (omega arith) (λ q. let e = q .1 in omega (arith, e))
+          ∙ other-word m3 t YOUNGEST o YOUNGER c small (omega arith) (⊎-elim (λ z. absurd (eqb-false o NONE e z)) (λ z. z) some) (omega arith)
+          (λ q. let e = q .1 in omega (arith, e))
           ∙ first
 
   made-sibling : (o ≡ NONE → ⊥) → o < 128 → read made (task o YOUNGER) ≡ c

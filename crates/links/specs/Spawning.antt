@@ -187,7 +187,3 @@ module _ (m n : List ℕ) (T : List ℕ) (ys zs : List Item) (s : Task) (r u : �
         parents = parents-are;
         ages = ages-are;
       }
-
-  -- the number is new
-  pub fresh-number : (o : Task) → In (spot o) Old → numberOf o ≡ u → ⊥
-  fresh-number o i e = stay .apart (numberOf o) (spot-unfinished m T Old h o i) e

@@ -2,7 +2,7 @@
 use mathlib.Core.Path.{_≡_, refl, ap, sym, _∙_, subst}
 use mathlib.Core.Bool.{Bool, true, not, false≢true}
 use mathlib.Core.List.{List, _∷_}
-use mathlib.Core.Logic.{_⊎_, inr, ⊎-elim}
+use mathlib.Core.Logic.{inr, ⊎-elim}
 use Prim.Native.Nat.{ℕ, zero, suc, _<_, _≤_}
 use native.Mathlib.Omega.{arith}
 use lib.Dec.{eqb}
@@ -48,14 +48,16 @@ module _ (m : List ℕ) (T : List ℕ) (xs : List Item) (play : Played xs) (h : 
       (λ e.
       let w = unfinished-says xs (played-reached play) t e in
       let u = spot-unfinished m T xs h (w .0) (w .1) in
-      subst (λ (x : ℕ). unfinishedIn m x ≡ true) (w .2) (true-both (lt-ltb (numberOf (w .0)) 128 (u .0)) (eq-eqb _ _ (sym (word-is m (numberOf (w .0)) STATUS) ∙ u .1))))
+      subst (λ (x : ℕ). unfinishedIn m x ≡ true) (w .2)
+      (true-both (lt-ltb (numberOf (w .0)) 128 (u .0)) (eq-eqb _ _ (sym (word-is m (numberOf (w .0)) STATUS) ∙ u .1))))
 
   pub same-rights : (s : Task) → In (spot s) xs → rightsIn m (numberOf s) ≡ rightsOf s
   unfolding rightsIn
   same-rights s i = h .rights s i
 
   -- a list of siblings ends within 128 steps, from a task's older sibling on and from its youngest child on
-  walk-end : (k t : ℕ) → t < 128 → k ≤ 128 → walk (λ x. word (decode m) x OLDER) k t ≡ NONE → (j : ℕ) × (j ≤ 128) × (walk (λ x. load (recs x) OLDER) j (load (recs t) OLDER) ≡ NONE)
+  walk-end : (k t : ℕ) → t < 128 → k ≤ 128 → walk (λ x. word (decode m) x OLDER) k t ≡ NONE
+      → (j : ℕ) × (j ≤ 128) × (walk (λ x. load (recs x) OLDER) j (load (recs t) OLDER) ≡ NONE)
   unfolding walk word
   walk-end zero t l n e = let z : ⊥ = omega (arith, l, e) in absurd z
   walk-end (suc k) t l n e = (k, omega (arith, n), e)
@@ -88,8 +90,12 @@ module _ (m : List ℕ) (T : List ℕ) (xs : List Item) (play : Played xs) (h : 
       let found = sibling 128 f recs (read m (task (numberOf s) OLDER)) in
       let w = found-on recs f 128 _ found refl (is-not _ e) in
       let v = on-older m T xs play h s _ found i (sym (record-word m (numberOf s) OLDER)) (w .0) in
-      says-blocked xs (played-reached play) (v .0) s
-      (v .1, v .3, subst (λ (x : ℕ). sharesPop x (rightsOf s) ≡ true) (ap (rightsIn m) (sym (v .2)) ∙ same-rights (v .0) (v .1)) (subst (λ (x : ℕ). sharesPop (rightsIn m found) x ≡ true) (same-rights s i) (w .1))) i)
+      says-blocked xs (played-reached play) (v .0) s (
+        v .1,
+        v .3,
+        subst (λ (x : ℕ). sharesPop x (rightsOf s) ≡ true) (ap (rightsIn m) (sym (v .2)) ∙ same-rights (v .0) (v .1))
+            (subst (λ (x : ℕ). sharesPop (rightsIn m found) x ≡ true) (same-rights s i) (w .1)),
+      ) i)
       (λ e.
       let w = blocked-says xs (played-reached play) s i e in
       let g = older-on m T xs play h s (w .0) i (w .1 .0) (w .1 .1) in
@@ -97,14 +103,16 @@ module _ (m : List ℕ) (T : List ℕ) (xs : List Item) (play : Played xs) (h : 
       not-is _
       (on-found recs f 128 (k .0) _ (numberOf (w .0)) (k .1) (ap (walk (λ x. load (recs x) OLDER) (k .0)) (sym (record-word m (numberOf s) OLDER)) ∙ k .2)
       (subst (λ (x : ℕ). On recs x (numberOf (w .0))) (record-word m (numberOf s) OLDER) g)
-      (subst (λ (x : ℕ). sharesPop x (rightsIn m (numberOf s)) ≡ true) (sym (same-rights (w .0) (w .1 .0))) (subst (λ (x : ℕ). sharesPop (rightsOf (w .0)) x ≡ true) (sym (same-rights s i)) (w .1 .2)))))
+      (subst (λ (x : ℕ). sharesPop x (rightsIn m (numberOf s)) ≡ true) (sym (same-rights (w .0) (w .1 .0)))
+      (subst (λ (x : ℕ). sharesPop (rightsOf (w .0)) x ≡ true) (sym (same-rights s i)) (w .1 .2)))))
     where
       f : ℕ → Bool
       f x = sharesPop (rightsIn m x) (rightsIn m (numberOf s))
 
   -- a child of s that a test of rights holds of
   pub same-child : (g : ℕ → Bool) (s : Task) → In (spot s) xs
-      → not (eqb (sibling 128 (λ x. g (rightsIn m x)) recs (read m (task (numberOf s) YOUNGEST))) NONE) ≡ someSpot (λ o. both (isChild (nameOf o) (nameOf s)) (g (rightsOf o))) xs
+      → not (eqb (sibling 128 (λ x. g (rightsIn m x)) recs (read m (task (numberOf s) YOUNGEST))) NONE) ≡ someSpot
+      (λ o. both (isChild (nameOf o) (nameOf s)) (g (rightsOf o))) xs
   same-child g s i =
       same-test _ _
       (λ e.

@@ -46,13 +46,19 @@ below? x n = go (ltb x n) refl
     go true e = inl (ltb-true x n e)
     go false e = inr (ltb-false x n e)
 
-pub one-yes : (x y : ℕ) → x ≡ y → one (eqb x y) ≡ 1
+pub one-true : {b : Bool} → b ≡ true → one b ≡ 1
 unfolding one
-one-yes x y e = halt _ _ (eq-eqb x y e)
+one-true e = halt _ _ e
+
+pub one-false : {b : Bool} → b ≡ false → one b ≡ 0
+unfolding one
+one-false e = pass _ e refl
+
+pub one-yes : (x y : ℕ) → x ≡ y → one (eqb x y) ≡ 1
+one-yes x y e = one-true (eq-eqb x y e)
 
 pub one-no : (x y : ℕ) → (x ≡ y → ⊥) → one (eqb x y) ≡ 0
-unfolding one
-one-no x y e = pass _ (ne-eqb x y e) refl
+one-no x y e = one-false (ne-eqb x y e)
 
 pub occurs-nil : (s : ℕ) → occurrences s [] ≡ 0
 unfolding occurrences

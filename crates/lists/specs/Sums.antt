@@ -7,7 +7,8 @@ use Prim.Native.Nat.{ℕ, zero, suc, _+_, _*_, _<_, _≤_}
 use native.Mathlib.Omega.{arith}
 use native.Mathlib.Nat.{le-of-suc-le-suc, eq-or-lt-of-le, add-mul, zero-mul}
 use lib.Dec.{eqb}
-use Rattle.lists.specs.Counting.{one, occurrences, over, total, equal?, one-yes, one-no, occurs-nil, occurs-cons, occurs-here, occurs-past, total-ext, total-at}
+use Rattle.lists.specs.Counting.{one, occurrences, over, total, equal?, one-yes, one-no, occurs-nil, occurs-cons, occurs-here, occurs-past, total-ext}
+use Rattle.lists.specs.Counting.{total-at}
 
 pub over-zero : (xs : List ℕ) → over xs (λ y. 0) ≡ 0
 unfolding over
@@ -33,7 +34,8 @@ over-at (x ∷ xs) g k h =
     ∙ ⊎-elim
     (λ e.
     ap (λ (n : ℕ). n + occurrences k xs * g k) (ap g e)
-    ∙ sym (ap (λ (n : ℕ). n * g k) (occurs-here x k xs e) ∙ add-mul 1 (occurrences k xs) (g k) ∙ ap (λ (n : ℕ). n + occurrences k xs * g k) (let z : 1 * g k ≡ g k = omega arith in z)))
+    ∙ sym (ap (λ (n : ℕ). n * g k) (occurs-here x k xs e) ∙ add-mul 1 (occurrences k xs) (g k)
+    ∙ ap (λ (n : ℕ). n + occurrences k xs * g k) (let z : 1 * g k ≡ g k = omega arith in z)))
     (λ n.
     ap (λ (y : ℕ). y + occurrences k xs * g k) (h x (let a = occurs-here x x xs refl in omega (arith, a)) n)
     ∙ (let z : 0 + occurrences k xs * g k ≡ occurrences k xs * g k = omega arith in z)
@@ -111,3 +113,10 @@ total-alone n x f h e m y l = sym (total-tight n (λ z. one (eqb x z)) f (λ z k
       where
         times : (k : ℕ) → k ≡ k * 1
         times k = omega arith
+
+pub total-split : (m n : ℕ) (f : ℕ → ℕ) → total (m + n) f ≡ total m f + total n (λ y. f (m + y))
+unfolding total
+total-split m zero f = ap (λ (k : ℕ). total k f) (let z : m + 0 ≡ m = omega arith in z) ∙ (let z : total m f ≡ total m f + 0 = omega arith in z)
+total-split m (suc n) f =
+    ap (λ (k : ℕ). total k f) (let z : m + suc n ≡ suc (m + n) = omega arith in z)
+    ∙ (let a = total-split m n f in let z : total (m + n) f + f (m + n) ≡ total m f + (total n (λ y. f (m + y)) + f (m + n)) = omega (arith, a) in z)

@@ -1,14 +1,14 @@
 -- What the calls look for, by the meaning: a value at the head of a queue, and the marks at which a view stands.
 use mathlib.Core.Path.{_≡_, refl, ap, ap₂, sym, _∙_}
 use mathlib.Core.Bool.{Bool, true, false, not}
-use mathlib.Core.Option.{none, some}
+use mathlib.Core.Option.{some}
 use mathlib.Core.List.{List, [], _∷_}
 use Prim.Native.Nat.{ℕ, suc, _-_, _<_}
 use native.Mathlib.Omega.{arith}
 use lib.Dec.{ltb, eqb}
 use lib.ListN.{length}
-use borrow.Author.Tests.{eq-eqb, ne-eqb, lt-ltb, le-ltb}
-use Rattle.words.specs.Words.{both, either, both-off, both-right-off, true-both}
+use borrow.Author.Tests.{eq-eqb, ne-eqb, lt-ltb}
+use Rattle.words.specs.Words.{both, either, both-right-off, true-both}
 use Rattle.layout.specs.Layout.{NL, RIGHTS, CHILDREN, numberWord, count, queueHead, task, read}
 use Rattle.tree.specs.Rights.{uses}
 use Rattle.calls.specs.Segments.{valueAt}
@@ -20,17 +20,10 @@ use Rattle.meaning.specs.Reads.{head-at, view-at}
 use Rattle.meaning.specs.Ring.{count-length}
 use Rattle.meaning.specs.Segment.{number-below}
 use Rattle.meaning.specs.Values.{first-value}
-use Rattle.meaning.specs.Free.{none-word, link-word}
+use Rattle.meaning.specs.Free.{link-word}
 use Rattle.meaning.specs.Extents.{not-empty}
 
 module _ (m : List ℕ) (t q : ℕ) (ht : t < 128) (hq : q < 4) where
-  -- NO QUEUE VIEW
-  pub no-head : headsIn m q t ≡ none → hasValue m t q ≡ false
-  unfolding hasValue
-  no-head e =
-      let w = none-word (read m (queueHead t q)) (sym (head-at m q t hq ht) ∙ e) in
-      both-off _ (le-ltb (read m (queueHead t q)) NL (omega (arith, w)))
-
   -- THE FIRST SEGMENT s
   module _ (s : ℕ) (z : Sized m) (hs : s < read m numberWord) (e : headsIn m q t ≡ some s) where
     head-is : read m (queueHead t q) ≡ s

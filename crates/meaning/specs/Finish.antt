@@ -16,7 +16,8 @@ use Rattle.meaning.specs.Reads.{view-at}
 use Rattle.meaning.specs.Kept.{Becomes, becomes-then, becomes-as, becomes-at}
 use Rattle.meaning.specs.Extents.{vacant-empty, extent-filled}
 use Rattle.meaning.specs.Reduce.{Links, Tailed, mergedIn, view-merged}
-use Rattle.meaning.specs.Merges.{clearedIn, inner, whole, store2, threeIn, inner-view, right-view, twice-merged, whole-view, place-view, returnedIn, thrice-merged}
+use Rattle.meaning.specs.Merges.{clearedIn, inner, whole, store2, threeIn, inner-view, right-view, twice-merged, whole-view, place-view, returnedIn}
+use Rattle.meaning.specs.Merges.{thrice-merged}
 
 -- the words after the first reduction, and after the second
 abbrev pub words1 : List ℕ → ℕ → ℕ → List ℕ

@@ -18,8 +18,8 @@ use Rattle.calls.specs.Places.{place-low}
 use Rattle.meaning.specs.Meaning.{optional, listed, stack, freeIn, meaningOf, Sized}
 use Rattle.meaning.specs.Update.{withNext, withContents, withFree}
 use Rattle.meaning.specs.Reads.{stack-path, contents-at, value-word, next-same, contents-same}
-use Rattle.meaning.specs.Kept.{Becomes, becomes-then, becomes-at, read-away}
-use Rattle.meaning.specs.SegmentsOnly.{SegmentsOnly, segments-then, height-only, place-only, segments-sized, segments-become}
+use Rattle.meaning.specs.Kept.{Becomes, becomes-then, becomes-at, read-away, only-then}
+use Rattle.meaning.specs.SegmentsOnly.{SegmentsOnly, height-only, place-only, segments-sized, segments-become}
 use Rattle.meaning.specs.Segment.{OnlySegment, segment-then, segment-other, record-written, value-written, same-length, value-inside, number-below}
 use Rattle.meaning.specs.Segment.{segment-sized, next-changed, values-changed, free-kept}
 
@@ -154,7 +154,7 @@ stack-raised m s z hh =
     let size1 : size m1 ≡ WORDS = size-write m (freeSegment h) s ∙ z .words in
     let raised : read n freeSegments ≡ h + 1 = read-same m1 freeSegments (h + 1) size1 (omega arith) in
     let above : (i : ℕ) → read n (freeSegment i) ≡ read m1 (freeSegment i) = λ i. read-away m1 freeSegments (freeSegment i) (h + 1) (λ q. omega (arith, q)) in
-    stack-become m n z (segments-then (place-only m h s room) (height-only m1 (h + 1)))
+    stack-become m n z (only-then (place-only m h s room) (height-only m1 (h + 1)))
     (omega (arith, raised, hh))
     (λ t k a b.
     read-away m1 freeSegments (segment t k) (h + 1) (λ q. omega (arith, q)) ∙ read-away m (freeSegment h) (segment t k) s (λ q. omega (arith, q, room)))

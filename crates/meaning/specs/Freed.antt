@@ -22,8 +22,8 @@ use Rattle.gaps.specs.Line.{Extent, local, extent}
 use Rattle.meaning.specs.Meaning.{Meaning, optional, extentOf, headsIn, viewIn, meaningOf, Sized}
 use Rattle.meaning.specs.Maps.{put-path}
 use Rattle.meaning.specs.Reads.{head-at, view-at, head-same-at, view-same-at}
-use Rattle.meaning.specs.Kept.{Means, read-away}
-use Rattle.meaning.specs.TasksOnly.{TasksOnly, tasks-then, block-only, idle-only, idle-height-only, tasks-mean}
+use Rattle.meaning.specs.Kept.{Means, read-away, only-then}
+use Rattle.meaning.specs.TasksOnly.{TasksOnly, block-only, idle-only, idle-height-only, tasks-mean}
 use Rattle.meaning.specs.Free.{optional-some}
 use Rattle.meaning.specs.Extents.{end-local, tailed-extent}
 use Rattle.meaning.specs.Records.{record-same, record-other}
@@ -80,7 +80,7 @@ module _ (m : List ℕ) (t : ℕ) (z : Sized m) (ht : t < 128) where
       go : (b : Bool) → ltb (read m freeTasks) 128 ≡ b
           → TasksOnly m (pick b (write (write cleared (freeTask (read m freeTasks)) t) freeTasks (read m freeTasks + 1)) cleared)
       go true e = unfold pick in
-          tasks-then (tasks-then (block-only m t 0 (replicate 48 0) ht fits) (idle-only cleared (read m freeTasks) t (ltb-true _ _ e))) (idle-height-only _ _)
+          only-then (only-then (block-only m t 0 (replicate 48 0) ht fits) (idle-only cleared (read m freeTasks) t (ltb-true _ _ e))) (idle-height-only _ _)
       go false e = unfold pick in block-only m t 0 (replicate 48 0) ht fits
 
   freed-word : (j : ℕ) → j < 48 → read n (task t j) ≡ 0

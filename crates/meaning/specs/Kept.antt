@@ -4,6 +4,7 @@ use mathlib.Core.List.{List}
 use Prim.Native.Nat.{ℕ, _<_}
 use Rattle.words.specs.Words.{size, load-other}
 use Rattle.layout.specs.Layout.{Field, freeTask, task, address, read, write, lengthWord, numberWord, freeTasks}
+use Rattle.layout.specs.Frame.{size-write}
 use Rattle.meaning.specs.Meaning.{Meaning, meaningOf, Sized}
 
 -- the size, L, the number of segments, the task tree and the stack of free records are the same
@@ -59,3 +60,14 @@ becomes-at {m} {M = M} e a = subst (λ l. Becomes m l M) e a
 pub read-away : (m : List ℕ) (f g : Field) (v : ℕ) → (address g ≡ address f → ⊥) → read (write m f v) g ≡ read m g
 unfolding read write
 read-away m f g v n = load-other m (address f) (address g) v n
+
+-- n is m but for fields that P does not hold of
+pub record Only (P : Field → Type 0) (m n : List ℕ) : Type 0 where
+  pub words : size n ≡ size m
+  pub same : (f : Field) → P f → read n f ≡ read m f
+
+pub only-then : {P : Field → Type 0} {m n p : List ℕ} → Only P m n → Only P n p → Only P m p
+only-then a b = record { words = b .words ∙ a .words; same = λ f h. b .same f h ∙ a .same f h }
+
+pub write-only : {P : Field → Type 0} (m : List ℕ) (g : Field) (v : ℕ) → ((f : Field) → P f → address f ≡ address g → ⊥) → Only P m (write m g v)
+write-only m g v n = record { words = size-write m g v; same = λ f h. read-away m g f v (n f h) }

@@ -128,6 +128,7 @@ module _ (M : Meaning) (q holder t : ℕ) where
           let y = reduced (M .views q k u) whole in
           merged-as (threeIn store2 whole) q holder k u CHILDREN t (M .views q k u) whole store2 place-view (whole-view store2) (store-set M q store2)
           ∙ ap
-          (λ (S : Meaning). withView (withView (withView (withView (withView S q CHILDREN t whole) q USER t vacant) q RIGHT t vacant) q k u y) q CHILDREN t vacant)
+          (λ (S : Meaning). withView (withView (withView (withView (withView S q CHILDREN t whole) q USER t vacant) q RIGHT t vacant) q k u y) q CHILDREN t
+          vacant)
           (store-twice M q store2 store3)
           ∙ inside-out (withStore M q store3) y

@@ -10,11 +10,12 @@ use Rattle.lists.specs.Marks.{zeros}
 use Rattle.layout.specs.Layout.{WORDS, NONE, header, freeSegment, segment, task, address, read, lengthWord, numberWord, freeSegments, first, count, next}
 use Rattle.tree.specs.Queues.{by-four}
 use Rattle.calls.specs.Open.{down, emptySegment, topLinks, topViews, stacked, segmented, topped, opened}
-use Rattle.meaning.specs.SegmentsOnly.{SegmentsOnly, segments-then}
-use Rattle.meaning.specs.TasksOnly.{TasksOnly, tasks-then, block-only}
+use Rattle.meaning.specs.SegmentsOnly.{SegmentsOnly}
+use Rattle.meaning.specs.TasksOnly.{TasksOnly, block-only}
 use Rattle.meaning.specs.Segment.{OnlySegment}
 use Rattle.meaning.specs.Free.{recordSet, record-set, set-only, set-first, set-count, set-next}
 use Rattle.meaning.specs.Records.{record-same, record-other}
+use Rattle.meaning.specs.Kept.{only-then}
 
 -- NUMBERS FROM x DOWN
 pub down-length : (n x : ℕ) → length (down n x) ≡ n
@@ -132,7 +133,7 @@ module _ (l n : ℕ) (hn : 4 ≤ n) (hn' : n ≤ 256) where
 
   -- what they leave alone
   four-only : SegmentsOnly bare seg4
-  four-only = segments-then (segments-then (only1 .only) (only2 .only)) (segments-then (only3 .only) (only4 .only))
+  four-only = only-then (only-then (only1 .only) (only2 .only)) (only-then (only3 .only) (only4 .only))
 
   four-height : read seg4 freeSegments ≡ read bare freeSegments
   four-height = only4 .height ∙ only3 .height ∙ only2 .height ∙ only1 .height
@@ -196,7 +197,7 @@ module _ (l n : ℕ) (hn : 4 ≤ n) (hn' : n ≤ 256) where
   size-core = size-storeAll links1 _ _ ∙ size-links
 
   top-only : TasksOnly seg4 core
-  top-only = tasks-then (block-only seg4 0 0 topLinks (omega arith) (omega arith)) (block-only links1 0 16 topViews (omega arith) (omega arith))
+  top-only = only-then (block-only seg4 0 0 topLinks (omega arith) (omega arith)) (block-only links1 0 16 topViews (omega arith) (omega arith))
 
   -- WHAT IS READ
   header-read : (m : List ℕ) (k : ℕ) → read m (header k) ≡ load m k

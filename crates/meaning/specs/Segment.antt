@@ -14,8 +14,8 @@ use Rattle.meaning.specs.Meaning.{optional, nextIn, contentsIn, freeIn, 
 use Rattle.meaning.specs.Update.{withNext}
 use Rattle.meaning.specs.Maps.{put-path}
 use Rattle.meaning.specs.Reads.{next-at, next-same-at, contents-same, free-same}
-use Rattle.meaning.specs.Kept.{Becomes, read-away}
-use Rattle.meaning.specs.SegmentsOnly.{SegmentsOnly, segments-then, segment-only, value-only, segments-sized, segments-become}
+use Rattle.meaning.specs.Kept.{Becomes, read-away, only-then}
+use Rattle.meaning.specs.SegmentsOnly.{SegmentsOnly, segment-only, value-only, segments-sized, segments-become}
 use Rattle.meaning.specs.Ring.{contents-changed, value-elsewhere}
 
 -- n is m but for words of segment s, of its record and its values
@@ -29,13 +29,10 @@ pub record OnlySegment (m n : List ℕ) (s : ℕ) : Type 0 where
 pub same-length : {m n : List ℕ} → SegmentsOnly m n → read n lengthWord ≡ read m lengthWord
 same-length o = o .same lengthWord (omega arith, λ q. omega (arith, q))
 
-pub same-number : {m n : List ℕ} → SegmentsOnly m n → read n numberWord ≡ read m numberWord
-same-number o = o .same numberWord (omega arith, λ q. omega (arith, q))
-
 pub segment-then : {m n p : List ℕ} {s : ℕ} → OnlySegment m n s → OnlySegment n p s → OnlySegment m p s
 segment-then {m} {n} {p} {s} a b =
     record {
-      only = segments-then (a .only) (b .only);
+      only = only-then (a .only) (b .only);
       height = b .height ∙ a .height;
       stack = λ i l. b .stack i l ∙ a .stack i l;
       records = λ t k l g d. b .records t k l g d ∙ a .records t k l g d;

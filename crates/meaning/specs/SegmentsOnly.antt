@@ -3,13 +3,12 @@ use mathlib.Core.Path.{_≡_, _∙_}
 use mathlib.Core.List.{List}
 use Prim.Native.Nat.{ℕ, _<_, _≤_}
 use native.Mathlib.Omega.{arith}
-use Rattle.words.specs.Words.{size}
-use Rattle.layout.specs.Layout.{Field, header, freeSegment, freeTask, segment, task, value, address, read, write, lengthWord, numberWord, freeSegments, freeTasks, first, count}
-use Rattle.layout.specs.Frame.{size-write}
+use Rattle.layout.specs.Layout.{Field, header, freeSegment, freeTask, segment, task, value, address, read, write, lengthWord, numberWord, freeSegments}
+use Rattle.layout.specs.Layout.{freeTasks, first, count}
 use Rattle.meaning.specs.Meaning.{Meaning, meaningOf, Sized, nextIn, contentsIn, freeIn, headsIn, viewIn}
 use Rattle.meaning.specs.Update.{meaning-path}
 use Rattle.meaning.specs.Reads.{heads-same, views-same}
-use Rattle.meaning.specs.Kept.{Becomes, read-away}
+use Rattle.meaning.specs.Kept.{Becomes, Only, write-only}
 
 -- THE OPERATIONS ON SEGMENTS leave alone what is no word of a segment, no value, and not of the stack of free segments.
 abbrev pub BesideSegments : Field → Type 0
@@ -20,12 +19,8 @@ BesideSegments (segment s k) = ⊥
 BesideSegments (task t k) = (t < 128) × (k < 48)
 BesideSegments (value i) = ⊥
 
-pub record SegmentsOnly (m n : List ℕ) : Type 0 where
-  pub words : size n ≡ size m
-  pub same : (f : Field) → BesideSegments f → read n f ≡ read m f
-
-pub segments-then : {m n p : List ℕ} → SegmentsOnly m n → SegmentsOnly n p → SegmentsOnly m p
-segments-then a b = record { words = b .words ∙ a .words; same = λ f h. b .same f h ∙ a .same f h }
+abbrev pub SegmentsOnly : List ℕ → List ℕ → Type 0
+SegmentsOnly = Only BesideSegments
 
 beside-segments : (f : Field) → BesideSegments f
     → (address f ≡ 2 → ⊥) × (64 ≤ address f → address f < 320 → ⊥) × (448 ≤ address f → address f < 1472 → ⊥) × (address f < 8192)
@@ -39,31 +34,22 @@ beside-segments (value i) h = absurd h
 
 pub height-only : (m : List ℕ) (v : ℕ) → SegmentsOnly m (write m freeSegments v)
 unfolding address
-height-only m v = record { words = size-write m freeSegments v; same = λ f h. read-away m freeSegments f v (beside-segments f h .0) }
+height-only m v = write-only m freeSegments v (λ f h. beside-segments f h .0)
 
 pub place-only : (m : List ℕ) (i v : ℕ) → i < 256 → SegmentsOnly m (write m (freeSegment i) v)
 unfolding address
 place-only m i v l =
-    record {
-      words = size-write m (freeSegment i) v;
-      same = λ f h. read-away m (freeSegment i) f v (λ e. beside-segments f h .1 (omega (arith, e)) (omega (arith, e, l)));
-    }
+    write-only m (freeSegment i) v (λ f h e. beside-segments f h .1 (omega (arith, e)) (omega (arith, e, l)))
 
 pub segment-only : (m : List ℕ) (s k v : ℕ) → s < 256 → k < 4 → SegmentsOnly m (write m (segment s k) v)
 unfolding address
 segment-only m s k v l g =
-    record {
-      words = size-write m (segment s k) v;
-      same = λ f h. read-away m (segment s k) f v (λ e. beside-segments f h .2 (omega (arith, e)) (omega (arith, e, l, g)));
-    }
+    write-only m (segment s k) v (λ f h e. beside-segments f h .2 (omega (arith, e)) (omega (arith, e, l, g)))
 
 pub value-only : (m : List ℕ) (i v : ℕ) → SegmentsOnly m (write m (value i) v)
 unfolding address
 value-only m i v =
-    record {
-      words = size-write m (value i) v;
-      same = λ f h. read-away m (value i) f v (λ e. let a = beside-segments f h .3 in omega (arith, a, e));
-    }
+    write-only m (value i) v (λ f h e. let a = beside-segments f h .3 in omega (arith, a, e))
 
 pub segments-sized : {m n : List ℕ} → SegmentsOnly m n → Sized m → read n freeSegments ≤ read m numberWord
     → ((s : ℕ) → s < read m numberWord → read n (first s) < read m lengthWord) → ((s : ℕ) → s < read m numberWord → read n (count s) ≤ read m lengthWord)

@@ -13,9 +13,10 @@ use Rattle.words.specs.Blocks.{storeAll, size-storeAll}
 use Rattle.layout.specs.Layout.{WORDS, NONE, UNFINISHED, YOUNGER, YOUNGEST, USER, task, head, tail, queueHead, address, read, write}
 use Rattle.tree.specs.Queues.{by-four}
 use Rattle.calls.specs.Spawn.{forQueues, passedUser, passedQueue, keptUser, keptQueue, noWords, childViews, passedOn, childMade, queues-four}
-use Rattle.meaning.specs.TasksOnly.{TasksOnly, tasks-then, word-only, block-only}
+use Rattle.meaning.specs.TasksOnly.{TasksOnly, word-only, block-only}
 use Rattle.meaning.specs.Views.{task-other}
 use Rattle.meaning.specs.Records.{record-same, record-other}
+use Rattle.meaning.specs.Kept.{only-then}
 
 -- FOUR WORDS, one for each queue, with others behind them
 four-here : (f : ℕ → ℕ) (r : List ℕ) (q : ℕ) → q < 4 → load (forQueues f ++ r) q ≡ f q
@@ -107,7 +108,7 @@ module _ (m : List ℕ) (t r : ℕ) (z : size m ≡ WORDS) (ht : t < 128) where
   pub passed-only : TasksOnly m (passedOn m t r)
   unfolding passedOn
   passed-only =
-      tasks-then (tasks-then (block-only m t 16 _ ht (four-fits _ 16 (omega arith))) (block-only heads1 t 24 _ ht (four-fits _ 24 (omega arith))))
+      only-then (only-then (block-only m t 16 _ ht (four-fits _ 16 (omega arith))) (block-only heads1 t 24 _ ht (four-fits _ 24 (omega arith))))
       (block-only heads2 t 36 _ ht (four-fits _ 36 (omega arith)))
 
   pub passed-other : (u j : ℕ) → j < 48 → (u ≡ t → 16 ≤ j → j < 20 → ⊥) → (u ≡ t → 24 ≤ j → j < 28 → ⊥) → (u ≡ t → 36 ≤ j → j < 40 → ⊥)
@@ -172,14 +173,14 @@ module _ (m : List ℕ) (t r c : ℕ) (z : size m ≡ WORDS) (ht : t < 128) (hc 
     where
       three : TasksOnly m kept3
       three =
-          tasks-then (tasks-then (tasks-then (block-only m c 0 _ hc (omega arith)) (block-only linked1 c 16 _ hc views-fit))
+          only-then (only-then (only-then (block-only m c 0 _ hc (omega arith)) (block-only linked1 c 16 _ hc views-fit))
           (passed-only viewed t r size-viewed ht))
           (word-only (passedOn viewed t r) t YOUNGEST c ht (omega arith))
 
       go : (s : Bool) → eqb (read m (task t YOUNGEST)) NONE ≡ s → TasksOnly m (pick s kept3 (write kept3 (task (read m (task t YOUNGEST)) YOUNGER) c))
       go true e = unfold pick in three
       go false e = unfold pick in
-          tasks-then three (word-only kept3 (read m (task t YOUNGEST)) YOUNGER c (ho (eqb-false _ _ e)) (omega arith))
+          only-then three (word-only kept3 (read m (task t YOUNGEST)) YOUNGER c (ho (eqb-false _ _ e)) (omega arith))
 
   -- a task that is not the child
   viewed-other : (u j : ℕ) → (u ≡ c → ⊥) → j < 48 → read viewed (task u j) ≡ read m (task u j)

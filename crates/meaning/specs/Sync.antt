@@ -11,7 +11,8 @@ use Rattle.gaps.specs.Line.{Extent, vacant}
 use Rattle.gaps.specs.Store.{Store}
 use Rattle.gaps.specs.Moves.{reduced, joined as storeJoined, synced as memorySynced}
 use Rattle.meaning.specs.Meaning.{Meaning, viewIn, meaningOf, storeOf, memoryOf, Sized}
-use Rattle.meaning.specs.Update.{withStore, withView, view-here, view-kind, view-twice, view-swap, memory-user, memory-elsewhere, store-set, shared, memory-shared}
+use Rattle.meaning.specs.Update.{withStore, withView, view-here, view-kind, view-twice, view-swap, memory-user, memory-elsewhere, store-set, shared}
+use Rattle.meaning.specs.Update.{memory-shared}
 use Rattle.meaning.specs.Reads.{view-at}
 use Rattle.meaning.specs.Kept.{Becomes, becomes-then, becomes-as}
 use Rattle.meaning.specs.Views.{view-set}

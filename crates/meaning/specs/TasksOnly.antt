@@ -4,14 +4,13 @@ use mathlib.Core.List.{List}
 use Prim.Native.Nat.{ℕ, _+_, _*_, _<_, _≤_}
 use native.Mathlib.Omega.{arith}
 use lib.ListN.{length as len}
-use Rattle.words.specs.Words.{size}
 use Rattle.words.specs.Blocks.{storeAll, block-other, size-storeAll}
-use Rattle.layout.specs.Layout.{Field, header, freeSegment, freeTask, segment, task, value, address, read, write, lengthWord, numberWord, freeSegments, freeTasks, first, count}
-use Rattle.layout.specs.Frame.{size-write}
+use Rattle.layout.specs.Layout.{Field, header, freeSegment, freeTask, segment, task, value, address, read, write, lengthWord, numberWord, freeSegments}
+use Rattle.layout.specs.Layout.{freeTasks, first, count}
 use Rattle.meaning.specs.Meaning.{Meaning, meaningOf, Sized, nextIn, contentsIn, freeIn, headsIn, viewIn}
 use Rattle.meaning.specs.Update.{meaning-path}
 use Rattle.meaning.specs.Reads.{next-same, contents-same, free-same}
-use Rattle.meaning.specs.Kept.{Becomes, Means, read-away}
+use Rattle.meaning.specs.Kept.{Becomes, Means, Only, write-only}
 
 -- THE OPERATIONS ON TASKS leave alone what is no word of a task and not of the stack of free records.
 abbrev pub BesideTasks : Field → Type 0
@@ -22,12 +21,8 @@ BesideTasks (segment s k) = (s < 256) × (k < 4)
 BesideTasks (task t k) = ⊥
 BesideTasks (value i) = Unit {0}
 
-pub record TasksOnly (m n : List ℕ) : Type 0 where
-  pub words : size n ≡ size m
-  pub same : (f : Field) → BesideTasks f → read n f ≡ read m f
-
-pub tasks-then : {m n p : List ℕ} → TasksOnly m n → TasksOnly n p → TasksOnly m p
-tasks-then a b = record { words = b .words ∙ a .words; same = λ f h. b .same f h ∙ a .same f h }
+abbrev pub TasksOnly : List ℕ → List ℕ → Type 0
+TasksOnly = Only BesideTasks
 
 beside-tasks : (f : Field) → BesideTasks f
     → (address f ≡ 3 → ⊥) × (320 ≤ address f → address f < 448 → ⊥) × (1472 ≤ address f → address f < 7616 → ⊥)
@@ -42,22 +37,16 @@ beside-tasks (value i) h = (λ e. omega arith, λ a b. omega arith, λ a b. omeg
 pub word-only : (m : List ℕ) (t k v : ℕ) → t < 128 → k < 48 → TasksOnly m (write m (task t k) v)
 unfolding address
 word-only m t k v a b =
-    record {
-      words = size-write m (task t k) v;
-      same = λ f h. read-away m (task t k) f v (λ e. beside-tasks f h .2 (omega (arith, e)) (omega (arith, e, a, b)));
-    }
+    write-only m (task t k) v (λ f h e. beside-tasks f h .2 (omega (arith, e)) (omega (arith, e, a, b)))
 
 pub idle-height-only : (m : List ℕ) (v : ℕ) → TasksOnly m (write m freeTasks v)
 unfolding address
-idle-height-only m v = record { words = size-write m freeTasks v; same = λ f h. read-away m freeTasks f v (beside-tasks f h .0) }
+idle-height-only m v = write-only m freeTasks v (λ f h. beside-tasks f h .0)
 
 pub idle-only : (m : List ℕ) (i v : ℕ) → i < 128 → TasksOnly m (write m (freeTask i) v)
 unfolding address
 idle-only m i v l =
-    record {
-      words = size-write m (freeTask i) v;
-      same = λ f h. read-away m (freeTask i) f v (λ e. beside-tasks f h .1 (omega (arith, e)) (omega (arith, e, l)));
-    }
+    write-only m (freeTask i) v (λ f h e. beside-tasks f h .1 (omega (arith, e)) (omega (arith, e, l)))
 
 -- several words of one record
 pub block-only : (m : List ℕ) (t k : ℕ) (ws : List ℕ) → t < 128 → k + len ws ≤ 48 → TasksOnly m (storeAll m (address (task t k)) ws)
@@ -111,12 +100,8 @@ BesideViews (segment s k) = (s < 256) × (k < 4)
 BesideViews (task t k) = (t < 128) × (k < 16)
 BesideViews (value i) = Unit {0}
 
-pub record ViewsOnly (m n : List ℕ) : Type 0 where
-  pub words : size n ≡ size m
-  pub same : (f : Field) → BesideViews f → read n f ≡ read m f
-
-pub views-then : {m n p : List ℕ} → ViewsOnly m n → ViewsOnly n p → ViewsOnly m p
-views-then a b = record { words = b .words ∙ a .words; same = λ f h. b .same f h ∙ a .same f h }
+abbrev pub ViewsOnly : List ℕ → List ℕ → Type 0
+ViewsOnly = Only BesideViews
 
 pub beside-views : (f : Field) → BesideViews f → (t k : ℕ) → t < 128 → 16 ≤ k → k < 48 → address f ≡ 1472 + t * 48 + k → ⊥
 unfolding address
@@ -129,7 +114,7 @@ beside-views (value i) h t k a b c e = omega arith
 
 pub view-only : (m : List ℕ) (t k v : ℕ) → t < 128 → 16 ≤ k → k < 48 → ViewsOnly m (write m (task t k) v)
 unfolding address
-view-only m t k v a b c = record { words = size-write m (task t k) v; same = λ f h. read-away m (task t k) f v (λ e. beside-views f h t k a b c e) }
+view-only m t k v a b c = write-only m (task t k) v (λ f h. beside-views f h t k a b c)
 
 pub views-tasks : {m n : List ℕ} → ViewsOnly m n → TasksOnly m n
 views-tasks {m} {n} o = record { words = o .words; same = same }

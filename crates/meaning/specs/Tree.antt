@@ -11,8 +11,8 @@ use Rattle.layout.specs.Layout.{NONE, PARENT, OLDER, YOUNGER, YOUNGEST, freeTas
 use Rattle.calls.specs.Finish.{unlinked}
 use Rattle.meaning.specs.Meaning.{meaningOf, Sized}
 use Rattle.meaning.specs.Reads.{heads-same, views-same}
-use Rattle.meaning.specs.Kept.{Means, read-away}
-use Rattle.meaning.specs.TasksOnly.{TasksOnly, tasks-then, word-only, idle-height-only, tasks-mean}
+use Rattle.meaning.specs.Kept.{Means, read-away, only-then}
+use Rattle.meaning.specs.TasksOnly.{TasksOnly, word-only, idle-height-only, tasks-mean}
 use Rattle.meaning.specs.Views.{task-other}
 
 -- n is m but for links of tasks and the stack of free records
@@ -21,7 +21,7 @@ pub record LinksOnly (m n : List ℕ) : Type 0 where
   pub views : (t k : ℕ) → t < 128 → 16 ≤ k → k < 48 → read n (task t k) ≡ read m (task t k)
 
 pub links-then : {m n p : List ℕ} → LinksOnly m n → LinksOnly n p → LinksOnly m p
-links-then a b = record { only = tasks-then (a .only) (b .only); views = λ t k h g l. b .views t k h g l ∙ a .views t k h g l }
+links-then a b = record { only = only-then (a .only) (b .only); views = λ t k h g l. b .views t k h g l ∙ a .views t k h g l }
 
 -- so it means the same
 pub links-mean : {m n : List ℕ} → Sized m → LinksOnly m n → Means n (meaningOf m)

@@ -116,11 +116,6 @@ module _ (M : Meaning) (q t : ℕ) where
         store = storeOf M q;
       }
 
-  -- THE QUEUE HEADS after one of them is changed
-  module _ (x : Option ℕ) where
-    pub head-here : withHead M q t x .heads q ≡ put (M .heads q) t x
-    head-here = put-same (M .heads) q _
-
 -- TWO VIEWS CHANGED: the same one twice, and two kinds of one queue
 module _ (M : Meaning) (q k t : ℕ) (x : Extent) where
   pub view-twice : (y : Extent) → withView (withView M q k t x) q k t y ≡ withView M q k t y

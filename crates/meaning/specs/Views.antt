@@ -14,8 +14,8 @@ use Rattle.meaning.specs.Meaning.{optional, extentOf, headsIn, viewIn, m
 use Rattle.meaning.specs.Update.{withHead, withView}
 use Rattle.meaning.specs.Maps.{put-path}
 use Rattle.meaning.specs.Reads.{head-at, view-at, head-same-at, view-same-at}
-use Rattle.meaning.specs.Kept.{Becomes, read-away}
-use Rattle.meaning.specs.TasksOnly.{ViewsOnly, views-then, view-only, views-become}
+use Rattle.meaning.specs.Kept.{Becomes, read-away, only-then}
+use Rattle.meaning.specs.TasksOnly.{ViewsOnly, view-only, views-become}
 
 -- two words of task records that are not the same
 pub task-other : (m : List ℕ) (t k u j v : ℕ) → k < 48 → j < 48 → (u ≡ t → j ≡ k → ⊥) → read (write m (task t k) v) (task u j) ≡ read m (task u j)
@@ -97,7 +97,7 @@ module _ (m : List ℕ) (q k t : ℕ) (z : Sized m) (hq : q < 4) (hk : k < 3) (h
   view-set (view h e) =
       let m1 = write m (head k t q) h in
       view-changed m (write m1 (tail k t q) e) q k t _ z hq hk ht
-      (views-then (view-only m t (20 + k * 4 + q) h ht (omega arith) (omega arith)) (view-only m1 t (32 + k * 4 + q) e ht (omega arith) (omega arith)))
+      (only-then (view-only m t (20 + k * 4 + q) h ht (omega arith) (omega arith)) (view-only m1 t (32 + k * 4 + q) e ht (omega arith) (omega arith)))
       (ap₂ (λ (x y : ℕ). extentOf (view x y))
       (task-other m1 t (32 + k * 4 + q) t (20 + k * 4 + q) e (omega arith) (omega arith) (λ f g. omega (arith, g))
       ∙ read-same m (head k t q) h (z .words) (ht, omega arith))

@@ -1,13 +1,13 @@
 -- The memory test, stage by stage, as the code goes through it.
-use mathlib.Core.Path.{_≡_, refl, ap, sym, _∙_}
+use mathlib.Core.Path.{_≡_, ap, sym, _∙_}
 use mathlib.Core.Bool.{Bool, true, false, not}
 use mathlib.Core.List.{List}
-use Prim.Native.Nat.{ℕ, _+_, _-_, _*_, _<_, _≤_}
+use Prim.Native.Nat.{ℕ, _-_, _*_, _≤_}
 use native.Mathlib.Omega.{arith}
 use lib.Dec.{leb}
 use lib.ListN.{length, take, drop, length-take, length-drop}
 use borrow.Author.Tests.{leb-true, not-false, not-true}
-use Rattle.words.specs.Words.{size, both, both-on, both-off, both-true}
+use Rattle.words.specs.Words.{size, both-on, both-off, both-true}
 use Rattle.layout.specs.Layout.{lengthWord, numberWord, freeSegments, freeTasks, read, recordOf}
 use Rattle.tree.specs.Tour.{tour}
 use Rattle.rules.specs.Contents.{Contents, decode, scan-decodes}
@@ -50,7 +50,8 @@ module _ (m : List ℕ) where
           pub idle-wrong : not b4 ≡ true → false ≡ rulesHold m
           unfolding test
           idle-wrong f =
-              sym (decoded ∙ both-on (sym e1 ∙ not-false _ f1) ∙ both-on (sym e2 ∙ not-false _ f2) ∙ both-on (sym e3 ∙ not-false _ f3) ∙ both-off _ (sym e4 ∙ not-true _ f))
+              sym (decoded ∙ both-on (sym e1 ∙ not-false _ f1) ∙ both-on (sym e2 ∙ not-false _ f2) ∙ both-on (sym e3 ∙ not-false _ f3)
+              ∙ both-off _ (sym e4 ∙ not-true _ f))
 
           module _ {b5 : Bool} {k : ℕ} (f4 : not b4 ≡ false) (ek : k ≡ marks C) (e5 : b5 ≡ treeTest C k 0) where
             tree-same : b5 ≡ treeTest C (marks C) 0
@@ -59,7 +60,8 @@ module _ (m : List ℕ) where
             pub tree-wrong : not b5 ≡ true → false ≡ rulesHold m
             unfolding test
             tree-wrong f =
-                sym (decoded ∙ both-on (sym e1 ∙ not-false _ f1) ∙ both-on (sym e2 ∙ not-false _ f2) ∙ both-on (sym e3 ∙ not-false _ f3) ∙ both-on (sym e4 ∙ not-false _ f4)
+                sym (decoded ∙ both-on (sym e1 ∙ not-false _ f1) ∙ both-on (sym e2 ∙ not-false _ f2) ∙ both-on (sym e3 ∙ not-false _ f3)
+                ∙ both-on (sym e4 ∙ not-false _ f4)
                 ∙ both-off _ (sym tree-same ∙ not-true _ f))
 
             module _ (f5 : not b5 ≡ false) (big : size m ≡ 16384) (xs : List ℕ) (ex : xs ≡ tour k (recordOf m) 0) where
@@ -88,7 +90,8 @@ module _ (m : List ℕ) where
               passed e6 =
                   e6
                   ∙ ap (viewTests C) toured
-                  ∙ sym (decoded ∙ both-on (sym e1 ∙ not-false _ f1) ∙ both-on (sym e2 ∙ not-false _ f2) ∙ both-on (sym e3 ∙ not-false _ f3) ∙ both-on (sym e4 ∙ not-false _ f4)
+                  ∙ sym (decoded ∙ both-on (sym e1 ∙ not-false _ f1) ∙ both-on (sym e2 ∙ not-false _ f2) ∙ both-on (sym e3 ∙ not-false _ f3)
+                  ∙ both-on (sym e4 ∙ not-false _ f4)
                   ∙ both-on (sym tree-same ∙ not-false _ f5))
 
 -- the number of marks
@@ -100,7 +103,8 @@ marks-number m big e eh =
     let d = length-drop 320 m in
     (omega (arith, a, b, d, eh, big), omega (arith, a, b, d, eh, big))
 
-pub in-range-at : (m : List ℕ) {b : Bool} {l n : ℕ} → b ≡ inRange l n → l ≡ read m lengthWord → n ≡ read m numberWord → b ≡ inRange (read m lengthWord) (read m numberWord)
+pub in-range-at : (m : List ℕ) {b : Bool} {l n : ℕ} → b ≡ inRange l n → l ≡ read m lengthWord → n ≡ read m numberWord
+    → b ≡ inRange (read m lengthWord) (read m numberWord)
 in-range-at m e el en = rw (← el, ← en) e
 
 -- a part that begins at 0

@@ -5,9 +5,8 @@ use mathlib.Core.List.{List}
 use Prim.Native.Nat.{ℕ, _≤_}
 use borrow.Author.Tests.{eq-eqb, ne-eqb, leb-true, not-false}
 use Rattle.words.specs.Words.{size, halt, pass, both-true}
-use Rattle.answers.specs.declared.Answer.{Answer}
 use Rattle.answers.specs.declared.Answer.the-variants.{Moved, Refused}
-use Rattle.answers.specs.Answers.{Outcome, outcome}
+use Rattle.answers.specs.Answers.{outcome}
 use Rattle.rules.specs.Test.{within, inRange}
 use Rattle.calls.specs.Open.{opened, openOutcome}
 

@@ -1,11 +1,11 @@
 -- The cases, tried on program order: one test is computed over the whole table.
 use mathlib.Core.Path.{_≡_, refl}
-use mathlib.Core.Bool.{Bool, true, false}
+use mathlib.Core.Bool.{Bool, true}
 use mathlib.Core.List.{List, [], _∷_}
 use Rattle.words.specs.Words.{pick, both, either}
 use Rattle.answers.specs.Answers.{statusOf, valueOf, sameAnswer}
 use Rattle.tree.specs.Rights.{bits, pushes, pops, eachQueue, someQueue, sharesPop, subset}
-use Rattle.cases.specs.Rows.{Case, Row, row}
+use Rattle.cases.specs.Rows.{Case, row}
 use Rattle.cases.specs.Starred.{oneSegment, longest, children, manyChildren, newQueue, fullRun, noPush, laterPush, moreRights}
 use Rattle.cases.specs.Traps.{parentPush, reachable, hidden}
 use Rattle.cases.specs.Waiting.{olderSibling, waitBeforeNine, childPopping, pushersBefore, leftLater}
@@ -32,5 +32,7 @@ table =
     ∷ ring ∷ localHead ∷ emptyFreed ∷ stillNine ∷ queueView ∷ numbers ∷ []
 
 pub table-follows : allFollow table ≡ true
-unfolding pick both either statusOf valueOf sameAnswer bits pushes pops eachQueue someQueue sharesPop subset nameOf numberOf rightsOf begin made moved advance counted noted sameName isChild isOlder someSpot unfinished somePair blocked childPops hasChild before later stepped passes runs found finding valueNumber pendingOf leftOver rightsAt spots forTask forQueue popAnswer testAnswer leftAnswer ordered follows allFollow children
+unfolding pick both either statusOf valueOf sameAnswer bits pushes pops eachQueue someQueue sharesPop subset nameOf numberOf rightsOf begin made moved advance
+    counted noted sameName isChild isOlder someSpot unfinished somePair blocked childPops hasChild before later stepped passes runs found finding valueNumber
+    pendingOf leftOver rightsAt spots forTask forQueue popAnswer testAnswer leftAnswer ordered follows allFollow children
 table-follows = refl

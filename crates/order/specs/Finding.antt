@@ -4,7 +4,7 @@ use mathlib.Core.List.{List, [], _∷_, _++_}
 use mathlib.Core.Option.{Option, none, some}
 use Prim.Native.Nat.{ℕ, zero, suc}
 use lib.Dec.{eqb}
-use Rattle.words.specs.Words.{pick, both, either}
+use Rattle.words.specs.Words.{pick, either}
 use Rattle.answers.specs.declared.Finding.{Finding}
 use Rattle.answers.specs.declared.Finding.the-variants.{Value, Empty, Waits}
 use Rattle.tree.specs.Rights.{pushes as mayPush}
@@ -25,6 +25,7 @@ pub data Pending : Type 0 where
 pub data Run : Type 0 where
   run : Bool → List Pending → Run
 
+-- what is pending once the first is popped
 unfoldable pub later : List Pending → List Pending
 later [] = []
 later (v ∷ vs) = vs
@@ -42,6 +43,7 @@ stepped q finishes (run b vs) = run b vs
 unfoldable pub passes : ℕ → Task → Run → Run
 passes q s (run b vs) = run (either b (mayPush (rightsOf s) q)) vs
 
+-- what is known behind the items xs, in program order
 unfoldable pub runs : ℕ → List Item → Run → Run
 runs q [] r = r
 runs q (step p a ∷ xs) r = runs q xs (stepped q a r)
@@ -66,6 +68,7 @@ valueNumber i [] = none
 valueNumber zero (pending v b ∷ vs) = some v
 valueNumber (suc i) (v ∷ vs) = valueNumber i vs
 
+-- "what is left is pending"
 unfoldable pub pendingOf : Run → List Pending
 pendingOf (run b vs) = vs
 

@@ -1,5 +1,5 @@
 -- The answer that program order gives to a call, by the steps made before it.
-use mathlib.Core.Bool.{Bool, true, false, not}
+use mathlib.Core.Bool.{Bool}
 use mathlib.Core.List.{List, [], _∷_}
 use mathlib.Core.Option.{Option, none, some}
 use Prim.Native.Nat.{ℕ, _+_}
@@ -12,7 +12,7 @@ use Rattle.answers.specs.declared.Finding.the-variants.{Value as Found, Empty a
 use Rattle.answers.specs.Answers.{statusOf, valueOf}
 use Rattle.answers.specs.Calls.{Call, open-call, spawn-call, push-call, pop-call, test-call, sync-call, finish-call, left-call}
 use Rattle.tree.specs.Rights.{pushes as mayPush, pops as mayPop, subset}
-use Rattle.order.specs.Steps.{Task, Item, step, spot, numberOf, rightsOf}
+use Rattle.order.specs.Steps.{Item, step, spot, numberOf, rightsOf}
 use Rattle.order.specs.Waits.{unfinished, blocked, hasChild}
 use Rattle.order.specs.Finding.{finding, leftOver}
 

@@ -1,6 +1,5 @@
 -- PROGRAM ORDER: the steps made so far and the spots of the unfinished tasks, as one list. Document 01's section of that
 -- name is quoted; no word of memory, no segment and no view is spoken of.
-use mathlib.Core.Bool.{Bool, true, false}
 use mathlib.Core.List.{List, [], _∷_, _++_}
 use Prim.Native.Nat.{ℕ, _+_}
 use lib.Dec.{eqb}

@@ -3,7 +3,7 @@ use mathlib.Core.Bool.{Bool, true, false}
 use mathlib.Core.List.{List, [], _∷_}
 use Prim.Native.Nat.{ℕ}
 use lib.Dec.{ltb, eqb}
-use Rattle.words.specs.Words.{pick, both, either}
+use Rattle.words.specs.Words.{both, either}
 use Rattle.tree.specs.Rights.{pops, sharesPop}
 use Rattle.order.specs.Steps.{Name, Task, Item, step, spot, nameOf, numberOf, rightsOf}
 

@@ -7,9 +7,11 @@ use Prim.Native.Nat.{ℕ, _+_}
 use native.Mathlib.Omega.{arith}
 use Rattle.words.specs.Words.{both, pass}
 use Rattle.order.specs.Steps.{Name, Item, step, spot, task, Act, spawns, pushes, pops, tests, syncs, finishes, nameOf}
+use Rattle.lists.specs.Counting.{one-true, one-false}
 use Rattle.order_laws.specs.Names.{Under, under-self, not-under-child}
 use Rattle.order_laws.specs.Items.{In, whose, WasMade}
-use Rattle.order_laws.specs.Count.{count, spotNamed, finishOf, isFinish, one-true, one-false, count-append, count-none, named-yes, named-whose, finish-yes, finish-whose}
+use Rattle.order_laws.specs.Count.{count, spotNamed, finishOf, isFinish, count-append, count-none, named-yes, named-whose}
+use Rattle.order_laws.specs.Count.{finish-yes, finish-whose}
 use Rattle.order_laws.specs.Reached.{Reached}
 use Rattle.order_laws.specs.Courses.{Course, stands, ended, goes, forks, items, course, plain}
 use Rattle.order_laws.specs.Kin.{own}

@@ -6,8 +6,8 @@ use mathlib.Core.Logic.{inl, inr}
 use Prim.Native.Nat.{ℕ, _+_, _<_}
 use native.Mathlib.Omega.{arith}
 use lib.Dec.{eqb}
-use Rattle.words.specs.Words.{pick, pass, halt, both}
-use Rattle.lists.specs.Counting.{one}
+use Rattle.words.specs.Words.{pick, both}
+use Rattle.lists.specs.Counting.{one, one-true, one-false}
 use Rattle.order.specs.Steps.{Name, Task, Item, step, spot, Act, spawns, pushes, pops, tests, syncs, finishes, nameOf, numberOf}
 use Rattle.order.specs.Waits.{sameName}
 use Rattle.order_laws.specs.Names.{same-true, same-yes}
@@ -36,14 +36,6 @@ isFinish finishes = true
 unfoldable pub finishOf : Name → Item → Bool
 finishOf p (step q a) = both (isFinish a) (sameName q p)
 finishOf p (spot s) = false
-
-pub one-true : {b : Bool} → b ≡ true → one b ≡ 1
-unfolding one
-one-true e = halt _ _ e
-
-pub one-false : {b : Bool} → b ≡ false → one b ≡ 0
-unfolding one
-one-false e = pass _ e refl
 
 pub count-append : (f : Item → Bool) (xs ys : List Item) → count f (xs ++ ys) ≡ count f xs + count f ys
 unfolding count

@@ -6,7 +6,7 @@ use mathlib.Core.Logic.{_⊎_, inl, inr, ⊎-elim}
 use Prim.Native.Nat.{ℕ, _+_, _<_}
 use native.Mathlib.Omega.{arith}
 use Rattle.words.specs.Words.{pick, pass, halt}
-use Rattle.order.specs.Steps.{Name, Task, Item, step, spot, Act, spawns, pushes, pops, tests, syncs, finishes, nameOf}
+use Rattle.order.specs.Steps.{Name, Item, step, spot, Act, spawns, pushes, pops, tests, syncs, finishes, nameOf}
 use Rattle.order.specs.Waits.{sameName}
 use Rattle.order_laws.specs.Names.{Under, same?, same-yes, same-no}
 

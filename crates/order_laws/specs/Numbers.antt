@@ -8,11 +8,11 @@ use native.Mathlib.Omega.{arith}
 use lib.Dec.{eqb}
 use borrow.Author.Tests.{eqb-true, eq-eqb}
 use Rattle.words.specs.Words.{pick, pass, halt, either, either-true, true-left}
-use Rattle.lists.specs.Counting.{one, equal?, one-yes, one-no}
+use Rattle.lists.specs.Counting.{one, equal?, one-yes, one-no, one-true, one-false}
 use Rattle.order.specs.Steps.{Task, Item, step, spot, task, Act, spawns, pushes, pops, tests, syncs, finishes, numberOf, begin, made, moved, advance}
 use Rattle.order.specs.Waits.{someSpot, unfinished}
 use Rattle.order_laws.specs.Items.{In, in-split}
-use Rattle.order_laws.specs.Count.{count, spotNumbered, one-true, one-false, count-append}
+use Rattle.order_laws.specs.Count.{count, spotNumbered, count-append}
 use Rattle.order_laws.specs.Courses.{advance-append}
 use Rattle.order_laws.specs.Reached.{Fresh, Reached, start, more}
 

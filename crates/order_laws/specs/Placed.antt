@@ -5,11 +5,11 @@ use mathlib.Core.List.{List, [], _∷_, _++_}
 use mathlib.Core.Logic.{inl, inr}
 use Prim.Native.Nat.{ℕ, _+_, _≤_}
 use native.Mathlib.Omega.{arith}
-use Rattle.lists.specs.Counting.{one}
+use Rattle.lists.specs.Counting.{one, one-true, one-false}
 use Rattle.order.specs.Steps.{Name, Task, Item, step, spot, nameOf}
 use Rattle.order_laws.specs.Names.{under-trans}
 use Rattle.order_laws.specs.Items.{In, Free, whose}
-use Rattle.order_laws.specs.Count.{count, spotNamed, one-true, one-false, count-none, named-whose}
+use Rattle.order_laws.specs.Count.{count, spotNamed, count-none, named-whose}
 use Rattle.order_laws.specs.Reached.{Reached}
 use Rattle.order_laws.specs.Courses.{Course, stands, ended, goes, forks, items, course}
 use Rattle.order_laws.specs.Kin.{kin, kin-apart, own}

@@ -71,7 +71,10 @@ covers-behind q n (spot s ∷ xs) ys h = covers-behind q n xs ys h
 pub covers-more : (q n k : ℕ) (xs : List Item) → n ≤ k → Covers q n xs → Covers q k xs
 covers-more q n k [] l h = tt
 covers-more q n k (step p a ∷ xs) l h =
-    let t = h .0 in (omega (arith, t, l), covers-more q _ _ xs (let i : n + length (added q a) - takes q a ≤ k + length (added q a) - takes q a = omega (arith, l) in i) (h .1))
+    let t = h .0 in (
+      omega (arith, t, l),
+      covers-more q _ _ xs (let i : n + length (added q a) - takes q a ≤ k + length (added q a) - takes q a = omega (arith, l) in i) (h .1),
+    )
 covers-more q n k (spot s ∷ xs) l h = covers-more q n k xs l h
 
 -- steps that pop nothing need nothing, and take nothing away

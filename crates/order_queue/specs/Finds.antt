@@ -10,17 +10,17 @@ use lib.Dec.{eqb}
 use lib.ListN.{length, drop}
 use borrow.Author.Tests.{eq-eqb, ne-eqb}
 use Rattle.words.specs.Words.{pick, pass, halt, either, either-true, true-left}
-use Rattle.lists.specs.Counting.{one-yes}
+use Rattle.lists.specs.Counting.{one-yes, one-true}
 use Rattle.tree.specs.Rights.{pushes as mayPush, pops as mayPop, uses}
 use Rattle.answers.specs.declared.Finding.the-variants.{Empty, Waits}
 use Rattle.order.specs.Steps.{Task, Item, step, spot, numberOf, rightsOf}
 use Rattle.order.specs.Waits.{someSpot}
 use Rattle.order.specs.Finding.{before, Pending, pending, Run, run, runs, found, valueNumber, pendingOf, leftOver}
-use Rattle.order_laws.specs.Count.{count, spotNumbered, one-true, count-append}
+use Rattle.order_laws.specs.Count.{count, spotNumbered, count-append}
+use Rattle.tree.specs.Users.{uses-pushes, useless-pushes, pops-uses}
 use Rattle.order_queue.specs.Points.{Point, value, user, values, added, along, popCount, NoPopper, Timeline}
 use Rattle.order_queue.specs.Balance.{added-one, pops-append, covers-front, late-behind}
 use Rattle.order_queue.specs.Pending.{flags, flagged, flagAfter, runs-is}
-use Rattle.order_queue.specs.Users.{uses-pushes, useless-pushes, pops-uses}
 use Rattle.order_queue.specs.Found.{Front, front, firstOf, found-first, found-nothing, found-held}
 use Rattle.order_queue.specs.Steps.{userCount, users-append, along-users, located}
 
@@ -80,7 +80,8 @@ nthValue (suc i) (value v ∷ ps) = nthValue i ps
 pub nth-behind : (vs : List ℕ) (i : ℕ) (ps : List Point) → nthValue (length vs + i) (values vs ++ ps) ≡ nthValue i ps
 unfolding nthValue
 nth-behind [] i ps = ap (λ (n : ℕ). nthValue n ps) (let z : 0 + i ≡ i = omega arith in z)
-nth-behind (v ∷ vs) i ps = ap (λ (n : ℕ). nthValue n (value v ∷ (values vs ++ ps))) (let z : suc (length vs) + i ≡ suc (length vs + i) = omega arith in z) ∙ nth-behind vs i ps
+nth-behind (v ∷ vs) i ps =
+    ap (λ (n : ℕ). nthValue n (value v ∷ (values vs ++ ps))) (let z : suc (length vs) + i ≡ suc (length vs + i) = omega arith in z) ∙ nth-behind vs i ps
 
 number-behind : (n i : ℕ) (vs : List Pending) → valueNumber i (drop n vs) ≡ valueNumber (n + i) vs
 unfolding valueNumber
@@ -94,7 +95,8 @@ unfolding flagged along valueNumber nthValue flags pick
 number-along q i b [] = refl
 number-along q i b (step p a ∷ xs) = ⊎-elim (nil (number-along q i b xs)) (one-more i (λ j. number-along q j b xs)) (added-one q a)
   where
-    nil : valueNumber i (flagged q b xs) ≡ nthValue i (along q xs) → added q a ≡ [] → valueNumber i (flags b (added q a) ++ flagged q b xs) ≡ nthValue i (added q a ++ along q xs)
+    nil : valueNumber i (flagged q b xs) ≡ nthValue i (along q xs) → added q a ≡ [] → valueNumber i (flags b (added q a) ++ flagged q b xs) ≡ nthValue i
+        (added q a ++ along q xs)
     nil h e = rw e h
 
     one-more : (i : ℕ) → ((j : ℕ) → valueNumber j (flagged q b xs) ≡ nthValue j (along q xs)) → (v : ℕ) × (added q a ≡ value v ∷ [])
@@ -121,14 +123,17 @@ leaves q i xs ps h =
 abbrev pub NoValueFirst : List Point → Type 0
 NoValueFirst ps = (v : ℕ) (rs : List Point) → ps ≡ value v ∷ rs → ⊥
 
-no-users : (q : ℕ) (xs : List Item) → NoPopper q xs → someSpot (λ o. mayPush (rightsOf o) q) xs ≡ false → (t : ℕ) (ps rs : List Point) → along q xs ≡ ps ++ user t ∷ rs → ⊥
+no-users : (q : ℕ) (xs : List Item) → NoPopper q xs → someSpot (λ o. mayPush (rightsOf o) q) xs ≡ false → (t : ℕ) (ps rs : List Point)
+    → along q xs ≡ ps ++ user t ∷ rs → ⊥
 unfolding along someSpot
 no-users q [] n e t ps rs d = nil ps d
   where
     nil : (ps : List Point) → [] ≡ ps ++ user t ∷ rs → ⊥
     nil [] d = let z : _≡_ {A = ℕ} 0 1 = cc in omega (arith, z)
     nil (p ∷ ps) d = let z : _≡_ {A = ℕ} 0 1 = cc in omega (arith, z)
-no-users q (step p a ∷ xs) n e t ps rs d = ⊎-elim (λ f. no-users q xs n e t ps rs (ap (λ (l : List Point). l ++ along q xs) (sym f) ∙ d)) (λ w. more (w .0) ps (ap (λ (l : List Point). l ++ along q xs) (sym (w .1)) ∙ d) (λ k f. no-users q xs n e t k rs f)) (added-one q a)
+no-users q (step p a ∷ xs) n e t ps rs d =
+    ⊎-elim (λ f. no-users q xs n e t ps rs (ap (λ (l : List Point). l ++ along q xs) (sym f) ∙ d))
+    (λ w. more (w .0) ps (ap (λ (l : List Point). l ++ along q xs) (sym (w .1)) ∙ d) (λ k f. no-users q xs n e t k rs f)) (added-one q a)
   where
     more : (v : ℕ) (ps : List Point) → value v ∷ along q xs ≡ ps ++ user t ∷ rs → ((k : List Point) → along q xs ≡ k ++ user t ∷ rs → ⊥) → ⊥
     more v [] f rest = let z : _≡_ {A = ℕ} 0 1 = cc in omega (arith, z)
@@ -146,7 +151,8 @@ no-users q (spot s ∷ xs) n e t ps rs d =
     quiet : mayPush (rightsOf s) q ≡ false
     quiet = go (mayPush (rightsOf s) q) refl e
       where
-        go : (b : Bool) → mayPush (rightsOf s) q ≡ b → either (mayPush (rightsOf s) q) (someSpot (λ o. mayPush (rightsOf o) q) xs) ≡ false → mayPush (rightsOf s) q ≡ false
+        go : (b : Bool) → mayPush (rightsOf s) q ≡ b → either (mayPush (rightsOf s) q) (someSpot (λ o. mayPush (rightsOf o) q) xs) ≡ false
+            → mayPush (rightsOf s) q ≡ false
         go true f g = absurd (false≢true (sym g ∙ true-left _ f))
         go false f g = f
 
@@ -157,7 +163,8 @@ no-users q (spot s ∷ xs) n e t ps rs d =
         go true f = absurd (false≢true (sym quiet ∙ uses-pushes (rightsOf s) q f (n .0)))
         go false f = f
 
-some-user : (q : ℕ) (xs : List Item) → someSpot (λ o. mayPush (rightsOf o) q) xs ≡ true → (t : ℕ) × (ps : List Point) × (rs : List Point) × (along q xs ≡ ps ++ user t ∷ rs)
+some-user : (q : ℕ) (xs : List Item) → someSpot (λ o. mayPush (rightsOf o) q) xs ≡ true
+    → (t : ℕ) × (ps : List Point) × (rs : List Point) × (along q xs ≡ ps ++ user t ∷ rs)
 unfolding along someSpot
 some-user q [] e = absurd (false≢true e)
 some-user q (step p a ∷ xs) e =
@@ -165,7 +172,8 @@ some-user q (step p a ∷ xs) e =
     (w .0, added q a ++ w .1, w .2, ap (λ (l : List Point). added q a ++ l) (w .3) ∙ sym (append-assoc (added q a) (w .1) (user (w .0) ∷ w .2)))
 some-user q (spot s ∷ xs) e = go (uses (rightsOf s) q) refl (some-user q xs)
   where
-    go : (b : Bool) → uses (rightsOf s) q ≡ b → (someSpot (λ o. mayPush (rightsOf o) q) xs ≡ true → (t : ℕ) × (ps : List Point) × (rs : List Point) × (along q xs ≡ ps ++ user t ∷ rs))
+    go : (b : Bool) → uses (rightsOf s) q ≡ b
+        → (someSpot (λ o. mayPush (rightsOf o) q) xs ≡ true → (t : ℕ) × (ps : List Point) × (rs : List Point) × (along q xs ≡ ps ++ user t ∷ rs))
         → (t : ℕ) × (ps : List Point) × (rs : List Point) × (pick (uses (rightsOf s) q) (user (numberOf s) ∷ along q xs) (along q xs) ≡ ps ++ user t ∷ rs)
     go true f rest = (numberOf s, [], along q xs, halt _ _ f)
     go false f rest =
@@ -179,7 +187,8 @@ module _ (q : ℕ) (ys zs : List Item) (s : Task) (single : count (spotNumbered 
   finds-none {ps} m n h bare =
       let w = located q ys zs s (pops-uses (rightsOf s) q m) h in
       ap (firstOf (numberOf s)) (w .2)
-      ∙ go (w .0) (w .1) (λ v rs e. bare v (rs ++ user (numberOf s) ∷ along q zs) (w .2 ∙ ap (λ (l : List Point). l ++ user (numberOf s) ∷ along q zs) e)) (someSpot (λ o. mayPush (rightsOf o) q) ys) refl
+      ∙ go (w .0) (w .1) (λ v rs e. bare v (rs ++ user (numberOf s) ∷ along q zs) (w .2 ∙ ap (λ (l : List Point). l ++ user (numberOf s) ∷ along q zs) e))
+      (someSpot (λ o. mayPush (rightsOf o) q) ys) refl
     where
       few : count (spotNumbered (numberOf s)) ys ≡ 0
       few = let c = count-append (spotNumbered (numberOf s)) ys (spot s ∷ zs) in let f = one-yes (numberOf s) (numberOf s) refl in omega (arith, c, f, single)

@@ -12,10 +12,10 @@ use Rattle.answers.specs.declared.Finding.{Finding}
 use Rattle.answers.specs.declared.Finding.the-variants.{Value, Empty, Waits}
 use Rattle.order.specs.Steps.{Item, step, spot, numberOf, rightsOf}
 use Rattle.order.specs.Finding.{Pending, pending, Run, run, found}
+use Rattle.tree.specs.Users.{uses-pushes, useless-pushes}
 use Rattle.order_queue.specs.Points.{Point, value, user, values, added, along, NoPopper}
 use Rattle.order_queue.specs.Balance.{added-one}
 use Rattle.order_queue.specs.Pending.{flags, flagged, flagAfter}
-use Rattle.order_queue.specs.Users.{uses-pushes, useless-pushes}
 
 -- every value has the flag
 abbrev Flagged : List Pending → Type 0

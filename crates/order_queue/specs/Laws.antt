@@ -14,9 +14,10 @@ use Rattle.order_laws.specs.Count.{count, spotNumbered}
 use Rattle.order_laws.specs.Numbers.{advance-at}
 use Rattle.order_laws.specs.Moves.{made-plain, made-finish, plain-push, plain-pop}
 use Rattle.order_laws.specs.Courses.{plain}
+use Rattle.tree.specs.Users.{pops-uses, useless-pops}
 use Rattle.order_queue.specs.Points.{Point, value, user, values, added, along, takes, popCount, NoPopper, Timeline}
-use Rattle.order_queue.specs.Balance.{along-append, pops-append, balance-is, valueCount, count-values, all-values, covers-append, covers-front, covers-still, late-behind, late-free}
-use Rattle.order_queue.specs.Users.{pops-uses, useless-pops}
+use Rattle.order_queue.specs.Balance.{along-append, pops-append, balance-is, valueCount, count-values, all-values, covers-append, covers-front}
+use Rattle.order_queue.specs.Balance.{covers-still, late-behind, late-free}
 use Rattle.order_queue.specs.Steps.{located, inserted, unchanged}
 
 -- At the beginning only the top stands there.
@@ -137,7 +138,8 @@ module _ (q : ℕ) (ys zs : List Item) (p : Name) (t r k c u : ℕ) (single : co
       (subst (λ (l : List Point). Timeline q (ys ++ (Child ++ zs)) (a ++ l)) d
       (inserted q ys zs Spawner a b Child single f h refl (λ l. (λ m. l .0 (g m), (l .0, l .1)))))
 
-  pub spawn-past : {ps : List Point} → uses u q ≡ false → Timeline q (ys ++ spot Spawner ∷ zs) ps → Timeline q (advance t (spawns c u) (ys ++ spot Spawner ∷ zs)) ps
+  pub spawn-past : {ps : List Point} → uses u q ≡ false → Timeline q (ys ++ spot Spawner ∷ zs) ps
+      → Timeline q (advance t (spawns c u) (ys ++ spot Spawner ∷ zs)) ps
   unfolding along popCount takes added numberOf rightsOf
   spawn-past e h =
       placed

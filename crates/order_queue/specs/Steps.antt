@@ -12,7 +12,8 @@ use Rattle.tree.specs.Rights.{uses}
 use Rattle.order.specs.Steps.{Task, Item, step, spot, Act, numberOf, rightsOf}
 use Rattle.order_laws.specs.Count.{count, spotNumbered}
 use Rattle.order_queue.specs.Points.{Point, value, user, values, added, along, popCount, Late, Timeline}
-use Rattle.order_queue.specs.Balance.{added-one, along-append, pops-append, balance, covers-append, covers-front, covers-behind, covers-more, covers-still, late-behind, late-replace}
+use Rattle.order_queue.specs.Balance.{added-one, along-append, pops-append, balance, covers-append, covers-front, covers-behind, covers-more}
+use Rattle.order_queue.specs.Balance.{covers-still, late-behind, late-replace}
 
 apart : {v t : ℕ} → value v ≡ user t → ⊥
 apart e = let z : _≡_ {A = ℕ} 0 1 = cc in omega arith

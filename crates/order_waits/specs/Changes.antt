@@ -74,7 +74,8 @@ module _ (ys zs : List Item) (s : Task) (a : Act) where
       own e =
           ⊎-elim
           (λ f. inr (e, f))
-          (λ n. let w = own-spot s a n in inl (w .0, in-right (spot (w .0)) ys (made s a ++ zs) (in-left (spot (w .0)) (made s a) zs (w .1)), subst (Like (w .0)) (sym e) (w .2)))
+          (λ n. let w = own-spot s a n in
+          inl (w .0, in-right (spot (w .0)) ys (made s a ++ zs) (in-left (spot (w .0)) (made s a) zs (w .1)), subst (Like (w .0)) (sym e) (w .2)))
           (finish? a)
 
       right : In (spot o) (spot s ∷ zs) → ((b : Task) × In (spot b) New × Like b o) ⊎ ((o ≡ s) × (a ≡ finishes))

@@ -4,7 +4,7 @@ use mathlib.Core.Bool.{Bool, true, false, false≢true}
 use mathlib.Core.List.{List, [], _∷_, _++_, head-eq-of-cons-eq, tail-eq-of-cons-eq}
 use mathlib.Core.Logic.{_⊎_, inl, inr, ⊎-elim}
 use mathlib.Core.Option.{Option, none, some}
-use Prim.Native.Nat.{ℕ, _+_, _<_}
+use Prim.Native.Nat.{ℕ, _<_}
 use native.Mathlib.Nat.{eq-or-lt-of-le}
 use native.Mathlib.Omega.{arith}
 use lib.Dec.{ltb}
@@ -115,12 +115,19 @@ module _ (ys zs : List Item) (s : Task) (q : ℕ) where
         (λ l.
         false≢true
         (sym free
-        ∙ says-blocked Old (played-reached old) (b .0) s
-        (b .1, subst (λ (y : Name). isOlder (nameOf (b .0)) y ≡ true) (sym mine) (subst (λ (y : Name). isOlder y (k ∷ p) ≡ true) (sym hb) (says-older j k p l)), both-share _ _ q small mb may)
+        ∙ says-blocked Old (played-reached old) (b .0) s (
+          b .1,
+          subst (λ (y : Name). isOlder (nameOf (b .0)) y ≡ true) (sym mine)
+              (subst (λ (y : Name). isOlder y (k ∷ p) ≡ true) (sym hb) (says-older j k p l)),
+          both-share _ _ q small mb may,
+        )
         here))
         (λ l.
-        kinship old .idle s (b .0) (v .0) x
-        (here, subst (λ (y : Name). isOlder (nameOf s) y ≡ true) (sym hb) (subst (λ (y : Name). isOlder y (j ∷ p) ≡ true) (sym mine) (says-older k j p l)), both-share _ _ q small may mb)
+        kinship old .idle s (b .0) (v .0) x (
+          here,
+          subst (λ (y : Name). isOlder (nameOf s) y ≡ true) (sym hb) (subst (λ (y : Name). isOlder y (j ∷ p) ≡ true) (sym mine) (says-older k j p l)),
+          both-share _ _ q small may mb,
+        )
         (b .1) (v .1) (sym (v .2 .name) ∙ d ∙ ap (λ (y : Name). x ∷ y) (b .2 .name)))
         (apart j k n))
       where
@@ -140,7 +147,11 @@ module _ (ys zs : List Item) (s : Task) (q : ℕ) where
         (λ o u l f.
         let b = was h i in
         let v = was o u in
-        kinship old .idle (v .0) (b .0) s k
-        (v .1, ap₂ isOlder (sym (v .2 .name)) (sym (b .2 .name)) ∙ l, both-share _ _ q small (ap (λ (r : ℕ). mayPop r q) (sym (v .2 .rights)) ∙ f) (ap (λ (r : ℕ). mayPop r q) (sym (b .2 .rights)) ∙ m))
+        kinship old .idle (v .0) (b .0) s k (
+          v .1,
+          ap₂ isOlder (sym (v .2 .name)) (sym (b .2 .name)) ∙ l,
+          both-share _ _ q small (ap (λ (r : ℕ). mayPop r q) (sym (v .2 .rights)) ∙ f)
+              (ap (λ (r : ℕ). mayPop r q) (sym (b .2 .rights)) ∙ m),
+        )
         (b .1) here (mine ∙ ap (λ (y : Name). k ∷ y) (sym e ∙ b .2 .name)))
         (λ c x u d f. child c x u (d ∙ ap (λ (y : Name). x ∷ y) e) f)

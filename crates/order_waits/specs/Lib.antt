@@ -1,6 +1,7 @@
 pub mod Spots
 pub mod Played
 pub mod Changes
+pub mod Gone
 pub mod Kinship
 pub mod Order
 pub mod Popper

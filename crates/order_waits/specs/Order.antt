@@ -10,6 +10,7 @@ use Rattle.order_laws.specs.Items.{In, in-parts, whose}
 use Rattle.order_laws.specs.Reached.{Reached}
 use Rattle.order_laws.specs.Courses.{Course, stands, ended, goes, forks, items, course}
 use Rattle.order_laws.specs.Kin.{kin, own}
+use Rattle.order_waits.specs.Changes.{in-right}
 
 -- The spot of n stands before that of m: n descends from a child of m, or from an older sibling of m or of an ancestor of m.
 abbrev pub Precedes : Name → Name → Type 0
@@ -20,7 +21,8 @@ Ordered [] = Unit {0}
 Ordered (step p a ∷ xs) = Ordered xs
 Ordered (spot o ∷ xs) = ((s : Task) → In (spot s) xs → Precedes (nameOf o) (nameOf s)) × Ordered xs
 
-ordered-append : (xs ys : List Item) → Ordered xs → Ordered ys → ((o s : Task) → In (spot o) xs → In (spot s) ys → Precedes (nameOf o) (nameOf s)) → Ordered (xs ++ ys)
+ordered-append : (xs ys : List Item) → Ordered xs → Ordered ys → ((o s : Task) → In (spot o) xs → In (spot s) ys → Precedes (nameOf o) (nameOf s))
+    → Ordered (xs ++ ys)
 ordered-append [] ys a b f = b
 ordered-append (step p x ∷ xs) ys a b f = ordered-append xs ys a b (λ o s i j. f o s (inr i) j)
 ordered-append (spot o ∷ xs) ys a b f = (
@@ -47,11 +49,7 @@ unfolding whose
 ordered-at [] zs s o h i = absurd i
 ordered-at (step p a ∷ ys) zs s o h (inl e) = let z : _≡_ {A = ℕ} 0 1 = cc in absurd (omega (arith, z))
 ordered-at (step p a ∷ ys) zs s o h (inr i) = ordered-at ys zs s o h i
-ordered-at (spot u ∷ ys) zs s o h (inl e) = subst (λ (x : Item). Precedes (whose x) (nameOf s)) (sym e) (h .0 s (there ys))
-  where
-    there : (ys : List Item) → In (spot s) (ys ++ spot s ∷ zs)
-    there [] = inl refl
-    there (y ∷ ys) = inr (there ys)
+ordered-at (spot u ∷ ys) zs s o h (inl e) = subst (λ (x : Item). Precedes (whose x) (nameOf s)) (sym e) (h .0 s (in-right (spot s) ys (spot s ∷ zs) (inl refl)))
 ordered-at (spot u ∷ ys) zs s o h (inr i) = ordered-at ys zs s o (h .1) i
 
 -- In a reached list.

@@ -3,10 +3,11 @@ use mathlib.Core.Path.{_≡_, refl, ap, sym, _∙_, subst}
 use mathlib.Core.Bool.{true, false}
 use mathlib.Core.List.{List, [], _∷_, _++_}
 use mathlib.Core.Logic.{_⊎_, inl, inr}
-use Prim.Native.Nat.{ℕ, _+_, _≤_}
+use Prim.Native.Nat.{ℕ, _≤_}
 use native.Mathlib.Omega.{arith}
 use Rattle.tree.specs.Rights.{subset}
-use Rattle.order.specs.Steps.{Name, Task, Item, step, spot, task, Act, spawns, pushes, pops, tests, syncs, finishes, nameOf, numberOf, rightsOf, begin, made, advance}
+use Rattle.order.specs.Steps.{Name, Task, Item, step, spot, task, Act, spawns, pushes, pops, tests, syncs, finishes, nameOf, numberOf, rightsOf, begin, made}
+use Rattle.order.specs.Steps.{advance}
 use Rattle.order.specs.Waits.{unfinished, blocked, hasChild}
 use Rattle.order.specs.Ordered.{rightsAt}
 use Rattle.order_laws.specs.Items.{In, in-split}

@@ -7,14 +7,14 @@ use mathlib.Core.Logic.{_⊎_, inl, inr, ⊎-elim}
 use mathlib.Core.Option.{Option, none, some}
 use Prim.Native.Nat.{ℕ, zero, suc, _<_}
 use native.Mathlib.Omega.{arith}
-use Rattle.words.specs.Words.{pick, halt, both, both-true, true-left, true-right}
-use Rattle.tree.specs.Rights.{pops, pushes, subset, someQueue, sharesPop}
-use Rattle.tree.specs.Queues.{each-queue}
+use Rattle.words.specs.Words.{pick, halt, both, true-left, true-right}
+use Rattle.tree.specs.Rights.{pops, someQueue, sharesPop}
 use Rattle.order.specs.Steps.{Name, Task, Item, step, spot, nameOf, numberOf, rightsOf}
 use Rattle.order.specs.Waits.{isOlder}
 use Rattle.order_laws.specs.Names.{Under}
 use Rattle.order_laws.specs.Items.{In}
 use Rattle.order_laws.specs.Reached.{Reached}
+use Rattle.tree.specs.Users.{subset-pops}
 use Rattle.order_waits.specs.Spots.{says-older}
 use Rattle.order_waits.specs.Changes.{in-left, in-right}
 use Rattle.order_waits.specs.Kinship.{Kinship}
@@ -34,14 +34,6 @@ says-someQueue f (suc zero) l e = true-right (f 0) (true-left _ e)
 says-someQueue f (suc (suc zero)) l e = true-right (f 0) (true-right (f 1) (true-left _ e))
 says-someQueue f (suc (suc (suc zero))) l e = true-right (f 0) (true-right (f 1) (true-right (f 2) e))
 says-someQueue f (suc (suc (suc (suc q)))) l e = let z : ⊥ = omega (arith, l) in absurd z
-
-pub subset-pops : (a b q : ℕ) → q < 4 → subset a b ≡ true → pops a q ≡ true → pops b q ≡ true
-unfolding subset
-subset-pops a b q l e p = sym (halt _ _ p) ∙ both-true _ _ (each-queue _ (both-true _ _ e .1) q l) .1
-
-pub subset-pushes : (a b q : ℕ) → q < 4 → subset a b ≡ true → pushes a q ≡ true → pushes b q ≡ true
-unfolding subset
-subset-pushes a b q l e p = sym (halt _ _ p) ∙ both-true _ _ (each-queue _ (both-true _ _ e .1) q l) .0
 
 pub both-share : (a b q : ℕ) → q < 4 → pops a q ≡ true → pops b q ≡ true → sharesPop a b ≡ true
 unfolding sharesPop both

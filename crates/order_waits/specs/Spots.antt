@@ -13,9 +13,10 @@ use Rattle.order.specs.Waits.{isChild, isOlder, someSpot, unfinished, somePair}
 use Rattle.order.specs.Ordered.{rightsAt}
 use Rattle.order_laws.specs.Names.{same-true, same-yes}
 use Rattle.order_laws.specs.Items.{In}
-use Rattle.order_laws.specs.Count.{count, spotNamed, spotNumbered, one-true, count-in, named-yes}
+use Rattle.order_laws.specs.Count.{count, spotNamed, spotNumbered, count-in, named-yes}
 use Rattle.order_laws.specs.Reached.{Reached}
 use Rattle.order_laws.specs.Laws.{one-spot}
+use Rattle.lists.specs.Counting.{one-true}
 
 pub some-says : (f : Task → Bool) (xs : List Item) → someSpot f xs ≡ true → (s : Task) × In (spot s) xs × (f s ≡ true)
 unfolding someSpot
@@ -58,7 +59,8 @@ module _ (xs : List Item) (h : Reached xs) where
   pub same-number : (s o : Task) → In (spot s) xs → In (spot o) xs → numberOf s ≡ numberOf o → s ≡ o
   same-number s o i j e =
       same-spot
-      (one-passes (spotNumbered (numberOf o)) xs (spot s) (spot o) (one-spot xs h .1 (numberOf o)) i j (numbered s (numberOf o) e) (numbered o (numberOf o) refl))
+      (one-passes (spotNumbered (numberOf o)) xs (spot s) (spot o) (one-spot xs h .1 (numberOf o)) i j (numbered s (numberOf o) e)
+      (numbered o (numberOf o) refl))
 
   pub same-name : (s o : Task) → In (spot s) xs → In (spot o) xs → nameOf s ≡ nameOf o → s ≡ o
   same-name s o i j e =

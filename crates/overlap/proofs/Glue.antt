@@ -8,7 +8,8 @@ use Rattle.reading.specs.Inside.{Inside, read-counts}
 use Rattle.reading.specs.declared.Bytes.{Bytes}
 use Rattle.reading.specs.declared.Bytes.the-variants.{Read}
 
-pub read-few : (r : Bytes) (k : ℕ) (ys : List ℕ) {l n : ℕ} → Inside r ys → r ≡ Read k → length ys ≡ l → l ≡ n → n ≤ 1024 → (k ≤ 1024) × (length (take k ys) ≤ 1024)
+pub read-few : (r : Bytes) (k : ℕ) (ys : List ℕ) {l n : ℕ} → Inside r ys → r ≡ Read k → length ys ≡ l → l ≡ n → n ≤ 1024
+    → (k ≤ 1024) × (length (take k ys) ≤ 1024)
 read-few r k ys i e f g h =
     let c = read-counts r k ys i e in
     let few : k ≤ 1024 = omega (arith, c .0, f, g, h) in

@@ -50,7 +50,8 @@ pub fn call_lines(
     before: u64,
 ) -> usize
     requires { ⌜ (65536 ≤ length (now out)) × (length (now tasks) ≤ 1024) × (before + 1024 < 2 ^ 64) ⌝ }
-    ensures { λ n. ⌜ Called (now (job .entry)) (now (tasks .entry)) (now (m .entry)) (now (r .entry)) before (now (out .exit)) n (now (m .exit)) (now (r .exit)) ⌝ }
+    ensures { λ n. ⌜ Called (now (job .entry)) (now (tasks .entry)) (now (m .entry)) (now (r .entry)) before
+        (now (out .exit)) n (now (m .exit)) (now (r .exit)) ⌝ }
 {
     let mut a = [0u32; 3072];
     let n = running::run(job, tasks, m, r, &mut a);

@@ -53,8 +53,10 @@ met-stands t (left u ∷ l) p =
 met-stands t (met u c ∷ l) p =
     ⊎-elim
     (λ e.
-    subst (λ (k : ℕ). Stands (user t) (slots (met k c ∷ l)) × Stands (right t) (slots (met k c ∷ l))) (sym e)
-    (stands-more (user t) (slot (right t) c) (slot (user t) [] ∷ slots l) (stands-first (user t) [] (slots l)), stands-first (right t) c (slot (user t) [] ∷ slots l)))
+    subst (λ (k : ℕ). Stands (user t) (slots (met k c ∷ l)) × Stands (right t) (slots (met k c ∷ l))) (sym e) (
+      stands-more (user t) (slot (right t) c) (slot (user t) [] ∷ slots l) (stands-first (user t) [] (slots l)),
+      stands-first (right t) c (slot (user t) [] ∷ slots l),
+    ))
     (λ n.
     let w = met-stands t l (let a = occurs-past u t (mets l) n in omega (arith, a, p)) in (
       stands-more (user t) (slot (right u) c) (slot (user u) [] ∷ slots l) (stands-more (user t) (slot (user u) []) (slots l) (w .0)),

@@ -88,7 +88,8 @@ module _ (m : List ℕ) (xs : List Item) (r : Represents m xs) (q : ℕ) (small 
             subst (λ (k : List Slot). 0 < occurrences z (chains k)) (sym (at-w .here))
             (chain-in z (at-w .later) w (at-w .chain) (at-w .earlier) (ends-in (at-w .chain) z e))
 
-        later-has : (b : List Slot) × (n : ViewName) × (c : List ℕ) × (f : List Slot) × (at-w .earlier ≡ b ++ slot n c ∷ f) × All (CalmHere m xs r q small) b × Ends c z
+        later-has : (b : List Slot) × (n : ViewName) × (c : List ℕ) × (f : List Slot) × (at-w .earlier ≡ b ++ slot n c ∷ f) × All (CalmHere m xs r q small)
+            b × Ends c z
             → 0 < occurrences z (chains S)
         later-has o =
             subst (λ (k : List Slot). 0 < occurrences z (chains k))
@@ -135,7 +136,8 @@ module _ (m : List ℕ) (xs : List Item) (r : Represents m xs) (q : ℕ) (small 
   -- right or both: a spawn hands the user view on with the queue view, so the tail may lie in the consumer's own user view,
   -- and the queue view stands before that. It holds of the user view of every task with a right to the queue: the first
   -- list ends before the first spot.
-  pub rule-8-amended : (t u : ℕ) (w : ViewName) → LinkedList m q (queue t) w → Unfinished (decode m) u → uses (rightsIn m u) q ≡ true → place m w ≤ place m (user u)
+  pub rule-8-amended : (t u : ℕ) (w : ViewName) → LinkedList m q (queue t) w → Unfinished (decode m) u → uses (rightsIn m u) q ≡ true
+      → place m w ≤ place m (user u)
   unfolding placeIn usesIn
   rule-8-amended t u w l c b =
       let a = ends-early t w l u c (true-both (lt-ltb u 128 (c .0)) b) in

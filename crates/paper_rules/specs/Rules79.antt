@@ -48,7 +48,8 @@ module _ (m : List ℕ) (xs : List Item) (r : Represents m xs) (q : ℕ) (small 
 
   spans : (v w : ViewName) → NotQueue v → LinkedList m q v w → (v ≡ w) ⊎ Between m xs r q small v w
   spans v w k l =
-      span m xs r q small v w (l .start) (l .rest) (l .headEnd) (l .tailEnd) k (tail-not-queue w (l .headEnd) (lastOf (l .start) (l .rest)) (l .tail-in)) (l .head-task)
+      span m xs r q small v w (l .start) (l .rest) (l .headEnd) (l .tailEnd) k (tail-not-queue w (l .headEnd) (lastOf (l .start) (l .rest)) (l .tail-in))
+      (l .head-task)
       (l .tail-task) (l .head-in) (l .linked) (l .tail-in)
 
   -- RULE 7, AMENDED. "If a linked list of segments is pointed to by the head pointer of view T1.v1 and by the tail pointer of
@@ -61,7 +62,8 @@ module _ (m : List ℕ) (xs : List Item) (r : Represents m xs) (q : ℕ) (small 
       follows : (b : Between m xs r q small v w) → placeIn T v < placeIn T w
       follows b =
           slot-at (Below T (placeIn T w)) v (b .between ++ slot v (b .chain) ∷ b .earlier)
-          (falling-before T (b .later) w (b .lastChain) (b .between ++ slot v (b .chain) ∷ b .earlier) (subst (Falling T) (b .parts) (line-falls m xs r q small)))
+          (falling-before T (b .later) w (b .lastChain) (b .between ++ slot v (b .chain) ∷ b .earlier)
+          (subst (Falling T) (b .parts) (line-falls m xs r q small)))
           (record { later = b .between; chain = b .chain; earlier = b .earlier; here = refl })
 
   -- BETWEEN v AND w, by places

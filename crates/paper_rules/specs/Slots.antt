@@ -8,7 +8,8 @@ use Prim.Native.Nat.{ℕ, _<_, _≤_}
 use native.Mathlib.Omega.{arith}
 use Rattle.lists.specs.Counting.{occurrences, occurs-append}
 use Rattle.gaps.specs.Maps.{All, lastOf, last-in}
-use Rattle.gaps.specs.Line.{End, nonlocal, local, Extent, vacant, extent, base, left, met, pass, Line, firstChain, Mode, settled, awaiting, Inside, rest, mid, close, Begins, bare, whole, begun, Views, leaving, meeting, passing}
+use Rattle.gaps.specs.Line.{End, nonlocal, local, Extent, vacant, extent, base, left, met, pass, Line, firstChain, Mode, settled, awaiting, Inside, rest, mid}
+use Rattle.gaps.specs.Line.{close, Begins, bare, whole, begun, Views, leaving, meeting, passing}
 use Rattle.gaps.specs.Line.Views.{queue as beginning}
 use Rattle.gaps.specs.Store.{Linked, Chain}
 use Rattle.gaps.specs.Names.{laterSegments}
@@ -51,9 +52,12 @@ linked-slots next contents (met t c ∷ l) h = (h .0 .0, (tt, linked-slots next 
 linked-slots next contents (pass x ∷ l) h = linked-slots next contents l (h .1)
 
 -- a segment of one slot is among those of all
+chain-count : (z : ℕ) (a : List Slot) (v : ViewName) (c : List ℕ) (e : List Slot) → occurrences z c ≤ occurrences z (chains (a ++ slot v c ∷ e))
+chain-count z [] v c e = let j = occurs-append z c (chains e) in omega (arith, j)
+chain-count z (slot u d ∷ a) v c e = let j = occurs-append z d (chains (a ++ slot v c ∷ e)) in let k = chain-count z a v c e in omega (arith, j, k)
+
 pub chain-in : (z : ℕ) (a : List Slot) (v : ViewName) (c : List ℕ) (e : List Slot) → 0 < occurrences z c → 0 < occurrences z (chains (a ++ slot v c ∷ e))
-chain-in z [] v c e p = let j = occurs-append z c (chains e) in omega (arith, j, p)
-chain-in z (slot u d ∷ a) v c e p = let j = occurs-append z d (chains (a ++ slot v c ∷ e)) in let k = chain-in z a v c e p in omega (arith, j, k)
+chain-in z a v c e p = let k = chain-count z a v c e in omega (arith, k, p)
 
 -- two slots that have a segment in common, where no segment stands twice, are one
 pub same-slot : (z : ℕ) (a b e f : List Slot) (v w : ViewName) (c d : List ℕ) → a ++ slot v c ∷ e ≡ b ++ slot w d ∷ f → 0 < occurrences z c
@@ -63,25 +67,17 @@ same-slot z [] (slot x g ∷ b) e f v w c d i p q o =
     let h : e ≡ b ++ slot w d ∷ f = cc in
     let j = occurs-append z c (chains e) in
     let k = ap (λ (s : List Slot). occurrences z (chains s)) h in
-    let n = inner b in
+    let n = chain-count z b w d f in
     let y : ⊥ = omega (arith, j, k, n, p, q, o) in
     absurd y
-  where
-    inner : (b : List Slot) → occurrences z d ≤ occurrences z (chains (b ++ slot w d ∷ f))
-    inner [] = let j = occurs-append z d (chains f) in omega (arith, j)
-    inner (slot x g ∷ b) = let j = occurs-append z g (chains (b ++ slot w d ∷ f)) in let k = inner b in omega (arith, j, k)
 same-slot z (slot x g ∷ a) [] e f v w c d i p q o =
     let h : a ++ slot v c ∷ e ≡ f = cc in
     let y : g ≡ d = cc in
     let j = occurs-append z g (chains (a ++ slot v c ∷ e)) in
     let k = ap (occurrences z) y in
-    let n = inner a in
+    let n = chain-count z a v c e in
     let u : ⊥ = omega (arith, j, k, n, p, q, o) in
     absurd u
-  where
-    inner : (b : List Slot) → occurrences z c ≤ occurrences z (chains (b ++ slot v c ∷ e))
-    inner [] = let j = occurs-append z c (chains e) in omega (arith, j)
-    inner (slot x g ∷ b) = let j = occurs-append z g (chains (b ++ slot v c ∷ e)) in let k = inner b in omega (arith, j, k)
 same-slot z (slot x g ∷ a) (slot y h ∷ b) e f v w c d i p q o =
     let j = occurs-append z g (chains (a ++ slot v c ∷ e)) in
     let k = same-slot z a b e f v w c d (cc) p q (omega (arith, j, o)) in

@@ -14,7 +14,8 @@ use Rattle.order.specs.Steps.{Item}
 use Rattle.meaning.specs.Meaning.{nextIn, contentsIn}
 use Rattle.represents.specs.Represents.{queueMemory, ofTasks, Represents}
 use Rattle.paper_rules.specs.Order.{ViewName}
-use Rattle.paper_rules.specs.Slots.{Slot, slot, slots, chains, chain-in, LinkedSlot, linked-slots, same-slot, NoRight, Ends, ends-in, Calm, Open, EachTail, each-tail, tail-at, each-head}
+use Rattle.paper_rules.specs.Slots.{Slot, slot, slots, chains, chain-in, LinkedSlot, linked-slots, same-slot, NoRight, Ends, ends-in, Calm, Open}
+use Rattle.paper_rules.specs.Slots.{EachTail, each-tail, tail-at, each-head}
 use Rattle.paper_rules.specs.Along.{Stands, slot-at}
 use Rattle.paper_rules.specs.Words.{viewAt, NotQueue, Current, same-view, empty-or-stands, segments-once}
 

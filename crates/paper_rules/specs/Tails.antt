@@ -6,7 +6,8 @@ use Prim.Native.Nat.{ℕ, _+_, _≤_}
 use native.Mathlib.Omega.{arith}
 use Rattle.lists.specs.Counting.{occurrences, occurs-append}
 use Rattle.gaps.specs.Maps.{All}
-use Rattle.gaps.specs.Line.{End, nonlocal, local, Extent, extent, Line, firstChain, Mode, settled, awaiting, Inside, rest, mid, close, Begins, bare, whole, begun, Views, leaving, meeting, passing}
+use Rattle.gaps.specs.Line.{End, nonlocal, local, Extent, extent, Line, firstChain, Mode, settled, awaiting, Inside, rest, mid, close, Begins, bare, whole}
+use Rattle.gaps.specs.Line.{begun, Views, leaving, meeting, passing}
 use Rattle.gaps.specs.Line.Views.{queue as beginning}
 use Rattle.gaps.specs.Frames.{clash}
 use Rattle.paper_rules.specs.Order.{ViewName, children, user, right}
@@ -69,7 +70,8 @@ module _ (childrenOf userOf rightOf : ℕ → Extent) where
       let d = occurs-append z c (chains S) in
       no-tail z first S h (omega (arith, a, b, d)) (omega (arith, a, b, d))
 
-  mode-begins : (first : List ℕ) (t : ℕ) (S : List Slot) {c : List ℕ} {x : Extent} {n : Mode} → rightOf t ≡ x → Begins c x n → OnceIn first (slot (right t) c ∷ S)
+  mode-begins : (first : List ℕ) (t : ℕ) (S : List Slot) {c : List ℕ} {x : Extent} {n : Mode} → rightOf t ≡ x → Begins c x n
+      → OnceIn first (slot (right t) c ∷ S)
       → EachTail childrenOf userOf rightOf first S → AtMode (slot (right t) c ∷ S) n
   mode-begins first t S e bare o h = tt
   mode-begins first t S e (whole k) o h = tt
@@ -96,7 +98,8 @@ module _ (childrenOf userOf rightOf : ℕ → Extent) where
   only-inside S v e (close {z = x}) h z y i =
       let d : extent nonlocal (local x) ≡ extent y (local z) = sym e ∙ i in let u : x ≡ z = cc in subst (λ (k : ℕ). All (NoTail k) S) u h
 
-  only-begins : (first : List ℕ) (t : ℕ) (S : List Slot) {c : List ℕ} {x : Extent} {n : Mode} → rightOf t ≡ x → Begins c x n → OnceIn first (slot (right t) c ∷ S)
+  only-begins : (first : List ℕ) (t : ℕ) (S : List Slot) {c : List ℕ} {x : Extent} {n : Mode} → rightOf t ≡ x → Begins c x n
+      → OnceIn first (slot (right t) c ∷ S)
       → EachTail childrenOf userOf rightOf first S → Only (slot (right t) c) S
   only-begins first t S e bare o h z y i = clash (rightOf t) e i
   only-begins first t S e (whole {s = s} {z = x} {c = c} k) o h z y i =

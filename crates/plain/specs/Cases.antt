@@ -13,7 +13,7 @@ use Rattle.plain.specs.Machine.{State, state, Event, begin, queue, front
 use Rattle.plain.specs.Run.{after, eventIn, next, runFrom, eventsFrom, run, events, answersOf}
 
 -- an event
-abbrev did : Name → Operation → ℕ → Word → ℕ → Event
+abbrev pub did : Name → Operation → ℕ → Word → ℕ → Event
 did p o w a v = record { name = p; operation = o; which = w; word = a; value = v }
 
 -- a run that has ended after n steps, with values in queue 0 alone
@@ -45,7 +45,8 @@ pub record Cases : Type 0 where
       ∷ did [] add 0 moved 0 ∷ did [] goIfZero 0 moved 0 ∷ did [] return 0 finished 0 ∷ []
 
 pub cases : Cases
-unfolding load pick both sameName bytes2 bytes4 offset instructionFrom instructionAt rowOf operationOf operationAt sum effect begin queue front queuesAfter advanced parent child stackAfter effectOn eventOf does step after eventIn next runFrom eventsFrom run events answersOf
+unfolding load pick both sameName bytes2 bytes4 offset instructionFrom instructionAt rowOf operationOf operationAt sum effect begin queue front queuesAfter
+    advanced parent child stackAfter effectOn eventOf does step after eventIn next runFrom eventsFrom run events answersOf
 cases =
     record {
       fullRunEvents = refl;

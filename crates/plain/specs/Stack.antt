@@ -43,5 +43,14 @@ module _ (j : List ℕ) where
   unfolding rightsOf
   again s t [] n p g h = (g, n ∙ h .1, p ∙ h .2)
   again s t (u ∷ ts) n p g h =
-      let c = h .1 in
-      (g, record { number = c .number; youngest = c .youngest; name = n ∙ c .name; within = ap (λ (k : ℕ). subset (rights j k) (rights j (u .procedure))) p ∙ c .within }, h .2)
+      let c = h .1 in (
+        g,
+        record {
+          number = c .number;
+          youngest = c .youngest;
+          name = n ∙ c .name;
+          within = ap (λ (k : ℕ). subset (rights j k) (rights j (u .procedure))) p
+              ∙ c .within;
+        },
+        h .2,
+      )

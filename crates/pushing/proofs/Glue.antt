@@ -4,21 +4,19 @@ use mathlib.Core.Bool.{Bool, true, false, not}
 use mathlib.Core.List.{List}
 use Prim.Native.Nat.{ℕ, _+_, _*_, _<_, _≤_}
 use native.Mathlib.Omega.{arith}
-use lib.Dec.{leb, ltb}
-use borrow.Author.Tests.{lt-ltb, le-ltb, le-leb, lt-leb, eqb-false, not-false}
-use Rattle.words.specs.Words.{size, pick, halt, pass}
-use Rattle.layout.specs.Layout.{NL, CHILDREN, USER, RIGHT, RIGHTS, lengthWord, numberWord, freeSegments, count, next, segment, task, head, tail, read, write}
-use Rattle.answers.specs.declared.Answer.{Answer}
+use borrow.Author.Tests.{lt-ltb, le-ltb, le-leb, lt-leb, eqb-false}
+use Rattle.words.specs.Words.{size, halt, pass}
+use Rattle.layout.specs.Layout.{NL, CHILDREN, USER, RIGHT, RIGHTS, lengthWord, numberWord, freeSegments, count, segment, task, head, tail, read, write}
 use Rattle.answers.specs.declared.Answer.the-variants.{Moved, Waits, Refused}
 use Rattle.answers.specs.Answers.{Outcome, outcome}
 use Rattle.tree.specs.Rights.{pushes}
-use Rattle.rules.specs.Views.{View, view}
+use Rattle.rules.specs.Views.{view}
 use Rattle.rules.specs.Test.{rulesHold}
 use Rattle.calls.specs.Segments.{stored, noneFree, nextFree, taken}
 use Rattle.calls.specs.Views.{viewOf, isEmpty, tailOf, reducible, setView, joined, taskAt, kindAt, justBefore}
 use Rattle.calls.specs.Waits.{rightsOf, unfinished, blocked}
 use Rattle.calls.specs.Push.{pushedApart, pushedBehind, pushed, pushTested}
-use Rattle.sound.specs.Sound.{Sound, rules-sound, unfinished-live}
+use Rattle.sound.specs.Sound.{rules-sound, unfinished-live}
 
 pub at-met : (x : ℕ) → x < 128 → RIGHT ≡ kindAt x
 unfolding kindAt
@@ -62,7 +60,8 @@ module _ (m : List ℕ) (t q : ℕ) (big : size m ≡ 16384) (ok : rulesHold m �
       above x n = omega (arith, n)
 
   pub can-take : {b : Bool} → b ≡ noneFree m → b ≡ false
-      → (size m ≡ 16384) × (0 < read m freeSegments) × (nextFree m < read m numberWord) × (0 < read m lengthWord) × (read m lengthWord * read m numberWord ≤ 8192)
+      → (size m ≡ 16384) × (0 < read m freeSegments) × (nextFree m < read m numberWord) × (0 < read m lengthWord)
+      × (read m lengthWord * read m numberWord ≤ 8192)
   can-take e f =
       let s = rules-sound m big ok in
       let r = room (sym e ∙ f) in
@@ -111,14 +110,16 @@ module _ (m : List ℕ) (t q v : ℕ) {h e : ℕ} {b : Bool} (ee : e ≡ read m 
         pub none-behind : b2 ≡ true → outcome (Refused 9) m ≡ pushed m t q v
         unfolding pushed
         none-behind r =
-            sym (pass _ (sym empty-same ∙ f) (pass _ (lt-leb NL _ (rw tail-same at g)) (pass _ (le-ltb _ _ (rw (en, ek, tail-same) at p)) (halt _ _ (sym e2 ∙ r)))))
+            sym (pass _ (sym empty-same ∙ f)
+            (pass _ (lt-leb NL _ (rw tail-same at g)) (pass _ (le-ltb _ _ (rw (en, ek, tail-same) at p)) (halt _ _ (sym e2 ∙ r)))))
 
         pub goes-behind : {o : Outcome} → b2 ≡ false → o ≡ pushedBehind m t q v e → o ≡ pushed m t q v
         unfolding pushed
         goes-behind r eo =
             eo
             ∙ ap (pushedBehind m t q v) tail-same
-            ∙ sym (pass _ (sym empty-same ∙ f) (pass _ (lt-leb NL _ (rw tail-same at g)) (pass _ (le-ltb _ _ (rw (en, ek, tail-same) at p)) (pass _ (sym e2 ∙ r) refl))))
+            ∙ sym (pass _ (sym empty-same ∙ f)
+            (pass _ (lt-leb NL _ (rw tail-same at g)) (pass _ (le-ltb _ _ (rw (en, ek, tail-same) at p)) (pass _ (sym e2 ∙ r) refl))))
 
 -- THE LADDER
 module _ (m : List ℕ) (t q v : ℕ) {b1 : Bool} (e1 : b1 ≡ unfinished m t) where

@@ -22,7 +22,8 @@ pub fn kind_at(x: u32) -> u32
 
 // The user view is empty: the new segment's head goes into the view at mark x.
 fn push_apart(m: &mut [u32], t: u32, q: u32, v: u32, x: u32) -> answers::Answer
-    requires { ⌜ (size (now m) ≡ 16384) × (0 < read (now m) freeSegments) × (nextFree (now m) < read (now m) numberWord) × (0 < read (now m) lengthWord) × (read (now m) lengthWord * read (now m) numberWord ≤ 8192) ⌝ }
+    requires { ⌜ (size (now m) ≡ 16384) × (0 < read (now m) freeSegments) × (nextFree (now m) < read (now m) numberWord)
+        × (0 < read (now m) lengthWord) × (read (now m) lengthWord * read (now m) numberWord ≤ 8192) ⌝ }
     ensures { λ a. ⌜ outcome a (now (m .exit)) ≡ pushedApart (now (m .entry)) t q v x ⌝ }
 {
     let s = segments::next_free(m);
@@ -44,7 +45,8 @@ fn push_apart(m: &mut [u32], t: u32, q: u32, v: u32, x: u32) -> answers::Answer
 
 // The tail segment e is full: the new segment becomes its next.
 fn push_behind(m: &mut [u32], t: u32, q: u32, v: u32, e: u32) -> answers::Answer
-    requires { ⌜ (size (now m) ≡ 16384) × (0 < read (now m) freeSegments) × (nextFree (now m) < read (now m) numberWord) × (0 < read (now m) lengthWord) × (read (now m) lengthWord * read (now m) numberWord ≤ 8192) ⌝ }
+    requires { ⌜ (size (now m) ≡ 16384) × (0 < read (now m) freeSegments) × (nextFree (now m) < read (now m) numberWord)
+        × (0 < read (now m) lengthWord) × (read (now m) lengthWord * read (now m) numberWord ≤ 8192) ⌝ }
     ensures { λ a. ⌜ outcome a (now (m .exit)) ≡ pushedBehind (now (m .entry)) t q v e ⌝ }
 {
     let s = segments::next_free(m);

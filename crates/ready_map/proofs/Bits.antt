@@ -11,10 +11,10 @@ use lib.Count.{ones, trailingZeros}
 use lib.Pow.{shl-exact}
 use borrow.Author.Tests.{eq-eqb, ne-eqb}
 use Rattle.words.specs.Words.{pass, halt}
-use Rattle.lists.specs.Counting.{one, over}
+use Rattle.lists.specs.Counting.{one, over, one-true, one-false}
 use Rattle.layout.specs.Layout.{NONE}
 use Rattle.runner.specs.Ready.{bitsFrom, lowestFrom}
-use Rattle.runner.specs.ReadyLaws.{one-true, one-false, bits-more, bits-below}
+use Rattle.runner.specs.ReadyLaws.{bits-more, bits-below}
 
 module _ (w k : ℕ) {b : Bool} where
   pub bit-set : w < 2 ^ k → k < 32 → b ≡ true → bitOr w (1 * 2 ^ k % 2 ^ 32) ≡ w + one b * 2 ^ k

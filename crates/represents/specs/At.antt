@@ -3,7 +3,7 @@ use mathlib.Core.Path.{_≡_, refl, ap, _∙_, subst}
 use mathlib.Core.Bool.{true}
 use mathlib.Core.List.{List, _∷_, _++_}
 use mathlib.Core.Logic.{inl}
-use Prim.Native.Nat.{ℕ, _+_, _<_, _≤_}
+use Prim.Native.Nat.{ℕ, _<_, _≤_}
 use borrow.Author.Tests.{lt-ltb}
 use Rattle.words.specs.Words.{true-both}
 use Rattle.tree.specs.Rights.{uses}
@@ -74,7 +74,8 @@ module _ (m : List ℕ) (ys zs : List Item) (s : Task) (r : Represents m (ys ++ 
   pub at : (q : ℕ) → q < 4 → uses (rightsOf s) q ≡ true → At q
   at q i u =
       let p = where-it-stands in
-      let w = met-part (usesIn m q) (r .line q) (proper q i) t (p .later) (p .earlier) (task-unfinished .0) (uses-here q u) (parts-of m Old r .marked q i ∙ p .here) in
+      let w = met-part (usesIn m q) (r .line q) (proper q i) t (p .later) (p .earlier) (task-unfinished .0) (uses-here q u)
+      (parts-of m Old r .marked q i ∙ p .here) in
       record { later = w .0; chain = w .1; earlier = w .2; parts = w .3; later-marks = w .4; earlier-marks = w .5 }
 
   module _ (q : ℕ) (i : q < 4) (w : At q) where
@@ -82,8 +83,11 @@ module _ (m : List ℕ) (ys zs : List Item) (s : Task) (r : Represents m (ys ++ 
     Behind = valuesIn (contentsIn m) (w .chain) ++ timeline (contentsIn m) (w .later)
 
     pub laid-at : Laid (mine (queueMemory m q .store) (r .line q)) (queueMemory m q) (holders m Old r q) (w .later ++ (met t (w .chain) ∷ w .earlier))
-    laid-at = subst (λ (l : Line). Laid (mine (queueMemory m q .store) (r .line q)) (queueMemory m q) (holders m Old r q) l) (w .parts) (parts-of m Old r .laids .laid q i)
+    laid-at =
+        subst (λ (l : Line). Laid (mine (queueMemory m q .store) (r .line q)) (queueMemory m q) (holders m Old r q) l) (w .parts)
+        (parts-of m Old r .laids .laid q i)
 
     pub time-at : Timeline q Old (timeline (contentsIn m) (w .earlier) ++ user t ∷ Behind)
     time-at =
-        subst (Timeline q Old) (ap (timeline (contentsIn m)) (w .parts) ∙ timeline-at (contentsIn m) (w .later) t (w .chain) (w .earlier)) (parts-of m Old r .time q i)
+        subst (Timeline q Old) (ap (timeline (contentsIn m)) (w .parts) ∙ timeline-at (contentsIn m) (w .later) t (w .chain) (w .earlier))
+        (parts-of m Old r .time q i)

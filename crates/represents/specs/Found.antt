@@ -2,8 +2,8 @@
 use mathlib.Core.Path.{_≡_, refl, ap, sym, _∙_, subst}
 use mathlib.Core.Bool.{Bool, true, false, false≢true}
 use mathlib.Core.List.{List, [], _∷_}
-use mathlib.Core.Logic.{_⊎_, ⊎-elim}
-use Prim.Native.Nat.{ℕ, zero, suc, _-_, _<_, _≤_}
+use mathlib.Core.Logic.{⊎-elim}
+use Prim.Native.Nat.{ℕ, _-_, _<_, _≤_}
 use native.Mathlib.Omega.{arith}
 use borrow.Author.Tests.{lt-ltb, le-ltb}
 use Rattle.words.specs.Words.{pick, halt, pass as skip}
@@ -35,7 +35,8 @@ first-member f (y ∷ l) n = go (f y) refl (first-member f l)
     go false e rest =
         subst (λ (z : ℕ). 0 < occurrences z (y ∷ l)) (sym (skip _ e refl))
         (let p = rest (λ d. n (skip _ e d)) in
-        ⊎-elim (λ d. let g = occurs-here y (firstOf f l) l d in omega (arith, g)) (λ d. let g = occurs-past y (firstOf f l) l d in omega (arith, g, p)) (equal? y (firstOf f l)))
+        ⊎-elim (λ d. let g = occurs-here y (firstOf f l) l d in omega (arith, g)) (λ d. let g = occurs-past y (firstOf f l) l d in omega (arith, g, p))
+        (equal? y (firstOf f l)))
 
 -- a task that is left in a line has a right
 left-uses : (uses : ℕ → Bool) (l : Line) (x : ℕ) → All (Fits uses) l → 0 < occurrences x (lefts l) → uses x ≡ true
@@ -55,13 +56,15 @@ met-uses uses (met t c ∷ l) x f p =
 met-uses uses (pass y ∷ l) x f p = met-uses uses l x (f .1) p
 
 -- a view that is reduced into a place of the line is not of a task without a right
-pub children-elsewhere : (uses : ℕ → Bool) (l : Line) (k : Place) (v : Extent) (f : ℕ → Extent) (u : ℕ) → All (Fits uses) l → In k l → uses u ≡ false → childrenWith v k f u ≡ f u
+pub children-elsewhere : (uses : ℕ → Bool) (l : Line) (k : Place) (v : Extent) (f : ℕ → Extent) (u : ℕ) → All (Fits uses) l → In k l → uses u ≡ false
+    → childrenWith v k f u ≡ f u
 children-elsewhere uses l k vacant f u h i e = refl
 children-elsewhere uses l (childrenOf t) (extent b y) f u h i e =
     put-other f t (reduced (f t) (extent b y)) u (λ d. false≢true (sym e ∙ ap uses d ∙ left-uses uses l t h i))
 children-elsewhere uses l (rightOf t) (extent b y) f u h i e = refl
 
-pub rights-elsewhere : (uses : ℕ → Bool) (l : Line) (k : Place) (v : Extent) (f : ℕ → Extent) (u : ℕ) → All (Fits uses) l → In k l → uses u ≡ false → rightsWith v k f u ≡ f u
+pub rights-elsewhere : (uses : ℕ → Bool) (l : Line) (k : Place) (v : Extent) (f : ℕ → Extent) (u : ℕ) → All (Fits uses) l → In k l → uses u ≡ false
+    → rightsWith v k f u ≡ f u
 rights-elsewhere uses l k vacant f u h i e = refl
 rights-elsewhere uses l (rightOf t) (extent b y) f u h i e =
     put-other f t (reduced (f t) (extent b y)) u (λ d. false≢true (sym e ∙ ap uses d ∙ met-uses uses l t h i))
@@ -70,7 +73,6 @@ rights-elsewhere uses l (childrenOf t) (extent b y) f u h i e = refl
 -- what holds of the mark that is found
 pub record Placed (m : List ℕ) (q x : ℕ) : Type 0 where
   pub range : taskAt x < 128
-  pub busy : Unfinished (decode m) (taskAt x)
   pub holds : holdsAt (alive m) (placeAt x)
   pub by-words : viewIn m q (kindAt x) (taskAt x) ≡ viewAt (queueMemory m q .children) (queueMemory m q .right) (placeAt x)
 
@@ -86,7 +88,6 @@ module _ (m : List ℕ) (xs : List Item) (r : Represents m xs) where
           let a = unfinished-alive m x (v .1) in
           record {
             range = rw b (v .0);
-            busy = rw b (v .1);
             holds = rw b a;
             by-words = rw b (sym (halt _ _ a));
           }
@@ -97,7 +98,6 @@ module _ (m : List ℕ) (xs : List Item) (r : Represents m xs) where
           let a = unfinished-alive m (x - 128) (v .2) in
           record {
             range = rw b (v .2 .0);
-            busy = rw b (v .2);
             holds = rw b a;
             by-words = rw b (sym (halt _ _ a));
           }

@@ -3,14 +3,15 @@ use mathlib.Core.Path.{_≡_, refl, ap, ap₂, sym, _∙_, subst, fun-ext}
 use mathlib.Core.Bool.{Bool, true}
 use mathlib.Core.Option.{Option, none, some}
 use mathlib.Core.List.{List, [], _∷_}
-use mathlib.Core.Logic.{_⊎_, ⊎-elim}
+use mathlib.Core.Logic.{⊎-elim}
 use Prim.Native.Nat.{ℕ}
 use Rattle.words.specs.Words.{pick, halt}
 use Rattle.lists.specs.Counting.{equal?}
 use Rattle.gaps.specs.Maps.{put, put-same, put-other}
 use Rattle.gaps.specs.Line.{End, nonlocal, local, Extent, vacant, extent}
 use Rattle.gaps.specs.Store.{Store, Memory}
-use Rattle.gaps.specs.Moves.{Place, childrenOf, rightOf, viewAt, reduced, childrenWith, rightsWith, taken, linkedHolding, joined, poppedTo, pushedBehind, pushedApart, popped, synced}
+use Rattle.gaps.specs.Moves.{Place, childrenOf, rightOf, viewAt, reduced, childrenWith, rightsWith, taken, linkedHolding, joined, poppedTo, pushedBehind}
+use Rattle.gaps.specs.Moves.{pushedApart, popped, synced}
 use Rattle.represents.specs.Represents.{ofTasks}
 
 -- a map written at a place where the test holds
@@ -30,7 +31,8 @@ unfoldable pub ofStore : (ℕ → Bool) → Store → Store
 ofStore a st = record { next = st .next; contents = st .contents; heads = λ t. pick (a t) (st .heads t) none; free = st .free }
 
 module _ (a : ℕ → Bool) where
-  live-linked : (vs : List ℕ) (holder s t : ℕ) (st : Store) → a holder ≡ true → ofStore a (linkedHolding vs holder s t st) ≡ linkedHolding vs holder s t (ofStore a st)
+  live-linked : (vs : List ℕ) (holder s t : ℕ) (st : Store) → a holder ≡ true → ofStore a (linkedHolding vs holder s t st) ≡ linkedHolding vs holder s t
+      (ofStore a st)
   unfolding ofStore
   live-linked [] holder s t st e = λ i. record {
     next = put (st .next) s (some 0);
@@ -48,7 +50,8 @@ module _ (a : ℕ → Bool) where
   live-joined holder (extent h (local s)) (extent nonlocal y) st e = refl
   live-joined holder (extent h (local s)) (extent (local t) y) st e = live-linked (st .contents s) holder s t st e
 
-  live-popped : (vs : List ℕ) (n : Option ℕ) (holder s : ℕ) (st : Store) → a holder ≡ true → ofStore a (poppedTo vs n holder s st) ≡ poppedTo vs n holder s (ofStore a st)
+  live-popped : (vs : List ℕ) (n : Option ℕ) (holder s : ℕ) (st : Store) → a holder ≡ true → ofStore a (poppedTo vs n holder s st) ≡ poppedTo vs n holder s
+      (ofStore a st)
   unfolding ofStore
   live-popped [] none holder s st e = refl
   live-popped [] (some t) holder s st e = λ i. record {
@@ -94,7 +97,8 @@ module _ (a : ℕ → Bool) where
   holdsAt (childrenOf t) = a t ≡ true
   holdsAt (rightOf t) = a t ≡ true
 
-  pub live-children : (x : Extent) (k : Place) (f : ℕ → Extent) → holdsAt k → (λ t. pick (a t) (childrenWith x k f t) vacant) ≡ childrenWith x k (λ t. pick (a t) (f t) vacant)
+  pub live-children : (x : Extent) (k : Place) (f : ℕ → Extent) → holdsAt k → (λ t. pick (a t) (childrenWith x k f t) vacant) ≡ childrenWith x k
+      (λ t. pick (a t) (f t) vacant)
   unfolding holdsAt
   live-children vacant k f h = refl
   live-children (extent b y) (childrenOf t) f h =
@@ -102,7 +106,8 @@ module _ (a : ℕ → Bool) where
       ∙ ap (λ (v : Extent). put (λ x. pick (a x) (f x) vacant) t (reduced v (extent b y))) (sym (seen f vacant t h))
   live-children (extent b y) (rightOf t) f h = refl
 
-  pub live-rights : (x : Extent) (k : Place) (f : ℕ → Extent) → holdsAt k → (λ t. pick (a t) (rightsWith x k f t) vacant) ≡ rightsWith x k (λ t. pick (a t) (f t) vacant)
+  pub live-rights : (x : Extent) (k : Place) (f : ℕ → Extent) → holdsAt k → (λ t. pick (a t) (rightsWith x k f t) vacant) ≡ rightsWith x k
+      (λ t. pick (a t) (f t) vacant)
   unfolding holdsAt
   live-rights vacant k f h = refl
   live-rights (extent b y) (rightOf t) f h =

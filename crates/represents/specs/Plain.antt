@@ -2,8 +2,8 @@
 use mathlib.Core.Path.{_≡_, ap, sym, _∙_, subst, fun-ext}
 use mathlib.Core.Bool.{Bool, true, false}
 use mathlib.Core.List.{List, [], _∷_, _++_}
-use mathlib.Core.Logic.{_⊎_, inl, inr, ⊎-elim}
-use Prim.Native.Nat.{ℕ, _+_, _<_, _≤_}
+use mathlib.Core.Logic.{inl, inr, ⊎-elim}
+use Prim.Native.Nat.{ℕ, _<_, _≤_}
 use native.Mathlib.Omega.{arith}
 use Rattle.lists.specs.Counting.{equal?}
 use Rattle.layout.specs.Layout.{numberWord, read}
@@ -86,9 +86,11 @@ module _ (m : List ℕ) (ys zs : List Item) (s : Task) (r : Represents m (ys ++ 
     new-linked = keeps-linked m n (same-links m n (r .sized) kept) (r .tour) Old New (r .linked) same-back same-spots
 
     -- all parts, queue by queue
-    pub plain-represents : (line : ℕ → Line) → Nexts (read m numberWord) (nextIn n) → Laids (opened n) (storeIn n 0) (queueMemory n) holder line → ((q : ℕ) → q < 4 → marks (line q) ≡ r .tour)
+    pub plain-represents : (line : ℕ → Line) → Nexts (read m numberWord) (nextIn n) → Laids (opened n) (storeIn n 0) (queueMemory n) holder line
+        → ((q : ℕ) → q < 4 → marks (line q) ≡ r .tour)
         → ((q : ℕ) → q < 4 → All (Fits (usesIn m q)) (line q)) → ((q : ℕ) → q < 4 → Timeline q New (timeline (contentsIn n) (line q)))
-        → ((q : ℕ) → q < 4 → (t : ℕ) → usesIn m q t ≡ false → (queueMemory n q .children t ≡ vacant) × (queueMemory n q .user t ≡ vacant) × (queueMemory n q .right t ≡ vacant))
+        → ((q : ℕ) → q < 4 → (t : ℕ) → usesIn m q t ≡ false → (queueMemory n q .children t ≡ vacant) × (queueMemory n q .user t ≡ vacant)
+        × (queueMemory n q .right t ≡ vacant))
         → Represents n New
     plain-represents line e l k f t b =
         of-parts n (r .tour) New line holder new-linked played sized (subst (λ (x : ℕ). Nexts x (nextIn n)) (sym (kept .number)) e)
@@ -105,7 +107,8 @@ module _ (m : List ℕ) (ys zs : List Item) (s : Task) (r : Represents m (ys ++ 
     module _ (q : ℕ) (small : q < 4) (ps : List Point) (nexts : Nexts (read m numberWord) (nextIn n))
         (row : After (mine (queueMemory m q .store) (r .line q)) (queueMemory m q .store) (queueMemory n q) (holder q) (r .line q) ps)
         (others : (p : ℕ) → p < 4 → (p ≡ q → ⊥) → queueMemory n p ≡ shared (queueMemory n q .store) (queueMemory m p))
-        (bare : (t : ℕ) → usesIn m q t ≡ false → (queueMemory n q .children t ≡ vacant) × (queueMemory n q .user t ≡ vacant) × (queueMemory n q .right t ≡ vacant))
+        (bare : (t : ℕ) → usesIn m q t ≡ false → (queueMemory n q .children t ≡ vacant) × (queueMemory n q .user t ≡ vacant)
+        × (queueMemory n q .right t ≡ vacant))
         (time : Timeline q New ps) (quiet : (p : ℕ) → p < 4 → (p ≡ q → ⊥) → (added p a ≡ []) × (takes p a ≡ 0)) where
       old : Parts m (r .tour) Old (r .line) holder
       old = parts-of m Old r
@@ -113,17 +116,22 @@ module _ (m : List ℕ) (ys zs : List Item) (s : Task) (r : Represents m (ys ++ 
       abbrev line : ℕ → Line
       line = put (r .line) q (row .line)
 
-      rows : Laids (opened m) (queueMemory n q .store) (put (λ p. shared (queueMemory n q .store) (queueMemory m p)) q (queueMemory n q)) (put holder q (holder q)) line
+      rows : Laids (opened m) (queueMemory n q .store) (put (λ p. shared (queueMemory n q .store) (queueMemory m p)) q (queueMemory n q))
+          (put holder q (holder q)) line
       rows =
-          laids-row (opened m) (opened-single m) (storeIn m 0) (queueMemory m) holder (r .line) (old .laids) q small (queueMemory n q) (holder q) (row .line) (row .kept) (row .laid)
+          laids-row (opened m) (opened-single m) (storeIn m 0) (queueMemory m) holder (r .line) (old .laids) q small (queueMemory n q) (holder q) (row .line)
+          (row .kept) (row .laid)
 
       holder-same : put holder q (holder q) ≡ holder
-      holder-same = fun-ext λ p. ⊎-elim (λ e. ap (put holder q (holder q)) e ∙ put-same holder q (holder q) ∙ ap holder (sym e)) (λ k. put-other holder q (holder q) p k) (equal? p q)
+      holder-same =
+          fun-ext λ p. ⊎-elim (λ e. ap (put holder q (holder q)) e ∙ put-same holder q (holder q) ∙ ap holder (sym e))
+          (λ k. put-other holder q (holder q) p k) (equal? p q)
 
       memory-same : (p : ℕ) → p < 4 → queueMemory n p ≡ put (λ p. shared (queueMemory n q .store) (queueMemory m p)) q (queueMemory n q) p
       memory-same p i =
           ⊎-elim
-          (λ e. subst (λ (x : ℕ). queueMemory n x ≡ put (λ p. shared (queueMemory n q .store) (queueMemory m p)) q (queueMemory n q) x) (sym e) (sym (put-same _ q _)))
+          (λ e. subst (λ (x : ℕ). queueMemory n x ≡ put (λ p. shared (queueMemory n q .store) (queueMemory m p)) q (queueMemory n q) x) (sym e)
+          (sym (put-same _ q _)))
           (λ k. others p i k ∙ sym (put-other _ q _ p k))
           (equal? p q)
 
@@ -159,12 +167,15 @@ module _ (m : List ℕ) (ys zs : List Item) (s : Task) (r : Represents m (ys ++ 
           (by (λ p l. Timeline p New (timeline (contentsIn n) l)) (subst (Timeline q New) (sym (row .points)) time) other-time)
           (λ p i.
           ⊎-elim
-          (λ e. subst (λ (x : ℕ). (t : ℕ) → usesIn m x t ≡ false → (queueMemory n x .children t ≡ vacant) × (queueMemory n x .user t ≡ vacant) × (queueMemory n x .right t ≡ vacant)) (sym e) bare)
-          (λ k t u. let b = old .bare p i t u in let o = others p i k in (ap (λ (w : Memory). w .children t) o ∙ b .0, ap (λ (w : Memory). w .user t) o ∙ b .1, ap (λ (w : Memory). w .right t) o ∙ b .2))
+          (λ e. subst (λ (x : ℕ). (t : ℕ) → usesIn m x t ≡ false → (queueMemory n x .children t ≡ vacant) × (queueMemory n x .user t ≡ vacant)
+          × (queueMemory n x .right t ≡ vacant)) (sym e) bare)
+          (λ k t u. let b = old .bare p i t u in let o = others p i k in
+          (ap (λ (w : Memory). w .children t) o ∙ b .0, ap (λ (w : Memory). w .user t) o ∙ b .1, ap (λ (w : Memory). w .right t) o ∙ b .2))
           (equal? p q))
         where
           other-time : (p : ℕ) → p < 4 → (p ≡ q → ⊥) → Timeline p New (timeline (contentsIn n) (r .line p))
           other-time p i k =
               subst (Timeline p New)
-              (sym (other-timeline (opened m) (opened-single m) (storeIn m 0) (queueMemory m) holder (r .line) (old .laids) q small (queueMemory n q) (holder q) (row .line) (row .kept) (row .laid) p i k))
+              (sym (other-timeline (opened m) (opened-single m) (storeIn m 0) (queueMemory m) holder (r .line) (old .laids) q small (queueMemory n q)
+              (holder q) (row .line) (row .kept) (row .laid) p i k))
               (plain-line p ys zs s single a is (quiet p i k .0) (quiet p i k .1) (old .time p i))

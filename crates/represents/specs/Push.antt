@@ -1,7 +1,7 @@
 -- A PUSH keeps the invariant: into the tail segment, or into a new segment.
 use mathlib.Core.Path.{_≡_, refl, ap, sym, _∙_, subst}
 use mathlib.Core.List.{List, [], _∷_, _++_}
-use Prim.Native.Nat.{ℕ, _+_, _<_}
+use Prim.Native.Nat.{ℕ, _<_}
 use native.Mathlib.Omega.{arith}
 use borrow.Author.Tests.{ne-eqb}
 use Rattle.words.specs.Words.{halt, pass as skip}
@@ -12,7 +12,6 @@ use Rattle.order.specs.Steps.{Task, Item, spot, pushes, numberOf, rightsOf, adv
 use Rattle.order_laws.specs.Moves.{plain-push}
 use Rattle.order_waits.specs.Played.{Played}
 use Rattle.order_queue.specs.Points.{Point, value, user, added, takes, Timeline}
-use Rattle.order_queue.specs.Users.{pushes-uses}
 use Rattle.order_queue.specs.Laws.{push-line}
 use Rattle.gaps.specs.Maps.{put, put-other}
 use Rattle.gaps.specs.Line.{End, local, Extent, vacant, extent, Line, met}
@@ -25,6 +24,7 @@ use Rattle.meaning.specs.Meaning.{Meaning, meaningOf, memoryOf, memoryIn, conte
 use Rattle.meaning.specs.Update.{withContents, shared}
 use Rattle.meaning.specs.Kept.{Becomes}
 use Rattle.meaning.specs.Values.{value-stored}
+use Rattle.tree.specs.Users.{pushes-uses}
 use Rattle.represents.specs.Represents.{alive, ofTasks, queueMemory, usesIn, Represents}
 use Rattle.represents.specs.Nexts.{Nexts, nexts-taken, nexts-linked, words-nexts}
 use Rattle.represents.specs.Parts.{holders, parts-of, same-alive}
@@ -54,7 +54,8 @@ quiet : (q v p : ℕ) → (p ≡ q → ⊥) → (added p (pushes q v) ≡ []) ×
 unfolding added takes
 quiet q v p n = (skip _ (ne-eqb q p (λ e. n (sym e))) refl, refl)
 
-module _ (m : List ℕ) (ys zs : List Item) (s : Task) (r : Represents m (ys ++ spot s ∷ zs)) (q v : ℕ) (small : q < 4) (may : mayPush (rightsOf s) q ≡ true) where
+module _ (m : List ℕ) (ys zs : List Item) (s : Task) (r : Represents m (ys ++ spot s ∷ zs)) (q v : ℕ)
+    (small : q < 4) (may : mayPush (rightsOf s) q ≡ true) where
   abbrev t : ℕ
   t = numberOf s
 
@@ -74,19 +75,25 @@ module _ (m : List ℕ) (ys zs : List Item) (s : Task) (r : Represents m (ys ++ 
   Pushed = timeline (contentsIn m) (stands .earlier) ++ value v ∷ user t ∷ Behind m ys zs s r q small stands
 
   new-time : Timeline q New Pushed
-  new-time = push-line q ys zs s (single-spot m ys zs s r) (timeline (contentsIn m) (stands .earlier)) (Behind m ys zs s r q small stands) v has-right (time-at m ys zs s r q small stands)
+  new-time =
+      push-line q ys zs s (single-spot m ys zs s r) (timeline (contentsIn m) (stands .earlier)) (Behind m ys zs s r q small stands) v has-right
+      (time-at m ys zs s r q small stands)
 
   -- from a row of the queue's line, and what the words have come to mean
-  pub pushed : (n : List ℕ) (M : Meaning) (W : Memory) → Becomes m n M → Played New → Nexts (read m numberWord) (W .store .next) → ofTasks (alive m) (memoryOf M q) ≡ W
+  pub pushed : (n : List ℕ) (M : Meaning) (W : Memory) → Becomes m n M → Played New → Nexts (read m numberWord) (W .store .next)
+      → ofTasks (alive m) (memoryOf M q) ≡ W
       → ((p : ℕ) → p < 4 → (p ≡ q → ⊥) → ofTasks (alive m) (memoryOf M p) ≡ shared (W .store) (queueMemory m p))
       → ((x : ℕ) → usesIn m q x ≡ false → (W .children x ≡ vacant) × (W .user x ≡ vacant) × (W .right x ≡ vacant))
-      → After (mine (queueMemory m q .store) (r .line q)) (queueMemory m q .store) W (holders m Old r q) (stands .later ++ (met t (stands .chain) ∷ stands .earlier)) Pushed
+      → After (mine (queueMemory m q .store) (r .line q)) (queueMemory m q .store) W (holders m Old r q)
+      (stands .later ++ (met t (stands .chain) ∷ stands .earlier)) Pushed
       → Represents n New
   unfolding queueMemory ofTasks
   pushed n M W b play f e others bare row =
-      queue-represents m ys zs s r (pushes q v) (plain-push q v) n (b .kept) (b .sized) play q small Pushed (subst (λ (w : Memory). Nexts (read m numberWord) (w .store .next)) (sym is) f)
+      queue-represents m ys zs s r (pushes q v) (plain-push q v) n (b .kept) (b .sized) play q small Pushed
+      (subst (λ (w : Memory). Nexts (read m numberWord) (w .store .next)) (sym is) f)
       (subst (λ (w : Memory). After (mine (queueMemory m q .store) (r .line q)) (queueMemory m q .store) w (holders m Old r q) (r .line q) Pushed) (sym is)
-      (subst (λ (l : Line). After (mine (queueMemory m q .store) (r .line q)) (queueMemory m q .store) W (holders m Old r q) l Pushed) (sym (stands .parts)) row))
+      (subst (λ (l : Line). After (mine (queueMemory m q .store) (r .line q)) (queueMemory m q .store) W (holders m Old r q) l Pushed) (sym (stands .parts))
+      row))
       (λ p i k. queue-memory p b ∙ others p i k ∙ ap (λ (w : Memory). shared (w .store) (queueMemory m p)) (sym is))
       (λ x u. subst (λ (w : Memory). (w .children x ≡ vacant) × (w .user x ≡ vacant) × (w .right x ≡ vacant)) (sym is) (bare x u))
       new-time (λ p i k. quiet q v p k)
@@ -106,9 +113,11 @@ module _ (m : List ℕ) (ys zs : List Item) (s : Task) (r : Represents m (ys ++ 
       → Represents (stored m z v) New
   unfolding queueMemory ofTasks pushedInto
   push-into h z u low room play =
-      pushed (stored m z v) (withContents (meaningOf m) z (contentsIn m z ++ v ∷ [])) (pushedInto z v (queueMemory m q)) (value-stored m z v (r .sized) low room) play old-nexts refl
+      pushed (stored m z v) (withContents (meaningOf m) z (contentsIn m z ++ v ∷ [])) (pushedInto z v (queueMemory m q))
+      (value-stored m z v (r .sized) low room) play old-nexts refl
       (λ p i k. refl) (λ x e. parts-of m Old r .bare q small x e)
-      (into-row (mine (queueMemory m q .store) (r .line q)) (one-mine m Old r q small) (queueMemory m q) (holders m Old r q) (stands .later) t (stands .chain) (stands .earlier) v
+      (into-row (mine (queueMemory m q .store) (r .line q)) (one-mine m Old r q small) (queueMemory m q) (holders m Old r q) (stands .later) t (stands .chain)
+      (stands .earlier) v
       (laid-at m ys zs s r q small stands) h z u)
 
   -- only the task's own user view, and a place before it, are written
@@ -134,9 +143,11 @@ module _ (m : List ℕ) (ys zs : List Item) (s : Task) (r : Represents m (ys ++ 
   push-behind h z g rest w ws u low ef filled ne play =
       pushed _ (behindIn (meaningOf m) q t h z g rest v) (pushedBehind holder t h z g rest v (queueMemory m q))
       (pushed-behind m t q v g rest (r .sized) (task-unfinished m ys zs s r .0) small ef g-below z h (local z) low (user-word u)) play
-      (nexts-linked (read m numberWord) some-opened (taken-store g rest v (queueMemory m q .store) .contents z) holder z g (taken-store g rest v (queueMemory m q .store)) g-below (nexts-taken (read m numberWord) some-opened g rest v (queueMemory m q .store) old-nexts))
+      (nexts-linked (read m numberWord) some-opened (taken-store g rest v (queueMemory m q .store) .contents z) holder z g
+      (taken-store g rest v (queueMemory m q .store)) g-below (nexts-taken (read m numberWord) some-opened g rest v (queueMemory m q .store) old-nexts))
       same others bare
-      (behind-row (mine (queueMemory m q .store) (r .line q)) (one-mine m Old r q small) (queueMemory m q) holder (stands .later) t (stands .chain) (stands .earlier) v
+      (behind-row (mine (queueMemory m q .store) (r .line q)) (one-mine m Old r q small) (queueMemory m q) holder (stands .later) t (stands .chain)
+      (stands .earlier) v
       (laid-at m ys zs s r q small stands) g rest free-is h z u)
     where
       g-below : g < read m numberWord
@@ -151,11 +162,13 @@ module _ (m : List ℕ) (ys zs : List Item) (s : Task) (r : Represents m (ys ++ 
       same : ofTasks (alive m) (memoryOf (behindIn (meaningOf m) q t h z g rest v) q) ≡ pushedBehind holder t h z g rest v (queueMemory m q)
       same = ap (ofTasks (alive m)) (memory-behind (meaningOf m) q holder t h z g rest v w ws ne filled) ∙ live
 
-      others : (p : ℕ) → p < 4 → (p ≡ q → ⊥) → ofTasks (alive m) (memoryOf (behindIn (meaningOf m) q t h z g rest v) p) ≡ shared (pushedBehind holder t h z g rest v (queueMemory m q) .store) (queueMemory m p)
+      others : (p : ℕ) → p < 4 → (p ≡ q → ⊥) → ofTasks (alive m) (memoryOf (behindIn (meaningOf m) q t h z g rest v) p) ≡ shared
+          (pushedBehind holder t h z g rest v (queueMemory m q) .store) (queueMemory m p)
       others p i k =
           ap (ofTasks (alive m)) (behind-elsewhere (meaningOf m) q holder t h z g rest v w ws ne filled p k)
           ∙ masked-share (alive m) (pushedBehind holder t h z g rest v (memoryIn m q)) (memoryIn m p)
           ∙ ap (λ (x : Memory). shared (x .store) (queueMemory m p)) live
 
-      bare : (x : ℕ) → usesIn m q x ≡ false → (pushedBehind holder t h z g rest v (queueMemory m q) .children x ≡ vacant) × (pushedBehind holder t h z g rest v (queueMemory m q) .user x ≡ vacant) × (pushedBehind holder t h z g rest v (queueMemory m q) .right x ≡ vacant)
+      bare : (x : ℕ) → usesIn m q x ≡ false → (pushedBehind holder t h z g rest v (queueMemory m q) .children x ≡ vacant)
+          × (pushedBehind holder t h z g rest v (queueMemory m q) .user x ≡ vacant) × (pushedBehind holder t h z g rest v (queueMemory m q) .right x ≡ vacant)
       bare x e = let b = parts-of m Old r .bare q small x e in unfold pushedBehind in (b .0, other-user x (extent h (local g)) e ∙ b .1, b .2)

@@ -22,5 +22,6 @@ pub test-represents : (m : List ℕ) (ys zs : List Item) (s : Task) (r : Represe
     → Played (advance (numberOf s) (tests q) (ys ++ spot s ∷ zs)) → Represents m (advance (numberOf s) (tests q) (ys ++ spot s ∷ zs))
 test-represents m ys zs s r q play =
     let old = parts-of m (ys ++ spot s ∷ zs) r in
-    plain-represents m ys zs s r (tests q) (plain-test q) m (kept-all m) (r .sized) play (r .line) (words-nexts m (r .sized) (r .nexts)) (old .laids) (old .marked) (old .fits)
+    plain-represents m ys zs s r (tests q) (plain-test q) m (kept-all m) (r .sized) play (r .line) (words-nexts m (r .sized) (r .nexts)) (old .laids)
+    (old .marked) (old .fits)
     (λ p i. plain-line p ys zs s (single-spot m ys zs s r) (tests q) (plain-test q) (quiet q p .0) (quiet q p .1) (old .time p i)) (old .bare)

@@ -1,25 +1,24 @@
 -- THE WALKS BACK over the tour, by the words and along the line of a queue.
 use mathlib.Core.Path.{_≡_, refl, ap, ap₂, sym, _∙_, subst}
-use mathlib.Core.Bool.{Bool, true, false}
+use mathlib.Core.Bool.{Bool, true}
 use mathlib.Core.List.{List, [], _∷_}
 use mathlib.Core.Logic.{⊎-elim}
 use Prim.Native.Nat.{ℕ, _-_, _<_}
 use native.Mathlib.Omega.{arith}
-use lib.Dec.{ltb, eqb}
 use borrow.Author.Tests.{lt-ltb, le-ltb}
-use Rattle.words.specs.Words.{pick, halt, pass as skip, both, either, both-on}
+use Rattle.words.specs.Words.{pick, halt, pass as skip, both, both-on}
 use Rattle.lists.specs.Counting.{occurrences, occurs-here, occurs-past, equal?}
 use Rattle.layout.specs.Layout.{CHILDREN, RIGHTS}
-use Rattle.tree.specs.Rights.{uses, bits}
-use Rattle.tree.specs.Queues.{by-four}
+use Rattle.tree.specs.Rights.{uses}
+use Rattle.tree.specs.Queues.{all-used}
 use Rattle.rules.specs.Contents.{Contents, decode}
 use Rattle.rules.specs.Rules.{Unfinished}
 use Rattle.rules_tasks.specs.Tested.{top-says}
 use Rattle.calls.specs.Waits.{rightsOf as rightsIn}
 use Rattle.calls.specs.Views.{takesPart, standsAt}
 use Rattle.order.specs.Steps.{Item}
-use Rattle.gaps.specs.Line.{Extent, vacant}
-use Rattle.gaps.specs.Search.{firstOf, taskAt, occupied, takesPart as partTaken, standsAt as viewStands, Ends}
+use Rattle.gaps.specs.Line.{vacant}
+use Rattle.gaps.specs.Search.{firstOf, taskAt, takesPart as partTaken, standsAt as viewStands, Ends, same-views}
 use Rattle.links.specs.Row.{Row, leads-on}
 use Rattle.links.specs.Linked.{word-is}
 use Rattle.links.specs.Marks.{mark-held}
@@ -64,23 +63,14 @@ module _ (m : List ℕ) (xs : List Item) (r : Represents m xs) where
   unfolding viewStands queueMemory ofTasks taskAt
   same-stand q x i p =
       view-stands m q x i (marked x p .0)
-      ∙ ap₂ (λ (a b : Bool). both a b) (sym (part-taken m q x) ∙ same-part q x p) (go (ltb x 128) refl)
-    where
-      is-left : ltb x 128 ≡ false → taskAt x ≡ x - 128
-      is-left e = skip x e refl
-
-      go : (b : Bool) → ltb x 128 ≡ b
-          → either (ltb x 128) (either (eqb (x - 128) 0) (occupied (viewIn m q CHILDREN (x - 128))))
-          ≡ either (ltb x 128) (either (eqb (x - 128) 0) (occupied (queueMemory m q .children (x - 128))))
-      go true e = unfold either in halt _ _ e ∙ sym (halt _ _ e)
-      go false e =
-          ap (λ (v : Extent). either (ltb x 128) (either (eqb (x - 128) 0) (occupied v)))
-          (sym (halt (viewIn m q CHILDREN (x - 128)) vacant (unfinished-alive m (x - 128) (subst (Unfinished (decode m)) (is-left e) (marked x p .1)))))
+      ∙ ap₂ (λ (a b : Bool). both a b) (sym (part-taken m q x) ∙ same-part q x p)
+      (same-views x _ _ (λ e.
+      sym (halt (viewIn m q CHILDREN (x - 128)) vacant (unfinished-alive m (x - 128) (subst (Unfinished (decode m)) (skip x e refl) (marked x p .1))))))
 
   -- the top has every right
   pub top-uses : (q : ℕ) → q < 4 → usesIn m q 0 ≡ true
-  unfolding usesIn rightsIn uses bits
+  unfolding usesIn rightsIn
   top-uses q i =
       both-on (lt-ltb 0 128 (omega arith))
       ∙ ap (λ (x : ℕ). uses x q) (sym (word-is m 0 RIGHTS) ∙ top-says (decode m) (r .linked .top) .rights)
-      ∙ by-four (λ q. uses 255 q ≡ true) refl refl refl refl q i
+      ∙ all-used q i

@@ -1,14 +1,13 @@
 -- THE WALK BACK of a finish, by the words n and along the line of a queue: it ends at the same mark.
 use mathlib.Core.Path.{_≡_, refl, ap, ap₂, sym, _∙_, subst}
-use mathlib.Core.Bool.{Bool, true, false}
+use mathlib.Core.Bool.{Bool, false}
 use mathlib.Core.List.{List, [], _∷_, _++_, append-assoc}
 use Prim.Native.Nat.{ℕ, _+_, _-_, _<_}
 use native.Mathlib.Omega.{arith}
-use lib.Dec.{ltb, eqb}
 use borrow.Author.Tests.{lt-ltb}
-use Rattle.words.specs.Words.{both, either, halt, both-on, pass as skip}
+use Rattle.words.specs.Words.{both, both-on, pass as skip}
 use Rattle.lists.specs.Counting.{occurrences, occurs-append}
-use Rattle.layout.specs.Layout.{CHILDREN, RIGHTS, recordOf}
+use Rattle.layout.specs.Layout.{RIGHTS, recordOf}
 use Rattle.tree.specs.Rights.{uses}
 use Rattle.tree.specs.Tour.{MARKS, after, seek}
 use Rattle.rules.specs.Contents.{decode}
@@ -16,10 +15,9 @@ use Rattle.rules.specs.Rules.{Unfinished}
 use Rattle.calls.specs.Waits.{rightsOf as rightsIn, hasChild}
 use Rattle.calls.specs.Views.{takesPart, standsAt}
 use Rattle.order.specs.Steps.{Task, Item, spot, numberOf}
-use Rattle.gaps.specs.Line.{Extent, Line}
-use Rattle.gaps.specs.Search.{firstOf, taskAt, occupied, takesPart as partTaken, standsAt as viewStands, Ends, ends-behind}
+use Rattle.gaps.specs.Line.{Line}
+use Rattle.gaps.specs.Search.{firstOf, taskAt, takesPart as partTaken, standsAt as viewStands, Ends, ends-behind, same-views}
 use Rattle.links.specs.Places.{search-behind}
-use Rattle.meaning.specs.Meaning.{viewIn}
 use Rattle.meaning.specs.Find.{part-taken, view-stands}
 use Rattle.represents.specs.Represents.{queueMemory, usesIn, Represents}
 use Rattle.represents.specs.Walks.{first-path, tour-ends, marked}
@@ -64,16 +62,10 @@ module _ (m : List ℕ) (ys zs : List Item) (s : Task) (r : Represents m (ys ++ 
     unfolding viewStands taskAt
     same-stand x p =
         view-stands n q x small (marked m Old r x p .0)
-        ∙ ap₂ (λ (a b : Bool). both a b) (sym (part-taken n q x) ∙ same-part x p) (go (ltb x 128) refl)
-      where
-        go : (b : Bool) → ltb x 128 ≡ b
-            → either (ltb x 128) (either (eqb (x - 128) 0) (occupied (viewIn n q CHILDREN (x - 128))))
-            ≡ either (ltb x 128) (either (eqb (x - 128) 0) (occupied (queueMemory n q .children (x - 128))))
-        go true e = unfold either in halt _ _ e ∙ sym (halt _ _ e)
-        go false e =
-            ap (λ (v : Extent). either (ltb x 128) (either (eqb (x - 128) 0) (occupied v)))
-            (children-word n q (x - 128)
-            (unfinished-live m Old r n holder line way (x - 128) (subst (Unfinished (decode m)) (skip x e refl) (marked m Old r x p .1))))
+        ∙ ap₂ (λ (a b : Bool). both a b) (sym (part-taken n q x) ∙ same-part x p)
+        (same-views x _ _ (λ e.
+        children-word n q (x - 128)
+        (unfinished-live m Old r n holder line way (x - 128) (subst (Unfinished (decode m)) (skip x e refl) (marked m Old r x p .1)))))
 
     -- a search from behind t
     search : (f : ℕ → Bool) → seek MARKS f (recordOf n) (after (recordOf n) (t + 128)) ≡ firstOf f (here .earlier)

@@ -33,9 +33,9 @@ use Rattle.represents.specs.Parts.{of-parts}
 use Rattle.represents.specs.Plain.{laids-as}
 use Rattle.represents.specs.At.{task-unfinished, single-spot}
 use Rattle.represents.specs.Covered.{Vacant}
+use Rattle.order_waits.specs.Gone.{gone}
 use Rattle.represents_finish.specs.Leaf.{Leaf, leaf}
 use Rattle.represents_finish.specs.Way.{Way, Standing, all-begin, laids-over}
-use Rattle.represents_finish.specs.Heir.{gone}
 use Rattle.represents_finish.specs.FinishTurn.{Rest, Stage, turn-allowed, finish-turn}
 use Rattle.represents_finish.specs.Unlinked.{freed, words, links-only, tree-after}
 use Rattle.represents_finish.specs.Freed.{fits-without, freed-sized, freed-number, freed-next, freed-contents, freed-free, freed-opened, freed-uses}

@@ -3,29 +3,28 @@ use mathlib.Core.Path.{_≡_, refl, ap, sym, _∙_, subst}
 use mathlib.Core.Bool.{true, false}
 use mathlib.Core.Option.{some}
 use mathlib.Core.List.{List, [], _∷_, _++_}
-use mathlib.Core.Logic.{_⊎_, inl, inr, ⊎-elim}
-use Prim.Native.Nat.{ℕ, _+_, _<_, _≤_}
+use mathlib.Core.Logic.{inl, ⊎-elim}
+use Prim.Native.Nat.{ℕ, _<_}
 use native.Mathlib.Omega.{arith}
 use lib.ListN.{length}
 use Rattle.tree.specs.Rights.{pops as mayPop}
 use Rattle.calls.specs.Finish.{heir}
 use Rattle.order.specs.Steps.{Name, Task, Item, spot, finishes, nameOf, numberOf, rightsOf, made}
 use Rattle.order.specs.Waits.{blocked}
-use Rattle.order_laws.specs.Items.{In, in-parts}
-use Rattle.order_laws.specs.Count.{count, spotNumbered, count-append, count-in}
-use Rattle.order_laws.specs.Laws.{one-spot}
-use Rattle.order_waits.specs.Spots.{same-number, same-name, numbered, same-spot}
+use Rattle.order_laws.specs.Items.{In}
+use Rattle.order_waits.specs.Spots.{same-number, same-name}
 use Rattle.order_waits.specs.Played.{Played, played-reached}
-use Rattle.order_waits.specs.Changes.{in-left, in-right, no-spot}
+use Rattle.order_waits.specs.Changes.{in-right}
 use Rattle.order_waits.specs.Kinship.{kinship}
-use Rattle.order_waits.specs.Popper.{firstPopper, subset-pops}
+use Rattle.order_waits.specs.Popper.{firstPopper}
 use Rattle.order_waits.specs.Poppers.{popper-says}
 use Rattle.order_waits.specs.Heirs.{sibling-next, parent-next}
 use Rattle.links.specs.Linked.{Linked}
 use Rattle.links.specs.Family.{name-top}
 use Rattle.links.specs.Searches.{ParentHeir, SiblingHeir, heir-is}
+use Rattle.tree.specs.Users.{subset-pops}
+use Rattle.order_waits.specs.Gone.{was, gone, stays}
 
--- THE SPOTS after a finish of s are those before it, but its own.
 module _ (ys zs : List Item) (s : Task) (play : Played (ys ++ spot s ∷ zs)) where
   abbrev t : ℕ
   t = numberOf s
@@ -38,38 +37,6 @@ module _ (ys zs : List Item) (s : Task) (play : Played (ys ++ spot s ∷ zs)) wh
 
   mine : In (spot s) Old
   mine = in-right (spot s) ys (spot s ∷ zs) (inl refl)
-
-  parted : (o : Task) → In (spot o) New → In (spot o) ys ⊎ In (spot o) zs
-  parted o i =
-      ⊎-elim (λ j. inl j) (λ j. ⊎-elim (λ k. absurd (no-spot s o k)) (λ k. inr k) (in-parts (spot o) (made s finishes) zs j)) (in-parts (spot o) ys (made s finishes ++ zs) i)
-
-  pub was : (o : Task) → In (spot o) New → In (spot o) Old
-  was o i = ⊎-elim (in-left (spot o) ys (spot s ∷ zs)) (λ k. in-right (spot o) ys (spot s ∷ zs) (inr k)) (parted o i)
-
-  -- and no spot has its number
-  pub gone : (o : Task) → In (spot o) New → numberOf o ≡ t → ⊥
-  gone o i e =
-      ⊎-elim
-      (λ k. let a = count-in (spotNumbered t) (spot o) ys k (numbered o t e) in omega (arith, a, total, here))
-      (λ k. let a = count-in (spotNumbered t) (spot o) zs k (numbered o t e) in omega (arith, a, total, here))
-      (parted o i)
-    where
-      total : count (spotNumbered t) ys + (count (spotNumbered t) (spot s ∷ []) + count (spotNumbered t) zs) ≤ 1
-      total =
-          let a = one-spot Old (played-reached play) .1 t in
-          let b = count-append (spotNumbered t) ys (spot s ∷ zs) in
-          let d = count-append (spotNumbered t) (spot s ∷ []) zs in
-          omega (arith, a, b, d)
-
-      here : 0 < count (spotNumbered t) (spot s ∷ [])
-      here = count-in (spotNumbered t) (spot s) (spot s ∷ []) (inl refl) (numbered s t refl)
-
-  stays : (o : Task) → In (spot o) Old → (numberOf o ≡ t → ⊥) → In (spot o) New
-  stays o i n = ⊎-elim (in-left (spot o) ys (made s finishes ++ zs)) right (in-parts (spot o) ys (spot s ∷ zs) i)
-    where
-      right : In (spot o) (spot s ∷ zs) → In (spot o) New
-      right (inl e) = absurd (n (ap numberOf (same-spot e)))
-      right (inr j) = in-right (spot o) ys (made s finishes ++ zs) (in-right (spot o) (made s finishes) zs j)
 
   -- THE HEIR, in words w with this tree
   module _ (w : List ℕ) (T : List ℕ) (linked : Linked w T Old) (next : Played New) (above : 0 < t) (free : blocked t Old ≡ false) (q : ℕ) (small : q < 4)
@@ -95,7 +62,9 @@ module _ (ys zs : List Item) (s : Task) (play : Played (ys ++ spot s ∷ zs)) wh
             v .1,
             v .2,
             apart,
-            parent-next ys zs s q small play next k p named may free o (stays o (v .1) apart) (v .3) pops (λ x i j e f. v .4 x i (was x j) e (gone x j) f) ∙ ap some (v .2),
+            parent-next ys zs s q small play next k p named may free o (stays ys zs s play o (v .1) apart) (v .3) pops
+                (λ x i j e f. v .4 x i (was ys zs s play x j) e (gone ys zs s play x j) f)
+                ∙ ap some (v .2),
           )
 
       by-sibling : SiblingHeir w T Old play linked q s p (heir w t q) → Heir
@@ -108,8 +77,8 @@ module _ (ys zs : List Item) (s : Task) (play : Played (ys ++ spot s ∷ zs)) wh
             v .2,
             v .3,
             v .5,
-            sibling-next ys zs s q small play next k p named may free o j (stays o (v .2) (v .5)) (v .4) other (v .6)
-                (λ x i y e l f. v .7 x i (was x y) e l (gone x y) f)
+            sibling-next ys zs s q small play next k p named may free o j (stays ys zs s play o (v .2) (v .5)) (v .4) other (v .6)
+                (λ x i y e l f. v .7 x i (was ys zs s play x y) e l (gone ys zs s play x y) f)
                 ∙ ap some (v .3),
           )
 

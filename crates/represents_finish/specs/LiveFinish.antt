@@ -46,6 +46,7 @@ live-passed a t u e f m =
       next = m .store .next;
       contents = m .store .contents;
       heads = (masked-put a (put (m .store .heads) u (m .store .heads t)) t none none e
-          ∙ ap (λ g. put g t none) (masked-put a (m .store .heads) u (m .store .heads t) none f ∙ ap (put (λ x. pick (a x) (m .store .heads x) none) u) (sym (halt (m .store .heads t) none e)))) i;
+          ∙ ap (λ g. put g t none) (masked-put a (m .store .heads) u (m .store .heads t) none f ∙ ap (put (λ x. pick (a x) (m .store .heads x) none) u)
+          (sym (halt (m .store .heads t) none e)))) i;
       free = m .store .free;
     })

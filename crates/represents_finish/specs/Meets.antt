@@ -48,7 +48,8 @@ meets-reduces P n (extent e (local s)) (extent nonlocal y) h = absurd h
 meets-reduces P n (extent e (local s)) (extent (local t) y) h = ap not (ne-eqb s t (n s t h))
 
 -- what the link needs
-pub meets-links : (P : ℕ → ℕ → Type 0) (m : List ℕ) (q holder : ℕ) → ((s t : ℕ) → P s t → Linkable m q holder s t) → (a b : Extent) → Meets P a b → Links m q holder a b
+pub meets-links : (P : ℕ → ℕ → Type 0) (m : List ℕ) (q holder : ℕ) → ((s t : ℕ) → P s t → Linkable m q holder s t) → (a b : Extent) → Meets P a b
+    → Links m q holder a b
 meets-links P m q holder f vacant b h = tt
 meets-links P m q holder f (extent e nonlocal) vacant h = tt
 meets-links P m q holder f (extent e (local s)) vacant h = tt

@@ -17,7 +17,6 @@ use Rattle.order_waits.specs.Played.{played-reached}
 use Rattle.order_waits.specs.Spots.{same-number}
 use Rattle.order_waits.specs.Popper.{firstPopper}
 use Rattle.order_waits.specs.Poppers.{popper-says}
-use Rattle.order_queue.specs.Users.{pops-uses}
 use Rattle.gaps.specs.Line.{Line, segments}
 use Rattle.gaps.specs.Pool.{mine}
 use Rattle.links.specs.Linked.{Linked, spot-unfinished}
@@ -29,6 +28,7 @@ use Rattle.represents.specs.Parts.{opened-single, same-alive}
 use Rattle.represents.specs.Plain.{same-links}
 use Rattle.represents.specs.Room.{shorter, opened-below}
 use Rattle.represents.specs.Views.{unfinished-alive}
+use Rattle.tree.specs.Users.{pops-uses}
 use Rattle.represents_finish.specs.Way.{Way}
 
 module _ (m : List ℕ) (xs : List Item) (r : Represents m xs) (n : List ℕ) (holder : ℕ → ℕ) (line : ℕ → Line) (way : Way m n holder line) where

@@ -47,8 +47,10 @@ moved-elsewhere M q t u p n = λ i. record {
   store = record { next = M .next; contents = M .contents; heads = put-other (M .heads) q (headMoved t u (M .heads q)) p n i; free = M .free };
 }
 
-module _ (m : List ℕ) (ys zs : List Item) (s : Task) (r : Represents m (ys ++ spot s ∷ zs)) (above : 0 < numberOf s) (free : blocked (numberOf s) (ys ++ spot s ∷ zs) ≡ false)
-    (play : Played (advance (numberOf s) finishes (ys ++ spot s ∷ zs))) (n : List ℕ) (holder : ℕ → ℕ) (line : ℕ → Line) (way : Way m n holder line) (q : ℕ) (small : q < 4)
+module _ (m : List ℕ) (ys zs : List Item) (s : Task) (r : Represents m (ys ++ spot s ∷ zs)) (above : 0 < numberOf s)
+    (free : blocked (numberOf s) (ys ++ spot s ∷ zs) ≡ false)
+    (play : Played (advance (numberOf s) finishes (ys ++ spot s ∷ zs))) (n : List ℕ) (holder : ℕ → ℕ) (line : ℕ → Line) (way : Way m n holder line) (q : ℕ)
+    (small : q < 4)
     (first : firstPopper q (ys ++ spot s ∷ zs) ≡ some (holder q)) (T : List ℕ)
     (views : Change m n (viewsReturned n (numberOf s) q) (numberOf s) q (line q) (holder q) (advance (numberOf s) finishes (ys ++ spot s ∷ zs)) T) where
   abbrev t : ℕ
@@ -125,8 +127,11 @@ module _ (m : List ℕ) (ys zs : List Item) (s : Task) (r : Represents m (ys ++ 
 
     head-there : (x : ℕ) × (headsIn n1 q t ≡ some x)
     head-there =
-        let f = first-chain (c .laid .views) in
-        (f .0, head-is ∙ ap (put (λ y. none) h (headOf (firstChain (c .line)))) mine-view ∙ put-same (λ y. none) h (headOf (firstChain (c .line))) ∙ ap headOf (f .2))
+        let f = first-chain (c .laid .views) in (
+          f .0,
+          head-is ∙ ap (put (λ y. none) h (headOf (firstChain (c .line)))) mine-view ∙ put-same (λ y. none) h (headOf (firstChain (c .line)))
+              ∙ ap headOf (f .2),
+        )
 
     moved : Becomes n (queueReturned n1 t q) (movedIn (c .meaning) q t u)
     moved =

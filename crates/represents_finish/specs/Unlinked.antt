@@ -29,7 +29,8 @@ use Rattle.represents.specs.Plain.{same-links}
 use Rattle.represents.specs.At.{mine-spot, task-unfinished, single-spot}
 use Rattle.represents_finish.specs.Leaf.{leaf}
 
-module _ (m : List ℕ) (ys zs : List Item) (s : Task) (r : Represents m (ys ++ spot s ∷ zs)) (barren : hasChildIn m (numberOf s) ≡ false) (above : 0 < numberOf s) where
+module _ (m : List ℕ) (ys zs : List Item) (s : Task) (r : Represents m (ys ++ spot s ∷ zs)) (barren : hasChildIn m (numberOf s) ≡ false)
+    (above : 0 < numberOf s) where
   abbrev t : ℕ
   t = numberOf s
 
@@ -55,11 +56,13 @@ module _ (m : List ℕ) (ys zs : List Item) (s : Task) (r : Represents m (ys ++ 
   -- its neighbours are other tasks, where it has them
   older-kind : (read m (task t OLDER) ≡ NONE) ⊎ (read m (task t OLDER) < 128)
   older-kind =
-      subst (λ (x : ℕ). (x ≡ NONE) ⊎ (x < 128)) (word-is m t OLDER) (⊎-elim (λ e. inl e) (λ v. inr (v .0 .1 .0 .0)) (law .older-linked t (read m (task t PARENT)) child))
+      subst (λ (x : ℕ). (x ≡ NONE) ⊎ (x < 128)) (word-is m t OLDER)
+      (⊎-elim (λ e. inl e) (λ v. inr (v .0 .1 .0 .0)) (law .older-linked t (read m (task t PARENT)) child))
 
   younger-kind : (read m (task t YOUNGER) ≡ NONE) ⊎ (read m (task t YOUNGER) < 128)
   younger-kind =
-      subst (λ (x : ℕ). (x ≡ NONE) ⊎ (x < 128)) (word-is m t YOUNGER) (⊎-elim (λ e. inl (e .0)) (λ v. inr (v .0 .1 .0 .0)) (law .younger-linked t (read m (task t PARENT)) child))
+      subst (λ (x : ℕ). (x ≡ NONE) ⊎ (x < 128)) (word-is m t YOUNGER)
+      (⊎-elim (λ e. inl (e .0)) (λ v. inr (v .0 .1 .0 .0)) (law .younger-linked t (read m (task t PARENT)) child))
 
   older-other : read m (task t OLDER) ≡ t → ⊥
   older-other e =
@@ -106,10 +109,12 @@ module _ (m : List ℕ) (ys zs : List Item) (s : Task) (r : Represents m (ys ++ 
         below x (inr l) k = l
 
     -- THE TREE without t
-    pub tree-after : Played (advance t finishes Old) → Linked freed (leaf m ys zs s r barren .later ++ leaf m ys zs s r barren .earlier) (advance t finishes Old)
+    pub tree-after : Played (advance t finishes Old) → Linked freed (leaf m ys zs s r barren .later ++ leaf m ys zs s r barren .earlier)
+        (advance t finishes Old)
     tree-after play =
         let l = leaf m ys zs s r barren in
         let e = advance-at ys zs s finishes (single-spot m ys zs s r) in
         subst (λ (xs : List Item). Linked freed (l .later ++ l .earlier) xs) (sym e)
-        (finish-linked m freed (r .tour) ys zs s (r .played) (subst Played e play) (r .linked) words (l .later) (l .earlier) (l .here) (l .met-later) (l .met-earlier) above
+        (finish-linked m freed (r .tour) ys zs s (r .played) (subst Played e play) (r .linked) words (l .later) (l .earlier) (l .here) (l .met-later)
+        (l .met-earlier) above
         (sym (same-hasChild m (r .tour) Old (r .played) (r .linked) s (mine-spot m ys zs s r)) ∙ barren))

@@ -20,7 +20,7 @@ use Rattle.meaning.specs.Meaning.{nextIn, contentsIn}
 use Rattle.meaning.specs.Reads.{next-at}
 use Rattle.meaning.specs.Ring.{count-length}
 use Rattle.meaning.specs.Free.{none-word, some-word, optional-some}
-use Rattle.represents_rules.specs.Ends.{withFirst, withLast, firsts, lasts}
+use Rattle.represents_rules.specs.Ends.{withFirst, withLast, firsts, lasts, endsOf}
 
 -- a segment that has a record in the layout
 abbrev pub InTable : ℕ → Type 0
@@ -138,16 +138,17 @@ module _ (s : ℕ) where
       let i = last-count x d in
       omega (arith, a, b, i, h)
 
+  -- ends of chains that are segments of their chains
+  ends-held : (f : List ℕ → List ℕ → List ℕ) → ((d l e : List ℕ) → occurrences s l ≤ occurrences s e → occurrences s (f d l) ≤ occurrences s (d ++ e))
+      → (l : Line) → occurrences s (endsOf f l) ≤ occurrences s (segments l)
+  ends-held f h [] = omega arith
+  ends-held f h (base d ∷ l) = h d (endsOf f l) (segments l) (ends-held f h l)
+  ends-held f h (left t ∷ l) = ends-held f h l
+  ends-held f h (met t d ∷ l) = h d (endsOf f l) (segments l) (ends-held f h l)
+  ends-held f h (past x ∷ l) = ends-held f h l
+
   pub firsts-held : (l : Line) → occurrences s (firsts l) ≤ occurrences s (segments l)
-  firsts-held [] = omega arith
-  firsts-held (base d ∷ l) = one-first d (firsts l) (segments l) (firsts-held l)
-  firsts-held (left t ∷ l) = firsts-held l
-  firsts-held (met t d ∷ l) = one-first d (firsts l) (segments l) (firsts-held l)
-  firsts-held (past x ∷ l) = firsts-held l
+  firsts-held = ends-held withFirst one-first
 
   pub lasts-held : (l : Line) → occurrences s (lasts l) ≤ occurrences s (segments l)
-  lasts-held [] = omega arith
-  lasts-held (base d ∷ l) = one-last d (lasts l) (segments l) (lasts-held l)
-  lasts-held (left t ∷ l) = lasts-held l
-  lasts-held (met t d ∷ l) = one-last d (lasts l) (segments l) (lasts-held l)
-  lasts-held (past x ∷ l) = lasts-held l
+  lasts-held = ends-held withLast one-last

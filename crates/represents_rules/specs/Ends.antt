@@ -25,20 +25,19 @@ abbrev pub withLast : List ℕ → List ℕ → List ℕ
 withLast [] r = r
 withLast (s ∷ d) r = lastOf s d ∷ r
 
--- the first segments of the chains of a line that are not empty, and the last ones
+-- from each chain of a line that is not empty one segment, which f puts in front: the first segments, and the last ones
+abbrev pub endsOf : (List ℕ → List ℕ → List ℕ) → Line → List ℕ
+endsOf f [] = []
+endsOf f (base d ∷ l) = f d (endsOf f l)
+endsOf f (left t ∷ l) = endsOf f l
+endsOf f (met t d ∷ l) = f d (endsOf f l)
+endsOf f (past x ∷ l) = endsOf f l
+
 abbrev pub firsts : Line → List ℕ
-firsts [] = []
-firsts (base d ∷ l) = withFirst d (firsts l)
-firsts (left t ∷ l) = firsts l
-firsts (met t d ∷ l) = withFirst d (firsts l)
-firsts (past x ∷ l) = firsts l
+firsts = endsOf withFirst
 
 abbrev pub lasts : Line → List ℕ
-lasts [] = []
-lasts (base d ∷ l) = withLast d (lasts l)
-lasts (left t ∷ l) = lasts l
-lasts (met t d ∷ l) = withLast d (lasts l)
-lasts (past x ∷ l) = lasts l
+lasts = endsOf withLast
 
 -- they are equally many
 one-more : (d f e : List ℕ) → length f ≡ length e → length (withFirst d f) ≡ length (withLast d e)

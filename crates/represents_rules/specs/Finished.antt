@@ -87,7 +87,12 @@ module _ (m : List ℕ) (xs : List Item) (r : Represents m xs) (alone : read m (
           let t = top-says (decode m) (r .linked .top) in
           says-top (decode n)
           (record {
-            status = inr (word-is n 0 STATUS ∙ (unfold read address in status), same-word 0 YOUNGEST (λ e. let z = e .1 in omega (arith, z)) ∙ word-is m 0 YOUNGEST ∙ alone);
+            status =
+                inr (
+                  word-is n 0 STATUS ∙ (unfold read address in status),
+                  same-word 0 YOUNGEST (λ e. let z = e .1 in omega (arith, z)) ∙ word-is m 0 YOUNGEST
+                      ∙ alone,
+                );
             rights = same-word 0 RIGHTS (λ e. let z = e .1 in omega (arith, z)) ∙ t .rights;
             parent = same-word 0 PARENT (λ e. let z = e .1 in omega (arith, z)) ∙ t .parent;
             older = same-word 0 OLDER (λ e. let z = e .1 in omega (arith, z)) ∙ t .older;

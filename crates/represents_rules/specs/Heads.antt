@@ -24,7 +24,6 @@ use Rattle.rules_tasks.specs.Holders.{holder-once as task-once}
 use Rattle.rules_views.specs.Toured.{over-owners}
 use Rattle.order.specs.Steps.{Item, numberOf}
 use Rattle.order_waits.specs.Poppers.{popper-says}
-use Rattle.order_queue.specs.Users.{pops-uses}
 use Rattle.gaps.specs.Maps.{put, put-same, put-other}
 use Rattle.gaps.specs.Line.{firstChain}
 use Rattle.gaps.specs.Store.{headOf}
@@ -33,6 +32,7 @@ use Rattle.links.specs.Linked.{word-is, spot-unfinished}
 use Rattle.meaning.specs.Meaning.{optional}
 use Rattle.meaning.specs.Free.{none-word, some-word, optional-some}
 use Rattle.represents.specs.Represents.{Represents, Queue}
+use Rattle.tree.specs.Users.{pops-uses}
 use Rattle.represents_rules.specs.Tasks.{whole, met-busy, head-word}
 use Rattle.represents_rules.specs.Segments.{held-opened}
 

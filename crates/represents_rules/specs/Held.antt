@@ -143,7 +143,8 @@ module _ (m : List ℕ) (xs : List Item) (r : Represents m xs) where
       let a = chain-count s in
       let w = total-some 4 (held m xs r s) (omega (arith, a, p)) in
       let l = segments (r .line (w .0)) in
-      filled-word m s (all-at InTable l s (in-table (w .0) (w .1)) (w .2)) (all-at (EndOrFilled m) l s (line-filled m (r .line (w .0)) (good (w .0) (w .1))) (w .2))
+      filled-word m s (all-at InTable l s (in-table (w .0) (w .1)) (w .2))
+      (all-at (EndOrFilled m) l s (line-filled m (r .line (w .0)) (good (w .0) (w .1))) (w .2))
 
   last : (s : ℕ) → 0 < occurrences s es → part c s 2 ≡ NONE
   last s p =

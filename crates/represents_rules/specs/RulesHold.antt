@@ -3,15 +3,12 @@
 use mathlib.Core.Path.{_≡_, ap, sym, _∙_, subst}
 use mathlib.Core.Bool.{true}
 use mathlib.Core.List.{List}
-use Prim.Native.Nat.{ℕ, _≤_}
+use Prim.Native.Nat.{ℕ}
 use borrow.Author.Tests.{le-leb}
-use Rattle.words.specs.Words.{load}
-use Rattle.layout.specs.Layout.{NONE}
 use Rattle.rules.specs.Contents.{Contents, decode, scan-decodes}
-use Rattle.rules.specs.Rules.{OpeningRules, Rules}
+use Rattle.rules.specs.Rules.{OpeningRules}
 use Rattle.rules.specs.Test.{test, rulesHold}
 use Rattle.rules_same.specs.Passed.{Seen, Passed, says-opening, says-test}
-use Rattle.rules_same.specs.Same.{memory-rules}
 use Rattle.order.specs.Steps.{Item}
 use Rattle.links.specs.Linked.{tree}
 use Rattle.represents.specs.Represents.{Represents}
@@ -56,7 +53,3 @@ module _ (m : List ℕ) (xs : List Item) (r : Represents m xs) where
 pub rules-hold : (m : List ℕ) (xs : List Item) → Represents m xs → rulesHold m ≡ true
 unfolding rulesHold
 rules-hold m xs r = ap test (scan-decodes m) ∙ says-test (decode m) (passed m xs r)
-
--- the rules one by one, of words of 32 bits
-pub memory-represents-rules : (m : List ℕ) (xs : List Item) → ((a : ℕ) → load m a ≤ NONE) → Represents m xs → Rules (decode m)
-memory-represents-rules m xs small r = memory-rules m small .0 (rules-hold m xs r)

@@ -2,7 +2,7 @@
 use mathlib.Core.Path.{_≡_, refl, ap, ap₂, sym, _∙_, subst, fun-ext}
 use mathlib.Core.Bool.{Bool, true, not}
 use mathlib.Core.List.{List, [], _∷_, _++_}
-use mathlib.Core.Logic.{_⊎_, ⊎-elim}
+use mathlib.Core.Logic.{⊎-elim}
 use Prim.Native.Nat.{ℕ, zero, suc, _+_, _-_, _*_, _<_, _≤_}
 use native.Mathlib.Omega.{arith}
 use lib.Dec.{leb, ltb, eqb}
@@ -17,7 +17,8 @@ use Rattle.layout.specs.Layout.{NONE, FREE, UNFINISHED, STATUS, RIGHTS, PARENT,
 use Rattle.tree.specs.Rights.{uses, subset, eachQueue}
 use Rattle.tree.specs.Tour.{END, tour, met, after, entering}
 use Rattle.rules.specs.Contents.{Contents, word, part, locals, heads, tails, owners}
-use Rattle.rules.specs.Test.{within, inRange, topTest, idleTest, kin, linkTest, treeTest, viewWord, viewsTest, passedAt, passed, orderAt, orderOf, orderTest, ownersTest, segmentTest, chain, chains, heldTest}
+use Rattle.rules.specs.Test.{within, inRange, topTest, idleTest, kin, linkTest, treeTest, viewWord, viewsTest, passedAt, passed, orderAt, orderOf, orderTest}
+use Rattle.rules.specs.Test.{ownersTest, segmentTest, chain, chains, heldTest}
 use Rattle.rules_same.specs.Passed.{Seen, Passed}
 
 pub record ButTop (c d : Contents) : Type 0 where
@@ -41,7 +42,8 @@ module _ (c d : Contents) (s : ButTop c d) where
   unfolding idleTest
   same-idle =
       ap₂ (λ (l : List ℕ) (f : ℕ → Bool). both (leb (length l) 127) (both (distinct 128 l) (each f l))) (s .idle)
-      (fun-ext λ t. ⊎-elim (λ e. both-off _ (lt-leb 1 t (omega (arith, e))) ∙ sym (both-off _ (lt-leb 1 t (omega (arith, e))))) (λ n. ap (λ (x : ℕ). both (leb 1 t) (eqb x FREE)) (s .words t STATUS (λ e. n (e .0)))) (equal? t 0))
+      (fun-ext λ t. ⊎-elim (λ e. both-off _ (lt-leb 1 t (omega (arith, e))) ∙ sym (both-off _ (lt-leb 1 t (omega (arith, e)))))
+      (λ n. ap (λ (x : ℕ). both (leb 1 t) (eqb x FREE)) (s .words t STATUS (λ e. n (e .0)))) (equal? t 0))
 
   same-kin : (t p y : ℕ) → kin d t p y ≡ kin c t p y
   unfolding kin within
@@ -51,7 +53,8 @@ module _ (c d : Contents) (s : ButTop c d) where
       (λ n.
       ap₂ (λ (x : ℕ) (b : Bool). either (eqb t NONE) (both (both (leb 1 t) (leb t 127)) (both (eqb x UNFINISHED) b))) (s .words t STATUS (λ e. n (e .0)))
       (ap₂ (λ (x : ℕ) (b : Bool). both (eqb x p) b) (other t PARENT (omega arith))
-      (ap₂ (λ (x : ℕ) (b : Bool). both (eqb x y) b) (other t YOUNGER (omega arith)) (ap₂ subset (other t RIGHTS (omega arith)) (other p RIGHTS (omega arith))))))
+      (ap₂ (λ (x : ℕ) (b : Bool). both (eqb x y) b) (other t YOUNGER (omega arith))
+      (ap₂ subset (other t RIGHTS (omega arith)) (other p RIGHTS (omega arith))))))
       (equal? t 0)
 
   same-link : (x : ℕ) → linkTest d x ≡ linkTest c x
@@ -93,7 +96,8 @@ module _ (c d : Contents) (s : ButTop c d) where
   unfolding orderAt
   same-order-at q x o =
       ap₂ (λ (a b : ℕ). pick (ltb x 128) a b)
-      (ap₂ (λ (r a : ℕ). pick (uses r q) a o) (other x RIGHTS (omega arith)) (same-passed q x USER (passedAt d q x RIGHT o) ∙ ap (passedAt c q x USER) (same-passed q x RIGHT o)))
+      (ap₂ (λ (r a : ℕ). pick (uses r q) a o) (other x RIGHTS (omega arith))
+      (same-passed q x USER (passedAt d q x RIGHT o) ∙ ap (passedAt c q x USER) (same-passed q x RIGHT o)))
       (ap₂ (λ (r a : ℕ). pick (uses r q) a o) (other (x - 128) RIGHTS (omega arith)) (same-passed q (x - 128) CHILDREN o))
 
   same-order : (q : ℕ) (xs : List ℕ) (o : ℕ) → orderOf d q xs o ≡ orderOf c q xs o
@@ -141,8 +145,10 @@ module _ (c d : Contents) (s : ButTop c d) where
       ap₂ (λ (a b : Bool). both a b) (both-lists (same-chains hs))
       (ap₂ (λ (a b : Bool). both a b)
       (sizes (same-chains hs))
-      (ap₂ (λ (a b : Bool). both a b) (ap₂ each (fun-ext λ i. ap₂ (λ (x y : ℕ). either (eqb x NONE) (not (eqb y 0))) (s .nexts i) (s .counts i)) (same-chains hs))
-      (ap₂ (λ (a b : Bool). both a b) (both-lists refl) (ap (λ (f : ℕ → Bool). both (eqb (length es) (length hs)) (each f es)) (fun-ext λ i. ap (λ (x : ℕ). eqb x NONE) (s .nexts i))))))
+      (ap₂ (λ (a b : Bool). both a b)
+      (ap₂ each (fun-ext λ i. ap₂ (λ (x y : ℕ). either (eqb x NONE) (not (eqb y 0))) (s .nexts i) (s .counts i)) (same-chains hs))
+      (ap₂ (λ (a b : Bool). both a b) (both-lists refl)
+      (ap (λ (f : ℕ → Bool). both (eqb (length es) (length hs)) (each f es)) (fun-ext λ i. ap (λ (x : ℕ). eqb x NONE) (s .nexts i))))))
     where
       both-lists : {a b : List ℕ} → a ≡ b → distinct (d .number) (d .free ++ a) ≡ distinct (c .number) (c .free ++ b)
       both-lists e = ap₂ distinct (s .number) (ap₂ (λ (x y : List ℕ). x ++ y) (s .free) e)

@@ -3,18 +3,16 @@ use mathlib.Core.Path.{_≡_, refl, ap, _∙_}
 use mathlib.Core.Bool.{Bool, true, false}
 use mathlib.Core.Logic.{⊎-elim}
 use mathlib.Core.List.{List, [], _∷_, _++_}
-use Prim.Native.Nat.{ℕ, _+_, _-_, _<_, _≤_}
+use Prim.Native.Nat.{ℕ, _+_, _-_, _≤_}
 use native.Mathlib.Omega.{arith}
 use lib.Dec.{ltb}
 use borrow.Author.Tests.{lt-ltb, le-ltb}
 use Rattle.words.specs.Words.{pick, pass as skip, halt}
 use Rattle.lists.specs.Counting.{occurrences, below?, occurs-not}
-use Rattle.tree.specs.Rights.{pops, uses, subset}
+use Rattle.tree.specs.Rights.{pops, uses}
 use Rattle.order.specs.Steps.{Task, Item, spot, task, spawns, numberOf, rightsOf, advance}
 use Rattle.order_laws.specs.Count.{count, spotNumbered}
-use Rattle.order_waits.specs.Popper.{subset-pops, subset-pushes}
 use Rattle.order_queue.specs.Points.{Point, user, Timeline}
-use Rattle.order_queue.specs.Users.{uses-pushes, pushes-uses, pops-uses}
 use Rattle.order_queue.specs.Laws.{spawn-line, spawn-past}
 use Rattle.gaps.specs.Maps.{All, put, put-other, all-append, all-front, all-behind}
 use Rattle.gaps.specs.Line.{base, left, met, pass, Line, marks, Fits}
@@ -49,14 +47,6 @@ pub all-with : {A : Type 0} (P : A → Type 0) (b : List A) (z x y : A) (a : Lis
 all-with P b z x y a h p q =
     let k = all-behind P b (z ∷ a) h in
     all-append P b (z ∷ (x ∷ (y ∷ a))) (all-front P b (z ∷ a) h) (k .0, (p, (q, k .1)))
-
--- RIGHTS: a task uses what its child uses
-pub subset-uses : (a b q : ℕ) → q < 4 → subset a b ≡ true → uses a q ≡ true → uses b q ≡ true
-subset-uses a b q l e u = go (pops a q) refl
-  where
-    go : (d : Bool) → pops a q ≡ d → uses b q ≡ true
-    go true p = pops-uses b q (subset-pops a b q l e p)
-    go false p = pushes-uses b q (subset-pushes a b q l e (uses-pushes a q u p))
 
 -- THE TIMELINE after a spawn of c by task s
 module _ (q : ℕ) (ys zs : List Item) (c u : ℕ) where

@@ -11,8 +11,8 @@ use borrow.Author.Tests.{eq-eqb, lt-ltb, le-ltb}
 use Rattle.words.specs.Words.{load, pick, pass as skip, halt, both, true-both, both-off, both-right-off}
 use Rattle.lists.specs.Counting.{one, one-no, occurrences, occurs-nil, occurs-here, occurs-past, equal?, below?}
 use Rattle.layout.specs.Layout.{STATUS, RIGHTS, CHILDREN, USER, RIGHT, numberWord, read}
-use Rattle.tree.specs.Rights.{bits, uses, pops}
-use Rattle.tree.specs.Queues.{by-four}
+use Rattle.tree.specs.Rights.{uses}
+use Rattle.tree.specs.Queues.{by-four, all-used, all-popped}
 use Rattle.rules.specs.Test.{inRange}
 use Rattle.calls.specs.Open.{opened as openedWords}
 use Rattle.calls.specs.Waits.{rightsOf as rightsIn}
@@ -106,17 +106,9 @@ module _ (l n : ℕ) (range : inRange l n ≡ true) where
       (below? t 128)
 
   -- it has every right
-  all-uses : (q : ℕ) → q < 4 → uses 255 q ≡ true
-  unfolding uses bits
-  all-uses = by-four (λ q. uses 255 q ≡ true) refl refl refl refl
-
-  all-pops : (q : ℕ) → q < 4 → pops 255 q ≡ true
-  unfolding pops bits
-  all-pops = by-four (λ q. pops 255 q ≡ true) refl refl refl refl
-
   top-uses : (q : ℕ) → q < 4 → usesIn m q 0 ≡ true
   unfolding usesIn rightsIn load
-  top-uses q i = true-both refl (ap (λ (r : ℕ). uses r q) (top-link l n high low RIGHTS (omega arith)) ∙ all-uses q i)
+  top-uses q i = true-both refl (ap (λ (r : ℕ). uses r q) (top-link l n high low RIGHTS (omega arith)) ∙ all-used q i)
 
   -- ONE QUEUE
   module _ (q : ℕ) (i : q < 4) where
@@ -168,7 +160,7 @@ module _ (l n : ℕ) (range : inRange l n ≡ true) where
 
     top-first : firstPopper q begin ≡ some 0
     unfolding firstPopper begin numberOf rightsOf
-    top-first = halt (some 0) none (all-pops q i)
+    top-first = halt (some 0) none (all-popped q i)
 
     pub open-queue : Row m (0 ∷ 128 ∷ []) begin q (λ x. one (eqb q x))
     unfolding queueMemory ofTasks occurrences
@@ -180,7 +172,7 @@ module _ (l n : ℕ) (range : inRange l n ≡ true) where
           laid = opened-row .laid;
           marked = after-marks opened-row;
           fits = after-fits opened-row (usesIn m q) (top-uses q i, (top-uses q i, (tt, tt)));
-          time = subst (Timeline q begin) (sym (opened-row .points)) (begins q (all-uses q i));
+          time = subst (Timeline q begin) (sym (opened-row .points)) (begins q (all-used q i));
           bare = λ t u.
               let d : t ≡ 0 → ⊥ = λ e. false≢true (sym u ∙ ap (usesIn m q) e ∙ top-uses q i) in
               (no-view (viewIn m q CHILDREN) t d, no-view (viewIn m q USER) t d, no-view (viewIn m q RIGHT) t d);

@@ -21,7 +21,8 @@ use Rattle.represents_spawn.specs.Child.{after, New, newTour, fresh-numb
 use Rattle.represents_spawn.specs.SpawnMemory.{same-free}
 use Rattle.represents_spawn.specs.SpawnQueue.{spawn-queue}
 
-module _ (m : List ℕ) (ys zs : List Item) (s : Task) (r : Represents m (ys ++ spot s ∷ zs)) (u : ℕ) (sub : subset u (rightsOf s) ≡ true) (some-free : read m freeTasks ≡ 0 → ⊥) where
+module _ (m : List ℕ) (ys zs : List Item) (s : Task) (r : Represents m (ys ++ spot s ∷ zs)) (u : ℕ) (sub : subset u (rightsOf s) ≡ true)
+    (some-free : read m freeTasks ≡ 0 → ⊥) where
   abbrev t : ℕ
   t = numberOf s
 
@@ -58,14 +59,16 @@ module _ (m : List ℕ) (ys zs : List Item) (s : Task) (r : Represents m (ys ++ 
 
   -- where program order allows the step
   pub spawn-played : Played (advance t (spawns (read m (freeTask (read m freeTasks - 1))) u) Old)
-      → Represents (childMade (write m freeTasks (read m freeTasks - 1)) t u (read m (freeTask (read m freeTasks - 1)))) (advance t (spawns (read m (freeTask (read m freeTasks - 1))) u) Old)
+      → Represents (childMade (write m freeTasks (read m freeTasks - 1)) t u (read m (freeTask (read m freeTasks - 1))))
+      (advance t (spawns (read m (freeTask (read m freeTasks - 1))) u) Old)
   spawn-played play =
       of-rows n (newTour m ys zs s r u sub some-free) (New m ys zs s r u sub some-free) own (spawn-queue m ys zs s r u sub some-free) each-once
       (new-linked m ys zs s r u sub some-free play) play (means m ys zs s r u sub some-free .sized) same-nexts
 
   -- A SPAWN keeps the invariant: program order allows it where no older sibling of the spawner blocks it.
   pub spawn-represents : blocked t Old ≡ false
-      → Represents (childMade (write m freeTasks (read m freeTasks - 1)) t u (read m (freeTask (read m freeTasks - 1)))) (advance t (spawns (read m (freeTask (read m freeTasks - 1))) u) Old)
+      → Represents (childMade (write m freeTasks (read m freeTasks - 1)) t u (read m (freeTask (read m freeTasks - 1))))
+      (advance t (spawns (read m (freeTask (read m freeTasks - 1))) u) Old)
   spawn-represents b = spawn-played (new-played m ys zs s r u sub some-free b)
 
   -- the number of the child is that of no unfinished task

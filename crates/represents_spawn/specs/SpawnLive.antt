@@ -59,7 +59,8 @@ module _ (a : ℕ → Bool) (t c : ℕ) (apart : c ≡ t → ⊥) (mine : a t �
     unfolding ofTasks
     live-spawned =
         ap (ofTasks with) (memory-spawned M t r c q hq)
-        ∙ memory-path with (child-put (M .views q CHILDREN) vacant vacant) (both-put (M .views q USER) vacant (uses r q)) (child-put (M .views q RIGHT) vacant vacant)
+        ∙ memory-path with (child-put (M .views q CHILDREN) vacant vacant) (both-put (M .views q USER) vacant (uses r q))
+        (child-put (M .views q RIGHT) vacant vacant)
         (λ i. record { next = M .next; contents = M .contents; heads = both-put (M .heads q) none (pops r q) i; free = M .free })
         ∙ sym (memory-spawned Mask t r c q hq)
 

@@ -9,7 +9,6 @@ use Rattle.lists.specs.Counting.{equal?}
 use Rattle.layout.specs.Layout.{freeTasks, read}
 use Rattle.tree.specs.Rights.{pops as mayPop, uses, subset}
 use Rattle.order.specs.Steps.{Task, Item, spot, numberOf, rightsOf}
-use Rattle.order_queue.specs.Users.{useless-pops}
 use Rattle.gaps.specs.Maps.{put, put-same, put-other}
 use Rattle.gaps.specs.Line.{vacant}
 use Rattle.gaps.specs.Store.{Memory}
@@ -19,10 +18,12 @@ use Rattle.meaning.specs.Spawn.{spawnedIn}
 use Rattle.represents.specs.Represents.{alive, ofTasks, queueMemory, usesIn, Represents}
 use Rattle.represents.specs.Parts.{parts-of}
 use Rattle.represents.specs.At.{uses-here, task-alive, task-unfinished}
+use Rattle.tree.specs.Users.{useless-pops}
 use Rattle.represents_spawn.specs.Child.{child, after, not-child, means, child-idle, new-alive, new-uses}
 use Rattle.represents_spawn.specs.SpawnLive.{live-popper, live-pusher, live-other}
 
-module _ (m : List ℕ) (ys zs : List Item) (s : Task) (r : Represents m (ys ++ spot s ∷ zs)) (u : ℕ) (sub : subset u (rightsOf s) ≡ true) (some-free : read m freeTasks ≡ 0 → ⊥)
+module _ (m : List ℕ) (ys zs : List Item) (s : Task) (r : Represents m (ys ++ spot s ∷ zs)) (u : ℕ) (sub : subset u (rightsOf s) ≡ true)
+    (some-free : read m freeTasks ≡ 0 → ⊥)
     (q : ℕ) (i : q < 4) where
   abbrev t : ℕ
   t = numberOf s
@@ -59,7 +60,8 @@ module _ (m : List ℕ) (ys zs : List Item) (s : Task) (r : Represents m (ys ++ 
 
   pub other-memory : uses u q ≡ false → queueMemory n q ≡ was
   unfolding queueMemory
-  other-memory e = memory-is ∙ live-other (alive m) t c apart (task-alive m ys zs s r) (meaningOf m) u q i (child-idle m ys zs s r u sub some-free) e (useless-pops u q e)
+  other-memory e =
+      memory-is ∙ live-other (alive m) t c apart (task-alive m ys zs s r) (meaningOf m) u q i (child-idle m ys zs s r u sub some-free) e (useless-pops u q e)
 
   pub same-free : freeIn n ≡ freeIn m
   same-free = ap (λ (M : Meaning). M .free) (means m ys zs s r u sub some-free .means)
@@ -92,5 +94,9 @@ module _ (m : List ℕ) (ys zs : List Item) (s : Task) (r : Represents m (ys ++ 
       let d : x ≡ c → ⊥ = λ f. false≢true (sym e ∙ ap (usesIn n q) f ∙ child-uses ∙ k) in
       let none = had-none x e d in
       let g : x ≡ t → ⊥ = λ f. false≢true (sym none ∙ ap (usesIn m q) f ∙ uses-here m ys zs s r q v) in
-      let b = parts-of m Old r .bare q i x none in
-      (put-other (was .children) c vacant x d ∙ b .0, put-other (put (was .user) c (was .user t)) t vacant x g ∙ put-other (was .user) c (was .user t) x d ∙ b .1, put-other (was .right) c vacant x d ∙ b .2)
+      let b = parts-of m Old r .bare q i x none in (
+        put-other (was .children) c vacant x d ∙ b .0,
+        put-other (put (was .user) c (was .user t)) t vacant x g ∙ put-other (was .user) c (was .user t) x d
+            ∙ b .1,
+        put-other (was .right) c vacant x d ∙ b .2,
+      )

@@ -13,10 +13,9 @@ use Rattle.layout.specs.Layout.{freeTasks, read}
 use Rattle.tree.specs.Rights.{pops as mayPop, uses, subset}
 use Rattle.order.specs.Steps.{Task, Item, spot, numberOf, rightsOf}
 use Rattle.order_waits.specs.Played.{played-reached}
-use Rattle.order_waits.specs.Popper.{firstPopper, subset-pops}
+use Rattle.order_waits.specs.Popper.{firstPopper}
 use Rattle.order_waits.specs.Heirs.{spawn-first, spawn-kept, spawn-other}
 use Rattle.order_queue.specs.Points.{Point, user, Timeline}
-use Rattle.order_queue.specs.Users.{useless-pops}
 use Rattle.gaps.specs.Maps.{All, put, put-same}
 use Rattle.gaps.specs.Line.{Mark, left, met, pass, Line, marks, segments, Fits}
 use Rattle.gaps.specs.Store.{Memory, Laid, timeline}
@@ -35,12 +34,14 @@ use Rattle.represents.specs.Represents.{ofTasks, queueMemory, usesIn, Represent
 use Rattle.represents.specs.Parts.{holders, parts-of}
 use Rattle.represents.specs.FirstNamed.{holder-unfinished}
 use Rattle.represents.specs.At.{At, at, mine-spot, Behind, laid-at, time-at, proper, task-unfinished, single-spot, where-it-stands}
+use Rattle.tree.specs.Users.{useless-pops, subset-pops, subset-uses}
 use Rattle.represents_spawn.specs.Rows.{Row}
 use Rattle.represents_spawn.specs.Child.{child, after, New, newTour, child-small, not-child, child-unmarked, new-is, new-uses}
-use Rattle.represents_spawn.specs.NewTask.{fits-new, all-with, subset-uses, child-line, child-past}
+use Rattle.represents_spawn.specs.NewTask.{fits-new, all-with, child-line, child-past}
 use Rattle.represents_spawn.specs.SpawnMemory.{apart, popper-memory, pusher-memory, other-memory, same-free, Bare, bare-was, bare-spawned}
 
-module _ (m : List ℕ) (ys zs : List Item) (s : Task) (r : Represents m (ys ++ spot s ∷ zs)) (u : ℕ) (sub : subset u (rightsOf s) ≡ true) (some-free : read m freeTasks ≡ 0 → ⊥)
+module _ (m : List ℕ) (ys zs : List Item) (s : Task) (r : Represents m (ys ++ spot s ∷ zs)) (u : ℕ) (sub : subset u (rightsOf s) ≡ true)
+    (some-free : read m freeTasks ≡ 0 → ⊥)
     (q : ℕ) (i : q < 4) where
   abbrev t : ℕ
   t = numberOf s
@@ -80,7 +81,9 @@ module _ (m : List ℕ) (ys zs : List Item) (s : Task) (r : Represents m (ys ++ 
   usesThen = put (usesIn m q) c (uses u q)
 
   absent : (l : Line) → r .line q ≡ l → (occurrences c (marks l) ≡ 0) × (occurrences (128 + c) (marks l) ≡ 0)
-  absent l e = subst (λ (k : List ℕ). (occurrences c k ≡ 0) × (occurrences (128 + c) k ≡ 0)) (sym (parts-of m Old r .marked q i) ∙ ap marks e) (child-unmarked m ys zs s r u sub some-free)
+  absent l e =
+      subst (λ (k : List ℕ). (occurrences c k ≡ 0) × (occurrences (128 + c) k ≡ 0)) (sym (parts-of m Old r .marked q i) ∙ ap marks e)
+      (child-unmarked m ys zs s r u sub some-free)
 
   -- a line with the marks of the new tour, which fits the new rights
   pub record Placed (l : Line) : Type 0 where
@@ -111,7 +114,9 @@ module _ (m : List ℕ) (ys zs : List Item) (s : Task) (r : Represents m (ys ++ 
         line = w .line;
         holder = h;
         first = f;
-        laid = subst (λ (k : List ℕ). Laid (λ x. occurrences x (segments (r .line q)) + occurrences x k) (queueMemory n q) h (w .line)) (sym (same-free m ys zs s r u sub some-free q i)) (w .laid);
+        laid =
+            subst (λ (k : List ℕ). Laid (λ x. occurrences x (segments (r .line q)) + occurrences x k) (queueMemory n q) h (w .line))
+            (sym (same-free m ys zs s r u sub some-free q i)) (w .laid);
         marked = after-marks w ∙ p .marked;
         fits = after-fits w (usesIn n q) (p .fits);
         time = subst (Timeline q Next) (sym (w .points)) time;
@@ -182,8 +187,10 @@ module _ (m : List ℕ) (ys zs : List Item) (s : Task) (r : Represents m (ys ++ 
     popper-done : mayPop u q ≡ true → Done
     popper-done p =
         ⊎-elim
-        (λ e. done (queuePassed t c (spawned t c was)) c Grown Points (popper-memory m ys zs s r u sub some-free q i k p) (first-child p e) (passed-row e) grown time popper-bare)
-        (λ d. done (queuePassed t c (spawned t c was)) holder Grown Points (popper-memory m ys zs s r u sub some-free q i k p) (first-other d) (still-row d) grown time popper-bare)
+        (λ e. done (queuePassed t c (spawned t c was)) c Grown Points (popper-memory m ys zs s r u sub some-free q i k p) (first-child p e) (passed-row e)
+        grown time popper-bare)
+        (λ d. done (queuePassed t c (spawned t c was)) holder Grown Points (popper-memory m ys zs s r u sub some-free q i k p) (first-other d) (still-row d)
+        grown time popper-bare)
         (equal? holder t)
 
     pub user-done : Done
@@ -191,18 +198,22 @@ module _ (m : List ℕ) (ys zs : List Item) (s : Task) (r : Represents m (ys ++ 
       where
         go : (b : Bool) → mayPop u q ≡ b → Done
         go true p = popper-done p
-        go false p = done (spawned t c was) holder Grown Points (pusher-memory m ys zs s r u sub some-free q i k p) (first-same p) row grown time (bare-spawned m ys zs s r u sub some-free q i k v)
+        go false p =
+            done (spawned t c was) holder Grown Points (pusher-memory m ys zs s r u sub some-free q i k p) (first-same p) row grown time
+            (bare-spawned m ys zs s r u sub some-free q i k v)
 
   -- THE CHILD HAS NO RIGHT to the queue: nothing changes but the marks.
   module _ (k : uses u q ≡ false) where
     unused : (y : ℕ) → taskAt y ≡ c → usesThen (taskAt y) ≡ false
     unused y e = ap usesThen e ∙ put-same (usesIn m q) c (uses u q) ∙ k
 
-    past : (b : Line) (z : Mark) (a : Line) → r .line q ≡ b ++ (z ∷ a) → marks b ≡ later → marks a ≡ earlier → marks (z ∷ (pass c ∷ (pass (128 + c) ∷ a))) ≡ t ∷ c ∷ (128 + c) ∷ marks a
+    past : (b : Line) (z : Mark) (a : Line) → r .line q ≡ b ++ (z ∷ a) → marks b ≡ later → marks a ≡ earlier
+        → marks (z ∷ (pass c ∷ (pass (128 + c) ∷ a))) ≡ t ∷ c ∷ (128 + c) ∷ marks a
         → After own (was .store) was holder (b ++ (z ∷ (pass c ∷ (pass (128 + c) ∷ a)))) (timeline (contentsIn m) (b ++ (z ∷ a))) → Done
     unfolding taskAt
     past b z a e eb ea ez row =
-        done was holder (b ++ (z ∷ (pass c ∷ (pass (128 + c) ∷ a)))) (timeline (contentsIn m) (b ++ (z ∷ a))) (other-memory m ys zs s r u sub some-free q i k) (first-same (useless-pops u q k)) row
+        done was holder (b ++ (z ∷ (pass c ∷ (pass (128 + c) ∷ a)))) (timeline (contentsIn m) (b ++ (z ∷ a))) (other-memory m ys zs s r u sub some-free q i k)
+        (first-same (useless-pops u q k)) row
         (placed b z (pass c) (pass (128 + c)) a e eb ea ez (unused c (task-met c (child-small m ys zs s r u sub some-free))) (unused (128 + c) (task-left c)))
         (child-past q ys zs c u s (single-spot m ys zs s r) k (subst (λ (l : Line). Timeline q Old (timeline (contentsIn m) l)) e (parts-of m Old r .time q i)))
         (bare-was m ys zs s r u sub some-free q i k)
@@ -227,7 +238,8 @@ module _ (m : List ℕ) (ys zs : List Item) (s : Task) (r : Represents m (ys ++ 
             (spawn-past-row own was holder (w .later) t (w .chain) (w .earlier) c (laid-at m ys zs s r q i w))
         go false v =
             let p = where-it-stands m ys zs s r in
-            let w = pass-part (usesIn m q) (r .line q) (proper m ys zs s r q i) t (p .later) (p .earlier) (spawner-unused v) (parts-of m Old r .marked q i ∙ p .here) in
+            let w = pass-part (usesIn m q) (r .line q) (proper m ys zs s r q i) t (p .later) (p .earlier) (spawner-unused v)
+            (parts-of m Old r .marked q i ∙ p .here) in
             past (w .0) (pass t) (w .1) (w .2) (w .3) (w .4) refl (pass-past-row own was holder (w .0) t (w .1) c (laid-parts (w .2)))
 
   pub spawn-queue : Done

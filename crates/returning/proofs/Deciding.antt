@@ -17,7 +17,8 @@ pub view-ends : (v : View) (h e : ℕ) → h ≡ headOf v → e ≡ tailOf v →
 unfolding headOf tailOf
 view-ends (view a b) h e p q = rw (p, q) refl
 
-pub empty-is : (m : List ℕ) (q t k h e : ℕ) (r : Bool) → h ≡ read m (head k t q) → e ≡ read m (tail k t q) → r ≡ isEmpty (view h e) → r ≡ isEmpty (viewOf m q t k)
+pub empty-is : (m : List ℕ) (q t k h e : ℕ) (r : Bool) → h ≡ read m (head k t q) → e ≡ read m (tail k t q) → r ≡ isEmpty (view h e)
+    → r ≡ isEmpty (viewOf m q t k)
 empty-is m q t k h e r eh ee er = er ∙ ap isEmpty (view-is m q t k h e eh ee)
 
 -- an answer that stops a conjunction, and one that goes on
@@ -73,7 +74,8 @@ module _ (m : List ℕ) (t q h1 e1 h2 e2 : ℕ) {h e h0 h3 e3 : ℕ} {b : Bool} 
   unfolding rightFits
   right-goes h4 e4 r f p4 g4 er =
       on same-test f
-      (er ∙ ap (fits m t q) (view-ends _ h4 e4 p4 (g4 m) ∙ ap (λ (v : View). reduced m v (view h3 e3)) left-is ∙ ap (reduced m (reduced m (view h1 e1) (view h2 e2))) right-is))
+      (er ∙ ap (fits m t q) (view-ends _ h4 e4 p4 (g4 m) ∙ ap (λ (v : View). reduced m v (view h3 e3)) left-is
+      ∙ ap (reduced m (reduced m (view h1 e1) (view h2 e2))) right-is))
 
 module _ (m : List ℕ) (t q : ℕ) {h1 e1 h2 e2 : ℕ} {b : Bool} (p1 : h1 ≡ read m (head CHILDREN t q)) (g1 : e1 ≡ read m (tail CHILDREN t q))
     (p2 : h2 ≡ read m (head USER t q)) (g2 : e2 ≡ read m (tail USER t q)) (eb : b ≡ reducible (view h1 e1) (view h2 e2)) where
@@ -85,7 +87,8 @@ module _ (m : List ℕ) (t q : ℕ) {h1 e1 h2 e2 : ℕ} {b : Bool} (p1 : h1 ≡ 
 
   pub user-goes : (r : Bool) → not b ≡ false → r ≡ rightFits m t q (view h1 e1) (view h2 e2) → r ≡ finishes m t q
   user-goes r f er =
-      on user-test f (er ∙ ap (λ (v : View). rightFits m t q v (view h2 e2)) (view-is m q t CHILDREN h1 e1 p1 g1) ∙ ap (rightFits m t q (viewOf m q t CHILDREN)) (view-is m q t USER h2 e2 p2 g2))
+      on user-test f (er ∙ ap (λ (v : View). rightFits m t q v (view h2 e2)) (view-is m q t CHILDREN h1 e1 p1 g1)
+      ∙ ap (rightFits m t q (viewOf m q t CHILDREN)) (view-is m q t USER h2 e2 p2 g2))
       ∙ finishes-parts m t q
 
 -- no view can be reduced, and nothing is returned

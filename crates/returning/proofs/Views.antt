@@ -43,7 +43,8 @@ nothing-returned m t q {b} eb f =
     let e2 : m2 ≡ m = ap (λ (x : List ℕ). merged x q t CHILDREN t RIGHT) e1 ∙ merge-nothing m q t CHILDREN RIGHT (z .1) in
     sym (halt _ _ (ap (λ (x : List ℕ). isEmpty (viewOf x q t CHILDREN)) e2 ∙ z .0) ∙ e2)
 
-module _ (m : List ℕ) (t q nonlocal local : ℕ) {h e : ℕ} {b : Bool} (eh : h ≡ read m (head CHILDREN t q)) (ee : e ≡ read m (tail CHILDREN t q)) (eb : b ≡ isEmpty (view h e)) where
+module _ (m : List ℕ) (t q nonlocal local : ℕ) {h e : ℕ} {b : Bool} (eh : h ≡ read m (head CHILDREN t q)) (ee : e ≡ read m (tail CHILDREN t q))
+    (eb : b ≡ isEmpty (view h e)) where
   same : b ≡ isEmpty (viewOf m q t CHILDREN)
   same = eb ∙ ap isEmpty (view-is m q t CHILDREN h e eh ee)
 
@@ -56,12 +57,15 @@ module _ (m : List ℕ) (t q nonlocal local : ℕ) {h e : ℕ} {b : Bool} (eh : 
   unfolding viewReturned
   view-goes m1 x k s f ex ek es e1 = e1 ∙ rw (ek, es, ex, eh) there ∙ sym (pass _ (sym same ∙ f) refl)
     where
-      there : merged m q (taskAt (pick (eqb (read m (head CHILDREN t q)) NL) nonlocal local)) (kindAt (pick (eqb (read m (head CHILDREN t q)) NL) nonlocal local)) t CHILDREN
-          ≡ merged m q (taskAt (pick (eqb (headOf (viewOf m q t CHILDREN)) NL) nonlocal local)) (kindAt (pick (eqb (headOf (viewOf m q t CHILDREN)) NL) nonlocal local)) t CHILDREN
+      there : merged m q (taskAt (pick (eqb (read m (head CHILDREN t q)) NL) nonlocal local))
+          (kindAt (pick (eqb (read m (head CHILDREN t q)) NL) nonlocal local)) t CHILDREN
+          ≡ merged m q (taskAt (pick (eqb (headOf (viewOf m q t CHILDREN)) NL) nonlocal local))
+          (kindAt (pick (eqb (headOf (viewOf m q t CHILDREN)) NL) nonlocal local)) t CHILDREN
       there = unfold viewOf headOf in refl
 
 -- of the two marks, v goes to the one of its head
-either-mark : (m : List ℕ) (q t : ℕ) (v : View) → pick (eqb (headOf v) NL) (returnedTo m q t (view NL NONE)) (returnedTo m q t (view NONE NONE)) ≡ returnedTo m q t v
+either-mark : (m : List ℕ) (q t : ℕ) (v : View) → pick (eqb (headOf v) NL) (returnedTo m q t (view NL NONE)) (returnedTo m q t (view NONE NONE)) ≡ returnedTo
+    m q t v
 unfolding returnedTo headOf
 either-mark m q t (view h e) =
     ap (λ (x : ℕ). pick (eqb h NL) x (returnedTo m q t (view NONE NONE))) (halt _ _ (eq-eqb NL NL refl))
@@ -72,7 +76,8 @@ pub views-go : (m m1 m2 m3 : List ℕ) (t q nonlocal local : ℕ) → nonlocal �
 unfolding viewReturned viewsReturned
 views-go m m1 m2 m3 t q nonlocal local ef en e1 e2 e3 =
     e3
-    ∙ ap (λ (x : ℕ). gone m2 x) (ap (λ (x : ℕ). pick (eqb (headOf (viewOf m2 q t CHILDREN)) NL) x local) ef ∙ ap (pick (eqb (headOf (viewOf m2 q t CHILDREN)) NL) _) en ∙ either-mark m q t (viewOf m2 q t CHILDREN))
+    ∙ ap (λ (x : ℕ). gone m2 x) (ap (λ (x : ℕ). pick (eqb (headOf (viewOf m2 q t CHILDREN)) NL) x local) ef
+    ∙ ap (pick (eqb (headOf (viewOf m2 q t CHILDREN)) NL) _) en ∙ either-mark m q t (viewOf m2 q t CHILDREN))
     ∙ ap (λ (x : List ℕ). gone x (returnedTo m q t (viewOf x q t CHILDREN))) (e2 ∙ ap (λ (x : List ℕ). merged x q t CHILDREN t RIGHT) e1)
   where
     gone : List ℕ → ℕ → List ℕ

@@ -77,7 +77,9 @@ module _ (m : List ℕ) (t q : ℕ) where
 
   pub finishes-parts : both (reducible C U) (rightFits m t q C U) ≡ finishes m t q
   unfolding finishes rightFits fits target returned
-  finishes-parts = ap (λ (x : Bool). both (reducible C U) (both (reducible a r) (either (isEmpty (reduced m a r)) x))) (sym (behind-reducible m a r (behind m C U y) v ∙ behind-reducible m C U y v))
+  finishes-parts =
+      ap (λ (x : Bool). both (reducible C U) (both (reducible a r) (either (isEmpty (reduced m a r)) x)))
+      (sym (behind-reducible m a r (behind m C U y) v ∙ behind-reducible m C U y v))
     where
       a : View
       a = reduced m C U

@@ -1,12 +1,12 @@
 -- What the memory rules look at: the numbers of the opening, the two stacks of free things, the records of tasks and
 -- segments; and the lists that are made from them.
-use mathlib.Core.Path.{_≡_, refl, ap, sym, _∙_, fun-ext}
+use mathlib.Core.Path.{_≡_, refl, ap, sym, _∙_}
 use mathlib.Core.Bool.{Bool, true, false, not}
 use mathlib.Core.List.{List, [], _∷_, _++_}
 use Prim.Native.Nat.{ℕ, zero, suc, _+_, _*_, _/_, _%_, _<_}
 use native.Mathlib.Nat.{le-of-suc-le-suc, add-comm, add-mul, mul-assoc, zero-mul, suc-mul}
 use native.Mathlib.Omega.{arith}
-use lib.Dec.{leb, ltb, eqb}
+use lib.Dec.{ltb, eqb}
 use lib.ListN.{getD, drop, take}
 use lib.Seq.{drop-drop, getD-drop}
 use borrow.Author.Tests.{ltb-true}
@@ -30,6 +30,7 @@ pub record Contents : Type 0 where
 unfoldable pub segmentOf : List ℕ → ℕ → List ℕ
 segmentOf m s = drop (448 + s * 4) m
 
+-- the contents of words m
 abbrev pub decode : List ℕ → Contents
 decode m =
     record {

@@ -1,8 +1,8 @@
 -- THE MEMORY RULES of document 01, sentence by sentence. Test.antt has a test that the code makes and the checker can
 -- compute; Same.antt proves that it says true exactly where all of these hold.
 use mathlib.Core.Path.{_≡_}
-use mathlib.Core.Bool.{Bool, true, false}
-use mathlib.Core.List.{List, [], _∷_}
+use mathlib.Core.Bool.{true, false}
+use mathlib.Core.List.{List}
 use mathlib.Core.Logic.{_⊎_}
 use Prim.Native.Nat.{ℕ, zero, suc, _+_, _*_, _%_, _<_, _≤_}
 use lib.ListN.{length}

@@ -1,5 +1,5 @@
 -- THE MEMORY TEST: one Bool for all rules, near linear in unfinished tasks and opened segments.
-use mathlib.Core.Bool.{Bool, true, false, not}
+use mathlib.Core.Bool.{Bool, false, not}
 use mathlib.Core.List.{List, [], _∷_, _++_}
 use Prim.Native.Nat.{ℕ, zero, suc, _+_, _-_, _*_, _%_}
 use lib.Dec.{leb, ltb, eqb}
@@ -52,6 +52,7 @@ treeTest c (suc k) x = let rest = treeTest c k (after (c .recs) x) in pick (eqb 
 unfoldable pub viewWord : ℕ → ℕ → ℕ → Bool
 viewWord r i w = pick (uses r (i % 4)) (either (leb 4 i) (not (eqb w NL))) (eqb w NONE)
 
+-- all view words of task t
 unfoldable pub viewsTest : Contents → ℕ → Bool
 viewsTest c t = eachWord (viewWord (word c t RIGHTS)) 28 0 (drop 16 (c .recs t))
 
@@ -60,10 +61,12 @@ viewsTest c t = eachWord (viewWord (word c t RIGHTS)) 28 0 (drop 16 (c .recs t))
 unfoldable pub marked : ℕ → ℕ
 marked w = pick (eqb w NL) 1 0
 
+-- in front of a view with head h and tail e
 unfoldable pub passed : ℕ → ℕ → ℕ → ℕ
 passed h e o =
     pick (eqb h NONE) (pick (eqb e NONE) o 2) (pick (either (eqb e NONE) (not (eqb (marked e) o))) 2 (marked h))
 
+-- in front of view k of task t
 unfoldable pub passedAt : Contents → ℕ → ℕ → ℕ → ℕ → ℕ
 passedAt c q t k o = passed (word c t (20 + k * 4 + q)) (word c t (32 + k * 4 + q)) o
 
@@ -74,6 +77,7 @@ orderAt c q x o =
     (pick (uses (word c x RIGHTS) q) (passedAt c q x USER (passedAt c q x RIGHT o)) o)
     (pick (uses (word c (x - 128) RIGHTS) q) (passedAt c q (x - 128) CHILDREN o) o)
 
+-- in front of all views at the marks xs
 unfoldable pub orderOf : Contents → ℕ → List ℕ → ℕ → ℕ
 orderOf c q [] o = o
 orderOf c q (x ∷ xs) o = orderOf c q xs (orderAt c q x o)
@@ -97,6 +101,7 @@ unfoldable pub chain : Contents → ℕ → ℕ → List ℕ
 chain c zero s = NONE ∷ []
 chain c (suc k) s = let rest = chain c k (part c s 2) in s ∷ pick (eqb (part c s 2) NONE) [] rest
 
+-- the chains from all heads, one behind the other
 unfoldable pub chains : Contents → List ℕ → List ℕ
 chains c [] = []
 chains c (h ∷ hs) = chain c (c .number) h ++ chains c hs
@@ -118,6 +123,7 @@ viewTests c xs =
     let es = tails c ts in
     both (each (viewsTest c) ts) (both (orderTest c xs) (both (ownersTest c ts) (both (upto (segmentTest c) (c .number) 0) (heldTest c hs es))))
 
+-- THE WHOLE TEST
 unfoldable pub test : Contents → Bool
 test c =
     let k = 2 * (128 - length (c .idle)) in

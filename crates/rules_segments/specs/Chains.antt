@@ -9,7 +9,8 @@ use lib.Dec.{eqb}
 use lib.ListN.{length}
 use borrow.Author.Tests.{eq-eqb, ne-eqb}
 use Rattle.words.specs.Words.{pass, halt}
-use Rattle.lists.specs.Counting.{one, occurrences, over, equal?, one-yes, one-no, occurs-nil, occurs-cons, occurs-here, occurs-past, occurs-append, over-append, over-ones}
+use Rattle.lists.specs.Counting.{one, occurrences, over, equal?, one-yes, one-no, occurs-nil, occurs-cons, occurs-here, occurs-past, occurs-append, over-append}
+use Rattle.lists.specs.Counting.{over-ones}
 use Rattle.lists.specs.Sums.{over-zero}
 use Rattle.layout.specs.Layout.{NONE}
 use Rattle.rules.specs.Contents.{Contents, part}

@@ -6,7 +6,8 @@ use Prim.Native.Nat.{ℕ, zero, suc, _+_, _*_, _<_, _≤_}
 use native.Mathlib.Omega.{arith}
 use native.Mathlib.Nat.{mul-comm, zero-mul, eq-zero-or-pos}
 use lib.ListN.{length-append}
-use Rattle.lists.specs.Counting.{occurrences, total, equal?, one-yes, one-no, occurs-cons, occurs-here, occurs-append, total-ext, total-zero, total-at, exchange, length-total, total-ones}
+use Rattle.lists.specs.Counting.{occurrences, total, equal?, one-yes, one-no, occurs-cons, occurs-here, occurs-append, total-ext, total-zero, total-at}
+use Rattle.lists.specs.Counting.{exchange, length-total, total-ones}
 use Rattle.lists.specs.Sums.{total-term, total-some, total-alone}
 use Rattle.lists.specs.Distinct.{Distinct, distinct-append}
 use Rattle.layout.specs.Layout.{NONE}

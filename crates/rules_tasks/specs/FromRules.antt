@@ -17,7 +17,8 @@ use Rattle.rules_tasks.specs.Tested.{Top, Idle}
 use Rattle.rules_tasks.specs.Tours.{tree-same, tour-length, tour-each, tour-once, tour-first, tour-after, tour-most}
 use Rattle.rules_tasks.specs.Pairs.{pair, pairs, total-twos}
 use Rattle.rules_tasks.specs.Visits.{count}
-use Rattle.rules_tasks.specs.Leads.{above, holder-below, holder-child, down, Leads, left-leads, met-leads, oldest}
+use Rattle.rules_tasks.specs.Leads.{holder-child, down, Leads, left-leads, met-leads, oldest}
+use Rattle.rules_tasks.specs.Holders.{holder-below, child-above}
 
 module _ (c : Contents) (r : TaskRules c) where
   pub rules-top : Top c
@@ -57,7 +58,7 @@ module _ (c : Contents) (r : TaskRules c) where
   Mark x = (t : ℕ) × Holder c t × ((x ≡ t) ⊎ (x ≡ 128 + t))
 
   mark-range : (k x : ℕ) → Mark x → x < 256
-  mark-range k x (t, h, s) = let l = holder-below c r t h in ⊎-elim (λ q. omega (arith, l, q)) (λ q. omega (arith, l, q)) s
+  mark-range k x (t, h, s) = let l = holder-below c t h in ⊎-elim (λ q. omega (arith, l, q)) (λ q. omega (arith, l, q)) s
 
   mark-next : (k x : ℕ) → Mark x → treeTest c (suc k) x ≡ true → (x ≡ 128 → ⊥) → Mark (after (c .recs) x)
   mark-next k x (t, h, s) e n = ⊎-elim met left s
@@ -68,7 +69,7 @@ module _ (c : Contents) (r : TaskRules c) where
           ⊎-elim
           (λ w. (t, h, inr (a ∙ w .1)))
           (λ w. let k = w .0 in (word c t YOUNGEST, inr (k .below, k .status), inl (a ∙ w .1)))
-          (met-on c k t (holder-below c r t h) (rw q at e))
+          (met-on c k t (holder-below c t h) (rw q at e))
 
       left : x ≡ 128 + t → Mark (after (c .recs) x)
       left q =
@@ -93,7 +94,7 @@ module _ (c : Contents) (r : TaskRules c) where
 
   before-met : (t : ℕ) → Holder c t → 0 < t → Before t
   before-met t h g =
-      let l = holder-below c r t h in
+      let l = holder-below c t h in
       let k = holder-child c r t h g in
       ⊎-elim
       (λ w.
@@ -103,7 +104,7 @@ module _ (c : Contents) (r : TaskRules c) where
       (word c t PARENT, (word c t PARENT, inr u, inl refl), (λ z. omega (arith, z, b)), after-parent c (word c t PARENT) b (omega (arith, q, l)) ∙ q))
       (λ w.
       let q = w .1 in
-      let a = above c r _ _ (w .0) in (
+      let a = child-above c _ _ (w .0) in (
         128 + word c t YOUNGER,
         (word c t YOUNGER, inr (w .0 .1 .0), inr refl),
         (λ z. omega (arith, z, a)),
@@ -113,13 +114,13 @@ module _ (c : Contents) (r : TaskRules c) where
 
   before-left : (t : ℕ) → Holder c t → Before (128 + t)
   before-left t h =
-      let l = holder-below c r t h in
+      let l = holder-below c t h in
       ⊎-elim
       (λ q. (t, (t, h, inl refl), (λ z. omega (arith, z, l)), after-childless c t l q))
       (λ w.
       let m = r .no-sibling-ring _ t (w .0) in
       let v = oldest c r (m .0) _ t (w .0) (m .2) in
-      let a = above c r _ _ (v .1) in
+      let a = child-above c _ _ (v .1) in
       let p = v .1 .1 .1 in (
         128 + v .0,
         (v .0, inr (v .1 .1 .0), inr refl),
@@ -201,7 +202,7 @@ module _ (c : Contents) (r : TaskRules c) where
     where
       same : (x ≡ t) ⊎ (x ≡ 128 + t) → Mark x → Holder c t
       same s (u, h, d) =
-          let m = holder-below c r u h in
+          let m = holder-below c u h in
           subst (λ (y : ℕ). Holder c y)
           (⊎-elim
           (λ a. ⊎-elim (λ b. omega (arith, a, b)) (λ b. omega (arith, a, b, l, m)) d)
@@ -215,7 +216,8 @@ module _ (c : Contents) (r : TaskRules c) where
   two : (t : ℕ) → t < 128 → pair marks (c .idle) t ≡ 2
   two t l =
       ⊎-elim
-      (λ q. two-held t (inl q) (⊎-elim (λ z. z) (λ p. let a = r .idle-below t p .0 in let z : ⊥ = omega (arith, a, q) in absurd z) (eq-zero-or-pos (occurrences t (c .idle)))))
+      (λ q. two-held t (inl q) (⊎-elim (λ z. z) (λ p. let a = r .idle-below t p .0 in let z : ⊥ = omega (arith, a, q) in absurd z)
+      (eq-zero-or-pos (occurrences t (c .idle)))))
       (λ g.
       ⊎-elim
       (λ w. two-held t (inr (l, w .0)) (w .1))

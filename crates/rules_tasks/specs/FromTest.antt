@@ -16,6 +16,7 @@ use Rattle.rules_tasks.specs.Tested.{Top, Idle}
 use Rattle.rules_tasks.specs.Reached.{Reached, top, youngest, older, reached-holder}
 use Rattle.rules_tasks.specs.Visits.{count, Visit, visit, holder-visit}
 use Rattle.rules_tasks.specs.Rings.{parent-visit, parent-below, down, along, siblings-end, parents-end}
+use Rattle.rules_tasks.specs.Holders.{child-above}
 
 module _ (c : Contents) where
   kin-child : (t p y : ℕ) → Kin c t p y → Child c p t
@@ -54,9 +55,6 @@ module _ (c : Contents) (first : Top c) (idle : Idle c) (e : treeTest c (count c
   abbrev Visited : ℕ → Type 0
   Visited = Visit c idle e
 
-  above : (t p : ℕ) → Child c p t → 0 < t
-  above t p h = ⊎-elim (λ q. absurd (h .0 q)) (λ q. q) (eq-zero-or-pos t)
-
   child-visit : (t p : ℕ) → Child c p t → Visited t
   child-visit t p h = holder-visit c idle e t (inr (h .1 .0))
 
@@ -65,12 +63,12 @@ module _ (c : Contents) (first : Top c) (idle : Idle c) (e : treeTest c (count c
       ⊎-elim
       inl
       (λ k. inr (subst (λ (x : ℕ). Child c x (word c t OLDER)) (h .1 .1) (kin-child c _ _ _ k), k .younger))
-      (along c idle e t (child-visit t p h) (above t p h))
+      (along c idle e t (child-visit t p h) (child-above c t p h))
 
   younger-linked : (t p : ℕ) → Child c p t → Younger c p t
   younger-linked t p h =
       let v = child-visit t p h in
-      subst (λ (x : ℕ). Younger c x t) (h .1 .1) (came c (count c) (v .met) t (v .reached) (above t p h))
+      subst (λ (x : ℕ). Younger c x t) (h .1 .1) (came c (count c) (v .met) t (v .reached) (child-above c t p h))
 
   youngest-linked : (t : ℕ) → Holder c t → (word c t YOUNGEST ≡ NONE) ⊎ (Child c t (word c t YOUNGEST) × (word c (word c t YOUNGEST) YOUNGER ≡ NONE))
   youngest-linked t h = ⊎-elim inl (λ k. inr (kin-child c _ _ _ k, k .younger)) (down c idle e t (holder-visit c idle e t h))
@@ -78,17 +76,18 @@ module _ (c : Contents) (first : Top c) (idle : Idle c) (e : treeTest c (count c
   parents : (t p : ℕ) → Child c p t → Unfinished c p
   parents t p h =
       let v = child-visit t p h in
-      let w = parent-visit c idle e t v (above t p h) in
+      let w = parent-visit c idle e t v (child-above c t p h) in
       subst (λ (x : ℕ). Unfinished c x) (h .1 .1) (⊎-elim (λ q. at-top q (first .status)) (λ u. u) (w .2))
     where
-      at-top : word c t PARENT ≡ 0 → (word c 0 STATUS ≡ UNFINISHED) ⊎ ((word c 0 STATUS ≡ FINISHED) × (word c 0 YOUNGEST ≡ NONE)) → Unfinished c (word c t PARENT)
+      at-top : word c t PARENT ≡ 0 → (word c 0 STATUS ≡ UNFINISHED) ⊎ ((word c 0 STATUS ≡ FINISHED) × (word c 0 YOUNGEST ≡ NONE))
+          → Unfinished c (word c t PARENT)
       at-top q (inl s) = (omega (arith, q), ap (λ (x : ℕ). word c x STATUS) q ∙ s)
-      at-top q (inr s) = let v = child-visit t p h in absurd (has-child c (count c) (v .met) t (v .reached) (above t p h) (s .1))
+      at-top q (inr s) = let v = child-visit t p h in absurd (has-child c (count c) (v .met) t (v .reached) (child-above c t p h) (s .1))
 
   no-sibling-ring : (t p : ℕ) → Child c p t → (k : ℕ) × (k ≤ 128) × (walk (λ x. word c x OLDER) k t ≡ NONE)
   no-sibling-ring t p h =
       let v = child-visit t p h in
-      let s = siblings-end c idle e t (above t p h) v in
+      let s = siblings-end c idle e t (child-above c t p h) v in
       let a = s .few in
       let b = v .order in
       let d = v .most in
@@ -162,5 +161,5 @@ module _ (c : Contents) (first : Top c) (idle : Idle c) (e : treeTest c (count c
         top-rights = first .rights;
         child-rights = λ t p h.
             let v = child-visit t p h in
-            ap (λ (x : ℕ). subset (word c t RIGHTS) (word c x RIGHTS)) (sym (h .1 .1)) ∙ rights c (count c) (v .met) t (v .reached) (above t p h);
+            ap (λ (x : ℕ). subset (word c t RIGHTS) (word c x RIGHTS)) (sym (h .1 .1)) ∙ rights c (count c) (v .met) t (v .reached) (child-above c t p h);
       }

@@ -11,7 +11,7 @@ use Rattle.lists.specs.Counting.{occurrences, equal?, occurs-nil, occurs-cons, 
 use Rattle.layout.specs.Layout.{UNFINISHED, STATUS}
 use Rattle.tree.specs.Tour.{met}
 use Rattle.rules.specs.Contents.{Contents, word, holders, holdersFrom}
-use Rattle.rules.specs.Rules.{Holder}
+use Rattle.rules.specs.Rules.{Holder, Child}
 
 -- a mark below 128 meets a task, any other does not
 pub met-here : (x : ℕ) (xs : List ℕ) → x < 128 → met (x ∷ xs) ≡ x ∷ met xs
@@ -121,6 +121,9 @@ module _ (c : Contents) where
 
   pub holder-below : (t : ℕ) → Holder c t → t < 128
   holder-below t h = ⊎-elim (λ q. omega (arith, q)) (λ w. w .0) h
+
+  pub child-above : (t p : ℕ) → Child c p t → 0 < t
+  child-above t p h = ⊎-elim (λ q. absurd (h .0 q)) (λ q. q) (eq-zero-or-pos t)
 
   pub holder-once : (t : ℕ) → Holder c t → occurrences t (holders c) ≡ 1
   unfolding holders

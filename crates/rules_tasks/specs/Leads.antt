@@ -10,14 +10,9 @@ use Rattle.rules.specs.Contents.{Contents, word}
 use Rattle.rules.specs.Rules.{Holder, Child, TaskRules, walk}
 use Rattle.rules.specs.Test.{treeTest}
 use Rattle.rules_tasks.specs.Marks.{Kin, tree-last, met-none, met-child, left-none, left-older}
+use Rattle.rules_tasks.specs.Holders.{holder-below, child-above}
 
 module _ (c : Contents) (r : TaskRules c) where
-  pub above : (t p : ℕ) → Child c p t → 0 < t
-  above t p h = ⊎-elim (λ q. absurd (h .0 q)) (λ q. q) (eq-zero-or-pos t)
-
-  pub holder-below : (t : ℕ) → Holder c t → t < 128
-  holder-below t h = ⊎-elim (λ q. omega (arith, q)) (λ w. w .0) h
-
   -- a holder other than the top
   pub holder-child : (t : ℕ) → Holder c t → 0 < t → Child c (word c t PARENT) t
   holder-child t h g = ((λ q. omega (arith, q, g)), (⊎-elim (λ q. let z : ⊥ = omega (arith, q, g) in absurd z) (λ w. w) h, refl))
@@ -25,7 +20,7 @@ module _ (c : Contents) (r : TaskRules c) where
   child-kin : (t p y : ℕ) → Child c p t → word c t YOUNGER ≡ y → Kin c t p y
   child-kin t p y h q =
       record {
-        above = above t p h;
+        above = child-above c t p h;
         below = h .1 .0 .0;
         status = h .1 .0 .1;
         parent = h .1 .1;
@@ -92,10 +87,10 @@ module _ (c : Contents) (r : TaskRules c) where
       (λ q.
       let a = h .1 .1 in
       let l = r .parents u p h .0 in
-      (suc (lead .0), left-none c (lead .0) u (above u p h) (omega (arith, a, l)) q (ap (λ (x : ℕ). treeTest c (lead .0) (128 + x)) a ∙ lead .1)))
+      (suc (lead .0), left-none c (lead .0) u (child-above c u p h) (omega (arith, a, l)) q (ap (λ (x : ℕ). treeTest c (lead .0) (128 + x)) a ∙ lead .1)))
       (λ w.
       let f = through (word c u OLDER) (w .0) (siblings p lead through m (word c u OLDER) (w .0) e) in
-      (suc (f .0), left-older c (f .0) u (above u p h) (w .1) (f .1)))
+      (suc (f .0), left-older c (f .0) u (child-above c u p h) (w .1) (f .1)))
       (along u p h)
 
   -- from where a task is met to where it is left, n being more than the levels below it
@@ -103,12 +98,12 @@ module _ (c : Contents) (r : TaskRules c) where
   passes zero d t w l h lead = let a = depth-few d t h w in let z : ⊥ = omega (arith, a, l) in absurd z
   passes (suc n) d t w l h lead =
       ⊎-elim
-      (λ q. (suc (lead .0), met-none c (lead .0) t (holder-below t h) q (lead .1)))
+      (λ q. (suc (lead .0), met-none c (lead .0) t (holder-below c t h) q (lead .1)))
       (λ k.
       let through : (u : ℕ) → Child c t u → Leads (128 + u) → Leads u = λ u g. passes n (suc d) u (under d t g w refl) (omega (arith, l)) (inr (g .1 .0)) in
       let m = r .no-sibling-ring _ t (k .0) in
       let f = through (word c t YOUNGEST) (k .0) (siblings t lead through (m .0) (word c t YOUNGEST) (k .0) (m .2)) in
-      (suc (f .0), met-child c (f .0) t (holder-below t h) (k .1) (f .1)))
+      (suc (f .0), met-child c (f .0) t (holder-below c t h) (k .1) (f .1)))
       (down t h)
 
   leaves : (d t : ℕ) → Depth d t → Leads (128 + t)

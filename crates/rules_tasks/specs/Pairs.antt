@@ -1,17 +1,11 @@
 -- Counting two marks for each task.
-use mathlib.Core.Path.{_≡_, refl, ap, _∙_}
+use mathlib.Core.Path.{_≡_, refl}
 use mathlib.Core.List.{List}
 use Prim.Native.Nat.{ℕ, zero, suc, _+_, _*_, _<_}
 use native.Mathlib.Omega.{arith}
 use lib.ListN.{length}
 use Rattle.lists.specs.Counting.{occurrences, total, total-plus, length-total}
-
-total-split : (m n : ℕ) (f : ℕ → ℕ) → total (m + n) f ≡ total m f + total n (λ y. f (m + y))
-unfolding total
-total-split m zero f = ap (λ (k : ℕ). total k f) (let z : m + 0 ≡ m = omega arith in z) ∙ (let z : total m f ≡ total m f + 0 = omega arith in z)
-total-split m (suc n) f =
-    ap (λ (k : ℕ). total k f) (let z : m + suc n ≡ suc (m + n) = omega arith in z)
-    ∙ (let a = total-split m n f in let z : total (m + n) f + f (m + n) ≡ total m f + (total n (λ y. f (m + y)) + f (m + n)) = omega (arith, a) in z)
+use Rattle.lists.specs.Sums.{total-split}
 
 -- the marks of task t among xs, and twice how often it stands in ys
 abbrev pub pair : List ℕ → List ℕ → ℕ → ℕ

@@ -15,10 +15,10 @@ use Rattle.rules_tasks.specs.Marks.{after-top}
 use Rattle.rules_tasks.specs.Tours.{tour-stops}
 use Rattle.rules_tasks.specs.Reached.{Standing, standing-range, standing-next, reached-holder}
 use Rattle.rules_tasks.specs.Tested.{top-says, says-top, idle-says, says-idle}
-use Rattle.rules_tasks.specs.Visits.{count, start, busy, met-once, left-once, holder-below, met-reached, left-reached, marks-below}
+use Rattle.rules_tasks.specs.Visits.{count, start, busy, met-once, left-once, met-reached, left-reached, marks-below}
 use Rattle.rules_tasks.specs.FromTest.{tested-rules}
 use Rattle.rules_tasks.specs.FromRules.{rules-top, rules-idle, rules-tree}
-use Rattle.rules_tasks.specs.Holders.{met-count, met-below, holder-once, holders-hold, holder?}
+use Rattle.rules_tasks.specs.Holders.{met-count, met-below, holder-once, holders-hold, holder?, holder-below}
 
 module _ (c : Contents) where
   pub tasks-say : topTest c ≡ true → idleTest c ≡ true → treeTest c (2 * (128 - length (c .idle))) 0 ≡ true → TaskRules c
@@ -73,5 +73,5 @@ module _ (c : Contents) where
     pub holders-left : (t : ℕ) → Holder c t → 0 < occurrences (128 + t) (tour (2 * (128 - length (c .idle))) (c .recs) 0)
     holders-left t h =
         let i = idle-says c b in
-        let a = left-once c i e t (holder-below c i e t h) (busy c i e t h) in
+        let a = left-once c i e t (holder-below c t h) (busy c i e t h) in
         omega (arith, a)

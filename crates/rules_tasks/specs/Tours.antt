@@ -37,6 +37,13 @@ module _ (c : Contents) where
     last-marks : (k x : ℕ) → x ≡ 128 → treeTest c (suc k) x ≡ true → marks k (after (c .recs) x) ≡ []
     last-marks k x q e = ap (λ (n : ℕ). marks n (after (c .recs) x)) (last-tree c k (rw q at e)) ∙ tour-none c _
 
+    -- a mark other than the first
+    behind : (k x y : ℕ) → P (suc k) x → 0 < occurrences y (marks (suc k) x) → (x ≡ y → ⊥) → 0 < occurrences y (marks k (after (c .recs) x))
+    behind k x y p h q =
+        let a = ap (occurrences y) (tour-cons c k x (range (suc k) x p)) in
+        let b = occurs-past x y (marks k (after (c .recs) x)) q in
+        omega (arith, a, b, h)
+
     pub tour-length : (k x : ℕ) → P k x → treeTest c k x ≡ true → length (marks k x) ≡ k
     tour-length zero x p e = absurd (tree-none c x e)
     tour-length (suc k) x p e =
@@ -55,17 +62,12 @@ module _ (c : Contents) where
         (λ q. (suc k, omega arith, rw q at e, rw q at p))
         (λ q.
         ⊎-elim
-        (λ z. let a = ap (occurrences y) (last-marks k x z e) in let b = occurs-nil y in let d = behind q in let z : ⊥ = omega (arith, a, b, d) in absurd z)
-        (λ z. longer (tour-each k (after (c .recs) x) (next k x p e z) (tree-rest c k x z e) y (behind q)))
+        (λ z. let a = ap (occurrences y) (last-marks k x z e) in let b = occurs-nil y in let d = behind k x y p h q in let z : ⊥ = omega (arith, a, b, d) in
+        absurd z)
+        (λ z. longer (tour-each k (after (c .recs) x) (next k x p e z) (tree-rest c k x z e) y (behind k x y p h q)))
         (equal? x 128))
         (equal? x y)
       where
-        behind : (x ≡ y → ⊥) → 0 < occurrences y (marks k (after (c .recs) x))
-        behind q =
-            let a = ap (occurrences y) (tour-cons c k x (range (suc k) x p)) in
-            let b = occurs-past x y (marks k (after (c .recs) x)) q in
-            omega (arith, a, b, h)
-
         longer : (j : ℕ) × (j ≤ k) × (treeTest c j y ≡ true) × P j y → (j : ℕ) × (j ≤ suc k) × (treeTest c j y ≡ true) × P j y
         longer w = let l = w .1 in (w .0, omega (arith, l), w .2, w .3)
 
@@ -75,7 +77,8 @@ module _ (c : Contents) where
     tour-once (suc k) x p e y =
         ⊎-elim
         (λ q. let b = occurs-here x y (marks k (after (c .recs) x)) q in let d = gone q in omega (arith, a, b, d))
-        (λ q. let b = occurs-past x y (marks k (after (c .recs) x)) q in let d = rest (λ z. tour-once k (after (c .recs) x) (next k x p e z) (tree-rest c k x z e) y) in omega (arith, a, b, d))
+        (λ q. let b = occurs-past x y (marks k (after (c .recs) x)) q in
+        let d = rest (λ z. tour-once k (after (c .recs) x) (next k x p e z) (tree-rest c k x z e) y) in omega (arith, a, b, d))
         (equal? x y)
       where
         a : occurrences y (marks (suc k) x) ≡ occurrences y (x ∷ marks k (after (c .recs) x))
@@ -123,17 +126,12 @@ module _ (c : Contents) where
         (tour-first k (after (c .recs) x) (next k x p e m) (tree-rest c k x m e))))
         (λ q.
         ⊎-elim
-        (λ z. let a = ap (occurrences y) (last-marks k x z e) in let b = occurs-nil y in let d = behind q in let z : ⊥ = omega (arith, a, b, d) in absurd z)
-        (λ z. more (after (c .recs) y) (tour-after k (after (c .recs) x) (next k x p e z) (tree-rest c k x z e) y n (behind q)))
+        (λ z. let a = ap (occurrences y) (last-marks k x z e) in let b = occurs-nil y in let d = behind k x y p h q in let z : ⊥ = omega (arith, a, b, d) in
+        absurd z)
+        (λ z. more (after (c .recs) y) (tour-after k (after (c .recs) x) (next k x p e z) (tree-rest c k x z e) y n (behind k x y p h q)))
         (equal? x 128))
         (equal? x y)
       where
-        behind : (x ≡ y → ⊥) → 0 < occurrences y (marks k (after (c .recs) x))
-        behind q =
-            let a = ap (occurrences y) (tour-cons c k x (range (suc k) x p)) in
-            let b = occurs-past x y (marks k (after (c .recs) x)) q in
-            omega (arith, a, b, h)
-
         more : (z : ℕ) → 0 < occurrences z (marks k (after (c .recs) x)) → 0 < occurrences z (marks (suc k) x)
         more z l =
             let a = ap (occurrences z) (tour-cons c k x (range (suc k) x p)) in

@@ -17,6 +17,7 @@ use Rattle.rules_tasks.specs.Tested.{Idle}
 use Rattle.rules_tasks.specs.Tours.{tree-same, tour-length, tour-each, tour-once}
 use Rattle.rules_tasks.specs.Reached.{Reached, top, reached-tree, reached-holder, reached-below, Standing, standing-range, standing-next}
 use Rattle.rules_tasks.specs.Pairs.{pair, pairs, total-twos}
+use Rattle.rules_tasks.specs.Holders.{holder-below}
 
 -- the marks that a tour must have
 abbrev pub count : Contents → ℕ
@@ -129,8 +130,5 @@ module _ (c : Contents) (idle : Idle c) (e : treeTest c (count c) 0 ≡ true) wh
       let s = tree-same c (v .2) (w .0) t (reached-tree c (count c) (v .2) t (v .4)) (reached-tree c (count c) (w .0) t (w .2)) in
       record { met = w .0; left = v .0; order = omega (arith, m, s); most = w .1; reached = w .2; leaves = v .1 }
 
-  pub holder-below : (t : ℕ) → Holder c t → t < 128
-  holder-below t h = ⊎-elim (λ q. omega (arith, q)) (λ w. w .0) h
-
   pub holder-visit : (t : ℕ) → Holder c t → Visit t
-  holder-visit t h = visit t (holder-below t h) (busy t h)
+  holder-visit t h = visit t (holder-below c t h) (busy t h)

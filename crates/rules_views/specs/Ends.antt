@@ -1,7 +1,7 @@
 -- All local heads and tails are segments opened exactly where each word of a view that is below NL is one.
 use mathlib.Core.Path.{_≡_, refl, ap, sym, _∙_}
 use mathlib.Core.List.{List, [], _∷_}
-use mathlib.Core.Logic.{_⊎_, ⊎-elim}
+use mathlib.Core.Logic.{⊎-elim}
 use Prim.Native.Nat.{ℕ, _+_, _<_, _≤_}
 use native.Mathlib.Omega.{arith}
 use native.Mathlib.Nat.{eq-zero-or-pos}
@@ -63,30 +63,30 @@ module _ (c : Contents) where
       omega (arith, e, b)
 
   module _ (xs : List ℕ) (w : Toured c xs) where
+    -- a list l made of the n words from i on of each task that is met
+    module _ (i n : ℕ) (l : List ℕ) (made : (s : ℕ) → occurrences s l ≡ over (met xs) (λ y. occurrences s (locals n (drop i (c .recs y))))) where
+      opened-fit : Opened l → Fit i n
+      opened-fit f t j h k p =
+          f (word c t (i + j))
+          (let a = made (word c t (i + j)) in
+          let b = over-term (met xs) (λ y. occurrences (word c t (i + j)) (locals n (drop i (c .recs y)))) t (holder-met c xs w t h) in
+          let d = listed t i n j k p in
+          omega (arith, a, b, d))
+
+      fit-opened : Fit i n → Opened l
+      fit-opened f s p =
+          let a = made s in
+          let v = over-some (met xs) (λ y. occurrences s (locals n (drop i (c .recs y)))) (omega (arith, a, p)) in
+          below i n f (v .0) s (met-holder c xs w (v .0) (v .1)) (v .2)
+
     pub heads-fit : Opened (heads c (met xs)) → Fit 16 16
-    heads-fit f t j h l p =
-        f (word c t (16 + j))
-        (let a = over-heads c (word c t (16 + j)) (met xs) in
-        let b = over-term (met xs) (λ y. occurrences (word c t (16 + j)) (locals 16 (drop 16 (c .recs y)))) t (holder-met c xs w t h) in
-        let d = listed t 16 16 j l p in
-        omega (arith, a, b, d))
+    heads-fit = opened-fit 16 16 (heads c (met xs)) (λ s. over-heads c s (met xs))
 
     pub tails-fit : Opened (tails c (met xs)) → Fit 32 12
-    tails-fit f t j h l p =
-        f (word c t (32 + j))
-        (let a = over-tails c (word c t (32 + j)) (met xs) in
-        let b = over-term (met xs) (λ y. occurrences (word c t (32 + j)) (locals 12 (drop 32 (c .recs y)))) t (holder-met c xs w t h) in
-        let d = listed t 32 12 j l p in
-        omega (arith, a, b, d))
+    tails-fit = opened-fit 32 12 (tails c (met xs)) (λ s. over-tails c s (met xs))
 
     pub fit-heads : Fit 16 16 → Opened (heads c (met xs))
-    fit-heads f s p =
-        let a = over-heads c s (met xs) in
-        let v = over-some (met xs) (λ y. occurrences s (locals 16 (drop 16 (c .recs y)))) (omega (arith, a, p)) in
-        below 16 16 f (v .0) s (met-holder c xs w (v .0) (v .1)) (v .2)
+    fit-heads = fit-opened 16 16 (heads c (met xs)) (λ s. over-heads c s (met xs))
 
     pub fit-tails : Fit 32 12 → Opened (tails c (met xs))
-    fit-tails f s p =
-        let a = over-tails c s (met xs) in
-        let v = over-some (met xs) (λ y. occurrences s (locals 12 (drop 32 (c .recs y)))) (omega (arith, a, p)) in
-        below 32 12 f (v .0) s (met-holder c xs w (v .0) (v .1)) (v .2)
+    fit-tails = fit-opened 32 12 (tails c (met xs)) (λ s. over-tails c s (met xs))

@@ -66,5 +66,12 @@ in-local (suc n) r s p = ⊎-elim here (λ q. past (in-local n (drop 1 r) s q)) 
 
     past : (s < NL) × ((j : ℕ) × (j < n) × (load (drop 1 r) j ≡ s)) → (s < NL) × ((j : ℕ) × (j < suc n) × (load r j ≡ s))
     past w =
-        let l = w .1 .1 in
-        (w .0, (suc (w .1 .0), omega (arith, l), ap (load r) (let z : suc (w .1 .0) ≡ 1 + w .1 .0 = omega arith in z) ∙ sym (load-drop r 1 (w .1 .0)) ∙ w .1 .2))
+        let l = w .1 .1 in (
+          w .0,
+          (
+            suc (w .1 .0),
+            omega (arith, l),
+            ap (load r) (let z : suc (w .1 .0) ≡ 1 + w .1 .0 = omega arith in z) ∙ sym (load-drop r 1 (w .1 .0))
+                ∙ w .1 .2,
+          ),
+        )

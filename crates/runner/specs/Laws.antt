@@ -4,35 +4,57 @@ use mathlib.Core.Bool.{Bool, true, false, not, false≢true}
 use mathlib.Core.List.{List}
 use mathlib.Core.Option.{Option, none, some}
 use Prim.Native.Nat.{ℕ, _+_}
-use Rattle.words.specs.Words.{pick, pass, halt}
+use Rattle.words.specs.Words.{size, pick, pass, halt}
+use Rattle.layout.specs.Layout.{WORDS}
 use Rattle.answers.specs.declared.Answer.the-variants.{Waits}
 use Rattle.answers.specs.Answers.{Outcome as CoreOutcome, outcome as answered}
-use Rattle.answers.specs.Calls.{Call}
-use Rattle.calls.specs.Waits.{unfinished, blocked}
+use Rattle.answers.specs.Calls.{Call, open-call, spawn-call, push-call, pop-call, test-call, sync-call, finish-call, left-call}
+use Rattle.rules.specs.Test.{rulesHold}
+use Rattle.calls.specs.Waits.{unfinished, blocked, test-passes}
+use Rattle.calls.specs.Spawn.{spawnTested, spawnOutcome}
+use Rattle.calls.specs.Push.{pushTested, pushOutcome}
+use Rattle.calls.specs.Find.{popTested, testTested, popOutcome, testOutcome}
+use Rattle.calls.specs.Sync.{syncTested, syncOutcome}
+use Rattle.calls.specs.Finish.{finishTested, finishOutcome}
+use Rattle.calls.specs.Left.{leftTested, leftOutcome}
+use Rattle.calls.specs.Outcomes.{outcomeOf}
 use Rattle.job.specs.declared.Instruction.{Instruction}
-use Rattle.job.specs.Operations.{Operation, return, push, pushSum, pop, goIfEmpty, go, goIfZero, add, spawn, sync, operationAt, rowOf, operationOf}
-use Rattle.job.specs.Effects.{sum, effect}
+use Rattle.job.specs.Operations.{Operation, operationAt, rowOf, operationOf}
+use Rattle.job.specs.Effects.{Word, spawned, pushed, took, moved, finished, empty, notEmpty, waits, refused as turned-down, sum, effect, moves, always-moves}
 use Rattle.runner.specs.declared.StepAnswer.the-variants.{Spawned, Waits as Later}
 use Rattle.runner.specs.Words.{procedureOf, positionOf, registerOf, put, instructionFor}
 use Rattle.runner.specs.Answers.{answerWith, hasMoved, Outcome, outcome, answerOf, coreOf, runnerOf}
 use Rattle.runner.specs.Rules.{refused, jobTested, tested}
 use Rattle.runner.specs.Step.{Reply, goes, stops, replyOf, runnerAfter, done, replied, coreOutcome, repliedTo, makes, stepTested, stepOutcome}
 
+word-moved : (w : Word) (v c : ℕ) → hasMoved (answerWith w v c) ≡ moves w
+unfolding hasMoved answerWith moves
+word-moved spawned v c = refl
+word-moved pushed v c = refl
+word-moved took v c = refl
+word-moved moved v c = refl
+word-moved finished v c = refl
+word-moved empty v c = refl
+word-moved notEmpty v c = refl
+word-moved waits v c = refl
+word-moved turned-down v c = refl
+
 -- a step that goes on has moved
 pub has-moved : (o : Operation) (p x y : ℕ) (f : Option ℕ) (v c : ℕ) → hasMoved (answerWith (effect o p x y f .word) v c) ≡ true
-unfolding hasMoved answerWith effect
-has-moved return p x y f v c = refl
-has-moved push p x y f v c = refl
-has-moved pushSum p x y f v c = refl
-has-moved pop p x y none v c = refl
-has-moved pop p x y (some w) v c = refl
-has-moved goIfEmpty p x y none v c = refl
-has-moved goIfEmpty p x y (some w) v c = refl
-has-moved go p x y f v c = refl
-has-moved goIfZero p x y f v c = refl
-has-moved add p x y f v c = refl
-has-moved spawn p x y f v c = refl
-has-moved sync p x y f v c = refl
+has-moved o p x y f v c = word-moved _ v c ∙ always-moves o p x y f
+
+-- behind the memory test, where it passes, a core call gives what it gives with the test
+module _ (m : List ℕ) (s : size m ≡ WORDS) (h : rulesHold m ≡ true) where
+  pub core-outcome : (c : Call) → coreOutcome c m ≡ outcomeOf c m
+  unfolding coreOutcome outcomeOf spawnOutcome pushOutcome popOutcome testOutcome syncOutcome finishOutcome leftOutcome
+  core-outcome (open-call l n) = refl
+  core-outcome (spawn-call t u) = sym (test-passes m s h (spawnTested m t u))
+  core-outcome (push-call t q v) = sym (test-passes m s h (pushTested m t q v))
+  core-outcome (pop-call t q) = sym (test-passes m s h (popTested m t q))
+  core-outcome (test-call t q) = sym (test-passes m s h (testTested m t q))
+  core-outcome (sync-call t) = sym (test-passes m s h (syncTested m t))
+  core-outcome (finish-call t) = sym (test-passes m s h (finishTested m t))
+  core-outcome (left-call q i) = sym (test-passes m s h (leftTested m q i))
 
 -- an outcome that has moved, or has left both memories as they were
 abbrev Fair : List ℕ → List ℕ → Outcome → Type 0

@@ -7,6 +7,7 @@ pub mod Step
 pub mod Laws
 pub mod Ready
 pub mod ReadyLaws
+pub mod MapLaws
 pub mod Moves
 pub mod MovesLaws
 pub mod Held

@@ -35,6 +35,7 @@ lowestFrom i (w ∷ ws) = let rest = lowestFrom (i + 32) ws in pick (eqb w 0) re
 unfoldable pub mapOf : List ℕ → List ℕ
 mapOf ws = ws ++ (over ws ones ∷ lowestFrom 0 ws ∷ [])
 
+-- THE READY MAP
 unfoldable pub readyMap : List ℕ → List ℕ → List ℕ → List ℕ
 readyMap j m r = mapOf (wordsFor (readyBit j m r))
 

@@ -1,22 +1,19 @@
--- What the words of the ready map say: each bit, the number of ready tasks, and the least of them.
-use mathlib.Core.Path.{_≡_, refl, ap, sym, _∙_, subst, fun-ext}
-use mathlib.Core.Bool.{Bool, true, false, not, false≢true}
+-- Words made of the bits of a test: each bit, the number of ones, and the lowest.
+use mathlib.Core.Path.{_≡_, refl, ap, sym, _∙_, subst}
+use mathlib.Core.Bool.{Bool, true, false}
 use mathlib.Core.List.{List, [], _∷_}
 use mathlib.Core.Logic.{⊎-elim}
 use Prim.Native.Nat.{ℕ, zero, suc, _+_, _*_, _-_, _/_, _%_, _^_, _<_, _≤_}
-use native.Mathlib.Nat.{le-of-suc-le-suc, pow-suc, pow-succ', mul-assoc, div-div-eq-div-mul, div-add-mod'}
+use native.Mathlib.Nat.{le-of-suc-le-suc, pow-suc, pow-succ', mul-assoc, div-div-eq-div-mul}
 use native.Mathlib.Omega.{arith}
 use lib.Count.{ones, ones-cat, trailingZeros, under}
 use lib.Dec.{eqb}
-use borrow.Author.Tests.{eq-eqb, eqb-true, eqb-false}
-use Rattle.words.specs.Words.{load, size, pick, pass, halt}
-use Rattle.lists.specs.Counting.{below?, one, over, total, total-ext, equal?}
+use borrow.Author.Tests.{eqb-true, eqb-false}
+use Rattle.words.specs.Words.{pick, pass, halt}
+use Rattle.lists.specs.Counting.{below?, one, over, total, total-ext, equal?, one-true, one-false}
 use Rattle.layout.specs.Layout.{NONE}
-use Rattle.runner.specs.declared.StepAnswer.the-variants.{Moved, Refused}
-use Rattle.runner.specs.Answers.{hasMoved, Outcome, outcome, answerOf}
-use Rattle.runner.specs.Rules.{refused, jobTested, tested}
-use Rattle.runner.specs.Step.{stepTested, stepOutcome}
-use Rattle.runner.specs.Ready.{readyBit, bitsFrom, wordsFor, lowestFrom, mapOf, readyMap, noMap, testAnswer, mapped, readyOutcome}
+use Rattle.lists.specs.Sums.{total-split}
+use Rattle.runner.specs.Ready.{bitsFrom, wordsFor, lowestFrom}
 
 one-cases : (P : ℕ → Type 0) (b : Bool) → P 0 → P 1 → P (one b)
 unfolding one pick
@@ -102,13 +99,6 @@ bits-ones f (suc n) i =
     ∙ ones-cat n (one (f (i + n))) (bitsFrom f n i) (bits-below f n i)
     ∙ (let a = ones-one (f (i + n)) in let b = bits-ones f n i in omega (arith, a, b))
 
-total-apart : (n k : ℕ) (g : ℕ → ℕ) → total (n + k) g ≡ total n g + total k (λ y. g (n + y))
-unfolding total
-total-apart n zero g = ap (λ (x : ℕ). total x g) (let z : n + 0 ≡ n = omega arith in z) ∙ (let z : total n g ≡ total n g + 0 = omega arith in z)
-total-apart n (suc k) g =
-    ap (λ (x : ℕ). total x g) (let z : n + suc k ≡ suc (n + k) = omega arith in z)
-    ∙ (let a = total-apart n k g in omega (arith, a))
-
 pub count-is : (f : ℕ → Bool) → over (wordsFor f) ones ≡ total 128 (λ t. one (f t))
 unfolding wordsFor over
 count-is f =
@@ -117,20 +107,12 @@ count-is f =
     let b = bits-ones f 32 32 in
     let c = bits-ones f 32 64 in
     let d = bits-ones f 32 96 in
-    let x = total-apart 32 32 g in
-    let y = total-apart 64 32 g in
-    let z = total-apart 96 32 g in
+    let x = total-split 32 32 g in
+    let y = total-split 64 32 g in
+    let z = total-split 96 32 g in
     omega (arith, a, b, c, d, x, y, z)
 
 -- THE LOWEST
-pub one-true : {b : Bool} → b ≡ true → one b ≡ 1
-unfolding one
-one-true e = halt _ _ e
-
-pub one-false : {b : Bool} → b ≡ false → one b ≡ 0
-unfolding one
-one-false e = pass _ e refl
-
 unset-one : (b : Bool) → one b ≡ 0 → b ≡ false
 unset-one true e = let a = one-true {b = true} refl in let z : ⊥ = omega (arith, a, e) in absurd z
 unset-one false e = refl
@@ -235,64 +217,3 @@ lowest-is f =
   where
     none : Lowest f 128 (lowestFrom 128 [])
     none = unfold lowestFrom in unset (λ t l u. let z : ⊥ = omega (arith, l, u) in absurd z)
-
--- THE MAP
-word-at : (f : ℕ → Bool) (w : ℕ) → w < 4 → load (mapOf (wordsFor f)) w ≡ bitsFrom f 32 (w * 32)
-unfolding load mapOf wordsFor
-word-at f zero h = refl
-word-at f (suc zero) h = refl
-word-at f (suc (suc zero)) h = refl
-word-at f (suc (suc (suc zero))) h = refl
-word-at f (suc (suc (suc (suc w)))) h = let z : ⊥ = omega arith in absurd z
-
-module _ (j m r : List ℕ) where
-  -- "bit t mod 32 of word t/32 is set exactly when task t's next step would move"
-  pub ready-bit : (t : ℕ) → t < 128 → load (readyMap j m r) (t / 32) / 2 ^ (t % 32) % 2 ≡ one (readyBit j m r t)
-  unfolding readyMap
-  ready-bit t h =
-      ap (λ (x : ℕ). x / 2 ^ (t % 32) % 2) (word-at f (t / 32) (omega arith))
-      ∙ bits-at f 32 (t / 32 * 32) (t % 32) (omega arith)
-      ∙ ap (λ (x : ℕ). one (f x)) (div-add-mod' t 32)
-    where
-      f : ℕ → Bool
-      f = readyBit j m r
-
-  -- "the number of set bits"
-  pub ready-count : load (readyMap j m r) 4 ≡ total 128 (λ t. one (readyBit j m r t))
-  unfolding readyMap mapOf load wordsFor
-  ready-count = count-is (readyBit j m r)
-
-  -- "the lowest ready task, or none"
-  pub ready-lowest : Lowest (readyBit j m r) 0 (load (readyMap j m r) 5)
-  unfolding readyMap mapOf load wordsFor
-  ready-lowest = lowest-is (readyBit j m r)
-
--- THE WORDS LENT get the map whatever the answer: where the map is refused, so is every step.
--- A refusal has not moved: below it the two agree.
-rung : (b : Bool) (k : ℕ) (m r : List ℕ) (x y : Outcome) → (hasMoved (answerOf x) ≡ false → hasMoved (answerOf y) ≡ false)
-    → hasMoved (answerOf (pick b (outcome (Refused k) m r) x)) ≡ false → hasMoved (answerOf (pick b (outcome (Refused k) m r) y)) ≡ false
-unfolding pick hasMoved answerOf
-rung true k m r x y h e = refl
-rung false k m r x y h e = h e
-
-none-ready : mapOf (wordsFor (λ t. false)) ≡ noMap
-unfolding mapOf wordsFor bitsFrom total one pick over ones lowestFrom
-none-ready = refl
-
-module _ (j m r : List ℕ) where
-  refused-too : (o : Outcome) → hasMoved (testAnswer j m r) ≡ false → hasMoved (answerOf (tested j m r o)) ≡ false
-  unfolding testAnswer tested jobTested refused
-  refused-too o = rung _ 1 m r _ _ (rung _ 1 m r _ _ (rung _ 10 m r _ _ (rung _ 11 m r _ _ (rung _ 12 m r _ _ (rung _ 2 m r _ _ never)))))
-    where
-      never : hasMoved (answerOf (outcome Moved m r)) ≡ false → hasMoved (answerOf o) ≡ false
-      never e = unfold hasMoved in unfold answerOf in absurd (false≢true (sym e))
-
-  pub ready-words : (o : List ℕ) → size o ≡ 6 → readyOutcome j m r o ≡ mapped (testAnswer j m r) (readyMap j m r)
-  unfolding readyOutcome
-  ready-words o l = pass _ (ap not (eq-eqb _ _ l)) (ap (mapped (testAnswer j m r)) (go (hasMoved (testAnswer j m r)) refl))
-    where
-      go : (b : Bool) → hasMoved (testAnswer j m r) ≡ b → pick b (readyMap j m r) noMap ≡ readyMap j m r
-      go true e = halt _ _ refl
-      go false e =
-          unfold readyMap in unfold readyBit in unfold stepOutcome in
-          pass _ refl (sym none-ready ∙ ap (λ (f : ℕ → Bool). mapOf (wordsFor f)) (fun-ext (λ t. sym (refused-too (stepTested j m r t) e))))

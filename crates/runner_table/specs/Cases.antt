@@ -31,7 +31,8 @@ full-run = refl
 
 -- "Every call of a task, any operation of a job too, waits while an older sibling is unfinished that shares a pop right"
 pub blocked : right blockedJob
-    (step 0 (Spawned 1) ∷ step 0 (Spawned 2) ∷ step 0 (Spawned 3) ∷ step 0 (Spawned 4) ∷ step 2 Waits ∷ step 3 Waits ∷ step 4 Waits ∷ step 1 Empty ∷ step 1 Empty ∷ [])
+    (step 0 (Spawned 1) ∷ step 0 (Spawned 2) ∷ step 0 (Spawned 3) ∷ step 0 (Spawned 4) ∷ step 2 Waits ∷ step 3 Waits ∷ step 4 Waits ∷ step 1 Empty ∷
+    step 1 Empty ∷ [])
     lent lentRunner ≡ true
 unfolding right
 blocked = refl

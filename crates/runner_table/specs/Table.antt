@@ -16,21 +16,25 @@ use Rattle.answers.specs.Answers.{answerOf as coreAnswer, wordsOf, statusOf as 
 use Rattle.tree.specs.Rights.{bits, pushes, pops, uses, eachQueue, someQueue, sharesPop, subset}
 use Rattle.tree.specs.Tour.{leaving, entering, after, tour, met, seek, sibling, oldest}
 use Rattle.rules.specs.Contents.{segmentOf, tables, look, scan, word, part, locals, heads, tails, owners}
-use Rattle.rules.specs.Test.{within, inRange, topTest, idleTest, kin, linkTest, treeTest, viewWord, viewsTest, marked, passed, passedAt, orderAt, orderOf, orderTest, ownersTest, segmentTest, chain, chains, heldTest, viewTests, test, rulesHold}
+use Rattle.rules.specs.Test.{within, inRange, topTest, idleTest, kin, linkTest, treeTest, viewWord, viewsTest, marked, passed, passedAt, orderAt, orderOf}
+use Rattle.rules.specs.Test.{orderTest, ownersTest, segmentTest, chain, chains, heldTest, viewTests, test, rulesHold}
 use Rattle.calls.specs.Open.{down, stacked, segmented, topped, opened}
 use Rattle.calls.specs.Segments.{place, valueAt, stored, dropped, noneFree, nextFree, taken, released, indexOf, headIndex, linkedBy, renamed, linked}
-use Rattle.calls.specs.Views.{viewOf, isEmpty, headOf, tailOf, reducible, frees, behind, reduced, setView, joined, merged, taskAt, kindAt, takesPart, standsAt, justBefore, returnedTo}
+use Rattle.calls.specs.Views.{viewOf, isEmpty, headOf, tailOf, reducible, frees, behind, reduced, setView, joined, merged, taskAt, kindAt, takesPart, standsAt}
+use Rattle.calls.specs.Views.{justBefore, returnedTo}
 use Rattle.calls.specs.Waits.{tested as coreTested, rightsOf, unfinished, blocked, childPops, hasChild, pusherBefore}
 use Rattle.calls.specs.Spawn.{forQueues, passedUser, passedQueue, keptUser, keptQueue, childViews, passedOn, childMade, spawned, spawnTested}
 use Rattle.calls.specs.Push.{pushedApart, pushedBehind, pushed, pushTested}
 use Rattle.calls.specs.Find.{hasValue, finding, popped, popGives, testGives, popAllowed, popTested, testTested}
 use Rattle.calls.specs.Sync.{syncs, syncedQueue, synced, whenReduced, syncTested}
-use Rattle.calls.specs.Finish.{returned, finishes, viewsReturned, heir, queueReturned, finishedQueue, unlinked, recordFreed, finished, topFinished, finishTested}
+use Rattle.calls.specs.Finish.{returned, finishes, viewsReturned, heir, queueReturned, finishedQueue, unlinked, recordFreed, finished, topFinished}
+use Rattle.calls.specs.Finish.{finishTested}
 use Rattle.calls.specs.Left.{queued, leftTested, leftOutcome}
 use Rattle.job.specs.Fields.{bytes2, bytes4, procedures, segmentLength, offset, count, rights, reserved, instructionFrom, instructionAt}
 use Rattle.job.specs.Operations.{rowOf, operationOf, operationAt}
 use Rattle.job.specs.Effects.{sum, effect}
-use Rattle.job.specs.Test.{between, headHolds, refusal10, entryHolds, entriesHold, contentsHold, refusal11, whichHolds, operandHolds, fitting, instructionHolds, lastHolds, bodyHolds, refusal12}
+use Rattle.job.specs.Test.{between, headHolds, refusal10, entryHolds, entriesHold, contentsHold, refusal11, whichHolds, operandHolds, fitting, instructionHolds}
+use Rattle.job.specs.Test.{lastHolds, bodyHolds, refusal12}
 use Rattle.runner.specs.declared.StepAnswer.{StepAnswer}
 use Rattle.runner.specs.Words.{RUNNER, procedureOf, positionOf, registerOf, put, instructionFor}
 use Rattle.runner.specs.Answers.{answerWith, valueOf, statusOf, hasMoved, outcome, answerOf}
@@ -78,5 +82,18 @@ lentRunner = replicate RUNNER 7
 
 -- the same, with every definition open, so that it can be computed
 unfoldable pub right : List ℕ → List Row → List ℕ → List ℕ → Bool
-unfolding load store size pick both either storeAll rows one occurrences each upto eachWord fresh distinct address read write recordOf coreAnswer wordsOf coreStatus coreValue sameLeft bits pushes pops uses eachQueue someQueue sharesPop subset leaving entering after tour met seek sibling oldest segmentOf tables look scan word part locals heads tails owners within inRange topTest idleTest kin linkTest treeTest viewWord viewsTest marked passed passedAt orderAt orderOf orderTest ownersTest segmentTest chain chains heldTest viewTests test rulesHold down stacked segmented topped opened place valueAt stored dropped noneFree nextFree taken released indexOf headIndex linkedBy renamed linked viewOf isEmpty headOf tailOf reducible frees behind reduced setView joined merged taskAt kindAt takesPart standsAt justBefore returnedTo coreTested rightsOf unfinished blocked childPops hasChild pusherBefore forQueues passedUser passedQueue keptUser keptQueue childViews passedOn childMade spawned spawnTested pushedApart pushedBehind pushed pushTested hasValue finding popped popGives testGives popAllowed popTested testTested syncs syncedQueue synced whenReduced syncTested returned finishes viewsReturned heir queueReturned finishedQueue unlinked recordFreed finished topFinished finishTested queued leftTested leftOutcome bytes2 bytes4 procedures segmentLength offset count rights reserved instructionFrom instructionAt rowOf operationOf operationAt sum effect between headHolds refusal10 entryHolds entriesHold contentsHold refusal11 whichHolds operandHolds fitting instructionHolds lastHolds bodyHolds refusal12 procedureOf positionOf registerOf put instructionFor answerWith valueOf statusOf taskHolds zeros recordHolds runnerHolds refused jobTested tested segmentsFor jobOpened openOutcome callOf replyOf runnerAfter done replied coreOutcome repliedTo makes stepTested stepOutcome hasMoved answerOf over total onesIn ones trailingZeros readyBit bitsFrom wordsFor lowestFrom mapOf readyMap testAnswer readyOutcome sameAnswer sameWords ran ranFresh
+unfolding load store size pick both either storeAll rows one occurrences each upto eachWord fresh distinct address read write recordOf coreAnswer wordsOf
+    coreStatus coreValue sameLeft bits pushes pops uses eachQueue someQueue sharesPop subset leaving entering after tour met seek sibling oldest segmentOf
+    tables look scan word part locals heads tails owners within inRange topTest idleTest kin linkTest treeTest viewWord viewsTest marked passed passedAt
+    orderAt orderOf orderTest ownersTest segmentTest chain chains heldTest viewTests test rulesHold down stacked segmented topped opened place valueAt
+    stored dropped noneFree nextFree taken released indexOf headIndex linkedBy renamed linked viewOf isEmpty headOf tailOf reducible frees behind reduced
+    setView joined merged taskAt kindAt takesPart standsAt justBefore returnedTo coreTested rightsOf unfinished blocked childPops hasChild pusherBefore
+    forQueues passedUser passedQueue keptUser keptQueue childViews passedOn childMade spawned spawnTested pushedApart pushedBehind pushed pushTested
+    hasValue finding popped popGives testGives popAllowed popTested testTested syncs syncedQueue synced whenReduced syncTested returned finishes
+    viewsReturned heir queueReturned finishedQueue unlinked recordFreed finished topFinished finishTested queued leftTested leftOutcome bytes2 bytes4
+    procedures segmentLength offset count rights reserved instructionFrom instructionAt rowOf operationOf operationAt sum effect between headHolds
+    refusal10 entryHolds entriesHold contentsHold refusal11 whichHolds operandHolds fitting instructionHolds lastHolds bodyHolds refusal12 procedureOf
+    positionOf registerOf put instructionFor answerWith valueOf statusOf taskHolds zeros recordHolds runnerHolds refused jobTested tested segmentsFor
+    jobOpened openOutcome callOf replyOf runnerAfter done replied coreOutcome repliedTo makes stepTested stepOutcome hasMoved answerOf over total onesIn
+    ones trailingZeros readyBit bitsFrom wordsFor lowestFrom mapOf readyMap testAnswer readyOutcome sameAnswer sameWords ran ranFresh
 right j rows m r = ranFresh j rows m r

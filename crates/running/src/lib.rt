@@ -77,7 +77,8 @@ fn fit(n: usize, k: usize) -> usize
 // Makes the steps of the tasks in order, and writes three words a step: the task, the number that stands for the answer, the
 // value as printed. Where fewer words are lent it makes as many steps as fit. It gives the number of steps made.
 pub fn run(job: &[u8], tasks: &[u8], m: &mut [u32], r: &mut [u32], answers: &mut [u32]) -> usize
-    ensures { λ n. ⌜ Ran (now (job .entry)) (now (tasks .entry)) (now (m .entry)) (now (r .entry)) (now (answers .entry)) n (now (m .exit)) (now (r .exit)) (now (answers .exit)) ⌝ }
+    ensures { λ n. ⌜ Ran (now (job .entry)) (now (tasks .entry)) (now (m .entry)) (now (r .entry)) (now (answers .entry))
+        n (now (m .exit)) (now (r .exit)) (now (answers .exit)) ⌝ }
 {
     let n = fit(tasks.len(), answers.len());
     let mut i: usize = 0;

@@ -32,12 +32,20 @@ three a b x y =
     ∙ grouped a b (either x y)
 
 pub sound-at : (m : List ℕ) (s : ℕ)
-    → (ltb (getD m (448 + s * 4) 0) (getD m 0 0) && leb (getD m (449 + s * 4) 0) (getD m 0 0)) && (ltb (getD m (450 + s * 4) 0) (getD m 1 0) || eqb (getD m (450 + s * 4) 0) NONE)
+    → (ltb (getD m (448 + s * 4) 0) (getD m 0 0) && leb (getD m (449 + s * 4) 0) (getD m 0 0)) &&
+    (ltb (getD m (450 + s * 4) 0) (getD m 1 0) || eqb (getD m (450 + s * 4) 0) NONE)
     ≡ segmentTest (decode m) s
 unfolding segmentTest
 sound-at m s =
-    three (ltb (getD m (448 + s * 4) 0) (getD m 0 0)) (leb (getD m (449 + s * 4) 0) (getD m 0 0)) (ltb (getD m (450 + s * 4) 0) (getD m 1 0)) (eqb (getD m (450 + s * 4) 0) NONE)
-    ∙ rw (part-at m s 0 (448 + s * 4) (omega arith), part-at m s 1 (449 + s * 4) (omega arith), part-at m s 2 (450 + s * 4) (omega arith), length-at m, number-at m)
+    three (ltb (getD m (448 + s * 4) 0) (getD m 0 0)) (leb (getD m (449 + s * 4) 0) (getD m 0 0)) (ltb (getD m (450 + s * 4) 0) (getD m 1 0))
+    (eqb (getD m (450 + s * 4) 0) NONE)
+    ∙ rw (
+      part-at m s 0 (448 + s * 4) (omega arith),
+      part-at m s 1 (449 + s * 4) (omega arith),
+      part-at m s 2 (450 + s * 4) (omega arith),
+      length-at m,
+      number-at m,
+    )
 
 module _ (f : ℕ → Bool) (n s : ℕ) where
   pub upto-more : (good x : Bool) → s < n → x ≡ f s → both (good && x) (upto f (n - (s + 1)) (s + 1)) ≡ both good (upto f (n - s) s)

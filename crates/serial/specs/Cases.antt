@@ -4,22 +4,18 @@ use mathlib.Core.List.{List, [], _∷_}
 use Prim.Native.Nat.{ℕ}
 use lib.ListN.{length, replicate}
 use Rattle.words.specs.Words.{load, pick, both}
-use Rattle.order.specs.Steps.{Name}
 use Rattle.job.specs.Fields.{bytes2, bytes4, offset, instructionFrom, instructionAt}
-use Rattle.job.specs.Operations.{Operation, return, push, pop, spawn, sync, rowOf, operationOf, operationAt}
-use Rattle.job.specs.Effects.{Word, spawned, pushed, took, moved, finished, sum, effect}
+use Rattle.job.specs.Operations.{return, push, pop, spawn, sync, rowOf, operationOf, operationAt}
+use Rattle.job.specs.Effects.{spawned, pushed, took, moved, finished, sum, effect}
 use Rattle.job.specs.Test.{between}
 use Rattle.job.specs.Examples.{fullRun, wrapping, alone, ins}
 use Rattle.plain.specs.Machine.{Task, State, state, Event, begin, queue, front, queuesAfter, advanced, parent, child, stackAfter, effectOn, eventOf, does, step}
 use Rattle.plain.specs.Run.{after, eventIn, next}
+use Rattle.plain.specs.Cases.{did}
 use Rattle.serial.specs.Serial.{tooDeep, full, boundOn, stopOf, Run, stopped, goesOn, serialFrom, serial}
 use Rattle.serial.specs.Answers.{numberOf, numbersAfter, madeAfter, row, written}
 use Rattle.serial.specs.declared.End.{End}
 use Rattle.serial.specs.declared.End.the-variants.{Ended, Spent, Refused}
-
--- an event
-abbrev did : Name → Operation → ℕ → Word → ℕ → Event
-did p o w a v = record { name = p; operation = o; which = w; word = a; value = v }
 
 -- a run: why it stopped, the steps made, the values in queue 0, which alone has any, the events
 abbrev ends : End → ℕ → List ℕ → List Event → Run
@@ -71,7 +67,9 @@ pub record Cases : Type 0 where
   pub spentBeforeValues : serialFrom 0 pushing (near 4096 1 65535) .end ≡ Spent
 
 pub cases : Cases
-unfolding load pick both bytes2 bytes4 offset instructionFrom instructionAt rowOf operationOf operationAt sum effect between begin queue front queuesAfter advanced parent child stackAfter effectOn eventOf does step after eventIn next tooDeep full boundOn stopOf stopped goesOn serialFrom serial numberOf numbersAfter madeAfter row written
+unfolding load pick both bytes2 bytes4 offset instructionFrom instructionAt rowOf operationOf operationAt sum effect between begin queue front queuesAfter
+    advanced parent child stackAfter effectOn eventOf does step after eventIn next tooDeep full boundOn stopOf stopped goesOn serialFrom serial numberOf
+    numbersAfter madeAfter row written
 cases =
     record {
       fullRunEnds = refl;

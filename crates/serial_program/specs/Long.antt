@@ -5,10 +5,10 @@ use mathlib.Core.List.{List}
 use Prim.Native.Nat.{ℕ, zero, suc, _+_, _*_, _<_, _≤_}
 use native.Mathlib.Omega.{arith}
 use lib.Dec.{leb}
-use lib.ListN.{length, take}
+use lib.ListN.{take}
 use lib.Seq.{getD-take, length-take-le}
 use borrow.Author.Tests.{le-leb, leb-true, eqb-true}
-use Rattle.words.specs.Words.{load, size, pick, both, both-true, both-on, both-off, both-right-on, halt, pass}
+use Rattle.words.specs.Words.{load, size, pick, both, both-true, both-on, both-off, both-right-on, halt, pass, refuted}
 use Rattle.answers.specs.declared.Answer.the-variants.{Refused}
 use Rattle.job.specs.Fields.{bytes2, procedures, segmentLength, entryAt, count}
 use Rattle.job.specs.Test.{between, headHolds, refusal10, entriesHold, contentsHold, refusal11, jobAnswer}
@@ -21,10 +21,6 @@ inRange j = both (between 1 (procedures j) 64) (between 1 (segmentLength j) 64)
 at-most : (a x b : ℕ) → between a x b ≡ true → x ≤ b
 unfolding between
 at-most a x b e = leb-true x b (both-true _ _ e .1)
-
-false-unless : (b : Bool) → (b ≡ true → ⊥) → b ≡ false
-false-unless true f = absurd (f refl)
-false-unless false f = refl
 
 -- n entries give bodies of at most 768 bytes each
 entries-short : (j : List ℕ) (n p a : ℕ) → entriesHold j n p a ≡ true → size j ≤ a + n * 768
@@ -53,8 +49,9 @@ module _ (j : List ℕ) (long : 49540 < size j) where
   contents-long : inRange j ≡ true → contentsHold j ≡ false
   unfolding inRange contentsHold
   contents-long h =
-      false-unless (contentsHold j)
-      (λ e. let s = entries-short j (procedures j) 0 (entryAt (procedures j)) (both-true _ _ e .1) in let most = at-most 1 (procedures j) 64 (both-true _ _ h .0) in omega (arith, s, most, long))
+      refuted (contentsHold j)
+      (λ e. let s = entries-short j (procedures j) 0 (entryAt (procedures j)) (both-true _ _ e .1) in
+      let most = at-most 1 (procedures j) 64 (both-true _ _ h .0) in omega (arith, s, most, long))
 
   long-refused : jobAnswer j ≡ pick (inRange j) (Refused 11) (Refused 10)
   long-refused = go (inRange j) refl

@@ -25,10 +25,14 @@ none-taken w q e = sym (ap (set (lists w) q) (same (queue (lists w) q) e) ∙ ke
 module _ (w w1 w2 : List ℕ) (q : ℕ) {h n : ℕ} (s : size w ≡ WORKING) (l : q < 4) (eh : h ≡ load w (firstAt q)) (en : n ≡ load w (countAt q)) (some : n ≡ 0 → ⊥)
     (e1 : w1 ≡ store w (firstAt q) ((h + 1) % 4096)) (e2 : w2 ≡ store w1 (countAt q) (n - 1)) where
   unchanged : (b : ℕ) → (b ≡ firstAt q → ⊥) → (b ≡ countAt q → ⊥) → load w2 b ≡ load w b
-  unchanged b x y = ap (λ (m : List ℕ). load m b) e2 ∙ load-other w1 (countAt q) b (n - 1) y ∙ ap (λ (m : List ℕ). load m b) e1 ∙ load-other w (firstAt q) b ((h + 1) % 4096) x
+  unchanged b x y =
+      ap (λ (m : List ℕ). load m b) e2 ∙ load-other w1 (countAt q) b (n - 1) y ∙ ap (λ (m : List ℕ). load m b) e1
+      ∙ load-other w (firstAt q) b ((h + 1) % 4096) x
 
   new-count : load w2 (countAt q) ≡ n - 1
-  new-count = ap (λ (m : List ℕ). load m (countAt q)) e2 ∙ load-same w1 (countAt q) (n - 1) (let z = ap size e1 ∙ size-store w (firstAt q) ((h + 1) % 4096) ∙ s in omega (arith, z, l))
+  new-count =
+      ap (λ (m : List ℕ). load m (countAt q)) e2 ∙ load-same w1 (countAt q) (n - 1) (let z = ap size e1 ∙ size-store w (firstAt q) ((h + 1) % 4096) ∙ s in
+      omega (arith, z, l))
 
   new-first : load w2 (firstAt q) ≡ (h + 1) % 4096
   new-first =
@@ -49,7 +53,8 @@ module _ (w w1 w2 : List ℕ) (q : ℕ) {h n : ℕ} (s : size w ≡ WORKING) (l 
   unfolding ring
   rest =
       ap₂ (ringFrom w2 q) new-first new-count
-      ∙ ring-same w2 w q ((h + 1) % 4096) (h + 1) (n - 1) (omega arith) (λ i k. unchanged (placeAt q ((h + 1) % 4096 + i)) (λ e. omega (arith, e, l)) (λ e. omega (arith, e, l)))
+      ∙ ring-same w2 w q ((h + 1) % 4096) (h + 1) (n - 1) (omega arith)
+      (λ i k. unchanged (placeAt q ((h + 1) % 4096 + i)) (λ e. omega (arith, e, l)) (λ e. omega (arith, e, l)))
       ∙ sym (less n some)
       ∙ ap₂ (λ (a b : ℕ). drop 1 (ringFrom w q a b)) eh en
 

@@ -13,10 +13,13 @@ use Rattle.serial_queues.specs.Rings.{queue-ring, ring-same, ring-more, 
 module _ (w w1 w2 : List ℕ) (q v : ℕ) {h n : ℕ} (s : size w ≡ WORKING) (l : q < 4) (eh : h ≡ load w (firstAt q)) (en : n ≡ load w (countAt q)) (few : n < 4096)
     (e1 : w1 ≡ store w (placeAt q (h + n)) v) (e2 : w2 ≡ store w1 (countAt q) (n + 1)) where
   at-other : (b : ℕ) → (b ≡ placeAt q (h + n) → ⊥) → (b ≡ countAt q → ⊥) → load w2 b ≡ load w b
-  at-other b x y = ap (λ (m : List ℕ). load m b) e2 ∙ load-other w1 (countAt q) b (n + 1) y ∙ ap (λ (m : List ℕ). load m b) e1 ∙ load-other w (placeAt q (h + n)) b v x
+  at-other b x y =
+      ap (λ (m : List ℕ). load m b) e2 ∙ load-other w1 (countAt q) b (n + 1) y ∙ ap (λ (m : List ℕ). load m b) e1 ∙ load-other w (placeAt q (h + n)) b v x
 
   at-count : load w2 (countAt q) ≡ n + 1
-  at-count = ap (λ (m : List ℕ). load m (countAt q)) e2 ∙ load-same w1 (countAt q) (n + 1) (let z = ap size e1 ∙ size-store w (placeAt q (h + n)) v ∙ s in omega (arith, z, l))
+  at-count =
+      ap (λ (m : List ℕ). load m (countAt q)) e2 ∙ load-same w1 (countAt q) (n + 1) (let z = ap size e1 ∙ size-store w (placeAt q (h + n)) v ∙ s in
+      omega (arith, z, l))
 
   at-end : load w2 (placeAt q (h + n)) ≡ v
   at-end =

@@ -80,7 +80,8 @@ module _ (j : List ℕ) (m p d r n c : ℕ) (qs : List (List ℕ)) (a : List ℕ
         ∙ spent j name p i r' ch ts (STEPS - n') c' m ms us b (instructionAt j p i) refl)
 
     module _ (s : Instruction) (es : s ≡ instructionAt j p i) (some : 0 < n') where
-      pub body-full : (s .operation ≡ 8 → ⊥) → full s (length (queue us (s .which))) ≡ true → BodyRuns j m p r d n c qs a (record { end = Refused 9; left = n'; made = c' }) us b
+      pub body-full : (s .operation ≡ 8 → ⊥) → full s (length (queue us (s .which))) ≡ true
+          → BodyRuns j m p r d n c qs a (record { end = Refused 9; left = n'; made = c' }) us b
       unfolding resumed
       body-full e f = ends _ us b (omega arith) (omega arith) (λ name ch ts ms l. too-many j name p i r' ch ts (STEPS - n') c' m ms us b s es n' some e f)
 
@@ -110,20 +111,24 @@ module _ (j : List ℕ) (m p d r n c : ℕ) (qs : List (List ℕ)) (a : List ℕ
                   w .1
                       ∙ one-on name (w .0) ts ms
                       ∙ inner-turn j name p i r' (w .0) ts (STEPS - n') c' m ms us b s es (n' - 1) e vs h f does
-                      ∙ ap₂ (λ (y : ℕ) (x : List ℕ). onward j (n' - 1) c' (m ∷ ms) (state vs (task name p (e .next) (e .register) (w .0) ∷ ts) y) x) (one-made n' some n-few) (sym eb),
+                      ∙ ap₂ (λ (y : ℕ) (x : List ℕ). onward j (n' - 1) c' (m ∷ ms) (state vs (task name p (e .next) (e .register) (w .0) ∷ ts) y) x)
+                      (one-made n' some n-few) (sym eb),
                 );
           }
 
       -- the child has come to its end
       module _ (v : ℕ) (e : Ran) (vs : List (List ℕ)) (b' : List ℕ) (eight : s .operation ≡ 8) (ev : v ≡ (r' + s .operand) % 4294967296)
           (child : ChildRuns j m (s .which) v d n' c' us b e vs b') where
-        child-runs : (name : Name) (ch : ℕ) (ts : List Task) (ms : List ℕ) → length ts + 1 ≡ d → onward j n' c' (m ∷ ms) (state us (task name p i r' ch ∷ ts) (STEPS - n')) b
+        child-runs : (name : Name) (ch : ℕ) (ts : List Task) (ms : List ℕ) → length ts + 1 ≡ d
+            → onward j n' c' (m ∷ ms) (state us (task name p i r' ch ∷ ts) (STEPS - n')) b
             ≡ resumed (e .end) j (e .left) (e .made) (task name p (i + 1) r' (ch + 1) ∷ ts) (m ∷ ms) vs b'
         unfolding sum
         child-runs name ch ts ms l = child .runs name p i r' ch ts ms s es eight refl (sym ev) l
 
         pub body-stops : OneOf (1 ∷ 2 ∷ []) (tagOf the-type (e .end)) → BodyRuns j m p r d n c qs a e vs b'
-        body-stops k = ends e vs b' (child .fewer) (child .tasks) (λ name ch ts ms l. child-runs name ch ts ms l ∙ stopped (e .end) k (task name p (i + 1) r' (ch + 1) ∷ ts) ts (m ∷ ms) ms)
+        body-stops k =
+            ends e vs b' (child .fewer) (child .tasks)
+            (λ name ch ts ms l. child-runs name ch ts ms l ∙ stopped (e .end) k (task name p (i + 1) r' (ch + 1) ∷ ts) ts (m ∷ ms) ms)
           where
             stopped : (x : End) → OneOf (1 ∷ 2 ∷ []) (tagOf the-type x) → (ts us : List Task) (ms ns : List ℕ)
                 → resumed x j (e .left) (e .made) ts ms vs b' ≡ resumed x j (e .left) (e .made) us ns vs b'
@@ -150,6 +155,8 @@ module _ (j : List ℕ) (m p d r n c : ℕ) (qs : List (List ℕ)) (a : List ℕ
                     (w .0 + 1, w .1 ∙ child-runs name (w .0) ts ms l ∙ goes-on name (w .0) ts ms);
               }
             where
-              goes-on : (name : Name) (ch : ℕ) (ts : List Task) (ms : List ℕ) → resumed (e .end) j (e .left) (e .made) (task name p (i + 1) r' (ch + 1) ∷ ts) (m ∷ ms) vs b'
+              goes-on : (name : Name) (ch : ℕ) (ts : List Task) (ms : List ℕ) → resumed (e .end) j (e .left) (e .made) (task name p (i + 1) r' (ch + 1) ∷ ts)
+                  (m ∷ ms) vs b'
                   ≡ onward j (e .left) (e .made) (m ∷ ms) (state vs (task name p (i + 1) r' (ch + 1) ∷ ts) (STEPS - e .left)) b'
-              goes-on name ch ts ms = unfold resumed in ap (λ (x : End). resumed x j (e .left) (e .made) (task name p (i + 1) r' (ch + 1) ∷ ts) (m ∷ ms) vs b') (ended (e .end) k)
+              goes-on name ch ts ms =
+                  unfold resumed in ap (λ (x : End). resumed x j (e .left) (e .made) (task name p (i + 1) r' (ch + 1) ∷ ts) (m ∷ ms) vs b') (ended (e .end) k)

@@ -50,8 +50,10 @@ module _ (j : List ℕ) (m q v d n c : ℕ) (qs : List (List ℕ)) (a : List ℕ
         runs = runs;
       }
     where
-      runs : (name : Name) (p i r ch : ℕ) (ts : List Task) (ms : List ℕ) (s : Instruction) → s ≡ instructionAt j p i → s .operation ≡ 8 → s .which ≡ q → sum r (s .operand) ≡ v → length ts + 1 ≡ d
-          → onward j n c (m ∷ ms) (state qs (task name p i r ch ∷ ts) (STEPS - n)) a ≡ resumed (e .end) j (e .left) (e .made) (task name p (i + 1) r (ch + 1) ∷ ts) (m ∷ ms) us b
+      runs : (name : Name) (p i r ch : ℕ) (ts : List Task) (ms : List ℕ) (s : Instruction) → s ≡ instructionAt j p i → s .operation ≡ 8 → s .which ≡ q
+          → sum r (s .operand) ≡ v → length ts + 1 ≡ d
+          → onward j n c (m ∷ ms) (state qs (task name p i r ch ∷ ts) (STEPS - n)) a ≡ resumed (e .end) j (e .left) (e .made)
+          (task name p (i + 1) r (ch + 1) ∷ ts) (m ∷ ms) us b
       runs name p i r ch ts ms s es o w x l =
           ap (λ (y : ℕ). onward j y c (m ∷ ms) (state qs (task name p i r ch ∷ ts) (STEPS - n)) a) (one-less n some)
           ∙ spawn-turn j name p i r ch ts (STEPS - n) c m ms qs a s es (n - 1) o (omega (arith, h, l))

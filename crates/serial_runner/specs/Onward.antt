@@ -22,7 +22,8 @@ stopped-shown : (c : ℕ) (ms : List ℕ) (s : State) (a : List ℕ) (e : End) �
 unfolding shown stopped stepsOf queuesOf written
 stopped-shown c ms (state qs ts k) a e = ap (outcome e k qs) (store-none a (k * 3))
 
-pub onward-stops : (j : List ℕ) (n c : ℕ) (ms : List ℕ) (s : State) (a : List ℕ) (e : End) → stopOf n j s ≡ some e → onward j n c ms s a ≡ outcome e (stepsOf s) (queuesOf s) a
+pub onward-stops : (j : List ℕ) (n c : ℕ) (ms : List ℕ) (s : State) (a : List ℕ) (e : End) → stopOf n j s ≡ some e
+    → onward j n c ms s a ≡ outcome e (stepsOf s) (queuesOf s) a
 unfolding onward
 onward-stops j n c ms s a e h = ap (shown (stepsOf s) c ms a) (stops n h) ∙ stopped-shown c ms s a e
   where
@@ -47,7 +48,8 @@ goes-shown k c m ms a s e r =
     three : (xs : List ℕ) → length xs ≡ 3 → k * 3 + length xs ≡ (k + 1) * 3
     three xs h = omega (arith, h)
 
-pub onward-goes : (j : List ℕ) (n c m k : ℕ) (ms a : List ℕ) (s u : State) (e : Event) → stopOf (suc n) j s ≡ none → step j s ≡ made e u → stepsOf s ≡ k → stepsOf u ≡ k + 1
+pub onward-goes : (j : List ℕ) (n c m k : ℕ) (ms a : List ℕ) (s u : State) (e : Event) → stopOf (suc n) j s ≡ none → step j s ≡ made e u → stepsOf s ≡ k
+    → stepsOf u ≡ k + 1
     → onward j (suc n) c (m ∷ ms) s a ≡ onward j n (madeAfter (e .word) c) (numbersAfter (e .word) c m ms) u (storeAll a (k * 3) (row c m (e .word) (e .value)))
 unfolding onward serialFrom next eventIn after
 onward-goes j n c m k ms a s u e h g x y =
@@ -55,4 +57,5 @@ onward-goes j n c m k ms a s u e h g x y =
     ∙ ap (λ (o : Step). shown (stepsOf s) c (m ∷ ms) a (goesOn none s (eventIn o) (serialFrom n j (after o s)))) g
     ∙ ap (λ (b : ℕ). shown b c (m ∷ ms) a (goesOn none s (e ∷ []) (serialFrom n j u))) x
     ∙ goes-shown k c m ms a s e (serialFrom n j u)
-    ∙ ap (λ (b : ℕ). shown b (madeAfter (e .word) c) (numbersAfter (e .word) c m ms) (storeAll a (k * 3) (row c m (e .word) (e .value))) (serialFrom n j u)) (sym y)
+    ∙ ap (λ (b : ℕ). shown b (madeAfter (e .word) c) (numbersAfter (e .word) c m ms) (storeAll a (k * 3) (row c m (e .word) (e .value))) (serialFrom n j u))
+    (sym y)

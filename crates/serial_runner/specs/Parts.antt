@@ -37,7 +37,8 @@ pub record ChildRuns (j : List ℕ) (m q v d n c : ℕ) (qs : List (List ℕ)) (
   pub fewer : e .left ≤ n
   pub less : e .end ≡ Ended → e .left < n
   pub tasks : e .made + e .left ≤ c + n
-  pub runs : (name : Name) (p i r ch : ℕ) (ts : List Task) (ms : List ℕ) (s : Instruction) → s ≡ instructionAt j p i → s .operation ≡ 8 → s .which ≡ q → sum r (s .operand) ≡ v
+  pub runs : (name : Name) (p i r ch : ℕ) (ts : List Task) (ms : List ℕ) (s : Instruction) → s ≡ instructionAt j p i → s .operation ≡ 8 → s .which ≡ q
+      → sum r (s .operand) ≡ v
       → length ts + 1 ≡ d
       → onward j n c (m ∷ ms) (state qs (task name p i r ch ∷ ts) (STEPS - n)) a
       ≡ resumed (e .end) j (e .left) (e .made) (task name p (i + 1) r (ch + 1) ∷ ts) (m ∷ ms) us b

@@ -16,7 +16,7 @@ use Rattle.order.specs.Steps.{Name}
 use Rattle.job.specs.declared.Instruction.{Instruction}
 use Rattle.job.specs.Fields.{instructionAt}
 use Rattle.job.specs.Operations.{Operation, return, push, pushSum, pop, goIfEmpty, go, goIfZero, add, spawn, sync, rowOf, operationOf, operationAt}
-use Rattle.job.specs.Rows.{from, row-past}
+use Rattle.job.specs.Rows.{from, returns-at}
 use Rattle.job.specs.Effects.{Effect, sum, effect}
 use Rattle.job.specs.Test.{between}
 use Rattle.plain.specs.Machine.{Task, State, state, made, queue, front, queuesAfter, advanced, parent, child, stackAfter, effectOn, eventOf, does, step}
@@ -48,7 +48,8 @@ Stays add = Unit {0}
 Stays sync = Unit {0}
 
 staying : (o : Operation) → Stays o → (t : Task) (e : Effect) (w x : ℕ) (ts : List Task) (i r y : ℕ) (f : Option ℕ)
-    → (stackAfter o t e w x ts ≡ advanced t e ∷ ts) × (eqb (numberOf (effect o i r y f .word)) SPAWNED ≡ false) × (eqb (numberOf (effect o i r y f .word)) FINISHED ≡ false)
+    → (stackAfter o t e w x ts ≡ advanced t e ∷ ts) × (eqb (numberOf (effect o i r y f .word)) SPAWNED ≡ false)
+    × (eqb (numberOf (effect o i r y f .word)) FINISHED ≡ false)
 unfolding stackAfter effect numberOf
 staying return h t e w x ts i r y f = absurd h
 staying spawn h t e w x ts i r y f = absurd h
@@ -75,11 +76,6 @@ inner-stays =
     (from InnerStays 8 (λ h. h .inside refl)
     (from InnerStays 9 (λ h. tt)
     (λ k past h. let y = h .few in let z : ⊥ = omega (arith, y, past) in absurd z))))))))))
-
--- no operation has a number from 10 on: such an instruction returns, as operation 0 does
-returns-at : (k : ℕ) → (k ≡ 0) ⊎ (10 ≤ k) → operationAt k ≡ return
-unfolding rowOf operationAt operationOf
-returns-at k h = ⊎-elim (λ e. ap (λ (n : ℕ). operationOf (rowOf n)) e) (λ l. ap operationOf (row-past k l)) h
 
 both-false : (x y : Bool) → (x ≡ true → y ≡ true → ⊥) → both x y ≡ false
 unfolding both pick
@@ -110,7 +106,8 @@ module _ (j : List ℕ) (name : Name) (p i r ch : ℕ) (ts : List Task) (k c m :
   unfolding boundOn tooDeep
   too-deep n h e l = stops n (Refused 8) (pass _ (ne-eqb n 0 (λ z. omega (arith, z, h))) (halt _ _ (both-on (eq-eqb _ 8 e) ∙ le-leb 128 _ l)))
 
-  pub too-many : (n : ℕ) → 0 < n → (s .operation ≡ 8 → ⊥) → full s (length (queue qs (s .which))) ≡ true → onward j n c (m ∷ ms) here a ≡ outcome (Refused 9) k qs a
+  pub too-many : (n : ℕ) → 0 < n → (s .operation ≡ 8 → ⊥) → full s (length (queue qs (s .which))) ≡ true → onward j n c (m ∷ ms) here a ≡ outcome (Refused 9)
+      k qs a
   unfolding boundOn tooDeep
   too-many n h e f = stops n (Refused 9) (pass _ (ne-eqb n 0 (λ z. omega (arith, z, h))) (pass _ (both-off _ (ne-eqb _ 8 e)) (halt _ _ f)))
 
@@ -134,7 +131,8 @@ module _ (j : List ℕ) (name : Name) (p i r ch : ℕ) (ts : List Task) (k c m :
   unfolding step does effectOn
   one-step = ap (does qs (task name p i r ch) ts k) (sym es)
 
-  goes : (n : ℕ) → tooDeep s (length ts + 1) ≡ false → full s (length (queue qs (s .which))) ≡ false → onward j (suc n) c (m ∷ ms) here a ≡ then n (operationAt (s .operation))
+  goes : (n : ℕ) → tooDeep s (length ts + 1) ≡ false → full s (length (queue qs (s .which))) ≡ false
+      → onward j (suc n) c (m ∷ ms) here a ≡ then n (operationAt (s .operation))
   unfolding stepsOf eventOf
   goes n d f = onward-goes j n c m k ms a here (after o) (eventOf (task name p i r ch) s (eff o)) (clear n d f) one-step refl refl
     where
@@ -155,12 +153,14 @@ module _ (j : List ℕ) (name : Name) (p i r ch : ℕ) (ts : List Task) (k c m :
   -- a step that leaves the task on the stack
   pub inner-turn : (n : ℕ) (e : Made) (us : List (List ℕ)) → Inner (s .operation) → full s (length (queue qs (s .which))) ≡ false
       → Does (s .operation) (s .which) (s .operand) i r qs e us
-      → onward j (suc n) c (m ∷ ms) here a ≡ onward j n c (m ∷ ms) (state us (task name p (e .next) (e .register) ch ∷ ts) (k + 1)) (storeAll a (k * 3) (m ∷ e .answer ∷ e .value ∷ []))
+      → onward j (suc n) c (m ∷ ms) here a ≡ onward j n c (m ∷ ms) (state us (task name p (e .next) (e .register) ch ∷ ts) (k + 1))
+      (storeAll a (k * 3) (m ∷ e .answer ∷ e .value ∷ []))
   unfolding coded
   inner-turn n e us h f d = goes n (not-deep (h .inside)) f ∙ stay (operationAt (s .operation)) (inner-stays (s .operation) zero-le h) (d .made) (d .lists)
     where
       stay : (o : Operation) → Stays o → e ≡ coded (eff o) → us ≡ queuesAfter o (s .which) (e .value) qs
-          → then n o ≡ onward j n c (m ∷ ms) (state us (task name p (e .next) (e .register) ch ∷ ts) (k + 1)) (storeAll a (k * 3) (m ∷ e .answer ∷ e .value ∷ []))
+          → then n o ≡ onward j n c (m ∷ ms) (state us (task name p (e .next) (e .register) ch ∷ ts) (k + 1))
+          (storeAll a (k * 3) (m ∷ e .answer ∷ e .value ∷ []))
       stay o q de dl =
           ap₂ (λ (b : ℕ) (xs : List ℕ). onward j n b xs (after o) (storeAll a (k * 3) (row c m (eff o .word) (eff o .value)))) same-made same-numbers
           ∙ ap₂ (λ (u : State) (xs : List ℕ). onward j n c (m ∷ ms) u (storeAll a (k * 3) xs)) same-state same-row
@@ -194,7 +194,8 @@ module _ (j : List ℕ) (name : Name) (p i r ch : ℕ) (ts : List Task) (k c m :
   -- a spawn stacks the child
   pub spawn-turn : (n : ℕ) → s .operation ≡ 8 → length ts + 1 < 128
       → onward j (suc n) c (m ∷ ms) here a
-      ≡ onward j n (c + 1) (c ∷ m ∷ ms) (state qs (task (ch ∷ name) (s .which) 0 (sum r (s .operand)) 0 ∷ task name p (i + 1) r (ch + 1) ∷ ts) (k + 1)) (storeAll a (k * 3) (m ∷ SPAWNED ∷ c ∷ []))
+      ≡ onward j n (c + 1) (c ∷ m ∷ ms) (state qs (task (ch ∷ name) (s .which) 0 (sum r (s .operand)) 0 ∷ task name p (i + 1) r (ch + 1) ∷ ts) (k + 1))
+      (storeAll a (k * 3) (m ∷ SPAWNED ∷ c ∷ []))
   spawn-turn n e l =
       goes n (unfold tooDeep in (both-on (eq-eqb _ 8 e) ∙ lt-leb 128 _ l)) (not-full (λ x y. omega (arith, x, y, e)))
       ∙ ap (then n) (ap operationAt e ∙ eight)
@@ -203,14 +204,17 @@ module _ (j : List ℕ) (name : Name) (p i r ch : ℕ) (ts : List Task) (k c m :
       eight : operationAt 8 ≡ spawn
       eight = unfold operationAt operationOf rowOf in refl
 
-      stacks : then n spawn ≡ onward j n (c + 1) (c ∷ m ∷ ms) (state qs (task (ch ∷ name) (s .which) 0 (sum r (s .operand)) 0 ∷ task name p (i + 1) r (ch + 1) ∷ ts) (k + 1)) (storeAll a (k * 3) (m ∷ SPAWNED ∷ c ∷ []))
+      stacks : then n spawn ≡ onward j n (c + 1) (c ∷ m ∷ ms)
+          (state qs (task (ch ∷ name) (s .which) 0 (sum r (s .operand)) 0 ∷ task name p (i + 1) r (ch + 1) ∷ ts) (k + 1))
+          (storeAll a (k * 3) (m ∷ SPAWNED ∷ c ∷ []))
       stacks = unfold effect madeAfter numbersAfter queuesAfter stackAfter row numberOf pick child parent advanced in refl
 
   -- a return unstacks the task
   pub return-turn : (n : ℕ) → (s .operation ≡ 0) ⊎ (10 ≤ s .operation)
       → onward j (suc n) c (m ∷ ms) here a ≡ onward j n c ms (state qs ts (k + 1)) (storeAll a (k * 3) (m ∷ FINISHED ∷ 0 ∷ []))
   return-turn n e =
-      goes n (not-deep (λ x. ⊎-elim (λ y. omega (arith, x, y)) (λ y. omega (arith, x, y)) e)) (not-full (λ x z. ⊎-elim (λ y. omega (arith, x, y)) (λ y. omega (arith, z, y)) e))
+      goes n (not-deep (λ x. ⊎-elim (λ y. omega (arith, x, y)) (λ y. omega (arith, x, y)) e))
+      (not-full (λ x z. ⊎-elim (λ y. omega (arith, x, y)) (λ y. omega (arith, z, y)) e))
       ∙ ap (then n) (returns-at (s .operation) e)
       ∙ unstacks
     where

@@ -143,7 +143,8 @@ over Ended j n c us b = onward-stops j n c [] (state us [] (STEPS - n)) b Ended 
 over Spent j n c us b = refl
 over (Stopped k) j n c us b = refl
 
-pub top-runs : (j a : List ℕ) (qs : List (List ℕ)) (e : Ran) (us : List (List ℕ)) (b : List ℕ) → qs ≡ [] ∷ [] ∷ [] ∷ [] ∷ [] → BodyRuns j 0 0 0 1 65535 1 qs a e us b
+pub top-runs : (j a : List ℕ) (qs : List (List ℕ)) (e : Ran) (us : List (List ℕ)) (b : List ℕ) → qs ≡ [] ∷ [] ∷ [] ∷ [] ∷ []
+    → BodyRuns j 0 0 0 1 65535 1 qs a e us b
     → outcome (e .end) (65535 - e .left) us b ≡ shown 0 1 (0 ∷ []) a (serial j)
 unfolding onward serial begin stepsOf
 top-runs j a qs e us b eq h =

@@ -32,24 +32,22 @@ fn run_body(
     a: &mut [u32],
     number: u32,
     procedure: u32,
-    register: u32,
+    mut register: u32,
     depth: u32,
-    left: u32,
-    made: u32,
+    mut left: u32,
+    mut made: u32,
 ) -> Ran
     requires { ⌜ (size (now w) ≡ WORKING) × (size (now job) < 2 ^ 31) × (depth ≤ DEPTH) × (left ≤ STEPS) × (made + left ≤ 65536) ⌝ }
-    ensures { λ e. ⌜ BodyRuns (now (job .entry)) number procedure register depth left made (lists (now (w .entry))) (now (a .entry)) e (lists (now (w .exit))) (now (a .exit)) ⌝ }
+    ensures { λ e. ⌜ BodyRuns (now (job .entry)) number procedure register depth left made
+        (lists (now (w .entry))) (now (a .entry)) e (lists (now (w .exit))) (now (a .exit)) ⌝ }
 {
     let mut i: u32 = 0;
-    let mut r = register;
-    let mut left = left;
-    let mut made = made;
     while 0 < left {
         let s = job_fields::instruction_at(job, procedure, i);
         let k = s.operation;
         match k {
             8 => {
-                let x = std::num::wrapping_add_u32(r, s.operand);
+                let x = std::num::wrapping_add_u32(register, s.operand);
                 let child = run_child(job, w, a, number, s.which, x, depth, left, made);
                 let end = child.end;
                 let End::Ended = end else {
@@ -64,10 +62,10 @@ fn run_body(
                     let end = End::Refused(9);
                     return Ran { end, left, made };
                 }
-                let m = serial_steps::step(w, s, i, r);
+                let m = serial_steps::step(w, s, i, register);
                 serial_steps::write_answer(a, 65535 - left, number, m.answer, m.value);
                 i = m.next;
-                r = m.register;
+                register = m.register;
                 left -= 1;
             }
             _ => {
@@ -95,7 +93,8 @@ fn run_child(
     made: u32,
 ) -> Ran
     requires { ⌜ (size (now w) ≡ WORKING) × (size (now job) < 2 ^ 31) × (depth ≤ DEPTH) × (0 < left) × (left ≤ STEPS) × (made + left ≤ 65536) ⌝ }
-    ensures { λ e. ⌜ ChildRuns (now (job .entry)) number procedure register depth left made (lists (now (w .entry))) (now (a .entry)) e (lists (now (w .exit))) (now (a .exit)) ⌝ }
+    ensures { λ e. ⌜ ChildRuns (now (job .entry)) number procedure register depth left made
+        (lists (now (w .entry))) (now (a .entry)) e (lists (now (w .exit))) (now (a .exit)) ⌝ }
 {
     if 128 <= depth {
         let end = End::Refused(8);
@@ -123,7 +122,8 @@ pub struct Stopped {
 
 // Runs a job serially. The lists are then in the working words w, the answers in the words a (docs/LAYOUT.md).
 pub fn run_serially(job: &[u8], w: &mut [u32], a: &mut [u32]) -> Stopped
-    ensures { λ r. ⌜ outcome (r .end) (r .steps) (lists (now (w .exit))) (now (a .exit)) ≡ serialOutcome (now (job .entry)) (now (w .entry)) (now (a .entry)) ⌝ }
+    ensures { λ r. ⌜ outcome (r .end) (r .steps) (lists (now (w .exit))) (now (a .exit))
+        ≡ serialOutcome (now (job .entry)) (now (w .entry)) (now (a .entry)) ⌝ }
 {
     if w.len() != 16392 {
         return Stopped {

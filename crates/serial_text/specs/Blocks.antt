@@ -33,7 +33,8 @@ pub no-lines : (f : ℕ → List ℕ) (m : List ℕ) (i : ℕ) → Puts m 0 (lin
 unfolding linesFrom
 no-lines f m i = puts-first m 0
 
-pub one-line : (f : ℕ → List ℕ) (i n : ℕ) {m m1 m2 : List ℕ} {a b : ℕ} → Puts m 0 (linesFrom f i n) m1 a → Puts m1 a (f (i + n)) m2 b → Puts m 0 (linesFrom f i (n + 1)) m2 b
+pub one-line : (f : ℕ → List ℕ) (i n : ℕ) {m m1 m2 : List ℕ} {a b : ℕ} → Puts m 0 (linesFrom f i n) m1 a → Puts m1 a (f (i + n)) m2 b
+    → Puts m 0 (linesFrom f i (n + 1)) m2 b
 one-line f i n p q = rw (lines-more f n i) (puts-then p q)
 
 -- all lines of a block
@@ -47,6 +48,7 @@ pub step-line : {m m1 : List ℕ} {p r t k v : ℕ} (a : List ℕ) (i : ℕ) →
 unfolding stepLine
 step-line a i et ek ev q = rw (← et, ← ek, ← ev) q
 
-pub value-line : {m m1 : List ℕ} {p r v : ℕ} (qs : List (List ℕ)) (q i : ℕ) → v ≡ getD (queue qs q) i 0 → Puts m p (leftLine q v) m1 r → Puts m p (valueLine qs q i) m1 r
+pub value-line : {m m1 : List ℕ} {p r v : ℕ} (qs : List (List ℕ)) (q i : ℕ) → v ≡ getD (queue qs q) i 0 → Puts m p (leftLine q v) m1 r
+    → Puts m p (valueLine qs q i) m1 r
 unfolding valueLine
 value-line qs q i e p = rw (← e) p

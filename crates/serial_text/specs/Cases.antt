@@ -1,5 +1,6 @@
 -- The text of document 01's job without overlap, established by computation.
 use mathlib.Core.Path.{_≡_, refl}
+use mathlib.Core.List.{_++_}
 use Rattle.words.specs.Words.{load, pick, both, either, size}
 use Rattle.words.specs.Blocks.{storeAll}
 use Rattle.lists.specs.Tests.{upto}
@@ -7,7 +8,8 @@ use Rattle.tree.specs.Rights.{bits, pushes, pops, eachQueue, subset}
 use Rattle.job.specs.Fields.{bytes2, bytes4, procedures, segmentLength, offset, count, rights, reserved, instructionFrom, instructionAt}
 use Rattle.job.specs.Operations.{rowOf, operationOf, operationAt}
 use Rattle.job.specs.Effects.{sum, effect}
-use Rattle.job.specs.Test.{between, headHolds, refusal10, entryHolds, entriesHold, contentsHold, refusal11, whichHolds, operandHolds, fitting, instructionHolds, lastHolds, bodyHolds, refusal12}
+use Rattle.job.specs.Test.{between, headHolds, refusal10, entryHolds, entriesHold, contentsHold, refusal11, whichHolds, operandHolds, fitting, instructionHolds}
+use Rattle.job.specs.Test.{lastHolds, bodyHolds, refusal12}
 use Rattle.job.specs.Examples.{fullRun}
 use Rattle.plain.specs.Machine.{begin, queue, front, queuesAfter, advanced, parent, child, stackAfter, effectOn, eventOf, does, step}
 use Rattle.plain.specs.Run.{after, eventIn, next}
@@ -18,6 +20,13 @@ use Rattle.text.specs.Text.{ascii, digits, decimal}
 use Rattle.run_text.specs.Lines.{answerText, hasValue, valueText, spaced, ended, line, leftLine}
 use Rattle.serial_text.specs.Whole.{linesFrom, stepLine, valueLine, queueLines, endText, textOf, serialText}
 
-pub full-run-text : serialText fullRun ≡ ascii "1 0 spawned 1\n2 1 pushed 10\n3 1 finished -\n4 0 spawned 2\n5 2 took 10\n6 2 finished -\n7 0 spawned 3\n8 3 pushed 20\n9 3 finished -\n10 0 moved -\n11 0 finished -\nleft 0 20\n"
-unfolding load pick both either size storeAll upto bits pushes pops eachQueue subset bytes2 bytes4 procedures segmentLength offset count rights reserved instructionFrom instructionAt rowOf operationOf operationAt sum effect between headHolds refusal10 entryHolds entriesHold contentsHold refusal11 whichHolds operandHolds fitting instructionHolds lastHolds bodyHolds refusal12 begin queue front queuesAfter advanced parent child stackAfter effectOn eventOf does step after eventIn next tooDeep full boundOn stopOf stopped goesOn serialFrom serial numberOf numbersAfter madeAfter row written shown turnedDown serialOutcome ascii digits decimal answerText hasValue valueText spaced ended line leftLine linesFrom stepLine valueLine queueLines endText textOf serialText
+pub full-run-text : serialText fullRun
+    ≡ ascii "1 0 spawned 1\n2 1 pushed 10\n3 1 finished -\n4 0 spawned 2\n5 2 took 10\n6 2 finished -\n"
+    ++ ascii "7 0 spawned 3\n8 3 pushed 20\n9 3 finished -\n10 0 moved -\n11 0 finished -\nleft 0 20\n"
+unfolding load pick both either size storeAll upto bits pushes pops eachQueue subset bytes2 bytes4 procedures segmentLength offset count rights reserved
+    instructionFrom instructionAt rowOf operationOf operationAt sum effect between headHolds refusal10 entryHolds entriesHold contentsHold refusal11
+    whichHolds operandHolds fitting instructionHolds lastHolds bodyHolds refusal12 begin queue front queuesAfter advanced parent child stackAfter effectOn
+    eventOf does step after eventIn next tooDeep full boundOn stopOf stopped goesOn serialFrom serial numberOf numbersAfter madeAfter row written shown
+    turnedDown serialOutcome ascii digits decimal answerText hasValue valueText spaced ended line leftLine linesFrom stepLine valueLine queueLines endText
+    textOf serialText
 full-run-text = refl

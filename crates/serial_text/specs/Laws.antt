@@ -13,7 +13,8 @@ module _ (f : ℕ → List ℕ) where
   lines-split zero n i = ap₂ (linesFrom f) (sym (add-zero i)) (zero-add n)
   lines-split (suc m) n i =
       ap (linesFrom f i) (suc-add m n)
-      ∙ ap (λ (l : List ℕ). f i ++ l) (lines-split m n (i + 1) ∙ ap (λ (k : ℕ). linesFrom f (i + 1) m ++ linesFrom f k n) (let z : i + 1 + m ≡ i + suc m = omega arith in z))
+      ∙ ap (λ (l : List ℕ). f i ++ l)
+      (lines-split m n (i + 1) ∙ ap (λ (k : ℕ). linesFrom f (i + 1) m ++ linesFrom f k n) (let z : i + 1 + m ≡ i + suc m = omega arith in z))
       ∙ sym (append-assoc (f i) (linesFrom f (i + 1) m) (linesFrom f (i + suc m) n))
 
   -- one line more

@@ -1,6 +1,6 @@
 -- What a memory that passes the test promises to the calls: which words are in range.
-use mathlib.Core.Path.{_≡_, refl, ap, sym, _∙_}
-use mathlib.Core.Bool.{Bool, true, false}
+use mathlib.Core.Path.{_≡_, ap, sym, _∙_}
+use mathlib.Core.Bool.{true}
 use mathlib.Core.List.{List}
 use mathlib.Core.Logic.{_⊎_, inl, inr, ⊎-elim}
 use Prim.Native.Nat.{ℕ, zero, suc, _+_, _*_, _<_, _≤_}
@@ -10,16 +10,17 @@ use lib.ListN.{length, getD, take, drop, length-take, length-drop}
 use borrow.Author.Tests.{ltb-true, eqb-true, leb-true}
 use Rattle.words.specs.Words.{load, size, both-true}
 use Rattle.lists.specs.Counting.{occurrences, occurs-here, occurs-cons}
-use Rattle.layout.specs.Layout.{NONE, NL, UNFINISHED, STATUS, RIGHTS, lengthWord, numberWord, freeSegments, freeTasks, freeSegment, freeTask, task, first, count, next, address, read, recordOf}
+use Rattle.layout.specs.Layout.{NL, UNFINISHED, STATUS, lengthWord, numberWord, freeSegments, freeTasks, freeSegment, freeTask, task, first, count, next}
+use Rattle.layout.specs.Layout.{address, read}
 use Rattle.layout.specs.Frame.{record-word}
 use Rattle.tree.specs.Tour.{met}
-use Rattle.rules.specs.Contents.{Contents, decode, scan-decodes, word, part-word, heads, tails}
+use Rattle.rules.specs.Contents.{decode, scan-decodes, word, part-word, heads, tails}
 use Rattle.rules.specs.Rules.{Link, Holder, TaskRules}
 use Rattle.rules.specs.Test.{test, rulesHold}
 use Rattle.rules_segments.specs.Segments.{segments-say}
 use Rattle.rules_segments.specs.Tested.{segments-sound}
 use Rattle.rules_tasks.specs.Tasks.{tasks-say}
-use Rattle.rules_views.specs.Ends.{heads-fit, tails-fit}
+use Rattle.rules_views.specs.Ends.{tails-fit}
 use Rattle.rules_same.specs.Passed.{Passed, test-says, opening-says, toured}
 use Rattle.rules_same.specs.Same.{whole-tour}
 use Rattle.calls.specs.Waits.{unfinished}
@@ -57,8 +58,7 @@ module _ (m : List ℕ) where
     pub firsts : (s : ℕ) → s < read m numberWord → read m (first s) < read m lengthWord
     pub counts : (s : ℕ) → s < read m numberWord → read m (count s) ≤ read m lengthWord
     pub nexts : (s : ℕ) → s < read m numberWord → Link (read m numberWord) (read m (next s))
-    -- heads and tails that are no marks: of the queue, children, user and right views, 4 words each
-    pub heads-open : (t i : ℕ) → Live t → i < 16 → read m (task t (16 + i)) < NL → read m (task t (16 + i)) < read m numberWord
+    -- tails that are no marks: of the children, user and right views, 4 words each
     pub tails-open : (t i : ℕ) → Live t → i < 12 → read m (task t (32 + i)) < NL → read m (task t (32 + i)) < read m numberWord
     -- the stack of free segments
     pub free-height : read m freeSegments ≤ read m numberWord
@@ -107,10 +107,6 @@ module _ (m : List ℕ) where
         firsts = λ s l. let a = sound s l .first in let b = part-word m s 0 in omega (arith, a, b);
         counts = λ s l. let a = sound s l .count in let b = part-word m s 1 in omega (arith, a, b);
         nexts = λ s l. rw (part-word m s 2) at (sound s l .link);
-        heads-open = λ t i h l q.
-            let e = task-word t (16 + i) in
-            let a = heads-fit c xs v (g .1) t i (live-holder t h) l (omega (arith, e, q)) in
-            omega (arith, e, a);
         tails-open = λ t i h l q.
             let e = task-word t (32 + i) in
             let a = tails-fit c xs v (g .2) t i (live-holder t h) l (omega (arith, e, q)) in

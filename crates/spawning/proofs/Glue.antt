@@ -1,8 +1,8 @@
 -- A word for each queue.
-use mathlib.Core.Path.{_≡_, refl, ap, sym, _∙_}
-use mathlib.Core.Bool.{Bool, true, false}
+use mathlib.Core.Path.{_≡_, ap, _∙_}
+use mathlib.Core.Bool.{Bool}
 use mathlib.Core.List.{List, [], _∷_}
-use Prim.Native.Nat.{ℕ, _+_, _*_}
+use Prim.Native.Nat.{ℕ}
 use Rattle.words.specs.Words.{pick}
 use Rattle.words.specs.Blocks.{storeAll}
 use Rattle.calls.specs.Spawn.{forQueues}

@@ -8,14 +8,13 @@ use lib.Dec.{eqb}
 use borrow.Author.Tests.{eq-eqb, ne-eqb, not-false}
 use Rattle.words.specs.Words.{size, pick, halt, pass}
 use Rattle.layout.specs.Layout.{RIGHTS, freeTasks, freeTask, task, read, write}
-use Rattle.answers.specs.declared.Answer.{Answer}
 use Rattle.answers.specs.declared.Answer.the-variants.{Moved, Waits, Refused}
 use Rattle.answers.specs.Answers.{Outcome, outcome}
 use Rattle.tree.specs.Rights.{subset}
 use Rattle.rules.specs.Test.{rulesHold}
 use Rattle.calls.specs.Waits.{rightsOf, unfinished, blocked}
 use Rattle.calls.specs.Spawn.{childMade, spawned, spawnTested}
-use Rattle.sound.specs.Sound.{Sound, rules-sound, unfinished-says}
+use Rattle.sound.specs.Sound.{rules-sound, unfinished-says}
 
 module _ (m : List ℕ) (t r : ℕ) {b1 : Bool} (e1 : b1 ≡ unfinished m t) where
   pub not-unfinished : not b1 ≡ true → outcome (Refused 4) m ≡ spawnTested m t r
@@ -48,11 +47,13 @@ module _ (m : List ℕ) (t r : ℕ) {b1 : Bool} (e1 : b1 ≡ unfinished m t) whe
         unfolding spawned
         moved c m1 m2 n ec g1 g2 = passed _ (pass _ (sym e3 ∙ f3) (pass _ (ne-eqb _ _ (λ q. n (eh ∙ q))) (sym made)))
           where
-            made : outcome (Moved c) m2 ≡ outcome (Moved (read m (freeTask (read m freeTasks - 1)))) (childMade (write m freeTasks (read m freeTasks - 1)) t r (read m (freeTask (read m freeTasks - 1))))
+            made : outcome (Moved c) m2 ≡ outcome (Moved (read m (freeTask (read m freeTasks - 1))))
+                (childMade (write m freeTasks (read m freeTasks - 1)) t r (read m (freeTask (read m freeTasks - 1))))
             made = rw (g2, g1, ec, eh) refl
 
 -- the record taken and the caller are tasks
-pub tasks-fit : (m : List ℕ) (t c h : ℕ) {b : Bool} → size m ≡ 16384 → rulesHold m ≡ true → b ≡ unfinished m t → not b ≡ false → h ≡ read m freeTasks → (h ≡ 0 → ⊥)
+pub tasks-fit : (m : List ℕ) (t c h : ℕ) {b : Bool} → size m ≡ 16384 → rulesHold m ≡ true → b ≡ unfinished m t → not b ≡ false → h ≡ read m freeTasks
+    → (h ≡ 0 → ⊥)
     → c ≡ read m (freeTask (h - 1)) → (c < 128) × (t < 128)
 tasks-fit m t c h big ok e f eh n ec =
     let s = rules-sound m big ok in

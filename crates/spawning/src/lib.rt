@@ -65,7 +65,8 @@ fn set_none(m: &mut [u32], c: u32, k: u32)
 
 fn pass_queues(m: &mut [u32], c: u32, t: u32, r: u32)
     requires { ⌜ c < 128 ⌝ }
-    ensures { λ _. ⌜ now (m .exit) ≡ storeAll (now (m .entry)) (address (task c 16)) (forQueues (λ q. passedQueue r (read (now (m .entry)) (task t (16 + q))) q)) ⌝ }
+    ensures { λ _. ⌜ now (m .exit) ≡ storeAll (now (m .entry)) (address (task c 16))
+        (forQueues (λ q. passedQueue r (read (now (m .entry)) (task t (16 + q))) q)) ⌝ }
 {
     let w0 = passed_queue(m, t, r, 0);
     let w1 = passed_queue(m, t, r, 1);
@@ -76,7 +77,8 @@ fn pass_queues(m: &mut [u32], c: u32, t: u32, r: u32)
 
 fn pass_users(m: &mut [u32], c: u32, t: u32, r: u32, k: u32)
     requires { ⌜ (c < 128) × (k ≤ 40) ⌝ }
-    ensures { λ _. ⌜ now (m .exit) ≡ storeAll (now (m .entry)) (address (task c k)) (forQueues (λ q. passedUser r (read (now (m .entry)) (task t (k + q))) q)) ⌝ }
+    ensures { λ _. ⌜ now (m .exit) ≡ storeAll (now (m .entry)) (address (task c k))
+        (forQueues (λ q. passedUser r (read (now (m .entry)) (task t (k + q))) q)) ⌝ }
 {
     let w0 = passed_user(m, t, r, k, 0);
     let w1 = passed_user(m, t, r, k, 1);
@@ -87,7 +89,8 @@ fn pass_users(m: &mut [u32], c: u32, t: u32, r: u32, k: u32)
 
 fn keep_queues(m: &mut [u32], t: u32, r: u32)
     requires { ⌜ t < 128 ⌝ }
-    ensures { λ _. ⌜ now (m .exit) ≡ storeAll (now (m .entry)) (address (task t 16)) (forQueues (λ q. keptQueue r (read (now (m .entry)) (task t (16 + q))) q)) ⌝ }
+    ensures { λ _. ⌜ now (m .exit) ≡ storeAll (now (m .entry)) (address (task t 16))
+        (forQueues (λ q. keptQueue r (read (now (m .entry)) (task t (16 + q))) q)) ⌝ }
 {
     let w0 = kept_queue(m, t, r, 0);
     let w1 = kept_queue(m, t, r, 1);

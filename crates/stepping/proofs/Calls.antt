@@ -17,8 +17,9 @@ use Rattle.job.specs.Fields.{rights}
 use Rattle.job.specs.Operations.{Operation, rowOf, operationOf, operationAt}
 use Rattle.job.specs.Effects.{sum}
 use Rattle.runner.specs.Step.{callOf, coreOutcome}
+use Rattle.job.specs.Rows.{returns-at}
 use Rattle.stepping.specs.Parts.{called}
-use Rattle.stepping.proofs.Numbers.{returns-at, no-call}
+use Rattle.stepping.proofs.Numbers.{no-call}
 
 module _ (j m : List ℕ) (t : ℕ) (s : Instruction) (x : ℕ) where
   abbrev Called : Outcome → Type 0

@@ -10,9 +10,9 @@ use Rattle.job.specs.Operations.{Operation, pop, goIfEmpty, goIfZero, rowOf, op
 use Rattle.job.specs.Effects.{sum, effect}
 use Rattle.runner.specs.declared.StepAnswer.the-variants.{Spawned, Pushed, Took, Finished, Moved, Empty, NotEmpty}
 use Rattle.runner.specs.Answers.{answerWith}
+use Rattle.job.specs.Rows.{returns-at}
 use Rattle.stepping.specs.declared.Made.{Made}
 use Rattle.stepping.specs.Parts.{gives, foundWith, coded}
-use Rattle.stepping.proofs.Numbers.{returns-at}
 
 -- POP, TEST AND THE REGISTER'S TEST
 module _ (i r : ℕ) {e : Made} where

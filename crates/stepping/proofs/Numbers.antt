@@ -1,5 +1,5 @@
 -- Operations by ranges of their numbers.
-use mathlib.Core.Path.{_≡_, refl, ap}
+use mathlib.Core.Path.{_≡_, refl}
 use mathlib.Core.List.{List}
 use mathlib.Core.Logic.{_⊎_, inl, inr, ⊎-elim}
 use mathlib.Core.Option.{none}
@@ -7,20 +7,16 @@ use Prim.Native.Nat.{ℕ, _<_, _≤_, zero-le}
 use native.Mathlib.Omega.{arith}
 use Rattle.lists.specs.Counting.{equal?}
 use Rattle.job.specs.declared.Instruction.{Instruction}
-use Rattle.job.specs.Operations.{return, rowOf, operationOf, operationAt}
-use Rattle.job.specs.Rows.{above, from, row-past}
+use Rattle.job.specs.Operations.{rowOf, operationOf, operationAt}
+use Rattle.job.specs.Rows.{above, from}
 use Rattle.job.specs.Effects.{Effect}
 use Rattle.runner.specs.Words.{procedureOf, put}
 use Rattle.runner.specs.Step.{callOf, runnerAfter}
 
--- 0, and each number that is no operation
-pub returns-at : (k : ℕ) → (k ≡ 0) ⊎ (10 ≤ k) → operationAt k ≡ return
-unfolding operationAt rowOf operationOf
-returns-at k h = ⊎-elim (λ e. ap operationAt e) (λ l. ap operationOf (row-past k l)) h
-
 -- a number that is none of 1 to 9
 module _ (k : ℕ)
-    (h : (((((((((Unit {0} × (k ≡ 1 → ⊥)) × (k ≡ 2 → ⊥)) × (k ≡ 3 → ⊥)) × (k ≡ 4 → ⊥)) × (k ≡ 5 → ⊥)) × (k ≡ 6 → ⊥)) × (k ≡ 7 → ⊥)) × (k ≡ 8 → ⊥)) × (k ≡ 9 → ⊥))) where
+    (h : (((((((((Unit {0} × (k ≡ 1 → ⊥)) × (k ≡ 2 → ⊥)) × (k ≡ 3 → ⊥)) × (k ≡ 4 → ⊥)) × (k ≡ 5 → ⊥)) × (k ≡ 6 → ⊥)) × (k ≡ 7 → ⊥)) × (k ≡ 8 → ⊥))
+    × (k ≡ 9 → ⊥))) where
   past-four : (k ≡ 0 → ⊥) → 5 ≤ k
   past-four n =
       let four = h .0 .0 .0 .0 .0 in

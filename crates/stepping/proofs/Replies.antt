@@ -1,7 +1,7 @@
 -- What the core's answer makes of the step.
 use mathlib.Core.Path.{_≡_, refl, ap, ap₂, sym, _∙_, subst}
 use mathlib.Core.List.{List}
-use mathlib.Core.Bool.{true, false, not}
+use mathlib.Core.Bool.{true, false}
 use mathlib.Core.Option.{Option, none, some}
 use Prim.Native.Nat.{ℕ}
 use lib.ListN.{length}
@@ -10,16 +10,8 @@ use Rattle.words.specs.Words.{size, halt, pass}
 use Rattle.answers.specs.declared.Answer.{Answer}
 use Rattle.answers.specs.declared.Answer.the-variants.{Moved, Empty, NotEmpty, Waits, Refused}
 use Rattle.answers.specs.Answers.{Outcome, outcome as answered}
-use Rattle.answers.specs.Calls.{Call, open-call, spawn-call, push-call, pop-call, test-call, sync-call, finish-call, left-call}
+use Rattle.answers.specs.Calls.{Call}
 use Rattle.rules.specs.Test.{rulesHold}
-use Rattle.calls.specs.Waits.{tested}
-use Rattle.calls.specs.Spawn.{spawnOutcome}
-use Rattle.calls.specs.Push.{pushOutcome}
-use Rattle.calls.specs.Find.{popOutcome, testOutcome}
-use Rattle.calls.specs.Sync.{syncOutcome}
-use Rattle.calls.specs.Finish.{finishOutcome}
-use Rattle.calls.specs.Left.{leftOutcome}
-use Rattle.calls.specs.Outcomes.{outcomeOf}
 use Rattle.calls.specs.Keeps.{Keeps, keeps}
 use Rattle.job.specs.declared.Instruction.{Instruction}
 use Rattle.job.specs.Operations.{operationAt}
@@ -27,6 +19,7 @@ use Rattle.runner.specs.declared.StepAnswer.{StepAnswer}
 use Rattle.runner.specs.declared.StepAnswer.the-variants.{Waits as Later, Refused as TurnedDown}
 use Rattle.runner.specs.Words.{registerOf, instructionFor}
 use Rattle.runner.specs.Answers.{outcome}
+use Rattle.runner.specs.Laws.{core-outcome}
 use Rattle.runner.specs.Step.{Reply, goes, stops, callOf, replyOf, replied, coreOutcome, repliedTo, makes}
 use Rattle.stepping.specs.Parts.{foundWith, called, acted, Does}
 
@@ -38,20 +31,9 @@ makes-called t s none m r = unfold repliedTo replyOf replied in refl
 
 -- "no refused or waiting call changes a word"
 module _ (m : List ℕ) (em : length m ≡ 16384) (rules : rulesHold m ≡ true) where
-  behind : (o : Outcome) → Keeps m (tested m o) → Keeps m o
-  unfolding tested size
-  behind o k = subst (Keeps m) (pass _ (ap not (eq-eqb _ _ em)) (pass _ (ap not rules) refl)) k
-
   keeps-core : (c : Call) → Keeps m (coreOutcome c m)
-  unfolding coreOutcome outcomeOf spawnOutcome pushOutcome popOutcome testOutcome syncOutcome finishOutcome leftOutcome
-  keeps-core (open-call l n) = keeps (open-call l n) m
-  keeps-core (spawn-call t u) = behind _ (keeps (spawn-call t u) m)
-  keeps-core (push-call t q v) = behind _ (keeps (push-call t q v) m)
-  keeps-core (pop-call t q) = behind _ (keeps (pop-call t q) m)
-  keeps-core (test-call t q) = behind _ (keeps (test-call t q) m)
-  keeps-core (sync-call t) = behind _ (keeps (sync-call t) m)
-  keeps-core (finish-call t) = behind _ (keeps (finish-call t) m)
-  keeps-core (left-call q i) = behind _ (keeps (left-call q i) m)
+  unfolding size
+  keeps-core c = subst (Keeps m) (sym (core-outcome m em rules c)) (keeps c m)
 
   keeps-called : (c : Option Call) → Keeps m (called c m)
   unfolding called

@@ -11,9 +11,10 @@ use Rattle.runner.specs.declared.StepAnswer.{StepAnswer}
 use Rattle.runner.specs.Words.{procedureOf, positionOf, registerOf, put}
 use Rattle.runner.specs.Answers.{outcome}
 use Rattle.runner.specs.Step.{runnerAfter, done}
+use Rattle.job.specs.Rows.{returns-at}
 use Rattle.stepping.specs.declared.Made.{Made}
 use Rattle.stepping.specs.Parts.{coded, Writes, Does}
-use Rattle.stepping.proofs.Numbers.{returns-at, goes-at}
+use Rattle.stepping.proofs.Numbers.{goes-at}
 
 module _ (t : ℕ) (s : Instruction) (c i x : ℕ) (r : List ℕ) {p : ℕ} (ep : p ≡ procedureOf r t) where
   -- the words of a task that goes on

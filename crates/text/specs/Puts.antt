@@ -20,7 +20,9 @@ pub record Puts (m : List ℕ) (a : ℕ) (ws m' : List ℕ) (r : ℕ) : Type 0 w
 pub puts-then : {m xs m1 ys m2 : List ℕ} {a b c : ℕ} → Puts m a xs m1 b → Puts m1 b ys m2 c → Puts m a (xs ++ ys) m2 c
 puts-then {m} {xs} {m1} {ys} {m2} {a} {b} {c} p q =
     record {
-      stored = q .stored ∙ ap (λ (l : List ℕ). storeAll l b ys) (p .stored) ∙ ap (λ (k : ℕ). storeAll (storeAll m a xs) k ys) (p .end) ∙ sym (store-append xs m a ys);
+      stored =
+          q .stored ∙ ap (λ (l : List ℕ). storeAll l b ys) (p .stored) ∙ ap (λ (k : ℕ). storeAll (storeAll m a xs) k ys) (p .end)
+          ∙ sym (store-append xs m a ys);
       end = let e = p .end in let f = q .end in let l = length-append xs ys in omega (arith, e, f, l);
     }
 

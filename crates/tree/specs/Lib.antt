@@ -1,3 +1,4 @@
 pub mod Rights
 pub mod Queues
+pub mod Users
 pub mod Tour

@@ -1,10 +1,10 @@
 -- What holds of each of the four queues, and the test of all four.
-use mathlib.Core.Path.{_≡_}
+use mathlib.Core.Path.{_≡_, refl}
 use mathlib.Core.Bool.{Bool, true}
 use Prim.Native.Nat.{ℕ, zero, suc, _<_}
 use native.Mathlib.Omega.{arith}
 use Rattle.words.specs.Words.{both-true, true-both}
-use Rattle.tree.specs.Rights.{eachQueue}
+use Rattle.tree.specs.Rights.{bits, pops, uses, eachQueue}
 
 -- what holds of 0, 1, 2 and 3 holds of every number below 4
 pub by-four : (P : ℕ → Type 0) → P 0 → P 1 → P 2 → P 3 → (q : ℕ) → q < 4 → P q
@@ -25,3 +25,12 @@ each-queue f e =
 pub queue-each : (f : ℕ → Bool) → ((q : ℕ) → q < 4 → f q ≡ true) → eachQueue f ≡ true
 unfolding eachQueue
 queue-each f h = true-both (h 0 (omega arith)) (true-both (h 1 (omega arith)) (true-both (h 2 (omega arith)) (h 3 (omega arith))))
+
+-- "Task 0, the top task, has 255": every right
+pub all-used : (q : ℕ) → q < 4 → uses 255 q ≡ true
+unfolding uses bits
+all-used = by-four (λ q. uses 255 q ≡ true) refl refl refl refl
+
+pub all-popped : (q : ℕ) → q < 4 → pops 255 q ≡ true
+unfolding pops bits
+all-popped = by-four (λ q. pops 255 q ≡ true) refl refl refl refl

@@ -1,5 +1,5 @@
 -- "Rights are one byte: for queue q, bit 2q is push and bit 2q+1 is pop."
-use mathlib.Core.Bool.{Bool, true, false, not}
+use mathlib.Core.Bool.{Bool, true, not}
 use Prim.Native.Nat.{ℕ, _/_, _%_, _^_}
 use lib.Dec.{ltb, eqb}
 use Rattle.words.specs.Words.{pick, both, either}

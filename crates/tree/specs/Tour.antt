@@ -4,10 +4,10 @@
 -- and through the spots from the last to the first.
 --
 -- Records are handed in as a function: recs t is the record of task t, the words from its first on.
-use mathlib.Core.Bool.{Bool, true, false}
+use mathlib.Core.Bool.{Bool}
 use mathlib.Core.List.{List, [], _∷_}
 use Prim.Native.Nat.{ℕ, zero, suc, _+_, _-_}
-use lib.Dec.{leb, ltb, eqb}
+use lib.Dec.{leb, ltb}
 use Rattle.words.specs.Words.{load, pick}
 use Rattle.layout.specs.Layout.{NONE, PARENT, OLDER, YOUNGEST}
 

@@ -9,7 +9,8 @@ use native.Mathlib.Omega.{arith}
 use lib.Dec.{leb, eqb}
 use lib.ListN.{replicate}
 use borrow.Author.Tests.{leb-true, leb-false, eqb-true, eqb-false, le-leb, ne-eqb, eq-eqb}
-use Rattle.words.specs.Words.{load, store, size, size-store, load-same, load-other, pick, both, both-on, both-off, both-right-off, both-true, true-both, same-test}
+use Rattle.words.specs.Words.{load, store, size, size-store, load-same, load-other, pick, both, both-on, both-off, both-right-off, both-true, true-both}
+use Rattle.words.specs.Words.{same-test}
 use Rattle.lists.specs.Counting.{one, total, equal?, one-yes, one-no, total-ext, total-zero, total-plus, total-at}
 use Rattle.lists.specs.Sums.{total-le}
 use Rattle.lists.specs.Marks.{zeros}
@@ -78,7 +79,8 @@ module _ (d : List ℕ) (t : ℕ) (s : size d ≡ 256) where
   new l e =
       total-ext 128 _ (λ y. load d y + one (eqb t y) * 1) (λ y k.
       ⊎-elim
-      (λ q. let a = ap (load (store d t 1)) (sym q) ∙ load-same d t 1 (omega (arith, l, s)) in let b = one-yes t y q in let f = ap (load d) (sym q) ∙ e in omega (arith, a, b, f))
+      (λ q. let a = ap (load (store d t 1)) (sym q) ∙ load-same d t 1 (omega (arith, l, s)) in let b = one-yes t y q in let f = ap (load d) (sym q) ∙ e in
+      omega (arith, a, b, f))
       (λ n. let a = load-other d t y 1 (λ q. n (sym q)) in let b = one-no t y n in omega (arith, a, b))
       (equal? t y))
       ∙ total-plus 128 (load d) (λ y. one (eqb t y) * 1)
@@ -148,7 +150,8 @@ counted (suc k) m i d s h o =
     let low = leb-true 1 t a in
     let l = leb-true t 127 b in
     let n = new d t s (omega (arith, l)) (eqb-true _ _ e) in
-    ap (λ (j : ℕ). both (freeFrom k m (i + 1)) (both (topClear after) (eqb (marks after) j))) (let z : marks d + suc k ≡ marks (store d t 1) + k = omega (arith, n) in z)
+    ap (λ (j : ℕ). both (freeFrom k m (i + 1)) (both (topClear after) (eqb (marks after) j)))
+    (let z : marks d + suc k ≡ marks (store d t 1) + k = omega (arith, n) in z)
     ∙ counted k m (i + 1) (store d t 1) (size-store d t 1 ∙ s) (marks-store d t s (omega (arith, l)) h)
     (load-other d t 0 1 (λ q. omega (arith, low, q)) ∙ o))
     (λ b e.
@@ -227,7 +230,8 @@ module _ (m : List ℕ) (s : size m ≡ 16384) (h : ℕ) (e : h ≡ read m freeT
   whole : both (freeFrom h m 0) (both (topClear after) (eqb (marks after) h)) ≡ idleTest (decode m)
   unfolding size
   whole =
-      ap (λ (n : ℕ). both (freeFrom h m 0) (both (topClear after) (eqb (marks after) n))) (let a = none in let z : h ≡ marks (replicate 256 0) + h = omega (arith, a) in z)
+      ap (λ (n : ℕ). both (freeFrom h m 0) (both (topClear after) (eqb (marks after) n))) (let a = none in
+      let z : h ≡ marks (replicate 256 0) + h = omega (arith, a) in z)
       ∙ counted h m 0 (replicate 256 0) refl marks-none (zeros 256 0)
       ∙ ap (λ (n : ℕ). idleFrom n m 0 (replicate 256 0)) e
       ∙ idle-same m s (omega (arith, e, l))

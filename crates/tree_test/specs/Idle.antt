@@ -1,13 +1,12 @@
 -- The free records, one after the other.
 use mathlib.Core.Path.{_≡_, refl, ap, sym, _∙_}
-use mathlib.Core.Bool.{Bool, true, false, false≢true}
+use mathlib.Core.Bool.{Bool, true, false}
 use mathlib.Core.List.{List, [], _∷_}
 use Prim.Native.Nat.{ℕ, zero, suc, _+_, _*_, _<_, _≤_}
 use native.Mathlib.Omega.{arith}
 use lib.Dec.{leb, ltb, eqb}
 use lib.ListN.{length, drop, take, replicate, length-drop}
-use lib.Seq.{length-take-le}
-use borrow.Author.Tests.{ltb-true, lt-ltb, leb-true, le-leb, lt-leb, leb-false}
+use borrow.Author.Tests.{ltb-true, lt-ltb, leb-true, le-leb, lt-leb}
 use Rattle.words.specs.Words.{load, store, size, pick, both, both-on, both-off, same-test}
 use Rattle.words.specs.Blocks.{take-more}
 use Rattle.lists.specs.Tests.{each}
@@ -98,14 +97,3 @@ module _ (m : List ℕ) where
   idle-many s h =
       let a = length-drop 320 m in
       sym (both-off _ (lt-leb (length (take (read m freeTasks) (drop 320 m))) 127 (take-many 127 (read m freeTasks) (drop 320 m) h (omega (arith, a, s)))))
-
-  -- so where the test holds, the height is the number of entries
-  pub idle-height : size m ≡ 16384 → idleTest (decode m) ≡ true → (read m freeTasks ≤ 127) × (length ((decode m) .idle) ≡ read m freeTasks)
-  idle-height s e = go (leb (read m freeTasks) 127) refl
-    where
-      room : read m freeTasks ≤ 127 → read m freeTasks ≤ length (drop 320 m)
-      room l = unfold size in let a = length-drop 320 m in omega (arith, a, s, l)
-
-      go : (b : Bool) → leb (read m freeTasks) 127 ≡ b → (read m freeTasks ≤ 127) × (length ((decode m) .idle) ≡ read m freeTasks)
-      go true q = let l = leb-true (read m freeTasks) 127 q in (l, length-take-le (read m freeTasks) (drop 320 m) (room l))
-      go false q = absurd (false≢true (idle-many s (leb-false (read m freeTasks) 127 q) ∙ e))

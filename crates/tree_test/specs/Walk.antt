@@ -13,7 +13,8 @@ use Rattle.layout.specs.Layout.{NONE, RIGHTS, PARENT, OLDER, YOUNGEST}
 use Rattle.tree.specs.Tour.{END, after, tour}
 use Rattle.rules.specs.Contents.{Contents, word}
 use Rattle.rules.specs.Test.{treeTest}
-use Rattle.rules_tasks.specs.Marks.{Kin, tree-none, tree-last, last-tree, tree-rest, met-on, met-none, met-child, left-on, left-none, left-older, tour-cons, tour-none}
+use Rattle.rules_tasks.specs.Marks.{Kin, tree-none, tree-last, last-tree, tree-rest, met-on, met-none, met-child, left-on, left-none, left-older, tour-cons}
+use Rattle.rules_tasks.specs.Marks.{tour-none}
 use Rattle.rules_tasks.specs.Reached.{Reached, top, reached-below, reached-parent, Standing, standing-range, standing-next}
 use Rattle.tree_test.specs.Links.{fitting, fit-says, says-fit}
 
@@ -113,7 +114,8 @@ module _ (c : Contents) where
   left-cases : (t : ℕ) → leftNext t < END → (word c t PARENT < 128) × Left t
   left-cases t h = near (leb 128 (word c t PARENT)) refl
     where
-      go : word c t PARENT ≤ 127 → (word c t OLDER ≡ NONE → ⊥) → (b : Bool) → fitting c (word c t OLDER) (word c t PARENT) t (word c (word c t PARENT) RIGHTS) ≡ b → Left t
+      go : word c t PARENT ≤ 127 → (word c t OLDER ≡ NONE → ⊥) → (b : Bool)
+          → fitting c (word c t OLDER) (word c t PARENT) t (word c (word c t PARENT) RIGHTS) ≡ b → Left t
       go l n true f = inr (fit-says c _ _ _ f, sym (left-over t _ refl l _ refl n f))
       go l n false f = let a = left-wrong t _ refl l _ refl n f in let z : ⊥ = omega (arith, a, h) in absurd z
 
@@ -121,7 +123,9 @@ module _ (c : Contents) where
       links l = ⊎-elim (λ q. inl (q, sym (left-up t _ refl l _ refl q))) (λ n. go l n _ refl) (equal? _ NONE)
 
       near : (b : Bool) → leb 128 (word c t PARENT) ≡ b → (word c t PARENT < 128) × Left t
-      near true q = let l = leb-true 128 (word c t PARENT) q in let a = left-out t (word c t PARENT) refl (omega (arith, l)) in let z : ⊥ = omega (arith, a, h) in absurd z
+      near true q =
+          let l = leb-true 128 (word c t PARENT) q in let a = left-out t (word c t PARENT) refl (omega (arith, l)) in let z : ⊥ = omega (arith, a, h) in
+          absurd z
       near false q = let l = leb-false 128 (word c t PARENT) q in (l, links (omega (arith, l)))
 
   walk-step : (k x : ℕ) → (x ≡ 128 → ⊥) → walkTest (suc k) x ≡ true → (nextMark x < END) × (walkTest k (nextMark x) ≡ true)
@@ -185,7 +189,8 @@ module _ (c : Contents) where
             ∙ ap leftNext (let z : x - 128 ≡ t = omega (arith, q) in z)
             ∙ ⊎-elim
             (λ w. sym (left-up t _ refl (omega (arith, l)) _ refl (w .0)) ∙ sym (d ∙ w .1))
-            (λ w. sym (left-over t _ refl (omega (arith, l)) _ refl (λ z. let b = w .0 .below in omega (arith, b, z)) (says-fit c _ _ _ (w .0))) ∙ sym (d ∙ w .1))
+            (λ w. sym (left-over t _ refl (omega (arith, l)) _ refl (λ z. let b = w .0 .below in omega (arith, b, z)) (says-fit c _ _ _ (w .0)))
+            ∙ sym (d ∙ w .1))
             (left-on c k t h l (rw q at e))
 
     tree-walk : (k x : ℕ) → Standing c n k x → treeTest c k x ≡ true → (walkTest k x ≡ true) × (path k x ≡ tour k (c .recs) x)

@@ -41,7 +41,8 @@ module _ (m : List ℕ) (t k : ℕ) where
     whole es = ap (λ (n : ℕ). run c (viewsFrom c t k n q es) d f w) (let z : suc (4 - (q + 1)) ≡ 4 - q = omega arith in z) ∙ h .same es
 
     step : (es : List Event)
-        → run c (viewOf (not (eqb (r % 4) 0)) q (getD m (1492 + t * 48 + k * 4 + q) 0) (getD m (1492 + t * 48 + k * 4 + q + 12) 0) (viewsFrom c t k (4 - (q + 1)) (q + 1) es)) d f w
+        → run c (viewOf (not (eqb (r % 4) 0)) q (getD m (1492 + t * 48 + k * 4 + q) 0) (getD m (1492 + t * 48 + k * 4 + q + 12) 0)
+        (viewsFrom c t k (4 - (q + 1)) (q + 1) es)) d f w
         ≡ run c (kindAt c t k es) d₀ f₀ w₀
     step es =
         ap (λ (v : List Event). run c v d f w) (view-at m t k q r (1492 + t * 48 + k * 4 + q) rights refl (viewsFrom c t k (4 - (q + 1)) (q + 1) es))

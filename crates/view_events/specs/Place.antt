@@ -79,7 +79,8 @@ module _ (c : Contents) (small : c .number ≤ 256) where
       ∙ cons (pick (eqb (part c s 2) NONE) [] (chain c j (part c s 2)))
     where
       cons : (r : List ℕ)
-          → pick (both (both (ltb s (c .number)) (both (eqb (load d s) 0) (fresh (c .number) r (store d s 1)))) (both (either (eqb (part c s 2) NONE) (not (eqb (part c s 1) 0))) (each (filled c) r)))
+          → pick (both (both (ltb s (c .number)) (both (eqb (load d s) 0) (fresh (c .number) r (store d s 1))))
+          (both (either (eqb (part c s 2) NONE) (not (eqb (part c s 1) 0))) (each (filled c) r)))
           (placed (k + suc (length r)) (marking r (store d s 1))) wrong
           ≡ Gives (s ∷ r) k d
       cons r = unfold fresh each marking filled in refl

@@ -36,6 +36,16 @@ queues-owners c t es =
     by-four (λ q. ownersOf q (queuesAt c t es) ≡ one (not (eqb (word c t (16 + q)) NONE)) + ownersOf q es)
     (omega arith) (omega arith) (omega arith) (omega arith)
 
+-- the events of the four queues, each of which adds to a count n
+four-add : (n : List Event → ℕ) (at : ℕ → List Event → List Event) (f : ℕ → ℕ) → ((q : ℕ) (es : List Event) → n (at q es) ≡ f q + n es)
+    → (es : List Event) → n (at 0 (at 1 (at 2 (at 3 es)))) ≡ f 0 + f 1 + f 2 + f 3 + n es
+four-add n at f h es =
+    let v3 = h 3 es in
+    let v2 = h 2 (at 3 es) in
+    let v1 = h 1 (at 2 (at 3 es)) in
+    let v0 = h 0 (at 1 (at 2 (at 3 es))) in
+    omega (arith, v0, v1, v2, v3)
+
 module _ (s : ℕ) where
   -- a list with x in front where x is a segment
   front : (x : ℕ) (l : List ℕ) → occurrences s (pick (leb NL x) l (x ∷ l)) ≡ names s x + occurrences s l
@@ -75,30 +85,15 @@ module _ (s : ℕ) where
 
     pub kind-heads : (k : ℕ) (es : List Event) → occurrences s (headsOf (kindAt c t k es)) ≡ namesAt c s t (20 + k * 4) + occurrences s (headsOf es)
     unfolding kindAt namesAt
-    kind-heads k es =
-        let v3 = view-heads k 3 es in
-        let v2 = view-heads k 2 (viewAt c t k 3 es) in
-        let v1 = view-heads k 1 (viewAt c t k 2 (viewAt c t k 3 es)) in
-        let v0 = view-heads k 0 (viewAt c t k 1 (viewAt c t k 2 (viewAt c t k 3 es))) in
-        omega (arith, v0, v1, v2, v3)
+    kind-heads k = four-add (λ v. occurrences s (headsOf v)) (viewAt c t k) (λ q. names s (word c t (20 + k * 4 + q))) (view-heads k)
 
     pub kind-tails : (k : ℕ) (es : List Event) → occurrences s (tailsOf (kindAt c t k es)) ≡ namesAt c s t (32 + k * 4) + occurrences s (tailsOf es)
     unfolding kindAt namesAt
-    kind-tails k es =
-        let v3 = view-tails k 3 es in
-        let v2 = view-tails k 2 (viewAt c t k 3 es) in
-        let v1 = view-tails k 1 (viewAt c t k 2 (viewAt c t k 3 es)) in
-        let v0 = view-tails k 0 (viewAt c t k 1 (viewAt c t k 2 (viewAt c t k 3 es))) in
-        omega (arith, v0, v1, v2, v3)
+    kind-tails k = four-add (λ v. occurrences s (tailsOf v)) (viewAt c t k) (λ q. names s (word c t (32 + k * 4 + q))) (view-tails k)
 
     pub queues-heads : (es : List Event) → occurrences s (headsOf (queuesAt c t es)) ≡ namesAt c s t 16 + occurrences s (headsOf es)
     unfolding queuesAt namesAt
-    queues-heads es =
-        let v3 = queue-heads 3 es in
-        let v2 = queue-heads 2 (queueAt c t 3 es) in
-        let v1 = queue-heads 1 (queueAt c t 2 (queueAt c t 3 es)) in
-        let v0 = queue-heads 0 (queueAt c t 1 (queueAt c t 2 (queueAt c t 3 es))) in
-        omega (arith, v0, v1, v2, v3)
+    queues-heads = four-add (λ v. occurrences s (headsOf v)) (queueAt c t) (λ q. names s (word c t (16 + q))) queue-heads
 
     pub queues-tails : (es : List Event) → tailsOf (queuesAt c t es) ≡ tailsOf es
     unfolding queuesAt queueAt tailsOf

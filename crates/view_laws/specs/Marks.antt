@@ -138,47 +138,46 @@ module _ (c : Contents) where
         ap₂ (λ (a b : List ℕ). over a g + over b h) (met-past x xs l) (lefts-here x xs l)
         ∙ (let z : over (met xs) g + (h (x - 128) + over (lefts xs) h) ≡ h (x - 128) + (over (met xs) g + over (lefts xs) h) = omega arith in z)
 
-    pub heads-marks : (xs : List ℕ) → occurrences s (headsOf (events c xs)) ≡ over (met xs) headsMet + over (lefts xs) headsLeft
+    -- a count n of events that adds g where a task is met, and h where it is left
+    count-marks : (n : List Event → ℕ) (g h : ℕ → ℕ) → n [] ≡ 0
+        → ((x : ℕ) (es : List Event) → n (queuesAt c x (kindAt c x RIGHT (kindAt c x USER es))) ≡ g x + n es)
+        → ((x : ℕ) (es : List Event) → n (kindAt c x CHILDREN es) ≡ h x + n es) → (xs : List ℕ) → n (events c xs) ≡ over (met xs) g + over (lefts xs) h
     unfolding events
-    heads-marks [] = unfold headsOf met lefts over occurrences in refl
-    heads-marks (x ∷ xs) =
+    count-marks n g h none enters leaves [] = unfold met lefts over in none
+    count-marks n g h none enters leaves (x ∷ xs) =
+        let f = count-marks n g h none enters leaves xs in
         ⊎-elim
         (λ l.
-        let a = ap (λ (v : List Event). occurrences s (headsOf v)) (at-met x (events c xs) l) in
-        let b = queues-heads s c x (kindAt c x RIGHT (kindAt c x USER (events c xs))) in
-        let d = kind-heads s c x RIGHT (kindAt c x USER (events c xs)) in
-        let e = kind-heads s c x USER (events c xs) in
-        let f = heads-marks xs in
-        let g = over-here x xs headsMet headsLeft l in
-        omega (arith, a, b, d, e, f, g))
+        let a = ap n (at-met x (events c xs) l) in
+        let b = enters x (events c xs) in
+        let d = over-here x xs g h l in
+        omega (arith, a, b, d, f))
         (λ l.
-        let a = ap (λ (v : List Event). occurrences s (headsOf v)) (at-left x (events c xs) l) in
-        let b = kind-heads s c (x - 128) CHILDREN (events c xs) in
-        let f = heads-marks xs in
-        let g = over-past x xs headsMet headsLeft l in
-        omega (arith, a, b, f, g))
+        let a = ap n (at-left x (events c xs) l) in
+        let b = leaves (x - 128) (events c xs) in
+        let d = over-past x xs g h l in
+        omega (arith, a, b, d, f))
         (below? x 128)
 
+    pub heads-marks : (xs : List ℕ) → occurrences s (headsOf (events c xs)) ≡ over (met xs) headsMet + over (lefts xs) headsLeft
+    heads-marks =
+        count-marks (λ v. occurrences s (headsOf v)) headsMet headsLeft (unfold headsOf occurrences in refl)
+        (λ x es.
+        let a = queues-heads s c x (kindAt c x RIGHT (kindAt c x USER es)) in
+        let b = kind-heads s c x RIGHT (kindAt c x USER es) in
+        let d = kind-heads s c x USER es in
+        omega (arith, a, b, d))
+        (λ x es. kind-heads s c x CHILDREN es)
+
     pub tails-marks : (xs : List ℕ) → occurrences s (tailsOf (events c xs)) ≡ over (met xs) tailsMet + over (lefts xs) tailsLeft
-    unfolding events
-    tails-marks [] = unfold tailsOf met lefts over occurrences in refl
-    tails-marks (x ∷ xs) =
-        ⊎-elim
-        (λ l.
-        let a = ap (λ (v : List Event). occurrences s (tailsOf v)) (at-met x (events c xs) l) in
-        let b = ap (occurrences s) (queues-tails s c x (kindAt c x RIGHT (kindAt c x USER (events c xs)))) in
-        let d = kind-tails s c x RIGHT (kindAt c x USER (events c xs)) in
-        let e = kind-tails s c x USER (events c xs) in
-        let f = tails-marks xs in
-        let g = over-here x xs tailsMet tailsLeft l in
-        omega (arith, a, b, d, e, f, g))
-        (λ l.
-        let a = ap (λ (v : List Event). occurrences s (tailsOf v)) (at-left x (events c xs) l) in
-        let b = kind-tails s c (x - 128) CHILDREN (events c xs) in
-        let f = tails-marks xs in
-        let g = over-past x xs tailsMet tailsLeft l in
-        omega (arith, a, b, f, g))
-        (below? x 128)
+    tails-marks =
+        count-marks (λ v. occurrences s (tailsOf v)) tailsMet tailsLeft (unfold tailsOf occurrences in refl)
+        (λ x es.
+        let a = ap (occurrences s) (queues-tails s c x (kindAt c x RIGHT (kindAt c x USER es))) in
+        let b = kind-tails s c x RIGHT (kindAt c x USER es) in
+        let d = kind-tails s c x USER es in
+        omega (arith, a, b, d))
+        (λ x es. kind-tails s c x CHILDREN es)
 
   -- WORDS
   pub record Allowed (x : ℕ) : Type 0 where

@@ -22,7 +22,8 @@ use Rattle.view_events.specs.Events.Event.{entry, owner, order, tail, head}
 use Rattle.view_events.specs.Run.{ones, whole, run, raised}
 use Rattle.view_laws.specs.Good.{Good, Queued, allowed, orderFrom, ownersOf, tailsOf, headsOf}
 use Rattle.view_laws.specs.State.{Reads, reads-order, reads-owner, reads-tail, reads-head}
-use Rattle.view_laws.specs.Conses.{same-good, same-back, no-owner, no-order, no-tail, no-head, add-entry, off-entry, add-owner, off-owner, add-order, off-order}
+use Rattle.view_laws.specs.Conses.{same-good, same-back, no-owner, no-order, no-tail, no-head, add-entry, off-entry, add-owner, off-owner, add-order}
+use Rattle.view_laws.specs.Conses.{off-order}
 use Rattle.view_laws.specs.Ends.{segs, add-head, off-head, add-tail, off-tail}
 
 -- the end: four words of the state

@@ -80,23 +80,22 @@ module _ (c : Contents) (xs : List ℕ) (v : Toured c xs) (once : (y : ℕ) → 
   pub over-left : (g : ℕ → ℕ) → over (lefts xs) g ≡ over (met xs) g
   over-left g = over-same 128 (lefts xs) (met xs) g same-left met-low
 
+  -- what adds g where a task is met and h where it is left adds both for each task
+  count-same : (g h k : ℕ → ℕ) → ((t : ℕ) → g t + h t ≡ k t) → over (met xs) g + over (lefts xs) h ≡ over (met xs) k
+  count-same g h k e =
+      ap (λ (n : ℕ). over (met xs) g + n) (over-left h) ∙ sym (over-plus (met xs) g h) ∙ over-ext (met xs) (λ t. g t + h t) k e
+
   -- HEADS AND TAILS
   pub heads-same : (s : ℕ) → occurrences s (headsOf (events c xs)) ≡ occurrences s (heads c (met xs))
   heads-same s =
       heads-marks c s xs
-      ∙ ap (λ (k : ℕ). over (met xs) (headsMet c s) + k) (over-left (headsLeft c s))
-      ∙ sym (over-plus (met xs) (headsMet c s) (headsLeft c s))
-      ∙ over-ext (met xs) (λ t. headsMet c s t + headsLeft c s t) (λ t. occurrences s (locals 16 (drop 16 (c .recs t))))
-      (λ t. let a = heads-count s c t in omega (arith, a))
+      ∙ count-same (headsMet c s) (headsLeft c s) (λ t. occurrences s (locals 16 (drop 16 (c .recs t)))) (λ t. let a = heads-count s c t in omega (arith, a))
       ∙ sym (over-heads c s (met xs))
 
   pub tails-same : (s : ℕ) → occurrences s (tailsOf (events c xs)) ≡ occurrences s (tails c (met xs))
   tails-same s =
       tails-marks c s xs
-      ∙ ap (λ (k : ℕ). over (met xs) (tailsMet c s) + k) (over-left (tailsLeft c s))
-      ∙ sym (over-plus (met xs) (tailsMet c s) (tailsLeft c s))
-      ∙ over-ext (met xs) (λ t. tailsMet c s t + tailsLeft c s t) (λ t. occurrences s (locals 12 (drop 32 (c .recs t))))
-      (λ t. let a = tails-count s c t in omega (arith, a))
+      ∙ count-same (tailsMet c s) (tailsLeft c s) (λ t. occurrences s (locals 12 (drop 32 (c .recs t)))) (λ t. let a = tails-count s c t in omega (arith, a))
       ∙ sym (over-tails c s (met xs))
 
   -- WORDS

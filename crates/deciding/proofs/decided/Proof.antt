@@ -2,8 +2,6 @@ use Rattle.runner.specs.Moves.{decided}
 use borrow.Author.Needs.{needs}
 use Rattle.deciding.proofs.decided.Statement.{statement}
 use Rattle.deciding.proofs.decided.Tie as tie
-use Rattle.deciding.proofs.decided.Reads as reads
-use Rattle.deciding.proofs.decided.Lts as lts
 
 enum-told : tie.Need-enum-told
 enum-told c = search needs

@@ -5,12 +5,6 @@ use Rattle.deciding.proofs.Glue.{no-queue, not-held, is-held}
 use borrow.Author.Needs.{needs}
 use Rattle.deciding.proofs.find_moves.Statement.{statement}
 use Rattle.deciding.proofs.find_moves.Tie as tie
-use Rattle.deciding.proofs.find_moves.Reads as reads
-use Rattle.deciding.proofs.find_moves.Lts as lts
-use Rattle.deciding.proofs.decided.Reads as decided-reads
-use Rattle.finding.proofs.find.Reads as find-reads
-use Rattle.memory.proofs.task.Reads as task-reads
-use Rattle.rights.proofs.pops.Reads as pops-reads
 
 returns : tie.Need-returns
 unfolding findMoves
@@ -34,7 +28,9 @@ decided-requires c κs = search needs
 
 returns-3 : tie.Need-returns-3
 unfolding findMoves
-returns-3 c = is-held _ _ _ pops _ (c .before .before .before .before .before .if1 .left) (c .before .before .before .before .task .ensures) (c .before .before .before .pops .ensures) _ (c .before .before .if2 .left) (c .decided .ensures ∙ ap decided (c .before .find .ensures))
+returns-3 c =
+    is-held _ _ _ pops _ (c .before .before .before .before .before .if1 .left) (c .before .before .before .before .task .ensures)
+    (c .before .before .before .pops .ensures) _ (c .before .before .if2 .left) (c .decided .ensures ∙ ap decided (c .before .find .ensures))
 
 pub find-moves-spec : {M : Type 1} → statement M
 find-moves-spec =

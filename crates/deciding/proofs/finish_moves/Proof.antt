@@ -2,11 +2,6 @@ use Rattle.deciding.proofs.Glue.{finish-waits, top-reduces, task-reduce
 use borrow.Author.Needs.{needs}
 use Rattle.deciding.proofs.finish_moves.Statement.{statement}
 use Rattle.deciding.proofs.finish_moves.Tie as tie
-use Rattle.deciding.proofs.finish_moves.Reads as reads
-use Rattle.deciding.proofs.finish_moves.Lts as lts
-use Rattle.finishing.proofs.each_finishes.Reads as each-finishes-reads
-use Rattle.finishing.proofs.each_syncs.Reads as each-syncs-reads
-use Rattle.walks.proofs.has_child.Reads as has-child-reads
 
 has-child-requires : tie.Need-has-child-requires
 has-child-requires c κs = search needs
@@ -24,7 +19,8 @@ each-finishes-requires : tie.Need-each-finishes-requires
 each-finishes-requires c κs = search needs
 
 returns-3 : tie.Need-returns-3
-returns-3 c = task-reduces _ _ (c .before .before .before .has-child .ensures) _ (c .before .before .if1 .left) (c .before .if2 .left) (c .each-finishes .ensures)
+returns-3 c =
+    task-reduces _ _ (c .before .before .before .has-child .ensures) _ (c .before .before .if1 .left) (c .before .if2 .left) (c .each-finishes .ensures)
 
 pub finish-moves-spec : {M : Type 1} → statement M
 finish-moves-spec =

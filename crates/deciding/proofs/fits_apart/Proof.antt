@@ -2,14 +2,6 @@ use Rattle.deciding.proofs.Glue.{apart-fits}
 use borrow.Author.Needs.{needs}
 use Rattle.deciding.proofs.fits_apart.Statement.{statement}
 use Rattle.deciding.proofs.fits_apart.Tie as tie
-use Rattle.deciding.proofs.fits_apart.Reads as reads
-use Rattle.deciding.proofs.fits_apart.Lts as lts
-use Rattle.pushing.proofs.kind_at.Reads as kind-at-reads
-use Rattle.segments.proofs.next_free.Reads as next-free-reads
-use Rattle.views.proofs.head.Reads as head-reads
-use Rattle.views.proofs.reducible.Reads as reducible-reads
-use Rattle.views.proofs.tail.Reads as tail-reads
-use Rattle.walks.proofs.task_at.Reads as task-at-reads
 
 task-at-requires : tie.Need-task-at-requires
 task-at-requires c κs = search needs
@@ -30,7 +22,9 @@ reducible-requires : tie.Need-reducible-requires
 reducible-requires c κs = search needs
 
 returns : tie.Need-returns
-returns c = apart-fits _ _ _ (c .before .next-free .ensures) (c .before .before .before .before .before .task-at .ensures) (c .before .before .before .before .kind-at .ensures) (c .before .before .before .head .ensures) (c .before .before .tail .ensures) (c .reducible .ensures)
+returns c =
+    apart-fits _ _ _ (c .before .next-free .ensures) (c .before .before .before .before .before .task-at .ensures)
+    (c .before .before .before .before .kind-at .ensures) (c .before .before .before .head .ensures) (c .before .before .tail .ensures) (c .reducible .ensures)
 
 pub fits-apart-spec : {M : Type 1} → statement M
 fits-apart-spec =

@@ -2,11 +2,6 @@ use Rattle.deciding.proofs.Glue.{tail-room, free-room}
 use borrow.Author.Needs.{needs}
 use Rattle.deciding.proofs.has_room.Statement.{statement}
 use Rattle.deciding.proofs.has_room.Tie as tie
-use Rattle.deciding.proofs.has_room.Reads as reads
-use Rattle.deciding.proofs.has_room.Lts as lts
-use Rattle.memory.proofs.header.Reads as header-reads
-use Rattle.memory.proofs.segment.Reads as segment-reads
-use Rattle.segments.proofs.none_free.Reads as none-free-reads
 
 segment-requires : tie.Need-segment-requires
 segment-requires c κs = search needs

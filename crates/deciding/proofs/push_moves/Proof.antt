@@ -4,11 +4,6 @@ use Rattle.deciding.proofs.Glue.{no-queue, not-held, is-held}
 use borrow.Author.Needs.{needs}
 use Rattle.deciding.proofs.push_moves.Statement.{statement}
 use Rattle.deciding.proofs.push_moves.Tie as tie
-use Rattle.deciding.proofs.push_moves.Reads as reads
-use Rattle.deciding.proofs.push_moves.Lts as lts
-use Rattle.deciding.proofs.value_fits.Reads as value-fits-reads
-use Rattle.memory.proofs.task.Reads as task-reads
-use Rattle.rights.proofs.pushes.Reads as pushes-reads
 
 returns : tie.Need-returns
 unfolding pushMoves
@@ -29,7 +24,9 @@ value-fits-requires c κs = search needs
 
 returns-3 : tie.Need-returns-3
 unfolding pushMoves
-returns-3 c = is-held _ _ _ pushes _ (c .before .before .before .before .if1 .left) (c .before .before .before .task .ensures) (c .before .before .pushes .ensures) _ (c .before .if2 .left) (c .value-fits .ensures)
+returns-3 c =
+    is-held _ _ _ pushes _ (c .before .before .before .before .if1 .left) (c .before .before .before .task .ensures) (c .before .before .pushes .ensures) _
+    (c .before .if2 .left) (c .value-fits .ensures)
 
 pub push-moves-spec : {M : Type 1} → statement M
 push-moves-spec =

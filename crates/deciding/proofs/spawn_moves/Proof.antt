@@ -2,11 +2,6 @@ use Rattle.deciding.proofs.Glue.{given-more, record-free}
 use borrow.Author.Needs.{needs}
 use Rattle.deciding.proofs.spawn_moves.Statement.{statement}
 use Rattle.deciding.proofs.spawn_moves.Tie as tie
-use Rattle.deciding.proofs.spawn_moves.Reads as reads
-use Rattle.deciding.proofs.spawn_moves.Lts as lts
-use Rattle.memory.proofs.header.Reads as header-reads
-use Rattle.memory.proofs.task.Reads as task-reads
-use Rattle.rights.proofs.subset.Reads as subset-reads
 
 task-requires : tie.Need-task-requires
 task-requires c κs = search needs

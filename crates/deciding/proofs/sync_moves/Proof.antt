@@ -2,10 +2,6 @@ use Rattle.deciding.proofs.Glue.{sync-waits, sync-reduces}
 use borrow.Author.Needs.{needs}
 use Rattle.deciding.proofs.sync_moves.Statement.{statement}
 use Rattle.deciding.proofs.sync_moves.Tie as tie
-use Rattle.deciding.proofs.sync_moves.Reads as reads
-use Rattle.deciding.proofs.sync_moves.Lts as lts
-use Rattle.finishing.proofs.each_syncs.Reads as each-syncs-reads
-use Rattle.walks.proofs.has_child.Reads as has-child-reads
 
 has-child-requires : tie.Need-has-child-requires
 has-child-requires c κs = search needs

@@ -2,15 +2,6 @@ use Rattle.deciding.proofs.Glue.{some-free, none-left, goes-apart, ends
 use borrow.Author.Needs.{needs}
 use Rattle.deciding.proofs.value_fits.Statement.{statement}
 use Rattle.deciding.proofs.value_fits.Tie as tie
-use Rattle.deciding.proofs.value_fits.Reads as reads
-use Rattle.deciding.proofs.value_fits.Lts as lts
-use Rattle.deciding.proofs.fits_apart.Reads as fits-apart-reads
-use Rattle.deciding.proofs.has_room.Reads as has-room-reads
-use Rattle.segments.proofs.none_free.Reads as none-free-reads
-use Rattle.views.proofs.head.Reads as head-reads
-use Rattle.views.proofs.is_empty.Reads as is-empty-reads
-use Rattle.views.proofs.tail.Reads as tail-reads
-use Rattle.walks.proofs.just_before.Reads as just-before-reads
 
 tail-requires : tie.Need-tail-requires
 tail-requires c κs = search needs
@@ -25,7 +16,9 @@ none-free-requires : tie.Need-none-free-requires
 none-free-requires c κs = search needs
 
 returns : tie.Need-returns
-returns c = none-left _ _ _ (c .before .before .before .before .before .tail .ensures) (c .before .before .before .before .head .ensures) (c .before .before .before .is-empty .ensures) (c .before .before .if1 .taken) (c .before .none-free .ensures) (c .if2 .taken)
+returns c =
+    none-left _ _ _ (c .before .before .before .before .before .tail .ensures) (c .before .before .before .before .head .ensures)
+    (c .before .before .before .is-empty .ensures) (c .before .before .if1 .taken) (c .before .none-free .ensures) (c .if2 .taken)
 
 just-before-requires : tie.Need-just-before-requires
 just-before-requires c κs = search needs
@@ -34,16 +27,24 @@ fits-apart-requires : tie.Need-fits-apart-requires
 fits-apart-requires c κs = some-free _ (c .before .before .none-free .ensures) (c .before .if2 .left)
 
 returns-2 : tie.Need-returns-2
-returns-2 c = goes-apart _ _ _ (c .before .before .before .before .before .before .before .tail .ensures) (c .before .before .before .before .before .before .head .ensures) (c .before .before .before .before .before .is-empty .ensures) (c .before .before .before .before .if1 .taken) (c .before .before .before .none-free .ensures) (c .before .before .if2 .left) (c .before .just-before .ensures) (c .fits-apart .ensures)
+returns-2 c =
+    goes-apart _ _ _ (c .before .before .before .before .before .before .before .tail .ensures)
+    (c .before .before .before .before .before .before .head .ensures) (c .before .before .before .before .before .is-empty .ensures)
+    (c .before .before .before .before .if1 .taken) (c .before .before .before .none-free .ensures) (c .before .before .if2 .left)
+    (c .before .just-before .ensures) (c .fits-apart .ensures)
 
 returns-3 : tie.Need-returns-3
-returns-3 c = ends-away _ _ _ (c .before .before .before .before .tail .ensures) (c .before .before .before .head .ensures) (c .before .before .is-empty .ensures) (c .before .if1 .left) (c .if3 .taken)
+returns-3 c =
+    ends-away _ _ _ (c .before .before .before .before .tail .ensures) (c .before .before .before .head .ensures) (c .before .before .is-empty .ensures)
+    (c .before .if1 .left) (c .if3 .taken)
 
 has-room-requires : tie.Need-has-room-requires
 has-room-requires c κs = search needs
 
 returns-4 : tie.Need-returns-4
-returns-4 c = goes-behind _ _ _ (c .before .before .before .before .before .tail .ensures) (c .before .before .before .before .head .ensures) (c .before .before .before .is-empty .ensures) (c .before .before .if1 .left) (c .before .if3 .left) (c .has-room .ensures)
+returns-4 c =
+    goes-behind _ _ _ (c .before .before .before .before .before .tail .ensures) (c .before .before .before .before .head .ensures)
+    (c .before .before .before .is-empty .ensures) (c .before .before .if1 .left) (c .before .if3 .left) (c .has-room .ensures)
 
 pub value-fits-spec : {M : Type 1} → statement M
 value-fits-spec =

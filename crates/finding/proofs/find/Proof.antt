@@ -2,14 +2,6 @@ use Rattle.finding.proofs.Glue.{sibling-waits, child-waits, value-found
 use borrow.Author.Needs.{needs}
 use Rattle.finding.proofs.find.Statement.{statement}
 use Rattle.finding.proofs.find.Tie as tie
-use Rattle.finding.proofs.find.Reads as reads
-use Rattle.finding.proofs.find.Lts as lts
-use Rattle.finding.proofs.has_value.Reads as has-value-reads
-use Rattle.memory.proofs.task.Reads as task-reads
-use Rattle.segments.proofs.value_at.Reads as value-at-reads
-use Rattle.walks.proofs.blocked.Reads as blocked-reads
-use Rattle.walks.proofs.child_pops.Reads as child-pops-reads
-use Rattle.walks.proofs.pusher_before.Reads as pusher-before-reads
 
 blocked-requires : tie.Need-blocked-requires
 blocked-requires c κs = search needs
@@ -36,16 +28,28 @@ value-at-requires : tie.Need-value-at-requires
 value-at-requires c κs = search needs
 
 returns-3 : tie.Need-returns-3
-returns-3 c = value-found _ _ _ (c .before .before .before .before .before .before .before .blocked .ensures) (c .before .before .before .before .before .before .if1 .left) (c .before .before .before .before .before .child-pops .ensures) (c .before .before .before .before .if2 .left) (c .before .before .before .has-value .ensures) (c .before .before .if3 .taken) (c .before .task .ensures) (c .value-at .ensures)
+returns-3 c =
+    value-found _ _ _ (c .before .before .before .before .before .before .before .blocked .ensures)
+    (c .before .before .before .before .before .before .if1 .left) (c .before .before .before .before .before .child-pops .ensures)
+    (c .before .before .before .before .if2 .left) (c .before .before .before .has-value .ensures) (c .before .before .if3 .taken) (c .before .task .ensures)
+    (c .value-at .ensures)
 
 pusher-before-requires : tie.Need-pusher-before-requires
 pusher-before-requires c κs = search needs
 
 returns-4 : tie.Need-returns-4
-returns-4 c = pusher-waits _ _ _ (c .before .before .before .before .before .before .before .blocked .ensures) (c .before .before .before .before .before .before .if1 .left) (c .before .before .before .before .before .child-pops .ensures) (c .before .before .before .before .if2 .left) (c .before .before .before .has-value .ensures) (c .before .before .if3 .left) (c .before .pusher-before .ensures) (c .if4 .taken)
+returns-4 c =
+    pusher-waits _ _ _ (c .before .before .before .before .before .before .before .blocked .ensures)
+    (c .before .before .before .before .before .before .if1 .left) (c .before .before .before .before .before .child-pops .ensures)
+    (c .before .before .before .before .if2 .left) (c .before .before .before .has-value .ensures) (c .before .before .if3 .left)
+    (c .before .pusher-before .ensures) (c .if4 .taken)
 
 returns-5 : tie.Need-returns-5
-returns-5 c = found-empty _ _ _ (c .before .before .before .before .before .before .before .blocked .ensures) (c .before .before .before .before .before .before .if1 .left) (c .before .before .before .before .before .child-pops .ensures) (c .before .before .before .before .if2 .left) (c .before .before .before .has-value .ensures) (c .before .before .if3 .left) (c .before .pusher-before .ensures) (c .if4 .left)
+returns-5 c =
+    found-empty _ _ _ (c .before .before .before .before .before .before .before .blocked .ensures)
+    (c .before .before .before .before .before .before .if1 .left) (c .before .before .before .before .before .child-pops .ensures)
+    (c .before .before .before .before .if2 .left) (c .before .before .before .has-value .ensures) (c .before .before .if3 .left)
+    (c .before .pusher-before .ensures) (c .if4 .left)
 
 pub find-spec : {M : Type 1} → statement M
 find-spec =

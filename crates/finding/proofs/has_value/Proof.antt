@@ -2,10 +2,6 @@ use Rattle.finding.proofs.Glue.{no-head, by-count}
 use borrow.Author.Needs.{needs}
 use Rattle.finding.proofs.has_value.Statement.{statement}
 use Rattle.finding.proofs.has_value.Tie as tie
-use Rattle.finding.proofs.has_value.Reads as reads
-use Rattle.finding.proofs.has_value.Lts as lts
-use Rattle.memory.proofs.segment.Reads as segment-reads
-use Rattle.memory.proofs.task.Reads as task-reads
 
 add-task : tie.Need-add-task
 add-task c = search needs

@@ -1,17 +1,11 @@
 use Rattle.answers.specs.declared.Answer.the-variants.{Waits}
-use Rattle.answers.specs.Answers.{Outcome, outcome}
+use Rattle.answers.specs.Answers.{outcome}
 use Rattle.finding.proofs.Glue.{pop-refused, pop-given, none-popped, value-popped, value-there, may-pop}
 use mathlib.Core.Path.{_∙_}
-use mathlib.Core.List.{List, []}
+use mathlib.Core.List.{[]}
 use borrow.Author.Needs.{needs}
 use Rattle.finding.proofs.pop.Statement.{statement}
 use Rattle.finding.proofs.pop.Tie as tie
-use Rattle.finding.proofs.pop.Reads as reads
-use Rattle.finding.proofs.pop.Lts as lts
-use Rattle.finding.proofs.find.Reads as find-reads
-use Rattle.finding.proofs.pop_nothing.Reads as pop-nothing-reads
-use Rattle.finding.proofs.refusal.Reads as refusal-reads
-use Rattle.finding.proofs.take_first.Reads as take-first-reads
 
 refusal-requires : tie.Need-refusal-requires
 refusal-requires c κs = search needs
@@ -35,16 +29,27 @@ same-length-2 : tie.Need-same-length-2
 same-length-2 c = search needs
 
 returns-2 : tie.Need-returns-2
-returns-2 c = none-popped _ _ _ _ _ (c .before .match .keys2) (c .pop-nothing .ensures) ∙ pop-given _ _ _ _ (c .before .before .before .before .before .refusal .ensures) (c .before .before .before .before .if1 .left) (c .before .before .find .ensures)
+returns-2 c =
+    none-popped _ _ _ _ _ (c .before .match .keys2) (c .pop-nothing .ensures)
+    ∙ pop-given _ _ _ _ (c .before .before .before .before .before .refusal .ensures) (c .before .before .before .before .if1 .left)
+    (c .before .before .find .ensures)
 
 take-first-requires : tie.Need-take-first-requires
-take-first-requires c κs = (may-pop _ _ _ (outcome Waits []) (c .before .before .before .before .before .before .before .refusal .ensures) (c .before .before .before .before .before .before .if1 .left) .1, value-there _ _ _ _ (c .before .before .before .before .find .ensures) (c .before .before .f .given .1))
+take-first-requires c κs = (
+  may-pop _ _ _ (outcome Waits []) (c .before .before .before .before .before .before .before .refusal .ensures)
+      (c .before .before .before .before .before .before .if1 .left) .1,
+  value-there _ _ _ _ (c .before .before .before .before .find .ensures) (c .before .before .f .given .1),
+)
 
 same-length-3 : tie.Need-same-length-3
 same-length-3 c = search needs
 
 returns-3 : tie.Need-returns-3
-returns-3 c = value-popped _ _ _ _ _ (c .before .before .before .before .before .f .given .1) (c .before .before .take-first .ensures) ∙ pop-given _ _ _ _ (c .before .before .before .before .before .before .before .before .before .before .refusal .ensures) (c .before .before .before .before .before .before .before .before .before .if1 .left) (c .before .before .before .before .before .before .before .find .ensures)
+returns-3 c =
+    value-popped _ _ _ _ _ (c .before .before .before .before .before .f .given .1) (c .before .before .take-first .ensures)
+    ∙ pop-given _ _ _ _ (c .before .before .before .before .before .before .before .before .before .before .refusal .ensures)
+    (c .before .before .before .before .before .before .before .before .before .if1 .left)
+    (c .before .before .before .before .before .before .before .find .ensures)
 
 pub pop-spec : {M : Type 1} → statement M
 pop-spec =

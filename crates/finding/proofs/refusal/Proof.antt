@@ -2,11 +2,6 @@ use Rattle.finding.proofs.Glue.{refusal-4, refusal-5, refusal-6, refusa
 use borrow.Author.Needs.{needs}
 use Rattle.finding.proofs.refusal.Statement.{statement}
 use Rattle.finding.proofs.refusal.Tie as tie
-use Rattle.finding.proofs.refusal.Reads as reads
-use Rattle.finding.proofs.refusal.Lts as lts
-use Rattle.memory.proofs.task.Reads as task-reads
-use Rattle.rights.proofs.pops.Reads as pops-reads
-use Rattle.walks.proofs.unfinished.Reads as unfinished-reads
 
 unfinished-requires : tie.Need-unfinished-requires
 unfinished-requires c κs = search needs
@@ -24,10 +19,14 @@ pops-requires : tie.Need-pops-requires
 pops-requires c κs = search needs
 
 returns-3 : tie.Need-returns-3
-returns-3 c = refusal-6 _ _ _ (c .before .before .before .before .before .unfinished .ensures) (c .before .before .before .before .if1 .left) (c .before .before .before .if2 .left) (c .before .before .task .ensures) (c .before .pops .ensures) (c .if3 .taken)
+returns-3 c =
+    refusal-6 _ _ _ (c .before .before .before .before .before .unfinished .ensures) (c .before .before .before .before .if1 .left)
+    (c .before .before .before .if2 .left) (c .before .before .task .ensures) (c .before .pops .ensures) (c .if3 .taken)
 
 returns-4 : tie.Need-returns-4
-returns-4 c = refusal-0 _ _ _ (c .before .before .before .before .before .unfinished .ensures) (c .before .before .before .before .if1 .left) (c .before .before .before .if2 .left) (c .before .before .task .ensures) (c .before .pops .ensures) (c .if3 .left)
+returns-4 c =
+    refusal-0 _ _ _ (c .before .before .before .before .before .unfinished .ensures) (c .before .before .before .before .if1 .left)
+    (c .before .before .before .if2 .left) (c .before .before .task .ensures) (c .before .pops .ensures) (c .if3 .left)
 
 pub refusal-spec : {M : Type 1} → statement M
 refusal-spec =

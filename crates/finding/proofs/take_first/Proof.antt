@@ -2,13 +2,6 @@ use Rattle.finding.proofs.Glue.{last-segment, some-left, segment-freed,
 use borrow.Author.Needs.{needs}
 use Rattle.finding.proofs.take_first.Statement.{statement}
 use Rattle.finding.proofs.take_first.Tie as tie
-use Rattle.finding.proofs.take_first.Reads as reads
-use Rattle.finding.proofs.take_first.Lts as lts
-use Rattle.memory.proofs.segment.Reads as segment-reads
-use Rattle.memory.proofs.set_task.Reads as set-task-reads
-use Rattle.memory.proofs.task.Reads as task-reads
-use Rattle.segments.proofs.drop_one.Reads as drop-one-reads
-use Rattle.segments.proofs.release.Reads as release-reads
 
 add-task : tie.Need-add-task
 add-task c = search needs
@@ -26,7 +19,9 @@ same-length : tie.Need-same-length
 same-length c = search needs
 
 returns : tie.Need-returns
-returns c = last-segment _ _ _ _ (c .before .before .before .before .before .before .before .task .ensures) (c .before .before .before .before .before .segment .ensures) (c .before .before .before .drop-one .ensures) (c .if1 .taken)
+returns c =
+    last-segment _ _ _ _ (c .before .before .before .before .before .before .before .task .ensures)
+    (c .before .before .before .before .before .segment .ensures) (c .before .before .before .drop-one .ensures) (c .if1 .taken)
 
 segment-requires-2 : tie.Need-segment-requires-2
 segment-requires-2 c κs = search needs
@@ -35,7 +30,10 @@ same-length-2 : tie.Need-same-length-2
 same-length-2 c = search needs
 
 returns-2 : tie.Need-returns-2
-returns-2 c = some-left _ _ _ _ (c .before .before .before .before .before .before .before .before .before .before .task .ensures) (c .before .before .before .before .before .before .before .before .segment .ensures) (c .before .before .before .before .before .before .drop-one .ensures) (c .before .before .before .if1 .left) (c .before .segment2 .ensures) (c .if2 .taken)
+returns-2 c =
+    some-left _ _ _ _ (c .before .before .before .before .before .before .before .before .before .before .task .ensures)
+    (c .before .before .before .before .before .before .before .before .segment .ensures)
+    (c .before .before .before .before .before .before .drop-one .ensures) (c .before .before .before .if1 .left) (c .before .segment2 .ensures) (c .if2 .taken)
 
 add-set-task : tie.Need-add-set-task
 add-set-task c = search needs
@@ -50,7 +48,16 @@ same-length-3 : tie.Need-same-length-3
 same-length-3 c = search needs
 
 returns-3 : tie.Need-returns-3
-returns-3 c = segment-freed _ _ _ _ (c .before .before .before .before .before .before .before .before .before .before .before .before .before .before .before .before .before .before .task .ensures) (c .before .before .before .before .before .before .before .before .before .before .before .before .before .before .before .before .segment .ensures) (c .before .before .before .before .before .before .before .before .before .before .before .before .before .before .drop-one .ensures) (c .before .before .before .before .before .before .before .before .before .before .before .if1 .left) (c .before .before .before .before .before .before .before .before .before .segment2 .ensures) _ _ (c .before .before .before .before .before .before .before .before .if2 .left) (c .before .before .before .before .before .before .set-task .ensures) (c .before .before .release .ensures)
+returns-3 c =
+    segment-freed _ _ _ _
+    (c .before .before .before .before .before .before .before .before .before .before .before .before .before .before .before .before .before .before .task
+    .ensures)
+    (c .before .before .before .before .before .before .before .before .before .before .before .before .before .before .before .before .segment .ensures)
+    (c .before .before .before .before .before .before .before .before .before .before .before .before .before .before .drop-one .ensures)
+    (c .before .before .before .before .before .before .before .before .before .before .before .if1 .left)
+    (c .before .before .before .before .before .before .before .before .before .segment2 .ensures) _ _
+    (c .before .before .before .before .before .before .before .before .if2 .left) (c .before .before .before .before .before .before .set-task .ensures)
+    (c .before .before .release .ensures)
 
 pub take-first-spec : {M : Type 1} → statement M
 take-first-spec =

@@ -1,16 +1,11 @@
 use Rattle.answers.specs.declared.Answer.the-variants.{Waits}
-use Rattle.answers.specs.Answers.{Outcome, outcome}
+use Rattle.answers.specs.Answers.{outcome}
 use Rattle.finding.proofs.Glue.{test-refused, test-given, none-tested, some-tested, may-pop}
 use mathlib.Core.Path.{_∙_}
-use mathlib.Core.List.{List, []}
+use mathlib.Core.List.{[]}
 use borrow.Author.Needs.{needs}
 use Rattle.finding.proofs.test.Statement.{statement}
 use Rattle.finding.proofs.test.Tie as tie
-use Rattle.finding.proofs.test.Reads as reads
-use Rattle.finding.proofs.test.Lts as lts
-use Rattle.finding.proofs.find.Reads as find-reads
-use Rattle.finding.proofs.refusal.Reads as refusal-reads
-use Rattle.finding.proofs.test_nothing.Reads as test-nothing-reads
 
 refusal-requires : tie.Need-refusal-requires
 refusal-requires c κs = search needs
@@ -28,10 +23,14 @@ test-nothing-requires : tie.Need-test-nothing-requires
 test-nothing-requires c κs = search needs
 
 returns-2 : tie.Need-returns-2
-returns-2 c = none-tested _ _ _ (c .before .match .keys2) (c .test-nothing .ensures) ∙ test-given _ _ _ _ (c .before .before .before .before .refusal .ensures) (c .before .before .before .if1 .left) (c .before .before .find .ensures)
+returns-2 c =
+    none-tested _ _ _ (c .before .match .keys2) (c .test-nothing .ensures) ∙ test-given _ _ _ _ (c .before .before .before .before .refusal .ensures)
+    (c .before .before .before .if1 .left) (c .before .before .find .ensures)
 
 returns-3 : tie.Need-returns-3
-returns-3 c = some-tested _ _ (c .before .match .keys1) ∙ test-given _ _ _ _ (c .before .before .before .before .refusal .ensures) (c .before .before .before .if1 .left) (c .before .before .find .ensures)
+returns-3 c =
+    some-tested _ _ (c .before .match .keys1) ∙ test-given _ _ _ _ (c .before .before .before .before .refusal .ensures)
+    (c .before .before .before .if1 .left) (c .before .before .find .ensures)
 
 pub test-spec : {M : Type 1} → statement M
 test-spec =

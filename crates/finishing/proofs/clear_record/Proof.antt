@@ -2,9 +2,6 @@ use Rattle.finishing.proofs.Records.{record-cleared}
 use borrow.Author.Needs.{needs}
 use Rattle.finishing.proofs.clear_record.Statement.{statement}
 use Rattle.finishing.proofs.clear_record.Tie as tie
-use Rattle.finishing.proofs.clear_record.Reads as reads
-use Rattle.finishing.proofs.clear_record.Lts as lts
-use Rattle.memory.proofs.clear.Reads as clear-reads
 
 mul-a : tie.Need-mul-a
 mul-a c = search needs
@@ -34,7 +31,9 @@ same-length : tie.Need-same-length
 same-length c = search needs
 
 returns : tie.Need-returns
-returns c = record-cleared _ _ _ (c .before .before .before .before .before .pre .0) (c .before .before .before .before .before .pre .1) (c .before .before .clear .ensures)
+returns c =
+    record-cleared _ _ _ (c .before .before .before .before .before .pre .0) (c .before .before .before .before .before .pre .1)
+    (c .before .before .clear .ensures)
 
 pub clear-record-spec : {M : Type 1} → statement M
 clear-record-spec =

@@ -2,9 +2,6 @@ use Rattle.finishing.proofs.Ladder.{not-first, not-second, not-third, l
 use borrow.Author.Needs.{needs}
 use Rattle.finishing.proofs.each_finishes.Statement.{statement}
 use Rattle.finishing.proofs.each_finishes.Tie as tie
-use Rattle.finishing.proofs.each_finishes.Reads as reads
-use Rattle.finishing.proofs.each_finishes.Lts as lts
-use Rattle.returning.proofs.finishes.Reads as finishes-reads
 
 finishes-requires : tie.Need-finishes-requires
 finishes-requires c κs = search needs
@@ -22,13 +19,18 @@ finishes-requires-3 : tie.Need-finishes-requires-3
 finishes-requires-3 c κs = search needs
 
 returns-3 : tie.Need-returns-3
-returns-3 c = not-third _ (c .before .before .before .before .before .finishes .ensures) (c .before .before .before .before .if1 .left) (c .before .before .before .finishes2 .ensures) (c .before .before .if2 .left) (c .before .finishes3 .ensures) (c .if3 .taken)
+returns-3 c =
+    not-third _ (c .before .before .before .before .before .finishes .ensures) (c .before .before .before .before .if1 .left)
+    (c .before .before .before .finishes2 .ensures) (c .before .before .if2 .left) (c .before .finishes3 .ensures) (c .if3 .taken)
 
 finishes-requires-4 : tie.Need-finishes-requires-4
 finishes-requires-4 c κs = search needs
 
 returns-4 : tie.Need-returns-4
-returns-4 c = last-decides _ (c .before .before .before .before .before .before .finishes .ensures) (c .before .before .before .before .before .if1 .left) (c .before .before .before .before .finishes2 .ensures) (c .before .before .before .if2 .left) (c .before .before .finishes3 .ensures) _ (c .before .if3 .left) (c .finishes4 .ensures)
+returns-4 c =
+    last-decides _ (c .before .before .before .before .before .before .finishes .ensures) (c .before .before .before .before .before .if1 .left)
+    (c .before .before .before .before .finishes2 .ensures) (c .before .before .before .if2 .left) (c .before .before .finishes3 .ensures) _
+    (c .before .if3 .left) (c .finishes4 .ensures)
 
 pub each-finishes-spec : {M : Type 1} → statement M
 each-finishes-spec =

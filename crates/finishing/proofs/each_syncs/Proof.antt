@@ -2,9 +2,6 @@ use Rattle.finishing.proofs.Ladder.{not-first, not-second, not-third, l
 use borrow.Author.Needs.{needs}
 use Rattle.finishing.proofs.each_syncs.Statement.{statement}
 use Rattle.finishing.proofs.each_syncs.Tie as tie
-use Rattle.finishing.proofs.each_syncs.Reads as reads
-use Rattle.finishing.proofs.each_syncs.Lts as lts
-use Rattle.views.proofs.syncs.Reads as syncs-reads
 
 syncs-requires : tie.Need-syncs-requires
 syncs-requires c κs = search needs
@@ -22,13 +19,18 @@ syncs-requires-3 : tie.Need-syncs-requires-3
 syncs-requires-3 c κs = search needs
 
 returns-3 : tie.Need-returns-3
-returns-3 c = not-third _ (c .before .before .before .before .before .syncs .ensures) (c .before .before .before .before .if1 .left) (c .before .before .before .syncs2 .ensures) (c .before .before .if2 .left) (c .before .syncs3 .ensures) (c .if3 .taken)
+returns-3 c =
+    not-third _ (c .before .before .before .before .before .syncs .ensures) (c .before .before .before .before .if1 .left)
+    (c .before .before .before .syncs2 .ensures) (c .before .before .if2 .left) (c .before .syncs3 .ensures) (c .if3 .taken)
 
 syncs-requires-4 : tie.Need-syncs-requires-4
 syncs-requires-4 c κs = search needs
 
 returns-4 : tie.Need-returns-4
-returns-4 c = last-decides _ (c .before .before .before .before .before .before .syncs .ensures) (c .before .before .before .before .before .if1 .left) (c .before .before .before .before .syncs2 .ensures) (c .before .before .before .if2 .left) (c .before .before .syncs3 .ensures) _ (c .before .if3 .left) (c .syncs4 .ensures)
+returns-4 c =
+    last-decides _ (c .before .before .before .before .before .before .syncs .ensures) (c .before .before .before .before .before .if1 .left)
+    (c .before .before .before .before .syncs2 .ensures) (c .before .before .before .if2 .left) (c .before .before .syncs3 .ensures) _ (c .before .if3 .left)
+    (c .syncs4 .ensures)
 
 pub each-syncs-spec : {M : Type 1} → statement M
 each-syncs-spec =

@@ -2,10 +2,6 @@ use Rattle.finishing.proofs.Ladder.{top-finishes, task-finishes}
 use borrow.Author.Needs.{needs}
 use Rattle.finishing.proofs.finish.Statement.{statement}
 use Rattle.finishing.proofs.finish.Tie as tie
-use Rattle.finishing.proofs.finish.Reads as reads
-use Rattle.finishing.proofs.finish.Lts as lts
-use Rattle.finishing.proofs.finish_task.Reads as finish-task-reads
-use Rattle.finishing.proofs.finish_top.Reads as finish-top-reads
 
 finish-top-requires : tie.Need-finish-top-requires
 finish-top-requires c κs = search needs

@@ -2,11 +2,6 @@ use Rattle.finishing.proofs.Ladder.{all-finished}
 use borrow.Author.Needs.{needs}
 use Rattle.finishing.proofs.finished.Statement.{statement}
 use Rattle.finishing.proofs.finished.Tie as tie
-use Rattle.finishing.proofs.finished.Reads as reads
-use Rattle.finishing.proofs.finished.Lts as lts
-use Rattle.returning.proofs.finished_queue.Reads as finished-queue-reads
-use Rattle.finishing.proofs.record_freed.Reads as record-freed-reads
-use Rattle.finishing.proofs.unlink.Reads as unlink-reads
 
 finished-queue-requires : tie.Need-finished-queue-requires
 finished-queue-requires c κs = search needs
@@ -30,7 +25,15 @@ same-length : tie.Need-same-length
 same-length c = search needs
 
 returns : tie.Need-returns
-returns c = all-finished _ _ _ _ _ _ _ _ (c .before .before .before .before .before .before .before .before .before .before .before .before .before .before .before .before .before .before .before .before .before .before .finished-queue .ensures) (c .before .before .before .before .before .before .before .before .before .before .before .before .before .before .before .before .before .before .finished-queue2 .ensures) (c .before .before .before .before .before .before .before .before .before .before .before .before .before .before .finished-queue3 .ensures) (c .before .before .before .before .before .before .before .before .before .before .finished-queue4 .ensures) (c .before .before .before .before .before .before .unlink .ensures) (c .before .before .record-freed .ensures)
+returns c =
+    all-finished _ _ _ _ _ _ _ _
+    (c .before .before .before .before .before .before .before .before .before .before .before .before .before .before .before .before .before .before .before
+    .before .before .before .finished-queue .ensures)
+    (c .before .before .before .before .before .before .before .before .before .before .before .before .before .before .before .before .before .before
+    .finished-queue2 .ensures)
+    (c .before .before .before .before .before .before .before .before .before .before .before .before .before .before .finished-queue3 .ensures)
+    (c .before .before .before .before .before .before .before .before .before .before .finished-queue4 .ensures)
+    (c .before .before .before .before .before .before .unlink .ensures) (c .before .before .record-freed .ensures)
 
 pub finished-spec : {M : Type 1} → statement M
 finished-spec =

@@ -2,9 +2,6 @@ use Rattle.finishing.proofs.Records.{no-older, older-linked}
 use borrow.Author.Needs.{needs}
 use Rattle.finishing.proofs.link_younger.Statement.{statement}
 use Rattle.finishing.proofs.link_younger.Tie as tie
-use Rattle.finishing.proofs.link_younger.Reads as reads
-use Rattle.finishing.proofs.link_younger.Lts as lts
-use Rattle.memory.proofs.set_task.Reads as set-task-reads
 
 returns : tie.Need-returns
 returns c = no-older _ _ _ (c .if1 .taken)

@@ -2,12 +2,6 @@ use Rattle.finishing.proofs.Records.{no-place, place-taken}
 use borrow.Author.Needs.{needs}
 use Rattle.finishing.proofs.record_freed.Statement.{statement}
 use Rattle.finishing.proofs.record_freed.Tie as tie
-use Rattle.finishing.proofs.record_freed.Reads as reads
-use Rattle.finishing.proofs.record_freed.Lts as lts
-use Rattle.finishing.proofs.clear_record.Reads as clear-record-reads
-use Rattle.memory.proofs.header.Reads as header-reads
-use Rattle.memory.proofs.set_free_task.Reads as set-free-task-reads
-use Rattle.memory.proofs.set_header.Reads as set-header-reads
 
 header-requires : tie.Need-header-requires
 header-requires c κs = search needs
@@ -34,7 +28,11 @@ same-length-2 : tie.Need-same-length-2
 same-length-2 c = search needs
 
 returns-2 : tie.Need-returns-2
-returns-2 c = place-taken _ _ _ (c .before .before .before .before .before .before .before .before .before .before .before .before .before .header .ensures) (c .before .before .before .before .before .before .before .before .before .before .before .clear-record .ensures) _ _ (c .before .before .before .before .before .before .before .before .if1 .left) (c .before .before .before .before .before .before .set-free-task .ensures) (c .before .before .set-header .ensures)
+returns-2 c =
+    place-taken _ _ _ (c .before .before .before .before .before .before .before .before .before .before .before .before .before .header .ensures)
+    (c .before .before .before .before .before .before .before .before .before .before .before .clear-record .ensures) _ _
+    (c .before .before .before .before .before .before .before .before .if1 .left) (c .before .before .before .before .before .before .set-free-task .ensures)
+    (c .before .before .set-header .ensures)
 
 pub record-freed-spec : {M : Type 1} → statement M
 record-freed-spec =

@@ -6,12 +6,6 @@ use Rattle.answers.specs.declared.Answer.the-variants.{Moved}
 use borrow.Author.Needs.{needs}
 use Rattle.finishing.proofs.sync.Statement.{statement}
 use Rattle.finishing.proofs.sync.Tie as tie
-use Rattle.finishing.proofs.sync.Reads as reads
-use Rattle.finishing.proofs.sync.Lts as lts
-use Rattle.finishing.proofs.each_syncs.Reads as each-syncs-reads
-use Rattle.finishing.proofs.waits.Reads as waits-reads
-use Rattle.views.proofs.sync_all.Reads as sync-all-reads
-use Rattle.walks.proofs.unfinished.Reads as unfinished-reads
 
 unfinished-requires : tie.Need-unfinished-requires
 unfinished-requires c κs = search needs
@@ -31,7 +25,8 @@ same-length-2 c = search needs
 
 returns-2 : tie.Need-returns-2
 unfolding syncTested
-returns-2 c = waiting _ _ _ _ (c .before .before .before .before .unfinished .ensures) (c .before .before .before .if1 .left) (c .before .waits .ensures) (c .if2 .taken)
+returns-2 c =
+    waiting _ _ _ _ (c .before .before .before .before .unfinished .ensures) (c .before .before .before .if1 .left) (c .before .waits .ensures) (c .if2 .taken)
 
 each-syncs-requires : tie.Need-each-syncs-requires
 each-syncs-requires c κs = search needs
@@ -41,7 +36,10 @@ same-length-3 c = search needs
 
 returns-3 : tie.Need-returns-3
 unfolding syncTested
-returns-3 c = left-out _ _ _ _ (c .before .before .before .before .before .before .before .unfinished .ensures) (c .before .before .before .before .before .before .if1 .left) (c .before .before .before .before .waits .ensures) (c .before .before .before .if2 .left) (c .before .each-syncs .ensures) (c .if3 .taken)
+returns-3 c =
+    left-out _ _ _ _ (c .before .before .before .before .before .before .before .unfinished .ensures)
+    (c .before .before .before .before .before .before .if1 .left) (c .before .before .before .before .waits .ensures) (c .before .before .before .if2 .left)
+    (c .before .each-syncs .ensures) (c .if3 .taken)
 
 sync-all-requires : tie.Need-sync-all-requires
 sync-all-requires c κs = search needs
@@ -51,7 +49,12 @@ same-length-4 c = search needs
 
 returns-4 : tie.Need-returns-4
 unfolding syncTested
-returns-4 c = moved _ _ _ _ (c .before .before .before .before .before .before .before .before .before .before .before .unfinished .ensures) (c .before .before .before .before .before .before .before .before .before .before .if1 .left) (c .before .before .before .before .before .before .before .before .waits .ensures) (c .before .before .before .before .before .before .before .if2 .left) (c .before .before .before .before .before .each-syncs .ensures) (c .before .before .before .before .if3 .left) (ap (outcome (Moved 0)) (c .before .before .sync-all .ensures))
+returns-4 c =
+    moved _ _ _ _ (c .before .before .before .before .before .before .before .before .before .before .before .unfinished .ensures)
+    (c .before .before .before .before .before .before .before .before .before .before .if1 .left)
+    (c .before .before .before .before .before .before .before .before .waits .ensures) (c .before .before .before .before .before .before .before .if2 .left)
+    (c .before .before .before .before .before .each-syncs .ensures) (c .before .before .before .before .if3 .left)
+    (ap (outcome (Moved 0)) (c .before .before .sync-all .ensures))
 
 pub sync-spec : {M : Type 1} → statement M
 sync-spec =

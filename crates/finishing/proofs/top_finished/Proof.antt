@@ -2,10 +2,6 @@ use Rattle.finishing.proofs.Ladder.{top-done}
 use borrow.Author.Needs.{needs}
 use Rattle.finishing.proofs.top_finished.Statement.{statement}
 use Rattle.finishing.proofs.top_finished.Tie as tie
-use Rattle.finishing.proofs.top_finished.Reads as reads
-use Rattle.finishing.proofs.top_finished.Lts as lts
-use Rattle.memory.proofs.set_task.Reads as set-task-reads
-use Rattle.views.proofs.sync_all.Reads as sync-all-reads
 
 sync-all-requires : tie.Need-sync-all-requires
 sync-all-requires c κs = search needs

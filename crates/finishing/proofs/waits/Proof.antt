@@ -2,10 +2,6 @@ use Rattle.finishing.proofs.Ladder.{child-waits, sibling-waits}
 use borrow.Author.Needs.{needs}
 use Rattle.finishing.proofs.waits.Statement.{statement}
 use Rattle.finishing.proofs.waits.Tie as tie
-use Rattle.finishing.proofs.waits.Reads as reads
-use Rattle.finishing.proofs.waits.Lts as lts
-use Rattle.walks.proofs.blocked.Reads as blocked-reads
-use Rattle.walks.proofs.has_child.Reads as has-child-reads
 
 has-child-requires : tie.Need-has-child-requires
 has-child-requires c κs = search needs

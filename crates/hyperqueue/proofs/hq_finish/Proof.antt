@@ -2,10 +2,6 @@ use Rattle.hyperqueue.specs.Packed.{handed}
 use borrow.Author.Needs.{needs}
 use Rattle.hyperqueue.proofs.hq_finish.Statement.{statement}
 use Rattle.hyperqueue.proofs.hq_finish.Tie as tie
-use Rattle.hyperqueue.proofs.hq_finish.Reads as reads
-use Rattle.hyperqueue.proofs.hq_finish.Lts as lts
-use Rattle.hyperqueue.proofs.finish.Reads as finish-reads
-use Rattle.hyperqueue.proofs.pack.Reads as pack-reads
 
 finish-requires : tie.Need-finish-requires
 finish-requires c κs = search needs

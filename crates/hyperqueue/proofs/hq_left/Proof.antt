@@ -2,10 +2,6 @@ use Rattle.hyperqueue.specs.Packed.{handed}
 use borrow.Author.Needs.{needs}
 use Rattle.hyperqueue.proofs.hq_left.Statement.{statement}
 use Rattle.hyperqueue.proofs.hq_left.Tie as tie
-use Rattle.hyperqueue.proofs.hq_left.Reads as reads
-use Rattle.hyperqueue.proofs.hq_left.Lts as lts
-use Rattle.hyperqueue.proofs.left.Reads as left-reads
-use Rattle.hyperqueue.proofs.pack.Reads as pack-reads
 
 left-requires : tie.Need-left-requires
 left-requires c κs = search needs

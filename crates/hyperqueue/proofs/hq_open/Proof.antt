@@ -2,10 +2,6 @@ use Rattle.hyperqueue.specs.Packed.{handed}
 use borrow.Author.Needs.{needs}
 use Rattle.hyperqueue.proofs.hq_open.Statement.{statement}
 use Rattle.hyperqueue.proofs.hq_open.Tie as tie
-use Rattle.hyperqueue.proofs.hq_open.Reads as reads
-use Rattle.hyperqueue.proofs.hq_open.Lts as lts
-use Rattle.hyperqueue.proofs.open.Reads as open-reads
-use Rattle.hyperqueue.proofs.pack.Reads as pack-reads
 
 open-requires : tie.Need-open-requires
 open-requires c κs = search needs

@@ -2,10 +2,6 @@ use Rattle.hyperqueue.specs.Packed.{handed}
 use borrow.Author.Needs.{needs}
 use Rattle.hyperqueue.proofs.hq_pop.Statement.{statement}
 use Rattle.hyperqueue.proofs.hq_pop.Tie as tie
-use Rattle.hyperqueue.proofs.hq_pop.Reads as reads
-use Rattle.hyperqueue.proofs.hq_pop.Lts as lts
-use Rattle.hyperqueue.proofs.pack.Reads as pack-reads
-use Rattle.hyperqueue.proofs.pop.Reads as pop-reads
 
 pop-requires : tie.Need-pop-requires
 pop-requires c κs = search needs

@@ -2,10 +2,6 @@ use Rattle.hyperqueue.specs.Packed.{handed}
 use borrow.Author.Needs.{needs}
 use Rattle.hyperqueue.proofs.hq_push.Statement.{statement}
 use Rattle.hyperqueue.proofs.hq_push.Tie as tie
-use Rattle.hyperqueue.proofs.hq_push.Reads as reads
-use Rattle.hyperqueue.proofs.hq_push.Lts as lts
-use Rattle.hyperqueue.proofs.pack.Reads as pack-reads
-use Rattle.hyperqueue.proofs.push.Reads as push-reads
 
 push-requires : tie.Need-push-requires
 push-requires c κs = search needs

@@ -2,10 +2,6 @@ use Rattle.hyperqueue.specs.Packed.{handed}
 use borrow.Author.Needs.{needs}
 use Rattle.hyperqueue.proofs.hq_spawn.Statement.{statement}
 use Rattle.hyperqueue.proofs.hq_spawn.Tie as tie
-use Rattle.hyperqueue.proofs.hq_spawn.Reads as reads
-use Rattle.hyperqueue.proofs.hq_spawn.Lts as lts
-use Rattle.hyperqueue.proofs.pack.Reads as pack-reads
-use Rattle.hyperqueue.proofs.spawn.Reads as spawn-reads
 
 spawn-requires : tie.Need-spawn-requires
 spawn-requires c κs = search needs

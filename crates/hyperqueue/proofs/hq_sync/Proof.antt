@@ -2,10 +2,6 @@ use Rattle.hyperqueue.specs.Packed.{handed}
 use borrow.Author.Needs.{needs}
 use Rattle.hyperqueue.proofs.hq_sync.Statement.{statement}
 use Rattle.hyperqueue.proofs.hq_sync.Tie as tie
-use Rattle.hyperqueue.proofs.hq_sync.Reads as reads
-use Rattle.hyperqueue.proofs.hq_sync.Lts as lts
-use Rattle.hyperqueue.proofs.pack.Reads as pack-reads
-use Rattle.hyperqueue.proofs.sync.Reads as sync-reads
 
 sync-requires : tie.Need-sync-requires
 sync-requires c κs = search needs

@@ -2,10 +2,6 @@ use Rattle.hyperqueue.specs.Packed.{handed}
 use borrow.Author.Needs.{needs}
 use Rattle.hyperqueue.proofs.hq_test.Statement.{statement}
 use Rattle.hyperqueue.proofs.hq_test.Tie as tie
-use Rattle.hyperqueue.proofs.hq_test.Reads as reads
-use Rattle.hyperqueue.proofs.hq_test.Lts as lts
-use Rattle.hyperqueue.proofs.pack.Reads as pack-reads
-use Rattle.hyperqueue.proofs.test.Reads as test-reads
 
 test-requires : tie.Need-test-requires
 test-requires c κs = search needs

@@ -1,14 +1,9 @@
-use Rattle.hyperqueue.specs.Packed.{turned-down, goes-on, passes}
+use Rattle.hyperqueue.specs.Packed.{turned-down, goes-on}
 use Rattle.calls.specs.Left.{leftOutcome}
-use Rattle.words.specs.Words.{size}
 use mathlib.Core.Path.{_∙_}
 use borrow.Author.Needs.{needs}
 use Rattle.hyperqueue.proofs.left.Statement.{statement}
 use Rattle.hyperqueue.proofs.left.Tie as tie
-use Rattle.hyperqueue.proofs.left.Reads as reads
-use Rattle.hyperqueue.proofs.left.Lts as lts
-use Rattle.hyperqueue.proofs.refusal.Reads as refusal-reads
-use Rattle.leaving.proofs.left.Reads as left-reads
 
 refusal-requires : tie.Need-refusal-requires
 refusal-requires c κs = search needs

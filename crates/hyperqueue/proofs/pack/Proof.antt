@@ -5,9 +5,6 @@ use mathlib.Core.Path.{ap}
 use borrow.Author.Needs.{needs}
 use Rattle.hyperqueue.proofs.pack.Statement.{statement}
 use Rattle.hyperqueue.proofs.pack.Tie as tie
-use Rattle.hyperqueue.proofs.pack.Reads as reads
-use Rattle.hyperqueue.proofs.pack.Lts as lts
-use Rattle.hyperqueue.proofs.wide.Reads as wide-reads
 
 enum-known-a : tie.Need-enum-known-a
 enum-known-a c = search needs

@@ -3,9 +3,6 @@ use Rattle.words.specs.Words.{size}
 use borrow.Author.Needs.{needs}
 use Rattle.hyperqueue.proofs.refusal.Statement.{statement}
 use Rattle.hyperqueue.proofs.refusal.Tie as tie
-use Rattle.hyperqueue.proofs.refusal.Reads as reads
-use Rattle.hyperqueue.proofs.refusal.Lts as lts
-use Rattle.memory_test.proofs.rules_hold.Reads as rules-hold-reads
 
 returns : tie.Need-returns
 unfolding size

@@ -1,14 +1,9 @@
-use Rattle.hyperqueue.specs.Packed.{turned-down, goes-on, passes}
+use Rattle.hyperqueue.specs.Packed.{turned-down, goes-on}
 use Rattle.calls.specs.Sync.{syncOutcome}
-use Rattle.words.specs.Words.{size}
 use mathlib.Core.Path.{_∙_}
 use borrow.Author.Needs.{needs}
 use Rattle.hyperqueue.proofs.sync.Statement.{statement}
 use Rattle.hyperqueue.proofs.sync.Tie as tie
-use Rattle.hyperqueue.proofs.sync.Reads as reads
-use Rattle.hyperqueue.proofs.sync.Lts as lts
-use Rattle.finishing.proofs.sync.Reads as sync-reads
-use Rattle.hyperqueue.proofs.refusal.Reads as refusal-reads
 
 refusal-requires : tie.Need-refusal-requires
 refusal-requires c κs = search needs
@@ -28,7 +23,9 @@ same-length-2 c = search needs
 
 returns-2 : tie.Need-returns-2
 unfolding syncOutcome
-returns-2 c = c .before .before .sync .ensures ∙ goes-on _ _ _ (c .before .before .before .before .before .refusal .ensures) (c .before .before .before .before .if1 .left)
+returns-2 c =
+    c .before .before .sync .ensures ∙ goes-on _ _ _ (c .before .before .before .before .before .refusal .ensures)
+    (c .before .before .before .before .if1 .left)
 
 pub sync-spec : {M : Type 1} → statement M
 sync-spec =

@@ -1,14 +1,9 @@
-use Rattle.hyperqueue.specs.Packed.{turned-down, goes-on, passes}
+use Rattle.hyperqueue.specs.Packed.{turned-down, goes-on}
 use Rattle.calls.specs.Find.{testOutcome}
-use Rattle.words.specs.Words.{size}
 use mathlib.Core.Path.{_∙_}
 use borrow.Author.Needs.{needs}
 use Rattle.hyperqueue.proofs.test.Statement.{statement}
 use Rattle.hyperqueue.proofs.test.Tie as tie
-use Rattle.hyperqueue.proofs.test.Reads as reads
-use Rattle.hyperqueue.proofs.test.Lts as lts
-use Rattle.finding.proofs.test.Reads as test-reads
-use Rattle.hyperqueue.proofs.refusal.Reads as refusal-reads
 
 refusal-requires : tie.Need-refusal-requires
 refusal-requires c κs = search needs

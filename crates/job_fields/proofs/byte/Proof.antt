@@ -4,8 +4,6 @@ use Rattle.words.specs.Words.{load}
 use borrow.Author.Needs.{needs}
 use Rattle.job_fields.proofs.byte.Statement.{statement}
 use Rattle.job_fields.proofs.byte.Tie as tie
-use Rattle.job_fields.proofs.byte.Reads as reads
-use Rattle.job_fields.proofs.byte.Lts as lts
 
 shared-slice-read-result : tie.Need-shared-slice-read-result
 shared-slice-read-result c = search needs

@@ -4,9 +4,6 @@ use Rattle.job.specs.Fields.{bytes2}
 use borrow.Author.Needs.{needs}
 use Rattle.job_fields.proofs.bytes2.Statement.{statement}
 use Rattle.job_fields.proofs.bytes2.Tie as tie
-use Rattle.job_fields.proofs.bytes2.Reads as reads
-use Rattle.job_fields.proofs.bytes2.Lts as lts
-use Rattle.job_fields.proofs.byte.Reads as byte-reads
 
 byte-requires : tie.Need-byte-requires
 byte-requires c κs = search needs

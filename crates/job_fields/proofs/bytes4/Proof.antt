@@ -4,9 +4,6 @@ use Rattle.job.specs.Fields.{bytes4}
 use borrow.Author.Needs.{needs}
 use Rattle.job_fields.proofs.bytes4.Statement.{statement}
 use Rattle.job_fields.proofs.bytes4.Tie as tie
-use Rattle.job_fields.proofs.bytes4.Reads as reads
-use Rattle.job_fields.proofs.bytes4.Lts as lts
-use Rattle.job_fields.proofs.bytes2.Reads as bytes2-reads
 
 bytes2-requires : tie.Need-bytes2-requires
 bytes2-requires c κs = search needs

@@ -2,9 +2,6 @@ use Rattle.job.specs.Fields.{count}
 use borrow.Author.Needs.{needs}
 use Rattle.job_fields.proofs.count.Statement.{statement}
 use Rattle.job_fields.proofs.count.Tie as tie
-use Rattle.job_fields.proofs.count.Reads as reads
-use Rattle.job_fields.proofs.count.Lts as lts
-use Rattle.job_fields.proofs.bytes2.Reads as bytes2-reads
 
 mul-bytes2 : tie.Need-mul-bytes2
 mul-bytes2 c = search needs

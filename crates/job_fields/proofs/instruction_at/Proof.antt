@@ -4,10 +4,6 @@ use Rattle.job.specs.Fields.{instructionFrom, instructionAt}
 use borrow.Author.Needs.{needs}
 use Rattle.job_fields.proofs.instruction_at.Statement.{statement}
 use Rattle.job_fields.proofs.instruction_at.Tie as tie
-use Rattle.job_fields.proofs.instruction_at.Reads as reads
-use Rattle.job_fields.proofs.instruction_at.Lts as lts
-use Rattle.job_fields.proofs.instruction_from.Reads as instruction-from-reads
-use Rattle.job_fields.proofs.offset.Reads as offset-reads
 
 offset-requires : tie.Need-offset-requires
 offset-requires c κs = search needs
@@ -26,7 +22,9 @@ instruction-from-requires c κs = search needs
 
 returns : tie.Need-returns
 unfolding instructionAt
-returns c = c .instruction-from .ensures ∙ ap (λ (o : ℕ). instructionFrom (c .before .before .before .args .job .now) (o + c .before .before .before .args .i * 6)) (c .before .offset .ensures)
+returns c =
+    c .instruction-from .ensures ∙ ap (λ (o : ℕ). instructionFrom (c .before .before .before .args .job .now) (o + c .before .before .before .args .i * 6))
+    (c .before .offset .ensures)
 
 pub instruction-at-spec : {M : Type 1} → statement M
 instruction-at-spec =

@@ -2,10 +2,6 @@ use Rattle.job_fields.proofs.Glue.{from-fields}
 use borrow.Author.Needs.{needs}
 use Rattle.job_fields.proofs.instruction_from.Statement.{statement}
 use Rattle.job_fields.proofs.instruction_from.Tie as tie
-use Rattle.job_fields.proofs.instruction_from.Reads as reads
-use Rattle.job_fields.proofs.instruction_from.Lts as lts
-use Rattle.job_fields.proofs.byte.Reads as byte-reads
-use Rattle.job_fields.proofs.bytes4.Reads as bytes4-reads
 
 byte-requires : tie.Need-byte-requires
 byte-requires c κs = search needs

@@ -2,9 +2,6 @@ use Rattle.job.specs.Fields.{offset}
 use borrow.Author.Needs.{needs}
 use Rattle.job_fields.proofs.offset.Statement.{statement}
 use Rattle.job_fields.proofs.offset.Tie as tie
-use Rattle.job_fields.proofs.offset.Reads as reads
-use Rattle.job_fields.proofs.offset.Lts as lts
-use Rattle.job_fields.proofs.bytes2.Reads as bytes2-reads
 
 mul-bytes2 : tie.Need-mul-bytes2
 mul-bytes2 c = search needs

@@ -2,9 +2,6 @@ use Rattle.job.specs.Fields.{reserved}
 use borrow.Author.Needs.{needs}
 use Rattle.job_fields.proofs.reserved.Statement.{statement}
 use Rattle.job_fields.proofs.reserved.Tie as tie
-use Rattle.job_fields.proofs.reserved.Reads as reads
-use Rattle.job_fields.proofs.reserved.Lts as lts
-use Rattle.job_fields.proofs.byte.Reads as byte-reads
 
 mul-byte : tie.Need-mul-byte
 mul-byte c = search needs

@@ -2,9 +2,6 @@ use Rattle.job.specs.Fields.{rights}
 use borrow.Author.Needs.{needs}
 use Rattle.job_fields.proofs.rights.Statement.{statement}
 use Rattle.job_fields.proofs.rights.Tie as tie
-use Rattle.job_fields.proofs.rights.Reads as reads
-use Rattle.job_fields.proofs.rights.Lts as lts
-use Rattle.job_fields.proofs.byte.Reads as byte-reads
 
 mul-byte : tie.Need-mul-byte
 mul-byte c = search needs

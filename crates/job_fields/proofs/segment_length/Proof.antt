@@ -2,9 +2,6 @@ use Rattle.job.specs.Fields.{segmentLength}
 use borrow.Author.Needs.{needs}
 use Rattle.job_fields.proofs.segment_length.Statement.{statement}
 use Rattle.job_fields.proofs.segment_length.Tie as tie
-use Rattle.job_fields.proofs.segment_length.Reads as reads
-use Rattle.job_fields.proofs.segment_length.Lts as lts
-use Rattle.job_fields.proofs.bytes2.Reads as bytes2-reads
 
 bytes2-requires : tie.Need-bytes2-requires
 bytes2-requires c κs = search needs

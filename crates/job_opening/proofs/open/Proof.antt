@@ -2,13 +2,6 @@ use Rattle.job_opening.proofs.Glue.{stays-shut, opens}
 use borrow.Author.Needs.{needs}
 use Rattle.job_opening.proofs.open.Statement.{statement}
 use Rattle.job_opening.proofs.open.Tie as tie
-use Rattle.job_opening.proofs.open.Reads as reads
-use Rattle.job_opening.proofs.open.Lts as lts
-use Rattle.job_fields.proofs.segment_length.Reads as segment-length-reads
-use Rattle.job_opening.proofs.segments_for.Reads as segments-for-reads
-use Rattle.memory.proofs.clear.Reads as clear-reads
-use Rattle.opening.proofs.open.Reads as open-reads
-use Rattle.runner_words.proofs.refusal.Reads as refusal-reads
 
 refusal-requires : tie.Need-refusal-requires
 refusal-requires c κs = search needs
@@ -41,7 +34,12 @@ same-length-4 : tie.Need-same-length-4
 same-length-4 c = search needs
 
 returns-2 : tie.Need-returns-2
-returns-2 c = opens _ _ _ (c .before .before .before .before .before .before .before .before .before .before .before .refusal .ensures) (c .before .before .before .before .before .before .before .before .before .before .if1 .left) (c .before .before .before .before .before .before .before .before .before .segment-length .ensures) (c .before .before .before .before .before .before .before .segments-for .ensures) _ (c .before .before .before .before .before .before .«open» .ensures) _ (c .before .before .clear .ensures)
+returns-2 c =
+    opens _ _ _ (c .before .before .before .before .before .before .before .before .before .before .before .refusal .ensures)
+    (c .before .before .before .before .before .before .before .before .before .before .if1 .left)
+    (c .before .before .before .before .before .before .before .before .before .segment-length .ensures)
+    (c .before .before .before .before .before .before .before .segments-for .ensures) _ (c .before .before .before .before .before .before .«open» .ensures)
+    _ (c .before .before .clear .ensures)
 
 pub open-spec : {M : Type 1} → statement M
 open-spec =

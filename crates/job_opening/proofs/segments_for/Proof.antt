@@ -5,8 +5,6 @@ use mathlib.Core.Path.{refl, sym}
 use borrow.Author.Needs.{needs}
 use Rattle.job_opening.proofs.segments_for.Statement.{statement}
 use Rattle.job_opening.proofs.segments_for.Tie as tie
-use Rattle.job_opening.proofs.segments_for.Reads as reads
-use Rattle.job_opening.proofs.segments_for.Lts as lts
 
 div-result : tie.Need-div-result
 div-result c = search needs

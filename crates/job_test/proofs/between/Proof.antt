@@ -4,8 +4,6 @@ use borrow.Author.Tests.{le-leb, lt-leb}
 use mathlib.Core.Path.{sym}
 use Rattle.job_test.proofs.between.Statement.{statement}
 use Rattle.job_test.proofs.between.Tie as tie
-use Rattle.job_test.proofs.between.Reads as reads
-use Rattle.job_test.proofs.between.Lts as lts
 
 returns : tie.Need-returns
 unfolding between

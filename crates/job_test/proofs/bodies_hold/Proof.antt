@@ -9,10 +9,6 @@ use Rattle.job_test.proofs.Glue.{some}
 use Rattle.job_test.proofs.Loops.{upto-start, upto-next, upto-stop, upto-end}
 use Rattle.job_test.proofs.bodies_hold.Statement.{statement}
 use Rattle.job_test.proofs.bodies_hold.Tie as tie
-use Rattle.job_test.proofs.bodies_hold.Reads as reads
-use Rattle.job_test.proofs.bodies_hold.Lts as lts
-use Rattle.job_fields.proofs.procedures.Reads as procedures-reads
-use Rattle.job_test.proofs.body_holds.Reads as body-holds-reads
 
 abbrev Inv-loop : tie.InvT-loop
 Inv-loop job n p₀ p = (p ≤ n) × (upto (bodyHolds job) (n - p) p ≡ upto (bodyHolds job) n 0)
@@ -30,7 +26,10 @@ body-holds-requires : tie.Need-body-holds-requires Inv-loop μ-loop
 body-holds-requires c κs = some _ _ (c .before .before .before .before .pre) (c .before .before .procedures .ensures) (c .loop-test .taken)
 
 returns : tie.Need-returns Inv-loop μ-loop
-returns c = upto-stop _ _ _ (c .before .before .loop-test .taken) (sym (c .before .body-holds .ensures) ∙ not-true _ (c .if1 .taken)) ∙ c .before .before .before .loop .inv .1 ∙ ap (λ (k : ℕ). upto (bodyHolds (c .before .before .before .before .before .before .args .job .now)) k 0) (c .before .before .before .before .procedures .ensures)
+returns c =
+    upto-stop _ _ _ (c .before .before .loop-test .taken) (sym (c .before .body-holds .ensures) ∙ not-true _ (c .if1 .taken))
+    ∙ c .before .before .before .loop .inv .1 ∙ ap (λ (k : ℕ). upto (bodyHolds (c .before .before .before .before .before .before .args .job .now)) k 0)
+    (c .before .before .before .before .procedures .ensures)
 
 add-p : tie.Need-add-p Inv-loop μ-loop
 add-p c = omega arith
@@ -39,10 +38,16 @@ loop-less : tie.Need-loop-less Inv-loop μ-loop
 loop-less c = omega arith
 
 loop-again : tie.Need-loop-again Inv-loop μ-loop
-loop-again c = (omega arith, upto-next _ _ _ (c .before .before .loop-test .taken) (sym (c .before .body-holds .ensures) ∙ not-false _ (c .if1 .left)) ∙ c .before .before .before .loop .inv .1)
+loop-again c = (
+  omega arith,
+  upto-next _ _ _ (c .before .before .loop-test .taken) (sym (c .before .body-holds .ensures) ∙ not-false _ (c .if1 .left))
+      ∙ c .before .before .before .loop .inv .1,
+)
 
 returns-2 : tie.Need-returns-2 Inv-loop μ-loop
-returns-2 c = upto-end _ _ _ (c .loop-test .left) ∙ c .before .loop .inv .1 ∙ ap (λ (k : ℕ). upto (bodyHolds (c .before .before .before .before .args .job .now)) k 0) (c .before .before .procedures .ensures)
+returns-2 c =
+    upto-end _ _ _ (c .loop-test .left) ∙ c .before .loop .inv .1 ∙ ap (λ (k : ℕ). upto (bodyHolds (c .before .before .before .before .args .job .now)) k 0)
+    (c .before .before .procedures .ensures)
 
 pub bodies-hold-spec : {M : Type 1} → statement M
 bodies-hold-spec =

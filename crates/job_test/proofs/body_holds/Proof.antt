@@ -10,13 +10,6 @@ use Rattle.job_test.proofs.Glue.{instruction-says, body-says}
 use Rattle.job_test.proofs.Loops.{upto-start, upto-next, upto-stop, upto-end}
 use Rattle.job_test.proofs.body_holds.Statement.{statement}
 use Rattle.job_test.proofs.body_holds.Tie as tie
-use Rattle.job_test.proofs.body_holds.Reads as reads
-use Rattle.job_test.proofs.body_holds.Lts as lts
-use Rattle.job_fields.proofs.count.Reads as count-reads
-use Rattle.job_fields.proofs.offset.Reads as offset-reads
-use Rattle.job_fields.proofs.rights.Reads as rights-reads
-use Rattle.job_test.proofs.instruction_holds.Reads as instruction-holds-reads
-use Rattle.job_test.proofs.last_holds.Reads as last-holds-reads
 
 abbrev Inv-loop : tie.InvT-loop
 Inv-loop job p o n r i₀ i = (i ≤ n) × (upto (instructionHolds job p) (n - i) i ≡ upto (instructionHolds job p) n 0)
@@ -60,8 +53,12 @@ instruction-holds-requires c κs = omega arith
 
 returns-2 : tie.Need-returns-2 Inv-loop μ-loop
 returns-2 c =
-    body-says _ _ (c .before .before .before .before .before .before .before .before .last-holds .ensures) (not-false _ (c .before .before .before .before .before .before .before .if1 .left)) (c .before .before .before .before .before .count .ensures)
-    (upto-stop _ _ _ (c .before .before .loop-test .taken) (instruction-says _ _ _ (c .before .before .before .before .before .before .offset .ensures) (c .before .before .before .before .before .count .ensures) (c .before .before .before .before .rights .ensures) (c .before .instruction-holds .ensures) ∙ not-true _ (c .if2 .taken))
+    body-says _ _ (c .before .before .before .before .before .before .before .before .last-holds .ensures)
+    (not-false _ (c .before .before .before .before .before .before .before .if1 .left)) (c .before .before .before .before .before .count .ensures)
+    (upto-stop _ _ _ (c .before .before .loop-test .taken)
+    (instruction-says _ _ _ (c .before .before .before .before .before .before .offset .ensures)
+    (c .before .before .before .before .before .count .ensures) (c .before .before .before .before .rights .ensures)
+    (c .before .instruction-holds .ensures) ∙ not-true _ (c .if2 .taken))
     ∙ c .before .before .before .loop .inv .1)
 
 add-i : tie.Need-add-i Inv-loop μ-loop
@@ -71,11 +68,18 @@ loop-less : tie.Need-loop-less Inv-loop μ-loop
 loop-less c = omega arith
 
 loop-again : tie.Need-loop-again Inv-loop μ-loop
-loop-again c = (omega arith, upto-next _ _ _ (c .before .before .loop-test .taken) (instruction-says _ _ _ (c .before .before .before .before .before .before .offset .ensures) (c .before .before .before .before .before .count .ensures) (c .before .before .before .before .rights .ensures) (c .before .instruction-holds .ensures) ∙ not-false _ (c .if2 .left)) ∙ c .before .before .before .loop .inv .1)
+loop-again c = (
+  omega arith,
+  upto-next _ _ _ (c .before .before .loop-test .taken)
+      (instruction-says _ _ _ (c .before .before .before .before .before .before .offset .ensures) (c .before .before .before .before .before .count .ensures)
+      (c .before .before .before .before .rights .ensures) (c .before .instruction-holds .ensures) ∙ not-false _ (c .if2 .left))
+      ∙ c .before .before .before .loop .inv .1,
+)
 
 returns-3 : tie.Need-returns-3 Inv-loop μ-loop
 returns-3 c =
-    body-says _ _ (c .before .before .before .before .before .before .last-holds .ensures) (not-false _ (c .before .before .before .before .before .if1 .left)) (c .before .before .before .count .ensures)
+    body-says _ _ (c .before .before .before .before .before .before .last-holds .ensures)
+    (not-false _ (c .before .before .before .before .before .if1 .left)) (c .before .before .before .count .ensures)
     (upto-end _ _ _ (c .loop-test .left) ∙ c .before .loop .inv .1)
 
 pub body-holds-spec : {M : Type 1} → statement M

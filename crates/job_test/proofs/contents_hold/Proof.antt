@@ -7,11 +7,6 @@ use mathlib.Core.Path.{ap, sym, _∙_}
 use borrow.Author.Needs.{needs}
 use Rattle.job_test.proofs.contents_hold.Statement.{statement}
 use Rattle.job_test.proofs.contents_hold.Tie as tie
-use Rattle.job_test.proofs.contents_hold.Reads as reads
-use Rattle.job_test.proofs.contents_hold.Lts as lts
-use Rattle.job_fields.proofs.procedures.Reads as procedures-reads
-use Rattle.job_fields.proofs.rights.Reads as rights-reads
-use Rattle.job_test.proofs.entries_hold.Reads as entries-hold-reads
 
 rights-requires : tie.Need-rights-requires
 rights-requires c κs = search needs
@@ -28,7 +23,9 @@ entries-hold-requires c κs = search needs
 
 returns-2 : tie.Need-returns-2
 unfolding contentsHold
-returns-2 c = c .entries-hold .ensures ∙ ap (λ (k : ℕ). entriesHold (c .before .before .before .before .before .args .job .now) k 0 (entryAt k)) (c .before .procedures .ensures) ∙ sym (both-on (eq-eqb _ _ (sym (c .before .before .before .rights .ensures) ∙ c .before .before .if1 .left)))
+returns-2 c =
+    c .entries-hold .ensures ∙ ap (λ (k : ℕ). entriesHold (c .before .before .before .before .before .args .job .now) k 0 (entryAt k))
+    (c .before .procedures .ensures) ∙ sym (both-on (eq-eqb _ _ (sym (c .before .before .before .rights .ensures) ∙ c .before .before .if1 .left)))
 
 pub contents-hold-spec : {M : Type 1} → statement M
 contents-hold-spec =

@@ -10,10 +10,6 @@ use Rattle.job_test.proofs.Glue.{few}
 use Rattle.job_test.proofs.Loops.{entries-start, entries-next, entries-stop, entries-end}
 use Rattle.job_test.proofs.entries_hold.Statement.{statement}
 use Rattle.job_test.proofs.entries_hold.Tie as tie
-use Rattle.job_test.proofs.entries_hold.Reads as reads
-use Rattle.job_test.proofs.entries_hold.Lts as lts
-use Rattle.job_fields.proofs.count.Reads as count-reads
-use Rattle.job_test.proofs.entry_holds.Reads as entry-holds-reads
 
 abbrev Inv-loop : tie.InvT-loop
 Inv-loop job n a₀ p₀ a p = (p ≤ n) × (a ≤ 4 + n * 6 + p * 768) × (entriesHold job (n - p) p a ≡ entriesHold job n 0 (entryAt n))
@@ -34,7 +30,9 @@ entry-holds-requires : tie.Need-entry-holds-requires Inv-loop μ-loop
 entry-holds-requires c κs = search needs
 
 returns : tie.Need-returns Inv-loop μ-loop
-returns c = entries-stop _ _ _ _ (c .before .before .loop-test .taken) (sym (c .before .entry-holds .ensures) ∙ not-true _ (c .if1 .taken)) ∙ c .before .before .before .loop .inv .2
+returns c =
+    entries-stop _ _ _ _ (c .before .before .loop-test .taken) (sym (c .before .entry-holds .ensures) ∙ not-true _ (c .if1 .taken))
+    ∙ c .before .before .before .loop .inv .2
 
 count-requires : tie.Need-count-requires Inv-loop μ-loop
 count-requires c κs = search needs
@@ -55,7 +53,15 @@ loop-less : tie.Need-loop-less Inv-loop μ-loop
 loop-less c = omega arith
 
 loop-again : tie.Need-loop-again Inv-loop μ-loop
-loop-again c = (omega arith, omega (arith, few _ _ _ (sym (c .before .before .entry-holds .ensures) ∙ not-false _ (c .before .if1 .left)) (c .count .ensures)), ap (λ (k : ℕ). entriesHold (c .before .before .before .before .before .before .args .job .now) (c .before .before .before .before .before .before .args .n - (c .before .before .before .before .loop .p + 1)) (c .before .before .before .before .loop .p + 1) (c .before .before .before .before .loop .a + k * 6)) (c .count .ensures) ∙ entries-next _ _ _ _ (c .before .before .before .loop-test .taken) (sym (c .before .before .entry-holds .ensures) ∙ not-false _ (c .before .if1 .left)) ∙ c .before .before .before .before .loop .inv .2)
+loop-again c = (
+  omega arith,
+  omega (arith, few _ _ _ (sym (c .before .before .entry-holds .ensures) ∙ not-false _ (c .before .if1 .left)) (c .count .ensures)),
+  ap (λ (k : ℕ). entriesHold (c .before .before .before .before .before .before .args .job .now)
+      (c .before .before .before .before .before .before .args .n - (c .before .before .before .before .loop .p + 1))
+      (c .before .before .before .before .loop .p + 1) (c .before .before .before .before .loop .a + k * 6)) (c .count .ensures)
+      ∙ entries-next _ _ _ _ (c .before .before .before .loop-test .taken) (sym (c .before .before .entry-holds .ensures) ∙ not-false _ (c .before .if1 .left))
+      ∙ c .before .before .before .before .loop .inv .2,
+)
 
 returns-2 : tie.Need-returns-2 Inv-loop μ-loop
 unfolding size

@@ -8,12 +8,6 @@ use Rattle.job_test.proofs.Glue.{in-range}
 use borrow.Author.Needs.{needs}
 use Rattle.job_test.proofs.entry_holds.Statement.{statement}
 use Rattle.job_test.proofs.entry_holds.Tie as tie
-use Rattle.job_test.proofs.entry_holds.Reads as reads
-use Rattle.job_test.proofs.entry_holds.Lts as lts
-use Rattle.job_fields.proofs.count.Reads as count-reads
-use Rattle.job_fields.proofs.offset.Reads as offset-reads
-use Rattle.job_fields.proofs.reserved.Reads as reserved-reads
-use Rattle.job_test.proofs.between.Reads as between-reads
 
 offset-requires : tie.Need-offset-requires
 offset-requires c κs = search needs
@@ -42,7 +36,10 @@ reserved-requires c κs = search needs
 
 returns-3 : tie.Need-returns-3
 unfolding entryHolds
-returns-3 c = ap (λ (k : ℕ). eqb k 0) (c .reserved .ensures) ∙ sym (both-on (eq-eqb _ _ (sym (c .before .before .before .before .before .offset .ensures) ∙ c .before .before .before .if1 .left)) ∙ both-on (in-range 1 128 (c .before .before .before .before .count .ensures) (c .before .before .between .ensures) ∙ not-false _ (c .before .if2 .left)))
+returns-3 c =
+    ap (λ (k : ℕ). eqb k 0) (c .reserved .ensures)
+    ∙ sym (both-on (eq-eqb _ _ (sym (c .before .before .before .before .before .offset .ensures) ∙ c .before .before .before .if1 .left))
+    ∙ both-on (in-range 1 128 (c .before .before .before .before .count .ensures) (c .before .before .between .ensures) ∙ not-false _ (c .before .if2 .left)))
 
 pub entry-holds-spec : {M : Type 1} → statement M
 entry-holds-spec =

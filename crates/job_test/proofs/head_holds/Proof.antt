@@ -9,11 +9,6 @@ use Rattle.job_test.proofs.Glue.{in-range}
 use borrow.Author.Needs.{needs}
 use Rattle.job_test.proofs.head_holds.Statement.{statement}
 use Rattle.job_test.proofs.head_holds.Tie as tie
-use Rattle.job_test.proofs.head_holds.Reads as reads
-use Rattle.job_test.proofs.head_holds.Lts as lts
-use Rattle.job_fields.proofs.procedures.Reads as procedures-reads
-use Rattle.job_fields.proofs.segment_length.Reads as segment-length-reads
-use Rattle.job_test.proofs.between.Reads as between-reads
 
 procedures-requires : tie.Need-procedures-requires
 procedures-requires c κs = search needs
@@ -41,8 +36,10 @@ returns-3 : tie.Need-returns-3
 unfolding headHolds size
 returns-3 c =
     sym (both-on (le-leb _ _ (c .before .before .before .before .if1 .left))
-    ∙ both-on (in-range 1 64 (c .before .before .before .before .before .before .procedures .ensures) (c .before .before .before .between .ensures) ∙ not-false _ (c .before .before .if2 .left))
-    ∙ both-off _ (in-range 1 64 (c .before .before .before .before .before .segment-length .ensures) (c .before .between2 .ensures) ∙ not-true _ (c .if3 .taken)))
+    ∙ both-on (in-range 1 64 (c .before .before .before .before .before .before .procedures .ensures) (c .before .before .before .between .ensures)
+    ∙ not-false _ (c .before .before .if2 .left))
+    ∙ both-off _ (in-range 1 64 (c .before .before .before .before .before .segment-length .ensures) (c .before .between2 .ensures)
+    ∙ not-true _ (c .if3 .taken)))
 
 cast-result : tie.Need-cast-result
 cast-result c = search needs
@@ -57,9 +54,11 @@ returns-4 : tie.Need-returns-4
 unfolding headHolds size
 returns-4 c =
     sym (both-on (le-leb _ _ (c .before .before .before .before .if1 .left))
-    ∙ both-on (in-range 1 64 (c .before .before .before .before .before .before .procedures .ensures) (c .before .before .before .between .ensures) ∙ not-false _ (c .before .before .if2 .left))
+    ∙ both-on (in-range 1 64 (c .before .before .before .before .before .before .procedures .ensures) (c .before .before .before .between .ensures)
+    ∙ not-false _ (c .before .before .if2 .left))
     ∙ both-on (in-range 1 64 (c .before .before .before .before .before .segment-length .ensures) (c .before .between2 .ensures) ∙ not-false _ (c .if3 .left))
-    ∙ ap (λ (k : ℕ). leb (entryAt k) (size (c .before .before .before .before .before .before .before .before .args .job .now))) (sym (c .before .before .before .before .before .before .procedures .ensures)))
+    ∙ ap (λ (k : ℕ). leb (entryAt k) (size (c .before .before .before .before .before .before .before .before .args .job .now)))
+    (sym (c .before .before .before .before .before .before .procedures .ensures)))
 
 pub head-holds-spec : {M : Type 1} → statement M
 head-holds-spec =

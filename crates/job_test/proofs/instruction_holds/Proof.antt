@@ -3,11 +3,6 @@ use borrow.Author.Tests.{not-true, not-false}
 use borrow.Author.Needs.{needs}
 use Rattle.job_test.proofs.instruction_holds.Statement.{statement}
 use Rattle.job_test.proofs.instruction_holds.Tie as tie
-use Rattle.job_test.proofs.instruction_holds.Reads as reads
-use Rattle.job_test.proofs.instruction_holds.Lts as lts
-use Rattle.job_fields.proofs.instruction_from.Reads as instruction-from-reads
-use Rattle.job_test.proofs.operand_holds.Reads as operand-holds-reads
-use Rattle.job_test.proofs.which_holds.Reads as which-holds-reads
 
 instruction-from-requires : tie.Need-instruction-from-requires
 instruction-from-requires c κs = search needs
@@ -22,7 +17,9 @@ operand-holds-requires : tie.Need-operand-holds-requires
 operand-holds-requires c κs = search needs
 
 returns-2 : tie.Need-returns-2
-returns-2 c = operand-says _ _ _ (c .before .before .before .instruction-from .ensures) (c .before .before .which-holds .ensures) (not-false _ (c .before .if1 .left)) (c .operand-holds .ensures)
+returns-2 c =
+    operand-says _ _ _ (c .before .before .before .instruction-from .ensures) (c .before .before .which-holds .ensures) (not-false _ (c .before .if1 .left))
+    (c .operand-holds .ensures)
 
 pub instruction-holds-spec : {M : Type 1} → statement M
 instruction-holds-spec =

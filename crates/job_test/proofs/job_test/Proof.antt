@@ -6,11 +6,6 @@ use mathlib.Core.Path.{refl, ap, sym, _∙_}
 use borrow.Author.Needs.{needs}
 use Rattle.job_test.proofs.job_test.Statement.{statement}
 use Rattle.job_test.proofs.job_test.Tie as tie
-use Rattle.job_test.proofs.job_test.Reads as reads
-use Rattle.job_test.proofs.job_test.Lts as lts
-use Rattle.job_test.proofs.bodies_hold.Reads as bodies-hold-reads
-use Rattle.job_test.proofs.contents_hold.Reads as contents-hold-reads
-use Rattle.job_test.proofs.head_holds.Reads as head-holds-reads
 
 head-holds-requires : tie.Need-head-holds-requires
 head-holds-requires c κs = search needs
@@ -24,18 +19,26 @@ contents-hold-requires c κs = search needs
 
 returns-2 : tie.Need-returns-2
 unfolding jobAnswer refusal10 refusal11
-returns-2 c = sym (pass _ (ap not (sym (c .before .before .before .head-holds .ensures)) ∙ c .before .before .if1 .left) (halt _ _ (ap not (sym (c .before .contents-hold .ensures)) ∙ c .if2 .taken)))
+returns-2 c =
+    sym (pass _ (ap not (sym (c .before .before .before .head-holds .ensures)) ∙ c .before .before .if1 .left)
+    (halt _ _ (ap not (sym (c .before .contents-hold .ensures)) ∙ c .if2 .taken)))
 
 bodies-hold-requires : tie.Need-bodies-hold-requires
 bodies-hold-requires c κs = sym (c .before .contents-hold .ensures) ∙ not-false _ (c .if2 .left)
 
 returns-3 : tie.Need-returns-3
 unfolding jobAnswer refusal10 refusal11 refusal12
-returns-3 c = sym (pass _ (ap not (sym (c .before .before .before .before .before .head-holds .ensures)) ∙ c .before .before .before .before .if1 .left) (pass _ (ap not (sym (c .before .before .before .contents-hold .ensures)) ∙ c .before .before .if2 .left) (halt _ _ (ap not (sym (c .before .bodies-hold .ensures)) ∙ c .if3 .taken))))
+returns-3 c =
+    sym (pass _ (ap not (sym (c .before .before .before .before .before .head-holds .ensures)) ∙ c .before .before .before .before .if1 .left)
+    (pass _ (ap not (sym (c .before .before .before .contents-hold .ensures)) ∙ c .before .before .if2 .left)
+    (halt _ _ (ap not (sym (c .before .bodies-hold .ensures)) ∙ c .if3 .taken))))
 
 returns-4 : tie.Need-returns-4
 unfolding jobAnswer refusal10 refusal11 refusal12
-returns-4 c = sym (pass _ (ap not (sym (c .before .before .before .before .before .head-holds .ensures)) ∙ c .before .before .before .before .if1 .left) (pass _ (ap not (sym (c .before .before .before .contents-hold .ensures)) ∙ c .before .before .if2 .left) (pass _ (ap not (sym (c .before .bodies-hold .ensures)) ∙ c .if3 .left) refl)))
+returns-4 c =
+    sym (pass _ (ap not (sym (c .before .before .before .before .before .head-holds .ensures)) ∙ c .before .before .before .before .if1 .left)
+    (pass _ (ap not (sym (c .before .before .before .contents-hold .ensures)) ∙ c .before .before .if2 .left)
+    (pass _ (ap not (sym (c .before .bodies-hold .ensures)) ∙ c .if3 .left) refl)))
 
 pub job-test-spec : {M : Type 1} → statement M
 job-test-spec =

@@ -2,10 +2,6 @@ use Rattle.job_test.proofs.Glue.{last-yes, last-no}
 use borrow.Author.Needs.{needs}
 use Rattle.job_test.proofs.last_holds.Statement.{statement}
 use Rattle.job_test.proofs.last_holds.Tie as tie
-use Rattle.job_test.proofs.last_holds.Reads as reads
-use Rattle.job_test.proofs.last_holds.Lts as lts
-use Rattle.job_fields.proofs.count.Reads as count-reads
-use Rattle.job_fields.proofs.instruction_at.Reads as instruction-at-reads
 
 count-requires : tie.Need-count-requires
 count-requires c κs = search needs

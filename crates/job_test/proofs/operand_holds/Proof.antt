@@ -4,8 +4,6 @@ use Prim.Native.Nat.{zero-le}
 use mathlib.Core.Logic.{inl, inr}
 use Rattle.job_test.proofs.operand_holds.Statement.{statement}
 use Rattle.job_test.proofs.operand_holds.Tie as tie
-use Rattle.job_test.proofs.operand_holds.Reads as reads
-use Rattle.job_test.proofs.operand_holds.Lts as lts
 
 returns : tie.Need-returns
 returns c = operand-zero _ _ (c .match .keys1)

@@ -4,9 +4,6 @@ use mathlib.Core.Path.{sym, _∙_}
 use borrow.Author.Needs.{needs}
 use Rattle.job_test.proofs.pushed_queue.Statement.{statement}
 use Rattle.job_test.proofs.pushed_queue.Tie as tie
-use Rattle.job_test.proofs.pushed_queue.Reads as reads
-use Rattle.job_test.proofs.pushed_queue.Lts as lts
-use Rattle.rights.proofs.pushes.Reads as pushes-reads
 
 returns : tie.Need-returns
 returns c = sym (both-off _ (le-ltb _ _ (c .if1 .taken)))

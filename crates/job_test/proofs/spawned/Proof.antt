@@ -7,11 +7,6 @@ use mathlib.Core.Path.{ap, sym, _∙_}
 use borrow.Author.Needs.{needs}
 use Rattle.job_test.proofs.spawned.Statement.{statement}
 use Rattle.job_test.proofs.spawned.Tie as tie
-use Rattle.job_test.proofs.spawned.Reads as reads
-use Rattle.job_test.proofs.spawned.Lts as lts
-use Rattle.job_fields.proofs.procedures.Reads as procedures-reads
-use Rattle.job_fields.proofs.rights.Reads as rights-reads
-use Rattle.rights.proofs.subset.Reads as subset-reads
 
 procedures-requires : tie.Need-procedures-requires
 procedures-requires c κs = search needs
@@ -26,7 +21,10 @@ subset-requires : tie.Need-subset-requires
 subset-requires c κs = search needs
 
 returns-2 : tie.Need-returns-2
-returns-2 c = c .subset .ensures ∙ ap (λ (s : ℕ). subset s (c .before .before .before .before .before .args .r)) (c .before .rights .ensures) ∙ sym (both-on (ap (ltb (c .before .before .before .before .before .args .w)) (sym (c .before .before .before .procedures .ensures)) ∙ lt-ltb _ _ (c .before .before .if1 .left)))
+returns-2 c =
+    c .subset .ensures ∙ ap (λ (s : ℕ). subset s (c .before .before .before .before .before .args .r)) (c .before .rights .ensures)
+    ∙ sym (both-on (ap (ltb (c .before .before .before .before .before .args .w)) (sym (c .before .before .before .procedures .ensures))
+    ∙ lt-ltb _ _ (c .before .before .if1 .left)))
 
 pub spawned-spec : {M : Type 1} → statement M
 spawned-spec =

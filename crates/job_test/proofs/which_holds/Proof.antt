@@ -6,11 +6,6 @@ use Rattle.job.specs.Rows.{above}
 use borrow.Author.Needs.{needs}
 use Rattle.job_test.proofs.which_holds.Statement.{statement}
 use Rattle.job_test.proofs.which_holds.Tie as tie
-use Rattle.job_test.proofs.which_holds.Reads as reads
-use Rattle.job_test.proofs.which_holds.Lts as lts
-use Rattle.job_test.proofs.popped_queue.Reads as popped-queue-reads
-use Rattle.job_test.proofs.pushed_queue.Reads as pushed-queue-reads
-use Rattle.job_test.proofs.spawned.Reads as spawned-reads
 
 spawned-requires : tie.Need-spawned-requires
 spawned-requires c κs = search needs
@@ -31,7 +26,9 @@ returns-3 : tie.Need-returns-3
 returns-3 c = c .popped-queue .ensures ∙ which-popped _ _ _ _ (c .before .before .if1 .left) (c .before .if2 .taken)
 
 returns-4 : tie.Need-returns-4
-returns-4 c = which-past _ _ _ _ (above 9 _ (above 8 _ (c .if3 .left) (c .before .before .before .match .rest .0 .1)) (λ e. c .before .before .before .match .rest .1 (inr e)))
+returns-4 c =
+    which-past _ _ _ _ (above 9 _ (above 8 _ (c .if3 .left) (c .before .before .before .match .rest .0 .1))
+    (λ e. c .before .before .before .match .rest .1 (inr e)))
 
 returns-5 : tie.Need-returns-5
 returns-5 c = ⊎-elim (λ s. which-zero _ _ _ (s .keys2)) (λ s. which-goes _ _ _ _ (s .2 .left) (s .3 .taken)) (c .match .came)

@@ -2,10 +2,6 @@ use Rattle.leaving.proofs.Glue.{no-queue, not-yet, found}
 use borrow.Author.Needs.{needs}
 use Rattle.leaving.proofs.left.Statement.{statement}
 use Rattle.leaving.proofs.left.Tie as tie
-use Rattle.leaving.proofs.left.Reads as reads
-use Rattle.leaving.proofs.left.Lts as lts
-use Rattle.leaving.proofs.queued.Reads as queued-reads
-use Rattle.memory.proofs.task.Reads as task-reads
 
 returns : tie.Need-returns
 returns c = no-queue _ _ _ (c .if1 .taken)
@@ -26,7 +22,9 @@ queued-requires : tie.Need-queued-requires
 queued-requires c κs = search needs
 
 returns-3 : tie.Need-returns-3
-returns-3 c = found _ _ _ (c .before .before .before .before .if1 .left) (c .before .before .before .task .ensures) (c .before .before .if2 .left) (c .before .task2 .ensures) (c .queued .ensures)
+returns-3 c =
+    found _ _ _ (c .before .before .before .before .if1 .left) (c .before .before .before .task .ensures) (c .before .before .if2 .left)
+    (c .before .task2 .ensures) (c .queued .ensures)
 
 pub left-spec : {M : Type 1} → statement M
 left-spec =

@@ -1,15 +1,11 @@
-use mathlib.Core.Path.{_≡_, refl, sym, _∙_, ap}
-use Prim.Native.Nat.{ℕ, _≤_, _<_, _-_, _+_, _^_}
+use mathlib.Core.Path.{_≡_, refl, _∙_}
+use Prim.Native.Nat.{_≤_, _<_, _^_}
 use native.Mathlib.Omega.{arith}
 use borrow.Author.Needs.{needs}
 use Rattle.calls.specs.Left.{queued}
 use Rattle.leaving.proofs.Glue.{chain-end, chain-here, chain-on, chain-none}
 use Rattle.leaving.proofs.queued.Statement.{statement}
 use Rattle.leaving.proofs.queued.Tie as tie
-use Rattle.leaving.proofs.queued.Reads as reads
-use Rattle.leaving.proofs.queued.Lts as lts
-use Rattle.memory.proofs.segment.Reads as segment-reads
-use Rattle.segments.proofs.value_at.Reads as value-at-reads
 
 abbrev Inv-loop : tie.InvT-loop
 Inv-loop m first index s₀ i₀ k₀ s i k = (s < 2 ^ 32) × (i < 2 ^ 32) × (k ≤ 256) × (queued k m s i ≡ queued 256 m first index)
@@ -30,7 +26,9 @@ value-at-requires : tie.Need-value-at-requires Inv-loop μ-loop
 value-at-requires c κs = search needs
 
 returns-2 : tie.Need-returns-2 Inv-loop μ-loop
-returns-2 c = chain-here _ _ _ _ _ _ (c .before .before .before .before .loop-test .taken) (c .before .before .before .if1 .left) (c .before .before .segment .ensures) (c .before .if2 .taken) (c .value-at .ensures) ∙ c .before .before .before .before .before .loop .inv .3
+returns-2 c =
+    chain-here _ _ _ _ _ _ (c .before .before .before .before .loop-test .taken) (c .before .before .before .if1 .left) (c .before .before .segment .ensures)
+    (c .before .if2 .taken) (c .value-at .ensures) ∙ c .before .before .before .before .before .loop .inv .3
 
 segment-requires-2 : tie.Need-segment-requires-2 Inv-loop μ-loop
 segment-requires-2 c κs = search needs
@@ -42,7 +40,13 @@ loop-less : tie.Need-loop-less Inv-loop μ-loop
 loop-less c = omega arith
 
 loop-again : tie.Need-loop-again Inv-loop μ-loop
-loop-again c = (search needs, omega arith, omega arith, chain-on _ _ _ _ _ _ _ (c .before .before .before .before .loop-test .taken) (c .before .before .before .if1 .left) (c .before .before .segment .ensures) (c .before .if2 .left) refl (c .segment2 .ensures) ∙ c .before .before .before .before .before .loop .inv .3)
+loop-again c = (
+  search needs,
+  omega arith,
+  omega arith,
+  chain-on _ _ _ _ _ _ _ (c .before .before .before .before .loop-test .taken) (c .before .before .before .if1 .left) (c .before .before .segment .ensures)
+      (c .before .if2 .left) refl (c .segment2 .ensures) ∙ c .before .before .before .before .before .loop .inv .3,
+)
 
 returns-3 : tie.Need-returns-3 Inv-loop μ-loop
 returns-3 c = chain-none _ _ _ _ (c .loop-test .left) ∙ c .before .loop .inv .3

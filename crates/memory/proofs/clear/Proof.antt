@@ -1,15 +1,13 @@
 use lib.ListN.{length-set}
-use mathlib.Core.Path.{_≡_, refl, sym, _∙_, ap}
-use Prim.Native.Nat.{ℕ, _≤_, _<_, _-_, _+_}
-use mathlib.Core.List.{List, _++_}
+use mathlib.Core.Path.{_≡_, refl, _∙_}
+use Prim.Native.Nat.{_≤_, _-_}
+use mathlib.Core.List.{_++_}
 use lib.ListN.{length, drop, replicate}
 use native.Mathlib.Omega.{arith}
 use borrow.Author.Needs.{needs}
 use Rattle.memory.proofs.Glue.{clear-more, clear-done}
 use Rattle.memory.proofs.clear.Statement.{statement}
 use Rattle.memory.proofs.clear.Tie as tie
-use Rattle.memory.proofs.clear.Reads as reads
-use Rattle.memory.proofs.clear.Lts as lts
 
 abbrev Inv-loop : tie.InvT-loop
 Inv-loop m₀ n i₀ m i = (n ≡ length m₀) × (i ≤ n) × (length m ≡ length m₀) × (m ≡ replicate i 0 ++ drop i m₀)
@@ -33,13 +31,20 @@ loop-less : tie.Need-loop-less Inv-loop μ-loop
 loop-less c = omega arith
 
 loop-again : tie.Need-loop-again Inv-loop μ-loop
-loop-again c = (refl, omega arith, length-set (c .before .loop .m) (c .before .loop .i) 0 ∙ c .before .loop .inv .2, clear-more (c .before .before .args .m .now) (c .before .loop .m) _ (c .before .loop .i) (c .loop-test .taken) (c .before .loop .inv .3) refl)
+loop-again c = (
+  refl,
+  omega arith,
+  length-set (c .before .loop .m) (c .before .loop .i) 0 ∙ c .before .loop .inv .2,
+  clear-more (c .before .before .args .m .now) (c .before .loop .m) _ (c .before .loop .i) (c .loop-test .taken) (c .before .loop .inv .3) refl,
+)
 
 same-length : tie.Need-same-length Inv-loop μ-loop
 same-length c = search needs
 
 returns : tie.Need-returns Inv-loop μ-loop
-returns c = clear-done (c .before .before .args .m .now) (c .before .loop .m) (c .before .loop .i) _ refl (c .before .loop .inv .1) (c .loop-test .left) (c .before .loop .inv .3)
+returns c =
+    clear-done (c .before .before .args .m .now) (c .before .loop .m) (c .before .loop .i) _ refl (c .before .loop .inv .1) (c .loop-test .left)
+    (c .before .loop .inv .3)
 
 pub clear-spec : {M : Type 1} → statement M
 clear-spec =

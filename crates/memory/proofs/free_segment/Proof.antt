@@ -2,9 +2,6 @@ use Rattle.layout.specs.Layout.{read, address}
 use borrow.Author.Needs.{needs}
 use Rattle.memory.proofs.free_segment.Statement.{statement}
 use Rattle.memory.proofs.free_segment.Tie as tie
-use Rattle.memory.proofs.free_segment.Reads as reads
-use Rattle.memory.proofs.free_segment.Lts as lts
-use Rattle.memory.proofs.get.Reads as get-reads
 
 add-get : tie.Need-add-get
 add-get c = search needs

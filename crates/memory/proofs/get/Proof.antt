@@ -4,8 +4,6 @@ use Rattle.words.specs.Words.{load}
 use borrow.Author.Needs.{needs}
 use Rattle.memory.proofs.get.Statement.{statement}
 use Rattle.memory.proofs.get.Tie as tie
-use Rattle.memory.proofs.get.Reads as reads
-use Rattle.memory.proofs.get.Lts as lts
 
 mul-result : tie.Need-mul-result
 mul-result c = search needs

@@ -2,9 +2,6 @@ use Rattle.layout.specs.Layout.{read, address}
 use borrow.Author.Needs.{needs}
 use Rattle.memory.proofs.header.Statement.{statement}
 use Rattle.memory.proofs.header.Tie as tie
-use Rattle.memory.proofs.header.Reads as reads
-use Rattle.memory.proofs.header.Lts as lts
-use Rattle.memory.proofs.get.Reads as get-reads
 
 get-requires : tie.Need-get-requires
 get-requires c κs = search needs

@@ -4,8 +4,6 @@ use Rattle.words.specs.Words.{store}
 use borrow.Author.Needs.{needs}
 use Rattle.memory.proofs.put.Statement.{statement}
 use Rattle.memory.proofs.put.Tie as tie
-use Rattle.memory.proofs.put.Reads as reads
-use Rattle.memory.proofs.put.Lts as lts
 
 mul-m : tie.Need-mul-m
 mul-m c = search needs

@@ -2,9 +2,6 @@ use Rattle.words.specs.Blocks.{store-four}
 use borrow.Author.Needs.{needs}
 use Rattle.memory.proofs.put4.Statement.{statement}
 use Rattle.memory.proofs.put4.Tie as tie
-use Rattle.memory.proofs.put4.Reads as reads
-use Rattle.memory.proofs.put4.Lts as lts
-use Rattle.memory.proofs.put.Reads as put-reads
 
 put-requires : tie.Need-put-requires
 put-requires c κs = search needs

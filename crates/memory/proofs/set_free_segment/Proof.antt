@@ -2,9 +2,6 @@ use Rattle.layout.specs.Layout.{write, address}
 use borrow.Author.Needs.{needs}
 use Rattle.memory.proofs.set_free_segment.Statement.{statement}
 use Rattle.memory.proofs.set_free_segment.Tie as tie
-use Rattle.memory.proofs.set_free_segment.Reads as reads
-use Rattle.memory.proofs.set_free_segment.Lts as lts
-use Rattle.memory.proofs.put.Reads as put-reads
 
 add-put : tie.Need-add-put
 add-put c = search needs

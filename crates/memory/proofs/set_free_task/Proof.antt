@@ -2,9 +2,6 @@ use Rattle.layout.specs.Layout.{write, address}
 use borrow.Author.Needs.{needs}
 use Rattle.memory.proofs.set_free_task.Statement.{statement}
 use Rattle.memory.proofs.set_free_task.Tie as tie
-use Rattle.memory.proofs.set_free_task.Reads as reads
-use Rattle.memory.proofs.set_free_task.Lts as lts
-use Rattle.memory.proofs.put.Reads as put-reads
 
 add-put : tie.Need-add-put
 add-put c = search needs

@@ -2,9 +2,6 @@ use Rattle.layout.specs.Layout.{write, address}
 use borrow.Author.Needs.{needs}
 use Rattle.memory.proofs.set_header.Statement.{statement}
 use Rattle.memory.proofs.set_header.Tie as tie
-use Rattle.memory.proofs.set_header.Reads as reads
-use Rattle.memory.proofs.set_header.Lts as lts
-use Rattle.memory.proofs.put.Reads as put-reads
 
 put-requires : tie.Need-put-requires
 put-requires c κs = search needs

@@ -1,6 +1,5 @@
-use mathlib.Core.Path.{_≡_, refl, sym, _∙_, ap}
-use Prim.Native.Nat.{ℕ, _≤_, _<_, _-_, _+_}
-use mathlib.Core.List.{List}
+use mathlib.Core.Path.{_≡_, refl, sym, _∙_}
+use Prim.Native.Nat.{_≤_, _-_, _+_}
 use lib.ListN.{length}
 use native.Mathlib.Omega.{arith}
 use borrow.Author.Needs.{needs}
@@ -9,9 +8,6 @@ use Rattle.words.specs.Blocks.{storeAll}
 use Rattle.opening.specs.Stores.{down-start, down-step, down-done}
 use Rattle.opening.proofs.count_down.Statement.{statement}
 use Rattle.opening.proofs.count_down.Tie as tie
-use Rattle.opening.proofs.count_down.Reads as reads
-use Rattle.opening.proofs.count_down.Lts as lts
-use Rattle.memory.proofs.put.Reads as put-reads
 
 abbrev Inv-loop : tie.InvT-loop
 Inv-loop m₀ a n x i₀ m i = (i ≤ n) × (length m ≡ length m₀) × (storeAll m (a + i) (down (n - i) (x - i)) ≡ storeAll m₀ a (down n x))
@@ -41,7 +37,12 @@ loop-less : tie.Need-loop-less Inv-loop μ-loop
 loop-less c = omega arith
 
 loop-again : tie.Need-loop-again Inv-loop μ-loop
-loop-again c = (omega arith, c .before .before .put .kept .0 ∙ c .before .before .before .before .before .loop .inv .1, down-step _ _ _ _ _ _ (c .before .before .before .before .loop-test .taken) (c .before .before .before .before .before .before .before .pre .2) (c .before .before .put .ensures) ∙ c .before .before .before .before .before .loop .inv .2)
+loop-again c = (
+  omega arith,
+  c .before .before .put .kept .0 ∙ c .before .before .before .before .before .loop .inv .1,
+  down-step _ _ _ _ _ _ (c .before .before .before .before .loop-test .taken) (c .before .before .before .before .before .before .before .pre .2)
+      (c .before .before .put .ensures) ∙ c .before .before .before .before .before .loop .inv .2,
+)
 
 same-length : tie.Need-same-length Inv-loop μ-loop
 same-length c = c .before .loop .inv .1

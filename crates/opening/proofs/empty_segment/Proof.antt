@@ -2,9 +2,6 @@ use Rattle.opening.specs.Stores.{one-made}
 use borrow.Author.Needs.{needs}
 use Rattle.opening.proofs.empty_segment.Statement.{statement}
 use Rattle.opening.proofs.empty_segment.Tie as tie
-use Rattle.opening.proofs.empty_segment.Reads as reads
-use Rattle.opening.proofs.empty_segment.Lts as lts
-use Rattle.memory.proofs.set_segment.Reads as set-segment-reads
 
 set-segment-requires : tie.Need-set-segment-requires
 set-segment-requires c κs = search needs
@@ -19,7 +16,9 @@ same-length : tie.Need-same-length
 same-length c = search needs
 
 returns : tie.Need-returns
-returns c = one-made _ _ _ _ _ (c .before .before .before .before .before .before .before .before .before .before .set-segment .ensures) (c .before .before .before .before .before .before .set-segment2 .ensures) (c .before .before .set-segment3 .ensures)
+returns c =
+    one-made _ _ _ _ _ (c .before .before .before .before .before .before .before .before .before .before .set-segment .ensures)
+    (c .before .before .before .before .before .before .set-segment2 .ensures) (c .before .before .set-segment3 .ensures)
 
 pub empty-segment-spec : {M : Type 1} → statement M
 empty-segment-spec =

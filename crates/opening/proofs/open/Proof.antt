@@ -3,10 +3,6 @@ use Rattle.words.specs.Words.{size}
 use borrow.Author.Needs.{needs}
 use Rattle.opening.proofs.open.Statement.{statement}
 use Rattle.opening.proofs.open.Tie as tie
-use Rattle.opening.proofs.open.Reads as reads
-use Rattle.opening.proofs.open.Lts as lts
-use Rattle.opening.proofs.write_all.Reads as write-all-reads
-use Rattle.tree_test.proofs.in_range.Reads as in-range-reads
 
 returns : tie.Need-returns
 unfolding size
@@ -20,14 +16,20 @@ unfolding size
 returns-2 c = out-of-range _ _ _ (c .before .before .if1 .left) (c .before .in-range .ensures) (c .if2 .taken)
 
 write-all-requires : tie.Need-write-all-requires
-write-all-requires c κs = (c .before .before .before .if1 .left, number-fits _ _ (c .before .before .in-range .ensures) (c .before .if2 .left) .0, number-fits _ _ (c .before .before .in-range .ensures) (c .before .if2 .left) .1)
+write-all-requires c κs = (
+  c .before .before .before .if1 .left,
+  number-fits _ _ (c .before .before .in-range .ensures) (c .before .if2 .left) .0,
+  number-fits _ _ (c .before .before .in-range .ensures) (c .before .if2 .left) .1,
+)
 
 same-length : tie.Need-same-length
 same-length c = search needs
 
 returns-3 : tie.Need-returns-3
 unfolding size
-returns-3 c = opens _ _ _ _ (c .before .before .before .before .before .before .if1 .left) (c .before .before .before .before .before .in-range .ensures) (c .before .before .before .before .if2 .left) (c .before .before .write-all .ensures)
+returns-3 c =
+    opens _ _ _ _ (c .before .before .before .before .before .before .if1 .left) (c .before .before .before .before .before .in-range .ensures)
+    (c .before .before .before .before .if2 .left) (c .before .before .write-all .ensures)
 
 pub open-spec : {M : Type 1} → statement M
 open-spec =

@@ -2,9 +2,6 @@ use Rattle.opening.specs.Stores.{segments-made}
 use borrow.Author.Needs.{needs}
 use Rattle.opening.proofs.segment.Statement.{statement}
 use Rattle.opening.proofs.segment.Tie as tie
-use Rattle.opening.proofs.segment.Reads as reads
-use Rattle.opening.proofs.segment.Lts as lts
-use Rattle.opening.proofs.empty_segment.Reads as empty-segment-reads
 
 empty-segment-requires : tie.Need-empty-segment-requires
 empty-segment-requires c κs = search needs
@@ -22,7 +19,11 @@ same-length : tie.Need-same-length
 same-length c = search needs
 
 returns : tie.Need-returns
-returns c = segments-made _ _ _ _ _ (c .before .before .before .before .before .before .before .before .before .before .before .before .before .before .empty-segment .ensures) (c .before .before .before .before .before .before .before .before .before .before .empty-segment2 .ensures) (c .before .before .before .before .before .before .empty-segment3 .ensures) (c .before .before .empty-segment4 .ensures)
+returns c =
+    segments-made _ _ _ _ _
+    (c .before .before .before .before .before .before .before .before .before .before .before .before .before .before .empty-segment .ensures)
+    (c .before .before .before .before .before .before .before .before .before .before .empty-segment2 .ensures)
+    (c .before .before .before .before .before .before .empty-segment3 .ensures) (c .before .before .empty-segment4 .ensures)
 
 pub segment-spec : {M : Type 1} → statement M
 segment-spec =

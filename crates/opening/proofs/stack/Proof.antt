@@ -2,9 +2,6 @@ use Rattle.opening.specs.Stores.{stacks-made}
 use borrow.Author.Needs.{needs}
 use Rattle.opening.proofs.stack.Statement.{statement}
 use Rattle.opening.proofs.stack.Tie as tie
-use Rattle.opening.proofs.stack.Reads as reads
-use Rattle.opening.proofs.stack.Lts as lts
-use Rattle.opening.proofs.count_down.Reads as count-down-reads
 
 sub-count-down : tie.Need-sub-count-down
 sub-count-down c = search needs

@@ -2,13 +2,6 @@ use Rattle.opening.specs.Stores.{all-made}
 use borrow.Author.Needs.{needs}
 use Rattle.opening.proofs.write_all.Statement.{statement}
 use Rattle.opening.proofs.write_all.Tie as tie
-use Rattle.opening.proofs.write_all.Reads as reads
-use Rattle.opening.proofs.write_all.Lts as lts
-use Rattle.memory.proofs.clear.Reads as clear-reads
-use Rattle.memory.proofs.put4.Reads as put4-reads
-use Rattle.opening.proofs.segment.Reads as segment-reads
-use Rattle.opening.proofs.stack.Reads as stack-reads
-use Rattle.opening.proofs.top.Reads as top-reads
 
 clear-requires : tie.Need-clear-requires
 clear-requires c κs = search needs
@@ -32,7 +25,16 @@ same-length : tie.Need-same-length
 same-length c = search needs
 
 returns : tie.Need-returns
-returns c = all-made (c .before .before .before .before .before .before .before .before .before .before .before .before .before .before .before .before .before .before .before .before .before .args .m .now) _ _ _ _ _ _ _ (c .before .before .before .before .before .before .before .before .before .before .before .before .before .before .before .before .before .before .before .before .before .pre .0) (c .before .before .before .before .before .before .before .before .before .before .before .before .before .before .before .before .before .before .clear .ensures) (c .before .before .before .before .before .before .before .before .before .before .before .before .before .before .put4 .ensures) (c .before .before .before .before .before .before .before .before .before .before .stack .ensures) (c .before .before .before .before .before .before .segment .ensures) (c .before .before .top .ensures)
+returns c =
+    all-made
+    (c .before .before .before .before .before .before .before .before .before .before .before .before .before .before .before .before .before .before .before
+    .before .before .args .m .now) _ _ _ _ _ _ _
+    (c .before .before .before .before .before .before .before .before .before .before .before .before .before .before .before .before .before .before .before
+    .before .before .pre .0)
+    (c .before .before .before .before .before .before .before .before .before .before .before .before .before .before .before .before .before .before .clear
+    .ensures) (c .before .before .before .before .before .before .before .before .before .before .before .before .before .before .put4 .ensures)
+    (c .before .before .before .before .before .before .before .before .before .before .stack .ensures)
+    (c .before .before .before .before .before .before .segment .ensures) (c .before .before .top .ensures)
 
 pub write-all-spec : {M : Type 1} → statement M
 write-all-spec =

@@ -2,17 +2,6 @@ use Rattle.reading.specs.Inside.{read-counts}
 use borrow.Author.Needs.{needs}
 use Rattle.overlap.proofs.main.Statement.{statement}
 use Rattle.overlap.proofs.main.Tie as tie
-use Rattle.overlap.proofs.main.Reads as reads
-use Rattle.overlap.proofs.main.Lts as lts
-use Rattle.io.proofs.buffer.Reads as buffer-reads
-use Rattle.io.proofs.write_all.Reads as write-all-reads
-use Rattle.libc.proofs.close.Reads as close-reads
-use Rattle.os.proofs.arg.Reads as arg-reads
-use Rattle.os.proofs.errno.Reads as errno-reads
-use Rattle.os.proofs.fail.Reads as fail-reads
-use Rattle.os.proofs.open_read.Reads as open-read-reads
-use Rattle.reading.proofs.read_start.Reads as read-start-reads
-use Rattle.overlap.proofs.run.Reads as run-reads
 
 buffer-requires : tie.Need-buffer-requires
 buffer-requires c κs = search needs
@@ -66,10 +55,14 @@ enum-known-n : tie.Need-enum-known-n
 enum-known-n c = search needs
 
 array-share-prefix-file : tie.Need-array-share-prefix-file
-array-share-prefix-file c = read-counts _ (c .before .n .given .0 .0) (c .before .before .before .before .read-start .last .1 .0) (c .before .before .before .before .read-start .ensures) (c .before .n .given .1) .0
+array-share-prefix-file c =
+    read-counts _ (c .before .n .given .0 .0) (c .before .before .before .before .read-start .last .1 .0)
+    (c .before .before .before .before .read-start .ensures) (c .before .n .given .1) .0
 
 slice-aggregate-run : tie.Need-slice-aggregate-run
-slice-aggregate-run c = read-counts _ (c .before .before .n .given .0 .0) (c .before .before .before .before .before .read-start .last .1 .0) (c .before .before .before .before .before .read-start .ensures) (c .before .before .n .given .1) .1
+slice-aggregate-run c =
+    read-counts _ (c .before .before .n .given .0 .0) (c .before .before .before .before .before .read-start .last .1 .0)
+    (c .before .before .before .before .before .read-start .ensures) (c .before .before .n .given .1) .1
 
 run-requires : tie.Need-run-requires
 run-requires c κs = search needs

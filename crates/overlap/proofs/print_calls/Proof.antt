@@ -7,14 +7,10 @@ use native.Mathlib.Omega.{arith}
 use borrow.Author.Needs.{needs}
 use Rattle.overlap.proofs.print_calls.Statement.{statement}
 use Rattle.overlap.proofs.print_calls.Tie as tie
-use Rattle.overlap.proofs.print_calls.Reads as reads
-use Rattle.overlap.proofs.print_calls.Lts as lts
-use Rattle.os.proofs.fail.Reads as fail-reads
-use Rattle.overlap.proofs.print_block.Reads as print-block-reads
-use Rattle.reading.proofs.read_some.Reads as read-some-reads
 
 abbrev Inv-loop : tie.InvT-loop
-Inv-loop job tasks₀ m₀ r₀ before₀ t8 t9 tasks m r before = (length tasks ≡ length tasks₀) × (length m ≡ length m₀) × (length r ≡ length r₀) × (before < 9223372036854775808 + 1024)
+Inv-loop job tasks₀ m₀ r₀ before₀ t8 t9 tasks m r before =
+    (length tasks ≡ length tasks₀) × (length m ≡ length m₀) × (length r ≡ length r₀) × (before < 9223372036854775808 + 1024)
 
 abbrev μ-loop : tie.MeasureT-loop
 μ-loop job tasks₀ m₀ r₀ before₀ t8 t9 tasks m r before = 9223372036854775808 + 1024 - before
@@ -38,7 +34,9 @@ fail-requires : tie.Need-fail-requires Inv-loop μ-loop
 fail-requires c κs = search needs
 
 same-length : tie.Need-same-length Inv-loop μ-loop
-same-length c = c .before .before .before .before .before .before .read-some .kept .1 .0 ∙ c .before .before .before .before .before .before .before .before .before .loop .inv .0
+same-length c =
+    c .before .before .before .before .before .before .read-some .kept .1 .0
+    ∙ c .before .before .before .before .before .before .before .before .before .loop .inv .0
 
 same-length-2 : tie.Need-same-length-2 Inv-loop μ-loop
 same-length-2 c = c .before .before .before .before .before .before .before .before .before .loop .inv .1
@@ -50,7 +48,9 @@ returns : tie.Need-returns Inv-loop μ-loop
 returns c = search needs
 
 same-length-4 : tie.Need-same-length-4 Inv-loop μ-loop
-same-length-4 c = c .before .before .before .before .before .before .read-some .kept .1 .0 ∙ c .before .before .before .before .before .before .before .before .before .loop .inv .0
+same-length-4 c =
+    c .before .before .before .before .before .before .read-some .kept .1 .0
+    ∙ c .before .before .before .before .before .before .before .before .before .loop .inv .0
 
 same-length-5 : tie.Need-same-length-5 Inv-loop μ-loop
 same-length-5 c = c .before .before .before .before .before .before .before .before .before .loop .inv .1
@@ -62,13 +62,26 @@ returns-2 : tie.Need-returns-2 Inv-loop μ-loop
 returns-2 c = search needs
 
 slice-reshare-prefix-print-block : tie.Need-slice-reshare-prefix-print-block Inv-loop μ-loop
-slice-reshare-prefix-print-block c = read-counts _ (c .before .before .some .given .0 .0) (c .before .before .before .before .before .before .read-some .last .1 .0) (c .before .before .before .before .before .before .read-some .ensures) (c .before .before .some .given .1) .0
+slice-reshare-prefix-print-block c =
+    read-counts _ (c .before .before .some .given .0 .0) (c .before .before .before .before .before .before .read-some .last .1 .0)
+    (c .before .before .before .before .before .before .read-some .ensures) (c .before .before .some .given .1) .0
 
 slice-aggregate-print-block : tie.Need-slice-aggregate-print-block Inv-loop μ-loop
-slice-aggregate-print-block c = read-counts _ (c .before .before .before .some .given .0 .0) (c .before .before .before .before .before .before .before .read-some .last .1 .0) (c .before .before .before .before .before .before .before .read-some .ensures) (c .before .before .before .some .given .1) .1
+slice-aggregate-print-block c =
+    read-counts _ (c .before .before .before .some .given .0 .0) (c .before .before .before .before .before .before .before .read-some .last .1 .0)
+    (c .before .before .before .before .before .before .before .read-some .ensures) (c .before .before .before .some .given .1) .1
 
 print-block-requires : tie.Need-print-block-requires Inv-loop μ-loop
-print-block-requires c κs = ((read-few _ (c .before .before .before .before .before .some .given .0 .0) (c .before .before .before .before .before .before .before .before .before .read-some .last .1 .0) (c .before .before .before .before .before .before .before .before .before .read-some .ensures) (c .before .before .before .before .before .some .given .1) (c .before .before .before .before .before .before .before .before .before .read-some .kept .1 .0) (c .before .before .before .before .before .before .before .before .before .before .before .before .loop .inv .0) (c .before .before .before .before .before .before .before .before .before .before .before .before .before .before .before .before .before .pre)) .1, omega arith)
+print-block-requires c κs = (
+  (read-few _ (c .before .before .before .before .before .some .given .0 .0)
+      (c .before .before .before .before .before .before .before .before .before .read-some .last .1 .0)
+      (c .before .before .before .before .before .before .before .before .before .read-some .ensures)
+      (c .before .before .before .before .before .some .given .1)
+      (c .before .before .before .before .before .before .before .before .before .read-some .kept .1 .0)
+      (c .before .before .before .before .before .before .before .before .before .before .before .before .loop .inv .0)
+      (c .before .before .before .before .before .before .before .before .before .before .before .before .before .before .before .before .before .pre)) .1,
+  omega arith,
+)
 
 slice-aggregate-fail-2 : tie.Need-slice-aggregate-fail-2 Inv-loop μ-loop
 slice-aggregate-fail-2 c = search needs
@@ -77,25 +90,73 @@ fail-requires-2 : tie.Need-fail-requires-2 Inv-loop μ-loop
 fail-requires-2 c κs = search needs
 
 same-length-7 : tie.Need-same-length-7 Inv-loop μ-loop
-same-length-7 c = c .before .before .before .before .before .before .before .before .before .before .before .before .before .before .before .before .before .read-some .kept .1 .0 ∙ c .before .before .before .before .before .before .before .before .before .before .before .before .before .before .before .before .before .before .before .before .loop .inv .0
+same-length-7 c =
+    c .before .before .before .before .before .before .before .before .before .before .before .before .before .before .before .before .before .read-some .kept
+    .1 .0
+    ∙ c .before .before .before .before .before .before .before .before .before .before .before .before .before .before .before .before .before .before
+    .before .before .loop .inv .0
 
 same-length-8 : tie.Need-same-length-8 Inv-loop μ-loop
-same-length-8 c = c .before .before .before .before .before .before .before .print-block .kept .1 .1 .0 ∙ c .before .before .before .before .before .before .before .before .before .before .before .before .before .before .before .before .before .before .before .before .loop .inv .1
+same-length-8 c =
+    c .before .before .before .before .before .before .before .print-block .kept .1 .1 .0
+    ∙ c .before .before .before .before .before .before .before .before .before .before .before .before .before .before .before .before .before .before
+    .before .before .loop .inv .1
 
 same-length-9 : tie.Need-same-length-9 Inv-loop μ-loop
-same-length-9 c = c .before .before .before .before .before .before .before .print-block .kept .1 .1 .1 .0 ∙ c .before .before .before .before .before .before .before .before .before .before .before .before .before .before .before .before .before .before .before .before .loop .inv .2
+same-length-9 c =
+    c .before .before .before .before .before .before .before .print-block .kept .1 .1 .1 .0
+    ∙ c .before .before .before .before .before .before .before .before .before .before .before .before .before .before .before .before .before .before
+    .before .before .loop .inv .2
 
 returns-3 : tie.Need-returns-3 Inv-loop μ-loop
 returns-3 c = search needs
 
 add-before : tie.Need-add-before Inv-loop μ-loop
-add-before c = let h = (read-few _ (c .before .before .before .before .before .before .before .before .before .before .before .some .given .0 .0) (c .before .before .before .before .before .before .before .before .before .before .before .before .before .before .before .read-some .last .1 .0) (c .before .before .before .before .before .before .before .before .before .before .before .before .before .before .before .read-some .ensures) (c .before .before .before .before .before .before .before .before .before .before .before .some .given .1) (c .before .before .before .before .before .before .before .before .before .before .before .before .before .before .before .read-some .kept .1 .0) (c .before .before .before .before .before .before .before .before .before .before .before .before .before .before .before .before .before .before .loop .inv .0) (c .before .before .before .before .before .before .before .before .before .before .before .before .before .before .before .before .before .before .before .before .before .before .before .pre)) .0 in omega (arith, h)
+add-before c =
+    let h = (read-few _ (c .before .before .before .before .before .before .before .before .before .before .before .some .given .0 .0)
+    (c .before .before .before .before .before .before .before .before .before .before .before .before .before .before .before .read-some .last .1 .0)
+    (c .before .before .before .before .before .before .before .before .before .before .before .before .before .before .before .read-some .ensures)
+    (c .before .before .before .before .before .before .before .before .before .before .before .some .given .1)
+    (c .before .before .before .before .before .before .before .before .before .before .before .before .before .before .before .read-some .kept .1 .0)
+    (c .before .before .before .before .before .before .before .before .before .before .before .before .before .before .before .before .before .before .loop
+    .inv .0)
+    (c .before .before .before .before .before .before .before .before .before .before .before .before .before .before .before .before .before .before .before
+    .before .before .before .before .pre)) .0 in omega (arith, h)
 
 loop-less : tie.Need-loop-less Inv-loop μ-loop
-loop-less c = let h = (read-few _ (c .before .before .before .before .before .before .before .before .before .before .before .some .given .0 .0) (c .before .before .before .before .before .before .before .before .before .before .before .before .before .before .before .read-some .last .1 .0) (c .before .before .before .before .before .before .before .before .before .before .before .before .before .before .before .read-some .ensures) (c .before .before .before .before .before .before .before .before .before .before .before .some .given .1) (c .before .before .before .before .before .before .before .before .before .before .before .before .before .before .before .read-some .kept .1 .0) (c .before .before .before .before .before .before .before .before .before .before .before .before .before .before .before .before .before .before .loop .inv .0) (c .before .before .before .before .before .before .before .before .before .before .before .before .before .before .before .before .before .before .before .before .before .before .before .pre)) .0 in omega (arith, h)
+loop-less c =
+    let h = (read-few _ (c .before .before .before .before .before .before .before .before .before .before .before .some .given .0 .0)
+    (c .before .before .before .before .before .before .before .before .before .before .before .before .before .before .before .read-some .last .1 .0)
+    (c .before .before .before .before .before .before .before .before .before .before .before .before .before .before .before .read-some .ensures)
+    (c .before .before .before .before .before .before .before .before .before .before .before .some .given .1)
+    (c .before .before .before .before .before .before .before .before .before .before .before .before .before .before .before .read-some .kept .1 .0)
+    (c .before .before .before .before .before .before .before .before .before .before .before .before .before .before .before .before .before .before .loop
+    .inv .0)
+    (c .before .before .before .before .before .before .before .before .before .before .before .before .before .before .before .before .before .before .before
+    .before .before .before .before .pre)) .0 in omega (arith, h)
 
 loop-again : tie.Need-loop-again Inv-loop μ-loop
-loop-again c = let h = (read-few _ (c .before .before .before .before .before .before .before .before .before .before .before .some .given .0 .0) (c .before .before .before .before .before .before .before .before .before .before .before .before .before .before .before .read-some .last .1 .0) (c .before .before .before .before .before .before .before .before .before .before .before .before .before .before .before .read-some .ensures) (c .before .before .before .before .before .before .before .before .before .before .before .some .given .1) (c .before .before .before .before .before .before .before .before .before .before .before .before .before .before .before .read-some .kept .1 .0) (c .before .before .before .before .before .before .before .before .before .before .before .before .before .before .before .before .before .before .loop .inv .0) (c .before .before .before .before .before .before .before .before .before .before .before .before .before .before .before .before .before .before .before .before .before .before .before .pre)) .0 in (c .before .before .before .before .before .before .before .before .before .before .before .before .before .before .before .read-some .kept .1 .0 ∙ c .before .before .before .before .before .before .before .before .before .before .before .before .before .before .before .before .before .before .loop .inv .0, c .before .before .before .before .before .print-block .kept .1 .1 .0 ∙ c .before .before .before .before .before .before .before .before .before .before .before .before .before .before .before .before .before .before .loop .inv .1, c .before .before .before .before .before .print-block .kept .1 .1 .1 .0 ∙ c .before .before .before .before .before .before .before .before .before .before .before .before .before .before .before .before .before .before .loop .inv .2, omega (arith, h))
+loop-again c =
+    let h = (read-few _ (c .before .before .before .before .before .before .before .before .before .before .before .some .given .0 .0)
+    (c .before .before .before .before .before .before .before .before .before .before .before .before .before .before .before .read-some .last .1 .0)
+    (c .before .before .before .before .before .before .before .before .before .before .before .before .before .before .before .read-some .ensures)
+    (c .before .before .before .before .before .before .before .before .before .before .before .some .given .1)
+    (c .before .before .before .before .before .before .before .before .before .before .before .before .before .before .before .read-some .kept .1 .0)
+    (c .before .before .before .before .before .before .before .before .before .before .before .before .before .before .before .before .before .before .loop
+    .inv .0)
+    (c .before .before .before .before .before .before .before .before .before .before .before .before .before .before .before .before .before .before .before
+    .before .before .before .before .pre)) .0 in (
+      c .before .before .before .before .before .before .before .before .before .before .before .before .before .before .before .read-some .kept .1 .0
+          ∙ c .before .before .before .before .before .before .before .before .before .before .before .before .before .before .before .before .before .before
+          .loop .inv .0,
+      c .before .before .before .before .before .print-block .kept .1 .1 .0
+          ∙ c .before .before .before .before .before .before .before .before .before .before .before .before .before .before .before .before .before .before
+          .loop .inv .1,
+      c .before .before .before .before .before .print-block .kept .1 .1 .1 .0
+          ∙ c .before .before .before .before .before .before .before .before .before .before .before .before .before .before .before .before .before .before
+          .loop .inv .2,
+      omega (arith, h),
+    )
 
 same-length-10 : tie.Need-same-length-10 Inv-loop μ-loop
 same-length-10 c = c .before .loop .inv .0

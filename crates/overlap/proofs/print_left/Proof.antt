@@ -3,9 +3,6 @@ use native.Mathlib.Omega.{arith}
 use Prim.Native.Nat.{_-_, _≤_}
 use Rattle.overlap.proofs.print_left.Statement.{statement}
 use Rattle.overlap.proofs.print_left.Tie as tie
-use Rattle.overlap.proofs.print_left.Reads as reads
-use Rattle.overlap.proofs.print_left.Lts as lts
-use Rattle.overlap.proofs.print_queue.Reads as print-queue-reads
 
 abbrev Inv-loop : tie.InvT-loop
 Inv-loop m q₀ q = q ≤ 4

@@ -3,10 +3,6 @@ use mathlib.Core.Path.{refl}
 use borrow.Author.Needs.{needs}
 use Rattle.overlap_text.proofs.call_lines.Statement.{statement}
 use Rattle.overlap_text.proofs.call_lines.Tie as tie
-use Rattle.overlap_text.proofs.call_lines.Reads as reads
-use Rattle.overlap_text.proofs.call_lines.Lts as lts
-use Rattle.overlap_text.proofs.row_lines.Reads as row-lines-reads
-use Rattle.running.proofs.run.Reads as run-reads
 
 slice-aggregate-run : tie.Need-slice-aggregate-run
 slice-aggregate-run c = search needs
@@ -18,7 +14,12 @@ slice-aggregate-row-lines : tie.Need-slice-aggregate-row-lines
 slice-aggregate-row-lines c = search needs
 
 row-lines-requires : tie.Need-row-lines-requires
-row-lines-requires c κs = (c .before .before .before .before .before .before .before .before .before .before .before .before .before .before .before .before .pre .0, ran-few (c .before .before .before .before .before .before .before .before .before .before .before .before .before .before .before .before .pre .1) refl (c .before .before .before .before .before .before .before .run .ensures .steps), c .before .before .before .before .before .before .before .before .before .before .before .before .before .before .before .before .pre .2)
+row-lines-requires c κs = (
+  c .before .before .before .before .before .before .before .before .before .before .before .before .before .before .before .before .pre .0,
+  ran-few (c .before .before .before .before .before .before .before .before .before .before .before .before .before .before .before .before .pre .1) refl
+      (c .before .before .before .before .before .before .before .run .ensures .steps),
+  c .before .before .before .before .before .before .before .before .before .before .before .before .before .before .before .before .pre .2,
+)
 
 same-length : tie.Need-same-length
 same-length c = search needs
@@ -30,7 +31,10 @@ same-length-3 : tie.Need-same-length-3
 same-length-3 c = search needs
 
 returns : tie.Need-returns
-returns c = called _ _ _ _ _ _ (c .before .before .before .before .before .before .before .before .before .before .before .before .before .before .before .before .before .before .before .pre .1) refl (c .before .before .before .before .before .before .before .before .before .before .run .ensures) (c .before .before .row-lines .ensures)
+returns c =
+    called _ _ _ _ _ _
+    (c .before .before .before .before .before .before .before .before .before .before .before .before .before .before .before .before .before .before .before
+    .pre .1) refl (c .before .before .before .before .before .before .before .before .before .before .run .ensures) (c .before .before .row-lines .ensures)
 
 pub call-lines-spec : {M : Type 1} → statement M
 call-lines-spec =

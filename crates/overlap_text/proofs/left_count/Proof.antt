@@ -5,9 +5,6 @@ use native.Mathlib.Omega.{arith}
 use borrow.Author.Needs.{needs}
 use Rattle.overlap_text.proofs.left_count.Statement.{statement}
 use Rattle.overlap_text.proofs.left_count.Tie as tie
-use Rattle.overlap_text.proofs.left_count.Reads as reads
-use Rattle.overlap_text.proofs.left_count.Lts as lts
-use Rattle.overlap_text.proofs.is_left.Reads as is-left-reads
 
 abbrev Inv-loop : tie.InvT-loop
 Inv-loop m q i₀ i = (i ≤ 16384) × Counted m q i
@@ -22,7 +19,8 @@ is-left-requires : tie.Need-is-left-requires Inv-loop μ-loop
 is-left-requires c κs = search needs
 
 returns : tie.Need-returns Inv-loop μ-loop
-returns c = count-ends _ _ _ (c .before .before .loop-test .taken) (c .before .is-left .ensures) (not-true _ (c .if1 .taken)) (c .before .before .before .loop .inv .1)
+returns c =
+    count-ends _ _ _ (c .before .before .loop-test .taken) (c .before .is-left .ensures) (not-true _ (c .if1 .taken)) (c .before .before .before .loop .inv .1)
 
 add-i : tie.Need-add-i Inv-loop μ-loop
 add-i c = omega arith
@@ -31,7 +29,11 @@ loop-less : tie.Need-loop-less Inv-loop μ-loop
 loop-less c = omega arith
 
 loop-again : tie.Need-loop-again Inv-loop μ-loop
-loop-again c = (omega arith, count-goes-on _ _ _ (c .before .before .loop-test .taken) (c .before .is-left .ensures) (not-false _ (c .if1 .left)) (c .before .before .before .loop .inv .1))
+loop-again c = (
+  omega arith,
+  count-goes-on _ _ _ (c .before .before .loop-test .taken) (c .before .is-left .ensures) (not-false _ (c .if1 .left))
+      (c .before .before .before .loop .inv .1),
+)
 
 returns-2 : tie.Need-returns-2 Inv-loop μ-loop
 returns-2 c = count-full _ _ _ (c .loop-test .left) (c .before .loop .inv .1)

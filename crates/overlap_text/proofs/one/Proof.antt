@@ -3,8 +3,6 @@ use Rattle.words.specs.Words.{halt, pass}
 use mathlib.Core.Path.{refl, sym}
 use Rattle.overlap_text.proofs.one.Statement.{statement}
 use Rattle.overlap_text.proofs.one.Tie as tie
-use Rattle.overlap_text.proofs.one.Reads as reads
-use Rattle.overlap_text.proofs.one.Lts as lts
 
 returns : tie.Need-returns
 unfolding one

@@ -4,10 +4,6 @@ use native.Mathlib.Omega.{arith}
 use borrow.Author.Needs.{needs}
 use Rattle.overlap_text.proofs.open_line.Statement.{statement}
 use Rattle.overlap_text.proofs.open_line.Tie as tie
-use Rattle.overlap_text.proofs.open_line.Reads as reads
-use Rattle.overlap_text.proofs.open_line.Lts as lts
-use Rattle.overlap_text.proofs.unfinished_count.Reads as unfinished-count-reads
-use Rattle.run_text.proofs.open_line.Reads as open-line-reads
 
 unfinished-count-requires : tie.Need-unfinished-count-requires
 unfinished-count-requires c κs = search needs
@@ -19,7 +15,9 @@ same-length : tie.Need-same-length
 same-length c = search needs
 
 returns : tie.Need-returns
-returns c = open-block _ (c .before .before .before .before .unfinished-count .ensures) (block (c .before .before .open-line .kept .0) (let h = c .before .before .open-line .ensures .1 in omega arith) (c .before .before .open-line .ensures .0))
+returns c =
+    open-block _ (c .before .before .before .before .unfinished-count .ensures)
+    (block (c .before .before .open-line .kept .0) (let h = c .before .before .open-line .ensures .1 in omega arith) (c .before .before .open-line .ensures .0))
 
 pub open-line-spec : {M : Type 1} → statement M
 open-line-spec =

@@ -2,10 +2,6 @@ use Rattle.overlap_text.specs.Blocks.{row-line}
 use borrow.Author.Needs.{needs}
 use Rattle.overlap_text.proofs.row_line.Statement.{statement}
 use Rattle.overlap_text.proofs.row_line.Tie as tie
-use Rattle.overlap_text.proofs.row_line.Reads as reads
-use Rattle.overlap_text.proofs.row_line.Lts as lts
-use Rattle.memory.proofs.get.Reads as get-reads
-use Rattle.run_text.proofs.line.Reads as line-reads
 
 mul-b : tie.Need-mul-b
 mul-b c = search needs
@@ -38,7 +34,11 @@ same-length : tie.Need-same-length
 same-length c = search needs
 
 returns : tie.Need-returns
-returns c = (row-line _ _ _ (c .before .before .before .before .before .before .get .ensures) (c .before .before .before .before .before .get2 .ensures) (c .before .before .before .before .get3 .ensures) (c .before .before .line .ensures .0), c .before .before .line .ensures .1)
+returns c = (
+  row-line _ _ _ (c .before .before .before .before .before .before .get .ensures) (c .before .before .before .before .before .get2 .ensures)
+      (c .before .before .before .before .get3 .ensures) (c .before .before .line .ensures .0),
+  c .before .before .line .ensures .1,
+)
 
 pub row-line-spec : {M : Type 1} → statement M
 row-line-spec =

@@ -9,9 +9,6 @@ use lib.ListN.{length}
 use mathlib.Core.Path.{_≡_, refl, _∙_}
 use Rattle.overlap_text.proofs.row_lines.Statement.{statement}
 use Rattle.overlap_text.proofs.row_lines.Tie as tie
-use Rattle.overlap_text.proofs.row_lines.Reads as reads
-use Rattle.overlap_text.proofs.row_lines.Lts as lts
-use Rattle.overlap_text.proofs.row_line.Reads as row-line-reads
 
 abbrev Inv-loop : tie.InvT-loop
 Inv-loop out₀ a before n at₀ i₀ out at i = (i ≤ n) × (at ≤ i * 52) × (length out ≡ length out₀) × Puts out₀ 0 (linesFrom (rowLine a before) 0 i) out at
@@ -32,13 +29,20 @@ loop-less : tie.Need-loop-less Inv-loop μ-loop
 loop-less c = omega arith
 
 loop-again : tie.Need-loop-again Inv-loop μ-loop
-loop-again c = (omega arith, omega arith, c .before .before .row-line .kept .0 ∙ c .before .before .before .before .before .loop .inv .2, one-line _ _ _ (c .before .before .before .before .before .loop .inv .3) (from-first (rowLine _ _) _ (c .before .before .row-line .ensures .0)))
+loop-again c = (
+  omega arith,
+  omega arith,
+  c .before .before .row-line .kept .0 ∙ c .before .before .before .before .before .loop .inv .2,
+  one-line _ _ _ (c .before .before .before .before .before .loop .inv .3) (from-first (rowLine _ _) _ (c .before .before .row-line .ensures .0)),
+)
 
 same-length : tie.Need-same-length Inv-loop μ-loop
 same-length c = c .before .loop .inv .2
 
 returns : tie.Need-returns Inv-loop μ-loop
-returns c = all-lines _ _ _ _ (c .before .loop .inv .2) (c .before .before .before .before .pre .0) (c .before .before .before .before .pre .1) (c .before .loop .inv .0) (c .loop-test .left) (c .before .loop .inv .1) (c .before .loop .inv .3)
+returns c =
+    all-lines _ _ _ _ (c .before .loop .inv .2) (c .before .before .before .before .pre .0) (c .before .before .before .before .pre .1)
+    (c .before .loop .inv .0) (c .loop-test .left) (c .before .loop .inv .1) (c .before .loop .inv .3)
 
 pub row-lines-spec : {M : Type 1} → statement M
 row-lines-spec =

@@ -5,10 +5,6 @@ use mathlib.Core.Path.{_≡_, sym}
 use borrow.Author.Needs.{needs}
 use Rattle.overlap_text.proofs.unfinished_count.Statement.{statement}
 use Rattle.overlap_text.proofs.unfinished_count.Tie as tie
-use Rattle.overlap_text.proofs.unfinished_count.Reads as reads
-use Rattle.overlap_text.proofs.unfinished_count.Lts as lts
-use Rattle.overlap_text.proofs.one.Reads as one-reads
-use Rattle.walks.proofs.unfinished.Reads as unfinished-reads
 
 abbrev Inv-loop : tie.InvT-loop
 Inv-loop m n₀ t₀ n t = (t ≤ 128) × (n ≤ t) × (n ≡ unfinishedTo t m)
@@ -35,7 +31,11 @@ loop-less : tie.Need-loop-less Inv-loop μ-loop
 loop-less c = omega arith
 
 loop-again : tie.Need-loop-again Inv-loop μ-loop
-loop-again c = (omega arith, (let h = one-small _ (c .one .ensures) in omega (arith, h)), one-counted _ _ _ (c .before .before .before .loop .inv .2) (c .before .unfinished .ensures) (c .one .ensures))
+loop-again c = (
+  omega arith,
+  (let h = one-small _ (c .one .ensures) in omega (arith, h)),
+  one-counted _ _ _ (c .before .before .before .loop .inv .2) (c .before .unfinished .ensures) (c .one .ensures),
+)
 
 returns : tie.Need-returns Inv-loop μ-loop
 returns c = all-counted _ _ _ (c .loop-test .left) (c .before .loop .inv .0) (c .before .loop .inv .2)

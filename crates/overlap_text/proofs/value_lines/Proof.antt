@@ -9,9 +9,6 @@ use Rattle.serial_text.specs.Whole.{linesFrom}
 use Rattle.overlap_text.specs.Whole.{valueLine}
 use Rattle.overlap_text.proofs.value_lines.Statement.{statement}
 use Rattle.overlap_text.proofs.value_lines.Tie as tie
-use Rattle.overlap_text.proofs.value_lines.Reads as reads
-use Rattle.overlap_text.proofs.value_lines.Lts as lts
-use Rattle.overlap_text.proofs.value_line.Reads as value-line-reads
 
 abbrev Inv-loop : tie.InvT-loop
 Inv-loop out₀ m q first n at₀ i₀ out at i = (i ≤ n) × (at ≤ i * 52) × (length out ≡ length out₀) × Puts out₀ 0 (linesFrom (valueLine m q) first i) out at
@@ -35,13 +32,20 @@ loop-less : tie.Need-loop-less Inv-loop μ-loop
 loop-less c = omega arith
 
 loop-again : tie.Need-loop-again Inv-loop μ-loop
-loop-again c = (omega arith, omega arith, c .before .before .value-line .kept .0 ∙ c .before .before .before .before .before .loop .inv .2, one-line _ _ _ (c .before .before .before .before .before .loop .inv .3) (c .before .before .value-line .ensures .0))
+loop-again c = (
+  omega arith,
+  omega arith,
+  c .before .before .value-line .kept .0 ∙ c .before .before .before .before .before .loop .inv .2,
+  one-line _ _ _ (c .before .before .before .before .before .loop .inv .3) (c .before .before .value-line .ensures .0),
+)
 
 same-length : tie.Need-same-length Inv-loop μ-loop
 same-length c = c .before .loop .inv .2
 
 returns : tie.Need-returns Inv-loop μ-loop
-returns c = all-lines _ _ _ _ (c .before .loop .inv .2) (c .before .before .before .before .pre .0) (c .before .before .before .before .pre .2) (c .before .loop .inv .0) (c .loop-test .left) (c .before .loop .inv .1) (c .before .loop .inv .3)
+returns c =
+    all-lines _ _ _ _ (c .before .loop .inv .2) (c .before .before .before .before .pre .0) (c .before .before .before .before .pre .2)
+    (c .before .loop .inv .0) (c .loop-test .left) (c .before .loop .inv .1) (c .before .loop .inv .3)
 
 pub value-lines-spec : {M : Type 1} → statement M
 value-lines-spec =

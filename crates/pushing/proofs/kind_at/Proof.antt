@@ -1,8 +1,6 @@
 use Rattle.pushing.proofs.Glue.{at-met, at-left}
 use Rattle.pushing.proofs.kind_at.Statement.{statement}
 use Rattle.pushing.proofs.kind_at.Tie as tie
-use Rattle.pushing.proofs.kind_at.Reads as reads
-use Rattle.pushing.proofs.kind_at.Lts as lts
 
 returns : tie.Need-returns
 returns c = at-met _ (c .if1 .taken)

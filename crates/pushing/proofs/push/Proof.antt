@@ -4,13 +4,6 @@ use mathlib.Core.Path.{sym, _∙_}
 use borrow.Author.Needs.{needs}
 use Rattle.pushing.proofs.push.Statement.{statement}
 use Rattle.pushing.proofs.push.Tie as tie
-use Rattle.pushing.proofs.push.Reads as reads
-use Rattle.pushing.proofs.push.Lts as lts
-use Rattle.memory.proofs.task.Reads as task-reads
-use Rattle.pushing.proofs.push_value.Reads as push-value-reads
-use Rattle.rights.proofs.pushes.Reads as pushes-reads
-use Rattle.walks.proofs.blocked.Reads as blocked-reads
-use Rattle.walks.proofs.unfinished.Reads as unfinished-reads
 
 unfinished-requires : tie.Need-unfinished-requires
 unfinished-requires c κs = search needs
@@ -37,7 +30,9 @@ same-length-3 : tie.Need-same-length-3
 same-length-3 c = search needs
 
 returns-3 : tie.Need-returns-3
-returns-3 c = refused-6 _ _ _ _ (c .before .before .before .before .before .before .unfinished .ensures) (c .before .before .before .before .before .if1 .left) (c .before .before .before .before .if2 .left) (c .before .before .task .ensures) (c .before .pushes .ensures) (c .if3 .taken)
+returns-3 c =
+    refused-6 _ _ _ _ (c .before .before .before .before .before .before .unfinished .ensures) (c .before .before .before .before .before .if1 .left)
+    (c .before .before .before .before .if2 .left) (c .before .before .task .ensures) (c .before .pushes .ensures) (c .if3 .taken)
 
 blocked-requires : tie.Need-blocked-requires
 blocked-requires c κs = search needs
@@ -46,16 +41,33 @@ same-length-4 : tie.Need-same-length-4
 same-length-4 c = search needs
 
 returns-4 : tie.Need-returns-4
-returns-4 c = waits _ _ _ _ (c .before .before .before .before .before .before .before .before .before .unfinished .ensures) (c .before .before .before .before .before .before .before .before .if1 .left) (c .before .before .before .before .before .before .before .if2 .left) (c .before .before .before .before .before .task .ensures) (c .before .before .before .before .pushes .ensures) (c .before .before .before .if3 .left) (c .before .blocked .ensures) (c .if4 .taken)
+returns-4 c =
+    waits _ _ _ _ (c .before .before .before .before .before .before .before .before .before .unfinished .ensures)
+    (c .before .before .before .before .before .before .before .before .if1 .left) (c .before .before .before .before .before .before .before .if2 .left)
+    (c .before .before .before .before .before .task .ensures) (c .before .before .before .before .pushes .ensures) (c .before .before .before .if3 .left)
+    (c .before .blocked .ensures) (c .if4 .taken)
 
 push-value-requires : tie.Need-push-value-requires
-push-value-requires c κs = (c .before .before .before .before .before .before .before .before .before .before .before .before .before .pre .0, c .before .before .before .before .before .before .before .before .before .before .before .before .before .pre .1, sym (c .before .before .before .before .before .before .before .before .before .before .unfinished .ensures) ∙ not-false _ (c .before .before .before .before .before .before .before .before .before .if1 .left), c .before .before .before .before .before .before .before .before .if2 .left)
+push-value-requires c κs = (
+  c .before .before .before .before .before .before .before .before .before .before .before .before .before .pre .0,
+  c .before .before .before .before .before .before .before .before .before .before .before .before .before .pre .1,
+  sym (c .before .before .before .before .before .before .before .before .before .before .unfinished .ensures)
+      ∙ not-false _ (c .before .before .before .before .before .before .before .before .before .if1 .left),
+  c .before .before .before .before .before .before .before .before .if2 .left,
+)
 
 same-length-5 : tie.Need-same-length-5
 same-length-5 c = search needs
 
 returns-5 : tie.Need-returns-5
-returns-5 c = goes-on _ _ _ _ (c .before .before .before .before .before .before .before .before .before .before .before .before .before .unfinished .ensures) (c .before .before .before .before .before .before .before .before .before .before .before .before .if1 .left) (c .before .before .before .before .before .before .before .before .before .before .before .if2 .left) (c .before .before .before .before .before .before .before .before .before .task .ensures) (c .before .before .before .before .before .before .before .before .pushes .ensures) (c .before .before .before .before .before .before .before .if3 .left) (c .before .before .before .before .before .blocked .ensures) (c .before .before .before .before .if4 .left) (c .before .before .push-value .ensures)
+returns-5 c =
+    goes-on _ _ _ _ (c .before .before .before .before .before .before .before .before .before .before .before .before .before .unfinished .ensures)
+    (c .before .before .before .before .before .before .before .before .before .before .before .before .if1 .left)
+    (c .before .before .before .before .before .before .before .before .before .before .before .if2 .left)
+    (c .before .before .before .before .before .before .before .before .before .task .ensures)
+    (c .before .before .before .before .before .before .before .before .pushes .ensures)
+    (c .before .before .before .before .before .before .before .if3 .left) (c .before .before .before .before .before .blocked .ensures)
+    (c .before .before .before .before .if4 .left) (c .before .before .push-value .ensures)
 
 pub push-spec : {M : Type 1} → statement M
 push-spec =

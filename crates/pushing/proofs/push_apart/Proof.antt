@@ -2,17 +2,6 @@ use Rattle.pushing.proofs.Glue.{left-out, apart}
 use borrow.Author.Needs.{needs}
 use Rattle.pushing.proofs.push_apart.Statement.{statement}
 use Rattle.pushing.proofs.push_apart.Tie as tie
-use Rattle.pushing.proofs.push_apart.Reads as reads
-use Rattle.pushing.proofs.push_apart.Lts as lts
-use Rattle.pushing.proofs.kind_at.Reads as kind-at-reads
-use Rattle.segments.proofs.next_free.Reads as next-free-reads
-use Rattle.segments.proofs.take.Reads as take-reads
-use Rattle.views.proofs.head.Reads as head-reads
-use Rattle.views.proofs.join.Reads as join-reads
-use Rattle.views.proofs.reducible.Reads as reducible-reads
-use Rattle.views.proofs.set_view.Reads as set-view-reads
-use Rattle.views.proofs.tail.Reads as tail-reads
-use Rattle.walks.proofs.task_at.Reads as task-at-reads
 
 next-free-requires : tie.Need-next-free-requires
 next-free-requires c κs = search needs
@@ -36,7 +25,10 @@ same-length : tie.Need-same-length
 same-length c = search needs
 
 returns : tie.Need-returns
-returns c = left-out _ _ _ _ _ (c .before .before .before .before .before .before .before .before .next-free .ensures) (c .before .before .before .before .before .before .before .task-at .ensures) (c .before .before .before .before .before .before .kind-at .ensures) (c .before .before .before .before .head .ensures) (c .before .before .tail .ensures) (c .before .reducible .ensures) (c .if1 .taken)
+returns c =
+    left-out _ _ _ _ _ (c .before .before .before .before .before .before .before .before .next-free .ensures)
+    (c .before .before .before .before .before .before .before .task-at .ensures) (c .before .before .before .before .before .before .kind-at .ensures)
+    (c .before .before .before .before .head .ensures) (c .before .before .tail .ensures) (c .before .reducible .ensures) (c .if1 .taken)
 
 take-requires : tie.Need-take-requires
 take-requires c κs = search needs
@@ -51,7 +43,20 @@ same-length-2 : tie.Need-same-length-2
 same-length-2 c = search needs
 
 returns-2 : tie.Need-returns-2
-returns-2 c = apart _ _ _ _ _ (c .before .before .before .before .before .before .before .before .before .before .before .before .before .before .before .before .before .before .before .before .next-free .ensures) (c .before .before .before .before .before .before .before .before .before .before .before .before .before .before .before .before .before .before .before .task-at .ensures) (c .before .before .before .before .before .before .before .before .before .before .before .before .before .before .before .before .before .before .kind-at .ensures) (c .before .before .before .before .before .before .before .before .before .before .before .before .before .before .before .before .head .ensures) (c .before .before .before .before .before .before .before .before .before .before .before .before .before .before .tail .ensures) (c .before .before .before .before .before .before .before .before .before .before .before .before .before .reducible .ensures) _ _ _ (c .before .before .before .before .before .before .before .before .before .before .before .before .if1 .left) (c .before .before .before .before .before .before .before .before .before .before .take .ensures) (c .before .before .before .before .before .before .join .ensures) (c .before .before .set-view .ensures)
+returns-2 c =
+    apart _ _ _ _ _
+    (c .before .before .before .before .before .before .before .before .before .before .before .before .before .before .before .before .before .before .before
+    .before .next-free .ensures)
+    (c .before .before .before .before .before .before .before .before .before .before .before .before .before .before .before .before .before .before .before
+    .task-at .ensures)
+    (c .before .before .before .before .before .before .before .before .before .before .before .before .before .before .before .before .before .before
+    .kind-at .ensures)
+    (c .before .before .before .before .before .before .before .before .before .before .before .before .before .before .before .before .head .ensures)
+    (c .before .before .before .before .before .before .before .before .before .before .before .before .before .before .tail .ensures)
+    (c .before .before .before .before .before .before .before .before .before .before .before .before .before .reducible .ensures) _ _ _
+    (c .before .before .before .before .before .before .before .before .before .before .before .before .if1 .left)
+    (c .before .before .before .before .before .before .before .before .before .before .take .ensures)
+    (c .before .before .before .before .before .before .join .ensures) (c .before .before .set-view .ensures)
 
 pub push-apart-spec : {M : Type 1} → statement M
 push-apart-spec =

@@ -2,12 +2,6 @@ use Rattle.pushing.proofs.Glue.{behind}
 use borrow.Author.Needs.{needs}
 use Rattle.pushing.proofs.push_behind.Statement.{statement}
 use Rattle.pushing.proofs.push_behind.Tie as tie
-use Rattle.pushing.proofs.push_behind.Reads as reads
-use Rattle.pushing.proofs.push_behind.Lts as lts
-use Rattle.memory.proofs.set_segment.Reads as set-segment-reads
-use Rattle.segments.proofs.next_free.Reads as next-free-reads
-use Rattle.segments.proofs.take.Reads as take-reads
-use Rattle.views.proofs.set_tail.Reads as set-tail-reads
 
 next-free-requires : tie.Need-next-free-requires
 next-free-requires c κs = search needs
@@ -25,7 +19,10 @@ same-length : tie.Need-same-length
 same-length c = search needs
 
 returns : tie.Need-returns
-returns c = behind _ _ _ _ _ _ _ _ _ (c .before .before .before .before .before .before .before .before .before .before .before .before .next-free .ensures) (c .before .before .before .before .before .before .before .before .before .before .take .ensures) (c .before .before .before .before .before .before .set-segment .ensures) (c .before .before .set-tail .ensures)
+returns c =
+    behind _ _ _ _ _ _ _ _ _ (c .before .before .before .before .before .before .before .before .before .before .before .before .next-free .ensures)
+    (c .before .before .before .before .before .before .before .before .before .before .take .ensures)
+    (c .before .before .before .before .before .before .set-segment .ensures) (c .before .before .set-tail .ensures)
 
 pub push-behind-spec : {M : Type 1} → statement M
 push-behind-spec =

@@ -3,18 +3,6 @@ use Rattle.words.specs.Words.{size}
 use borrow.Author.Needs.{needs}
 use Rattle.pushing.proofs.push_value.Statement.{statement}
 use Rattle.pushing.proofs.push_value.Tie as tie
-use Rattle.pushing.proofs.push_value.Reads as reads
-use Rattle.pushing.proofs.push_value.Lts as lts
-use Rattle.memory.proofs.header.Reads as header-reads
-use Rattle.memory.proofs.segment.Reads as segment-reads
-use Rattle.pushing.proofs.push_apart.Reads as push-apart-reads
-use Rattle.pushing.proofs.push_behind.Reads as push-behind-reads
-use Rattle.segments.proofs.none_free.Reads as none-free-reads
-use Rattle.segments.proofs.store_one.Reads as store-one-reads
-use Rattle.views.proofs.head.Reads as head-reads
-use Rattle.views.proofs.is_empty.Reads as is-empty-reads
-use Rattle.views.proofs.tail.Reads as tail-reads
-use Rattle.walks.proofs.just_before.Reads as just-before-reads
 
 tail-requires : tie.Need-tail-requires
 tail-requires c κs = search needs
@@ -32,26 +20,41 @@ same-length : tie.Need-same-length
 same-length c = search needs
 
 returns : tie.Need-returns
-returns c = none-apart _ _ _ _ (c .before .before .before .before .before .before .before .tail .ensures) (c .before .before .before .before .before .head .ensures) (c .before .before .before .before .is-empty .ensures) (c .before .before .before .if1 .taken) (c .before .none-free .ensures) (c .if2 .taken)
+returns c =
+    none-apart _ _ _ _ (c .before .before .before .before .before .before .before .tail .ensures) (c .before .before .before .before .before .head .ensures)
+    (c .before .before .before .before .is-empty .ensures) (c .before .before .before .if1 .taken) (c .before .none-free .ensures) (c .if2 .taken)
 
 just-before-requires : tie.Need-just-before-requires
 just-before-requires c κs = search needs
 
 push-apart-requires : tie.Need-push-apart-requires
 unfolding size
-push-apart-requires c κs = can-take _ _ _ (c .before .before .before .before .before .before .before .before .before .before .before .before .before .pre .0) (c .before .before .before .before .before .before .before .before .before .before .before .before .before .pre .1) (c .before .before .before .before .before .before .before .before .before .before .before .before .before .pre .2) (c .before .before .before .before .before .before .before .before .before .before .before .before .before .pre .3) (c .before .before .before .before .none-free .ensures) (c .before .before .before .if2 .left)
+push-apart-requires c κs =
+    can-take _ _ _ (c .before .before .before .before .before .before .before .before .before .before .before .before .before .pre .0)
+    (c .before .before .before .before .before .before .before .before .before .before .before .before .before .pre .1)
+    (c .before .before .before .before .before .before .before .before .before .before .before .before .before .pre .2)
+    (c .before .before .before .before .before .before .before .before .before .before .before .before .before .pre .3)
+    (c .before .before .before .before .none-free .ensures) (c .before .before .before .if2 .left)
 
 same-length-2 : tie.Need-same-length-2
 same-length-2 c = search needs
 
 returns-2 : tie.Need-returns-2
-returns-2 c = goes-apart _ _ _ _ (c .before .before .before .before .before .before .before .before .before .before .before .before .before .tail .ensures) (c .before .before .before .before .before .before .before .before .before .before .before .head .ensures) (c .before .before .before .before .before .before .before .before .before .before .is-empty .ensures) (c .before .before .before .before .before .before .before .before .before .if1 .taken) (c .before .before .before .before .before .before .before .none-free .ensures) (c .before .before .before .before .before .before .if2 .left) (c .before .before .before .just-before .ensures) (c .before .before .push-apart .ensures)
+returns-2 c =
+    goes-apart _ _ _ _ (c .before .before .before .before .before .before .before .before .before .before .before .before .before .tail .ensures)
+    (c .before .before .before .before .before .before .before .before .before .before .before .head .ensures)
+    (c .before .before .before .before .before .before .before .before .before .before .is-empty .ensures)
+    (c .before .before .before .before .before .before .before .before .before .if1 .taken)
+    (c .before .before .before .before .before .before .before .none-free .ensures) (c .before .before .before .before .before .before .if2 .left)
+    (c .before .before .before .just-before .ensures) (c .before .before .push-apart .ensures)
 
 same-length-3 : tie.Need-same-length-3
 same-length-3 c = search needs
 
 returns-3 : tie.Need-returns-3
-returns-3 c = ends-away _ _ _ _ (c .before .before .before .before .before .tail .ensures) (c .before .before .before .head .ensures) (c .before .before .is-empty .ensures) (c .before .if1 .left) (c .if3 .taken)
+returns-3 c =
+    ends-away _ _ _ _ (c .before .before .before .before .before .tail .ensures) (c .before .before .before .head .ensures)
+    (c .before .before .is-empty .ensures) (c .before .if1 .left) (c .if3 .taken)
 
 segment-requires : tie.Need-segment-requires
 segment-requires c κs = search needs
@@ -61,13 +64,27 @@ header-requires c κs = search needs
 
 store-one-requires : tie.Need-store-one-requires
 unfolding size
-store-one-requires c κs = can-store _ _ _ (c .before .before .before .before .before .before .before .before .before .before .before .before .before .before .pre .0) (c .before .before .before .before .before .before .before .before .before .before .before .before .before .before .pre .1) (c .before .before .before .before .before .before .before .before .before .before .before .before .before .before .pre .2) (c .before .before .before .before .before .before .before .before .before .before .before .before .before .before .pre .3) (c .before .before .before .before .before .before .before .before .before .before .before .tail .ensures) (c .before .before .before .before .before .before .if3 .left) (c .before .before .before .before .segment .ensures) (c .before .before .header .ensures) (c .before .if4 .taken)
+store-one-requires c κs =
+    can-store _ _ _ (c .before .before .before .before .before .before .before .before .before .before .before .before .before .before .pre .0)
+    (c .before .before .before .before .before .before .before .before .before .before .before .before .before .before .pre .1)
+    (c .before .before .before .before .before .before .before .before .before .before .before .before .before .before .pre .2)
+    (c .before .before .before .before .before .before .before .before .before .before .before .before .before .before .pre .3)
+    (c .before .before .before .before .before .before .before .before .before .before .before .tail .ensures)
+    (c .before .before .before .before .before .before .if3 .left) (c .before .before .before .before .segment .ensures) (c .before .before .header .ensures)
+    (c .before .if4 .taken)
 
 same-length-4 : tie.Need-same-length-4
 same-length-4 c = search needs
 
 returns-4 : tie.Need-returns-4
-returns-4 c = is-stored _ _ _ _ (c .before .before .before .before .before .before .before .before .before .before .before .before .before .before .tail .ensures) (c .before .before .before .before .before .before .before .before .before .before .before .before .head .ensures) (c .before .before .before .before .before .before .before .before .before .before .before .is-empty .ensures) (c .before .before .before .before .before .before .before .before .before .before .if1 .left) (c .before .before .before .before .before .before .before .before .before .if3 .left) (c .before .before .before .before .before .before .before .segment .ensures) (c .before .before .before .before .before .header .ensures) _ (c .before .before .before .before .if4 .taken) (c .before .before .store-one .ensures)
+returns-4 c =
+    is-stored _ _ _ _ (c .before .before .before .before .before .before .before .before .before .before .before .before .before .before .tail .ensures)
+    (c .before .before .before .before .before .before .before .before .before .before .before .before .head .ensures)
+    (c .before .before .before .before .before .before .before .before .before .before .before .is-empty .ensures)
+    (c .before .before .before .before .before .before .before .before .before .before .if1 .left)
+    (c .before .before .before .before .before .before .before .before .before .if3 .left)
+    (c .before .before .before .before .before .before .before .segment .ensures) (c .before .before .before .before .before .header .ensures) _
+    (c .before .before .before .before .if4 .taken) (c .before .before .store-one .ensures)
 
 none-free-requires-2 : tie.Need-none-free-requires-2
 none-free-requires-2 c κs = search needs
@@ -76,17 +93,39 @@ same-length-5 : tie.Need-same-length-5
 same-length-5 c = search needs
 
 returns-5 : tie.Need-returns-5
-returns-5 c = none-behind _ _ _ _ (c .before .before .before .before .before .before .before .before .before .before .before .before .before .tail .ensures) (c .before .before .before .before .before .before .before .before .before .before .before .head .ensures) (c .before .before .before .before .before .before .before .before .before .before .is-empty .ensures) (c .before .before .before .before .before .before .before .before .before .if1 .left) (c .before .before .before .before .before .before .before .before .if3 .left) (c .before .before .before .before .before .before .segment .ensures) (c .before .before .before .before .header .ensures) (c .before .before .before .if4 .left) (c .before .none-free2 .ensures) (c .if5 .taken)
+returns-5 c =
+    none-behind _ _ _ _ (c .before .before .before .before .before .before .before .before .before .before .before .before .before .tail .ensures)
+    (c .before .before .before .before .before .before .before .before .before .before .before .head .ensures)
+    (c .before .before .before .before .before .before .before .before .before .before .is-empty .ensures)
+    (c .before .before .before .before .before .before .before .before .before .if1 .left)
+    (c .before .before .before .before .before .before .before .before .if3 .left) (c .before .before .before .before .before .before .segment .ensures)
+    (c .before .before .before .before .header .ensures) (c .before .before .before .if4 .left) (c .before .none-free2 .ensures) (c .if5 .taken)
 
 push-behind-requires : tie.Need-push-behind-requires
 unfolding size
-push-behind-requires c κs = can-take _ _ _ (c .before .before .before .before .before .before .before .before .before .before .before .before .before .before .before .before .before .pre .0) (c .before .before .before .before .before .before .before .before .before .before .before .before .before .before .before .before .before .pre .1) (c .before .before .before .before .before .before .before .before .before .before .before .before .before .before .before .before .before .pre .2) (c .before .before .before .before .before .before .before .before .before .before .before .before .before .before .before .before .before .pre .3) (c .before .before .none-free2 .ensures) (c .before .if5 .left)
+push-behind-requires c κs =
+    can-take _ _ _
+    (c .before .before .before .before .before .before .before .before .before .before .before .before .before .before .before .before .before .pre .0)
+    (c .before .before .before .before .before .before .before .before .before .before .before .before .before .before .before .before .before .pre .1)
+    (c .before .before .before .before .before .before .before .before .before .before .before .before .before .before .before .before .before .pre .2)
+    (c .before .before .before .before .before .before .before .before .before .before .before .before .before .before .before .before .before .pre .3)
+    (c .before .before .none-free2 .ensures) (c .before .if5 .left)
 
 same-length-6 : tie.Need-same-length-6
 same-length-6 c = search needs
 
 returns-6 : tie.Need-returns-6
-returns-6 c = goes-behind _ _ _ _ (c .before .before .before .before .before .before .before .before .before .before .before .before .before .before .before .before .before .tail .ensures) (c .before .before .before .before .before .before .before .before .before .before .before .before .before .before .before .head .ensures) (c .before .before .before .before .before .before .before .before .before .before .before .before .before .before .is-empty .ensures) (c .before .before .before .before .before .before .before .before .before .before .before .before .before .if1 .left) (c .before .before .before .before .before .before .before .before .before .before .before .before .if3 .left) (c .before .before .before .before .before .before .before .before .before .before .segment .ensures) (c .before .before .before .before .before .before .before .before .header .ensures) (c .before .before .before .before .before .before .before .if4 .left) (c .before .before .before .before .before .none-free2 .ensures) (c .before .before .before .before .if5 .left) (c .before .before .push-behind .ensures)
+returns-6 c =
+    goes-behind _ _ _ _
+    (c .before .before .before .before .before .before .before .before .before .before .before .before .before .before .before .before .before .tail .ensures)
+    (c .before .before .before .before .before .before .before .before .before .before .before .before .before .before .before .head .ensures)
+    (c .before .before .before .before .before .before .before .before .before .before .before .before .before .before .is-empty .ensures)
+    (c .before .before .before .before .before .before .before .before .before .before .before .before .before .if1 .left)
+    (c .before .before .before .before .before .before .before .before .before .before .before .before .if3 .left)
+    (c .before .before .before .before .before .before .before .before .before .before .segment .ensures)
+    (c .before .before .before .before .before .before .before .before .header .ensures)
+    (c .before .before .before .before .before .before .before .if4 .left) (c .before .before .before .before .before .none-free2 .ensures)
+    (c .before .before .before .before .if5 .left) (c .before .before .push-behind .ensures)
 
 pub push-value-spec : {M : Type 1} → statement M
 push-value-spec =

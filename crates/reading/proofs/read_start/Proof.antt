@@ -6,9 +6,6 @@ use mathlib.Core.Path.{_≡_, refl, _∙_}
 use Prim.Native.Nat.{_-_, _≤_}
 use Rattle.reading.proofs.read_start.Statement.{statement}
 use Rattle.reading.proofs.read_start.Tie as tie
-use Rattle.reading.proofs.read_start.Reads as reads
-use Rattle.reading.proofs.read_start.Lts as lts
-use Rattle.reading.proofs.read_some.Reads as read-some-reads
 
 abbrev Inv-loop : tie.InvT-loop
 Inv-loop fd bytes₀ n₀ bytes n = (n ≤ length bytes) × (length bytes ≡ length bytes₀)
@@ -38,25 +35,59 @@ enum-told : tie.Need-enum-told Inv-loop μ-loop
 enum-told c = c .match .keys2
 
 same-length : tie.Need-same-length Inv-loop μ-loop
-same-length c = whole-kept (c .before .before .before .before .before .before .before .loop .n) (c .before .before .before .before .before .before .before .loop .bytes) (c .before .before .before .before .read-some .last .1 .0) (c .before .before .before .before .read-some .kept .1 .0) ∙ c .before .before .before .before .before .before .before .loop .inv .1
+same-length c =
+    whole-kept (c .before .before .before .before .before .before .before .loop .n) (c .before .before .before .before .before .before .before .loop .bytes)
+    (c .before .before .before .before .read-some .last .1 .0) (c .before .before .before .before .read-some .kept .1 .0)
+    ∙ c .before .before .before .before .before .before .before .loop .inv .1
 
 returns : tie.Need-returns Inv-loop μ-loop
 returns c = tt
 
 same-length-2 : tie.Need-same-length-2 Inv-loop μ-loop
-same-length-2 c = whole-kept (c .before .before .before .before .before .before .before .before .before .loop .n) (c .before .before .before .before .before .before .before .before .before .loop .bytes) (c .before .before .before .before .before .before .read-some .last .1 .0) (c .before .before .before .before .before .before .read-some .kept .1 .0) ∙ c .before .before .before .before .before .before .before .before .before .loop .inv .1
+same-length-2 c =
+    whole-kept (c .before .before .before .before .before .before .before .before .before .loop .n)
+    (c .before .before .before .before .before .before .before .before .before .loop .bytes)
+    (c .before .before .before .before .before .before .read-some .last .1 .0) (c .before .before .before .before .before .before .read-some .kept .1 .0)
+    ∙ c .before .before .before .before .before .before .before .before .before .loop .inv .1
 
 returns-2 : tie.Need-returns-2 Inv-loop μ-loop
-returns-2 c = counts _ _ (let e = whole-kept (c .before .before .before .before .before .before .before .before .before .loop .n) (c .before .before .before .before .before .before .before .before .before .loop .bytes) (c .before .before .before .before .before .before .read-some .last .1 .0) (c .before .before .before .before .before .before .read-some .kept .1 .0) in omega (arith, e, c .before .before .before .before .before .before .before .before .before .loop .inv .0))
+returns-2 c =
+    counts _ _ (let e = whole-kept (c .before .before .before .before .before .before .before .before .before .loop .n)
+    (c .before .before .before .before .before .before .before .before .before .loop .bytes)
+    (c .before .before .before .before .before .before .read-some .last .1 .0) (c .before .before .before .before .before .before .read-some .kept .1 .0) in
+    omega (arith, e, c .before .before .before .before .before .before .before .before .before .loop .inv .0))
 
 add-n : tie.Need-add-n Inv-loop μ-loop
-add-n c = let h = more-inside (c .before .before .before .before .before .before .before .before .before .loop .n) (c .before .before .before .before .before .before .before .before .before .loop .bytes) (c .before .before .before .before .before .before .read-some .last .1 .0) (c .before .before .before .before .before .before .read-some .kept .1 .0) _ (c .before .before .some .given .0 .0) (c .before .before .before .before .before .before .before .before .before .loop .inv .0) (c .before .before .before .before .before .before .read-some .ensures) (c .before .before .some .given .1) in omega arith
+add-n c =
+    let h = more-inside (c .before .before .before .before .before .before .before .before .before .loop .n)
+    (c .before .before .before .before .before .before .before .before .before .loop .bytes)
+    (c .before .before .before .before .before .before .read-some .last .1 .0) (c .before .before .before .before .before .before .read-some .kept .1 .0) _
+    (c .before .before .some .given .0 .0) (c .before .before .before .before .before .before .before .before .before .loop .inv .0)
+    (c .before .before .before .before .before .before .read-some .ensures) (c .before .before .some .given .1) in omega arith
 
 loop-less : tie.Need-loop-less Inv-loop μ-loop
-loop-less c = let h = more-inside (c .before .before .before .before .before .before .before .before .before .loop .n) (c .before .before .before .before .before .before .before .before .before .loop .bytes) (c .before .before .before .before .before .before .read-some .last .1 .0) (c .before .before .before .before .before .before .read-some .kept .1 .0) _ (c .before .before .some .given .0 .0) (c .before .before .before .before .before .before .before .before .before .loop .inv .0) (c .before .before .before .before .before .before .read-some .ensures) (c .before .before .some .given .1) in let e = whole-kept (c .before .before .before .before .before .before .before .before .before .loop .n) (c .before .before .before .before .before .before .before .before .before .loop .bytes) (c .before .before .before .before .before .before .read-some .last .1 .0) (c .before .before .before .before .before .before .read-some .kept .1 .0) in omega (arith, e, h)
+loop-less c =
+    let h = more-inside (c .before .before .before .before .before .before .before .before .before .loop .n)
+    (c .before .before .before .before .before .before .before .before .before .loop .bytes)
+    (c .before .before .before .before .before .before .read-some .last .1 .0) (c .before .before .before .before .before .before .read-some .kept .1 .0) _
+    (c .before .before .some .given .0 .0) (c .before .before .before .before .before .before .before .before .before .loop .inv .0)
+    (c .before .before .before .before .before .before .read-some .ensures) (c .before .before .some .given .1) in
+    let e = whole-kept (c .before .before .before .before .before .before .before .before .before .loop .n)
+    (c .before .before .before .before .before .before .before .before .before .loop .bytes)
+    (c .before .before .before .before .before .before .read-some .last .1 .0) (c .before .before .before .before .before .before .read-some .kept .1 .0) in
+    omega (arith, e, h)
 
 loop-again : tie.Need-loop-again Inv-loop μ-loop
-loop-again c = let h = more-inside (c .before .before .before .before .before .before .before .before .before .loop .n) (c .before .before .before .before .before .before .before .before .before .loop .bytes) (c .before .before .before .before .before .before .read-some .last .1 .0) (c .before .before .before .before .before .before .read-some .kept .1 .0) _ (c .before .before .some .given .0 .0) (c .before .before .before .before .before .before .before .before .before .loop .inv .0) (c .before .before .before .before .before .before .read-some .ensures) (c .before .before .some .given .1) in let e = whole-kept (c .before .before .before .before .before .before .before .before .before .loop .n) (c .before .before .before .before .before .before .before .before .before .loop .bytes) (c .before .before .before .before .before .before .read-some .last .1 .0) (c .before .before .before .before .before .before .read-some .kept .1 .0) in (omega (arith, e, h), e ∙ c .before .before .before .before .before .before .before .before .before .loop .inv .1)
+loop-again c =
+    let h = more-inside (c .before .before .before .before .before .before .before .before .before .loop .n)
+    (c .before .before .before .before .before .before .before .before .before .loop .bytes)
+    (c .before .before .before .before .before .before .read-some .last .1 .0) (c .before .before .before .before .before .before .read-some .kept .1 .0) _
+    (c .before .before .some .given .0 .0) (c .before .before .before .before .before .before .before .before .before .loop .inv .0)
+    (c .before .before .before .before .before .before .read-some .ensures) (c .before .before .some .given .1) in
+    let e = whole-kept (c .before .before .before .before .before .before .before .before .before .loop .n)
+    (c .before .before .before .before .before .before .before .before .before .loop .bytes)
+    (c .before .before .before .before .before .before .read-some .last .1 .0) (c .before .before .before .before .before .before .read-some .kept .1 .0) in
+    (omega (arith, e, h), e ∙ c .before .before .before .before .before .before .before .before .before .loop .inv .1)
 
 same-length-3 : tie.Need-same-length-3 Inv-loop μ-loop
 same-length-3 c = c .before .loop .inv .1

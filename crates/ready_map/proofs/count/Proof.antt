@@ -3,8 +3,6 @@ use native.Mathlib.Omega.{arith}
 use Rattle.ready_map.proofs.Bits.{counted}
 use Rattle.ready_map.proofs.count.Statement.{statement}
 use Rattle.ready_map.proofs.count.Tie as tie
-use Rattle.ready_map.proofs.count.Reads as reads
-use Rattle.ready_map.proofs.count.Lts as lts
 
 add-result : tie.Need-add-result
 add-result c = omega (arith, ones-le 32 _ (c .fits .w0 .fits), ones-le 32 _ (c .fits .w1 .fits))
@@ -13,7 +11,8 @@ add-result-2 : tie.Need-add-result-2
 add-result-2 c = omega (arith, ones-le 32 _ (c .fits .w0 .fits), ones-le 32 _ (c .fits .w1 .fits), ones-le 32 _ (c .fits .w2 .fits))
 
 add-result-3 : tie.Need-add-result-3
-add-result-3 c = omega (arith, ones-le 32 _ (c .fits .w0 .fits), ones-le 32 _ (c .fits .w1 .fits), ones-le 32 _ (c .fits .w2 .fits), ones-le 32 _ (c .fits .w3 .fits))
+add-result-3 c =
+    omega (arith, ones-le 32 _ (c .fits .w0 .fits), ones-le 32 _ (c .fits .w1 .fits), ones-le 32 _ (c .fits .w2 .fits), ones-le 32 _ (c .fits .w3 .fits))
 
 returns : tie.Need-returns
 returns c = counted _ _ _ _

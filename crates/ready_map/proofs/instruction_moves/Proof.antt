@@ -4,14 +4,6 @@ use Rattle.ready_map.proofs.Steps.{pushing, finding, going, spawning, s
 use borrow.Author.Needs.{needs}
 use Rattle.ready_map.proofs.instruction_moves.Statement.{statement}
 use Rattle.ready_map.proofs.instruction_moves.Tie as tie
-use Rattle.ready_map.proofs.instruction_moves.Reads as reads
-use Rattle.ready_map.proofs.instruction_moves.Lts as lts
-use Rattle.deciding.proofs.find_moves.Reads as find-moves-reads
-use Rattle.deciding.proofs.finish_moves.Reads as finish-moves-reads
-use Rattle.deciding.proofs.push_moves.Reads as push-moves-reads
-use Rattle.deciding.proofs.spawn_moves.Reads as spawn-moves-reads
-use Rattle.deciding.proofs.sync_moves.Reads as sync-moves-reads
-use Rattle.job_fields.proofs.rights.Reads as rights-reads
 
 rights-requires : tie.Need-rights-requires
 rights-requires c κs = search needs
@@ -47,7 +39,9 @@ returns-5 : tie.Need-returns-5
 returns-5 c = going _ _ _ _ _ (c .before .if3 .left) (c .if4 .taken)
 
 returns-6 : tie.Need-returns-6
-returns-6 c = c .finish-moves .ensures ∙ finishing _ _ _ _ _ (c .before .before .match .rest .0 .1) (c .before .before .match .rest .1) (⊎-elim (λ s. inl (s .taken)) (λ s. inr (s .3 .left)) (c .before .if1 .came))
+returns-6 c =
+    c .finish-moves .ensures ∙ finishing _ _ _ _ _ (c .before .before .match .rest .0 .1) (c .before .before .match .rest .1)
+    (⊎-elim (λ s. inl (s .taken)) (λ s. inr (s .3 .left)) (c .before .if1 .came))
 
 pub instruction-moves-spec : {M : Type 1} → statement M
 instruction-moves-spec =

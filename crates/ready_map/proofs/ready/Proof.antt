@@ -3,11 +3,6 @@ use Rattle.ready_map.proofs.Map.{other-length, map-refused, map-given}
 use borrow.Author.Needs.{needs}
 use Rattle.ready_map.proofs.ready.Statement.{statement}
 use Rattle.ready_map.proofs.ready.Tie as tie
-use Rattle.ready_map.proofs.ready.Reads as reads
-use Rattle.ready_map.proofs.ready.Lts as lts
-use Rattle.ready_map.proofs.refusal.Reads as refusal-reads
-use Rattle.ready_map.proofs.write_map.Reads as write-map-reads
-use Rattle.ready_map.proofs.write_ready.Reads as write-ready-reads
 
 returns : tie.Need-returns
 unfolding size
@@ -24,7 +19,9 @@ same-length c = search needs
 
 returns-2 : tie.Need-returns-2
 unfolding size
-returns-2 c = map-refused _ _ _ _ (c .before .before .before .before .before .before .if1 .left) (c .before .before .before .before .before .refusal .ensures) (c .before .before .before .before .if2 .taken) (c .before .before .write-map .ensures)
+returns-2 c =
+    map-refused _ _ _ _ (c .before .before .before .before .before .before .if1 .left) (c .before .before .before .before .before .refusal .ensures)
+    (c .before .before .before .before .if2 .taken) (c .before .before .write-map .ensures)
 
 write-ready-requires : tie.Need-write-ready-requires
 write-ready-requires c κs = search needs
@@ -34,7 +31,9 @@ same-length-2 c = search needs
 
 returns-3 : tie.Need-returns-3
 unfolding size
-returns-3 c = map-given _ _ _ _ (c .before .before .before .before .before .before .if1 .left) (c .before .before .before .before .before .refusal .ensures) (c .before .before .before .before .if2 .left) (c .before .before .write-ready .ensures)
+returns-3 c =
+    map-given _ _ _ _ (c .before .before .before .before .before .before .if1 .left) (c .before .before .before .before .before .refusal .ensures)
+    (c .before .before .before .before .if2 .left) (c .before .before .write-ready .ensures)
 
 pub ready-spec : {M : Type 1} → statement M
 ready-spec =

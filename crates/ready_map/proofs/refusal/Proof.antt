@@ -4,11 +4,6 @@ use Rattle.ready_map.proofs.Map.{job-refuses, rules-refuse, runner-refu
 use borrow.Author.Needs.{needs}
 use Rattle.ready_map.proofs.refusal.Statement.{statement}
 use Rattle.ready_map.proofs.refusal.Tie as tie
-use Rattle.ready_map.proofs.refusal.Reads as reads
-use Rattle.ready_map.proofs.refusal.Lts as lts
-use Rattle.memory_test.proofs.rules_hold.Reads as rules-hold-reads
-use Rattle.runner_words.proofs.holds.Reads as holds-reads
-use Rattle.runner_words.proofs.refusal.Reads as refusal-reads
 
 refusal-requires : tie.Need-refusal-requires
 refusal-requires c κs = search needs
@@ -27,10 +22,14 @@ holds-requires : tie.Need-holds-requires
 holds-requires c κs = search needs
 
 returns-3 : tie.Need-returns-3
-returns-3 c = runner-refuses _ _ _ (c .before .before .before .before .before .refusal .ensures) (c .before .before .before .before .if1 .left) (c .before .before .before .rules-hold .ensures) (c .before .before .if2 .left) (c .before .holds .ensures) (c .if3 .taken)
+returns-3 c =
+    runner-refuses _ _ _ (c .before .before .before .before .before .refusal .ensures) (c .before .before .before .before .if1 .left)
+    (c .before .before .before .rules-hold .ensures) (c .before .before .if2 .left) (c .before .holds .ensures) (c .if3 .taken)
 
 returns-4 : tie.Need-returns-4
-returns-4 c = none-refuses _ _ _ (c .before .before .before .before .before .refusal .ensures) (c .before .before .before .before .if1 .left) (c .before .before .before .rules-hold .ensures) (c .before .before .if2 .left) (c .before .holds .ensures) (c .if3 .left)
+returns-4 c =
+    none-refuses _ _ _ (c .before .before .before .before .before .refusal .ensures) (c .before .before .before .before .if1 .left)
+    (c .before .before .before .rules-hold .ensures) (c .before .before .if2 .left) (c .before .holds .ensures) (c .if3 .left)
 
 pub refusal-spec : {M : Type 1} → statement M
 refusal-spec =

@@ -3,12 +3,6 @@ use Rattle.ready_map.proofs.Steps.{not-unfinished, is-blocked, goes-by}
 use borrow.Author.Needs.{needs}
 use Rattle.ready_map.proofs.step_moves.Statement.{statement}
 use Rattle.ready_map.proofs.step_moves.Tie as tie
-use Rattle.ready_map.proofs.step_moves.Reads as reads
-use Rattle.ready_map.proofs.step_moves.Lts as lts
-use Rattle.ready_map.proofs.instruction_moves.Reads as instruction-moves-reads
-use Rattle.runner_words.proofs.instruction_for.Reads as instruction-for-reads
-use Rattle.walks.proofs.blocked.Reads as blocked-reads
-use Rattle.walks.proofs.unfinished.Reads as unfinished-reads
 
 unfinished-requires : tie.Need-unfinished-requires
 unfinished-requires c κs = search needs
@@ -29,7 +23,9 @@ instruction-moves-requires : tie.Need-instruction-moves-requires
 instruction-moves-requires c κs = below _ _ (c .before .before .before .before .unfinished .ensures) (c .before .before .before .if1 .left)
 
 returns-3 : tie.Need-returns-3
-returns-3 c = goes-by _ _ _ _ (c .before .before .before .before .before .unfinished .ensures) (c .before .before .before .before .if1 .left) (c .before .before .before .blocked .ensures) _ (c .before .before .if2 .left) (c .before .instruction-for .ensures) (c .instruction-moves .ensures)
+returns-3 c =
+    goes-by _ _ _ _ (c .before .before .before .before .before .unfinished .ensures) (c .before .before .before .before .if1 .left)
+    (c .before .before .before .blocked .ensures) _ (c .before .before .if2 .left) (c .before .instruction-for .ensures) (c .instruction-moves .ensures)
 
 pub step-moves-spec : {M : Type 1} → statement M
 step-moves-spec =

@@ -2,8 +2,6 @@ use Rattle.ready_map.proofs.Bits.{bit-set, bit-unset}
 use borrow.Author.Needs.{needs}
 use Rattle.ready_map.proofs.with_bit.Statement.{statement}
 use Rattle.ready_map.proofs.with_bit.Tie as tie
-use Rattle.ready_map.proofs.with_bit.Reads as reads
-use Rattle.ready_map.proofs.with_bit.Lts as lts
 
 shl-result : tie.Need-shl-result
 shl-result c = search needs

@@ -8,10 +8,6 @@ use Rattle.runner.specs.Moves.{stepMoves}
 use Rattle.ready_map.proofs.Bits.{below, one-more, whole}
 use Rattle.ready_map.proofs.word_from.Statement.{statement}
 use Rattle.ready_map.proofs.word_from.Tie as tie
-use Rattle.ready_map.proofs.word_from.Reads as reads
-use Rattle.ready_map.proofs.word_from.Lts as lts
-use Rattle.ready_map.proofs.step_moves.Reads as step-moves-reads
-use Rattle.ready_map.proofs.with_bit.Reads as with-bit-reads
 
 abbrev Inv-loop : tie.InvT-loop
 Inv-loop job m r i w₀ k₀ w k = (k ≤ 32) × (w ≡ bitsFrom (stepMoves job m r) k i)

@@ -2,10 +2,6 @@ use Rattle.ready_map.proofs.Map.{six}
 use borrow.Author.Needs.{needs}
 use Rattle.ready_map.proofs.write_map.Statement.{statement}
 use Rattle.ready_map.proofs.write_map.Tie as tie
-use Rattle.ready_map.proofs.write_map.Reads as reads
-use Rattle.ready_map.proofs.write_map.Lts as lts
-use Rattle.memory.proofs.put.Reads as put-reads
-use Rattle.memory.proofs.put4.Reads as put4-reads
 
 put4-requires : tie.Need-put4-requires
 put4-requires c κs = search needs
@@ -20,7 +16,10 @@ same-length : tie.Need-same-length
 same-length c = search needs
 
 returns : tie.Need-returns
-returns c = six _ _ _ _ _ _ _ _ _ _ (c .before .before .before .before .before .before .before .before .before .before .before .before .before .pre) (c .before .before .before .before .before .before .before .before .before .before .put4 .ensures) (c .before .before .before .before .before .before .put .ensures) (c .before .before .put2 .ensures)
+returns c =
+    six _ _ _ _ _ _ _ _ _ _ (c .before .before .before .before .before .before .before .before .before .before .before .before .before .pre)
+    (c .before .before .before .before .before .before .before .before .before .before .put4 .ensures)
+    (c .before .before .before .before .before .before .put .ensures) (c .before .before .put2 .ensures)
 
 pub write-map-spec : {M : Type 1} → statement M
 write-map-spec = tie.close (tie.spec put4-requires put-requires put-requires-2 same-length returns)

@@ -2,12 +2,6 @@ use Rattle.ready_map.proofs.Map.{map-written}
 use borrow.Author.Needs.{needs}
 use Rattle.ready_map.proofs.write_ready.Statement.{statement}
 use Rattle.ready_map.proofs.write_ready.Tie as tie
-use Rattle.ready_map.proofs.write_ready.Reads as reads
-use Rattle.ready_map.proofs.write_ready.Lts as lts
-use Rattle.ready_map.proofs.count.Reads as count-reads
-use Rattle.ready_map.proofs.lowest.Reads as lowest-reads
-use Rattle.ready_map.proofs.word_from.Reads as word-from-reads
-use Rattle.ready_map.proofs.write_map.Reads as write-map-reads
 
 word-from-requires : tie.Need-word-from-requires
 word-from-requires c κs = search needs
@@ -34,7 +28,11 @@ same-length : tie.Need-same-length
 same-length c = search needs
 
 returns : tie.Need-returns
-returns c = map-written _ _ _ _ _ _ _ _ (c .before .before .before .before .before .before .before .before .before .word-from .ensures) (c .before .before .before .before .before .before .before .before .word-from2 .ensures) (c .before .before .before .before .before .before .before .word-from3 .ensures) (c .before .before .before .before .before .before .word-from4 .ensures) (c .before .before .before .before .before .count .ensures) (c .before .before .before .lowest .ensures) (c .before .before .write-map .ensures)
+returns c =
+    map-written _ _ _ _ _ _ _ _ (c .before .before .before .before .before .before .before .before .before .word-from .ensures)
+    (c .before .before .before .before .before .before .before .before .word-from2 .ensures)
+    (c .before .before .before .before .before .before .before .word-from3 .ensures) (c .before .before .before .before .before .before .word-from4 .ensures)
+    (c .before .before .before .before .before .count .ensures) (c .before .before .before .lowest .ensures) (c .before .before .write-map .ensures)
 
 pub write-ready-spec : {M : Type 1} → statement M
 write-ready-spec =

@@ -2,11 +2,6 @@ use Rattle.returning.proofs.Deciding.{empty-is}
 use borrow.Author.Needs.{needs}
 use Rattle.returning.proofs.empty_view.Statement.{statement}
 use Rattle.returning.proofs.empty_view.Tie as tie
-use Rattle.returning.proofs.empty_view.Reads as reads
-use Rattle.returning.proofs.empty_view.Lts as lts
-use Rattle.views.proofs.head.Reads as head-reads
-use Rattle.views.proofs.is_empty.Reads as is-empty-reads
-use Rattle.views.proofs.tail.Reads as tail-reads
 
 head-requires : tie.Need-head-requires
 head-requires c κs = search needs

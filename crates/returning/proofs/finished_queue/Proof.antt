@@ -2,10 +2,6 @@ use Rattle.returning.proofs.Views.{queue-done}
 use borrow.Author.Needs.{needs}
 use Rattle.returning.proofs.finished_queue.Statement.{statement}
 use Rattle.returning.proofs.finished_queue.Tie as tie
-use Rattle.returning.proofs.finished_queue.Reads as reads
-use Rattle.returning.proofs.finished_queue.Lts as lts
-use Rattle.returning.proofs.queue_returned.Reads as queue-returned-reads
-use Rattle.returning.proofs.views_returned.Reads as views-returned-reads
 
 views-returned-requires : tie.Need-views-returned-requires
 views-returned-requires c κs = search needs

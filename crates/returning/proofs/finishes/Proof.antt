@@ -2,13 +2,6 @@ use Rattle.returning.proofs.Deciding.{nothing-finishes, user-stops, use
 use borrow.Author.Needs.{needs}
 use Rattle.returning.proofs.finishes.Statement.{statement}
 use Rattle.returning.proofs.finishes.Tie as tie
-use Rattle.returning.proofs.finishes.Reads as reads
-use Rattle.returning.proofs.finishes.Lts as lts
-use Rattle.returning.proofs.no_views.Reads as no-views-reads
-use Rattle.returning.proofs.right_fits.Reads as right-fits-reads
-use Rattle.views.proofs.head.Reads as head-reads
-use Rattle.views.proofs.reducible.Reads as reducible-reads
-use Rattle.views.proofs.tail.Reads as tail-reads
 
 no-views-requires : tie.Need-no-views-requires
 no-views-requires c κs = search needs
@@ -32,13 +25,18 @@ reducible-requires : tie.Need-reducible-requires
 reducible-requires c κs = search needs
 
 returns-2 : tie.Need-returns-2
-returns-2 c = user-stops _ _ _ (c .before .before .before .before .before .head .ensures) (c .before .before .before .before .tail .ensures) (c .before .before .before .head2 .ensures) (c .before .before .tail2 .ensures) (c .before .reducible .ensures) (c .if2 .taken)
+returns-2 c =
+    user-stops _ _ _ (c .before .before .before .before .before .head .ensures) (c .before .before .before .before .tail .ensures)
+    (c .before .before .before .head2 .ensures) (c .before .before .tail2 .ensures) (c .before .reducible .ensures) (c .if2 .taken)
 
 right-fits-requires : tie.Need-right-fits-requires
 right-fits-requires c κs = search needs
 
 returns-3 : tie.Need-returns-3
-returns-3 c = user-goes _ _ _ (c .before .before .before .before .before .before .head .ensures) (c .before .before .before .before .before .tail .ensures) (c .before .before .before .before .head2 .ensures) (c .before .before .before .tail2 .ensures) (c .before .before .reducible .ensures) _ (c .before .if2 .left) (c .right-fits .ensures)
+returns-3 c =
+    user-goes _ _ _ (c .before .before .before .before .before .before .head .ensures) (c .before .before .before .before .before .tail .ensures)
+    (c .before .before .before .before .head2 .ensures) (c .before .before .before .tail2 .ensures) (c .before .before .reducible .ensures) _
+    (c .before .if2 .left) (c .right-fits .ensures)
 
 pub finishes-spec : {M : Type 1} → statement M
 finishes-spec =

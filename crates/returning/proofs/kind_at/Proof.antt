@@ -4,8 +4,6 @@ use Rattle.calls.specs.Views.{kindAt}
 use Rattle.words.specs.Words.{pass, halt}
 use Rattle.returning.proofs.kind_at.Statement.{statement}
 use Rattle.returning.proofs.kind_at.Tie as tie
-use Rattle.returning.proofs.kind_at.Reads as reads
-use Rattle.returning.proofs.kind_at.Lts as lts
 
 returns : tie.Need-returns
 unfolding kindAt

@@ -2,9 +2,6 @@ use Rattle.returning.proofs.Deciding.{user-stands, children-stand, righ
 use borrow.Author.Needs.{needs}
 use Rattle.returning.proofs.no_views.Statement.{statement}
 use Rattle.returning.proofs.no_views.Tie as tie
-use Rattle.returning.proofs.no_views.Reads as reads
-use Rattle.returning.proofs.no_views.Lts as lts
-use Rattle.returning.proofs.empty_view.Reads as empty-view-reads
 
 empty-view-requires : tie.Need-empty-view-requires
 empty-view-requires c κs = search needs
@@ -16,13 +13,16 @@ empty-view-requires-2 : tie.Need-empty-view-requires-2
 empty-view-requires-2 c κs = search needs
 
 returns-2 : tie.Need-returns-2
-returns-2 c = children-stand _ _ _ (c .before .before .before .empty-view .ensures) (c .before .before .if1 .left) (c .before .empty-view2 .ensures) (c .if2 .taken)
+returns-2 c =
+    children-stand _ _ _ (c .before .before .before .empty-view .ensures) (c .before .before .if1 .left) (c .before .empty-view2 .ensures) (c .if2 .taken)
 
 empty-view-requires-3 : tie.Need-empty-view-requires-3
 empty-view-requires-3 c κs = search needs
 
 returns-3 : tie.Need-returns-3
-returns-3 c = right-left _ _ _ (c .before .before .before .before .empty-view .ensures) (c .before .before .before .if1 .left) (c .before .before .empty-view2 .ensures) _ (c .before .if2 .left) (c .empty-view3 .ensures)
+returns-3 c =
+    right-left _ _ _ (c .before .before .before .before .empty-view .ensures) (c .before .before .before .if1 .left) (c .before .before .empty-view2 .ensures)
+    _ (c .before .if2 .left) (c .empty-view3 .ensures)
 
 pub no-views-spec : {M : Type 1} → statement M
 no-views-spec =

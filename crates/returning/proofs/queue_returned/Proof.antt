@@ -2,11 +2,6 @@ use Rattle.returning.proofs.Views.{no-queue, queue-goes}
 use borrow.Author.Needs.{needs}
 use Rattle.returning.proofs.queue_returned.Statement.{statement}
 use Rattle.returning.proofs.queue_returned.Tie as tie
-use Rattle.returning.proofs.queue_returned.Reads as reads
-use Rattle.returning.proofs.queue_returned.Lts as lts
-use Rattle.memory.proofs.set_task.Reads as set-task-reads
-use Rattle.memory.proofs.task.Reads as task-reads
-use Rattle.walks.proofs.heir.Reads as heir-reads
 
 add-task : tie.Need-add-task
 add-task c = search needs
@@ -39,7 +34,11 @@ same-length-2 : tie.Need-same-length-2
 same-length-2 c = search needs
 
 returns-2 : tie.Need-returns-2
-returns-2 c = queue-goes _ _ _ (c .before .before .before .before .before .before .before .before .before .before .before .task .ensures) _ _ _ (c .before .before .before .before .before .before .before .before .before .before .if1 .left) (c .before .before .before .before .before .before .before .before .heir .ensures) (c .before .before .before .before .before .before .set-task .ensures) (c .before .before .set-task2 .ensures)
+returns-2 c =
+    queue-goes _ _ _ (c .before .before .before .before .before .before .before .before .before .before .before .task .ensures) _ _ _
+    (c .before .before .before .before .before .before .before .before .before .before .if1 .left)
+    (c .before .before .before .before .before .before .before .before .heir .ensures) (c .before .before .before .before .before .before .set-task .ensures)
+    (c .before .before .set-task2 .ensures)
 
 pub queue-returned-spec : {M : Type 1} → statement M
 queue-returned-spec =

@@ -2,15 +2,6 @@ use Rattle.returning.proofs.Views.{empty-stays, view-goes}
 use borrow.Author.Needs.{needs}
 use Rattle.returning.proofs.return_view.Statement.{statement}
 use Rattle.returning.proofs.return_view.Tie as tie
-use Rattle.returning.proofs.return_view.Reads as reads
-use Rattle.returning.proofs.return_view.Lts as lts
-use Rattle.returning.proofs.kind_at.Reads as kind-at-reads
-use Rattle.returning.proofs.way.Reads as way-reads
-use Rattle.views.proofs.head.Reads as head-reads
-use Rattle.views.proofs.is_empty.Reads as is-empty-reads
-use Rattle.views.proofs.merge.Reads as merge-reads
-use Rattle.views.proofs.tail.Reads as tail-reads
-use Rattle.walks.proofs.task_at.Reads as task-at-reads
 
 head-requires : tie.Need-head-requires
 head-requires c κs = search needs
@@ -25,7 +16,8 @@ same-length : tie.Need-same-length
 same-length c = search needs
 
 returns : tie.Need-returns
-returns c = empty-stays _ _ _ _ _ (c .before .before .before .before .head .ensures) (c .before .before .tail .ensures) (c .before .is-empty .ensures) (c .if1 .taken)
+returns c =
+    empty-stays _ _ _ _ _ (c .before .before .before .before .head .ensures) (c .before .before .tail .ensures) (c .before .is-empty .ensures) (c .if1 .taken)
 
 way-requires : tie.Need-way-requires
 way-requires c κs = search needs
@@ -43,7 +35,12 @@ same-length-2 : tie.Need-same-length-2
 same-length-2 c = search needs
 
 returns-2 : tie.Need-returns-2
-returns-2 c = view-goes _ _ _ _ _ (c .before .before .before .before .before .before .before .before .before .before .before .head .ensures) (c .before .before .before .before .before .before .before .before .before .tail .ensures) (c .before .before .before .before .before .before .before .before .is-empty .ensures) _ _ _ _ (c .before .before .before .before .before .before .before .if1 .left) (c .before .before .before .before .before .before .way .ensures) (c .before .before .before .before .before .kind-at .ensures) (c .before .before .before .task-at .ensures) (c .before .before .merge .ensures)
+returns-2 c =
+    view-goes _ _ _ _ _ (c .before .before .before .before .before .before .before .before .before .before .before .head .ensures)
+    (c .before .before .before .before .before .before .before .before .before .tail .ensures)
+    (c .before .before .before .before .before .before .before .before .is-empty .ensures) _ _ _ _
+    (c .before .before .before .before .before .before .before .if1 .left) (c .before .before .before .before .before .before .way .ensures)
+    (c .before .before .before .before .before .kind-at .ensures) (c .before .before .before .task-at .ensures) (c .before .before .merge .ensures)
 
 pub return-view-spec : {M : Type 1} → statement M
 return-view-spec =

@@ -2,15 +2,6 @@ use Rattle.returning.proofs.Deciding.{right-stops, right-goes}
 use borrow.Author.Needs.{needs}
 use Rattle.returning.proofs.right_fits.Statement.{statement}
 use Rattle.returning.proofs.right_fits.Tie as tie
-use Rattle.returning.proofs.right_fits.Reads as reads
-use Rattle.returning.proofs.right_fits.Lts as lts
-use Rattle.returning.proofs.view_fits.Reads as view-fits-reads
-use Rattle.views.proofs.head.Reads as head-reads
-use Rattle.views.proofs.head_behind.Reads as head-behind-reads
-use Rattle.views.proofs.reduced_head.Reads as reduced-head-reads
-use Rattle.views.proofs.reduced_tail.Reads as reduced-tail-reads
-use Rattle.views.proofs.reducible.Reads as reducible-reads
-use Rattle.views.proofs.tail.Reads as tail-reads
 
 reduced-head-requires : tie.Need-reduced-head-requires
 reduced-head-requires c κs = search needs
@@ -31,7 +22,10 @@ reducible-requires : tie.Need-reducible-requires
 reducible-requires c κs = search needs
 
 returns : tie.Need-returns
-returns c = right-stops _ _ _ _ _ _ _ (c .before .before .before .before .before .before .reduced-head .ensures) (c .before .before .before .before .before .reduced-tail .ensures) (c .before .before .before .before .head .ensures) (c .before .before .before .tail .ensures) (c .before .before .head-behind .ensures) (c .before .reducible .ensures) (c .if1 .taken)
+returns c =
+    right-stops _ _ _ _ _ _ _ (c .before .before .before .before .before .before .reduced-head .ensures)
+    (c .before .before .before .before .before .reduced-tail .ensures) (c .before .before .before .before .head .ensures)
+    (c .before .before .before .tail .ensures) (c .before .before .head-behind .ensures) (c .before .reducible .ensures) (c .if1 .taken)
 
 reduced-head-requires-2 : tie.Need-reduced-head-requires-2
 reduced-head-requires-2 c κs = search needs
@@ -43,7 +37,12 @@ view-fits-requires : tie.Need-view-fits-requires
 view-fits-requires c κs = search needs
 
 returns-2 : tie.Need-returns-2
-returns-2 c = right-goes _ _ _ _ _ _ _ (c .before .before .before .before .before .before .before .before .before .reduced-head .ensures) (c .before .before .before .before .before .before .before .before .reduced-tail .ensures) (c .before .before .before .before .before .before .before .head .ensures) (c .before .before .before .before .before .before .tail .ensures) (c .before .before .before .before .before .head-behind .ensures) (c .before .before .before .before .reducible .ensures) _ _ _ (c .before .before .before .if1 .left) (c .before .before .reduced-head2 .ensures) (c .before .reduced-tail2 .ensures) (c .view-fits .ensures)
+returns-2 c =
+    right-goes _ _ _ _ _ _ _ (c .before .before .before .before .before .before .before .before .before .reduced-head .ensures)
+    (c .before .before .before .before .before .before .before .before .reduced-tail .ensures)
+    (c .before .before .before .before .before .before .before .head .ensures) (c .before .before .before .before .before .before .tail .ensures)
+    (c .before .before .before .before .before .head-behind .ensures) (c .before .before .before .before .reducible .ensures) _ _ _
+    (c .before .before .before .if1 .left) (c .before .before .reduced-head2 .ensures) (c .before .reduced-tail2 .ensures) (c .view-fits .ensures)
 
 pub right-fits-spec : {M : Type 1} → statement M
 right-fits-spec =

@@ -2,15 +2,6 @@ use Rattle.returning.proofs.Deciding.{nothing-fits, target-fits}
 use borrow.Author.Needs.{needs}
 use Rattle.returning.proofs.view_fits.Statement.{statement}
 use Rattle.returning.proofs.view_fits.Tie as tie
-use Rattle.returning.proofs.view_fits.Reads as reads
-use Rattle.returning.proofs.view_fits.Lts as lts
-use Rattle.returning.proofs.kind_at.Reads as kind-at-reads
-use Rattle.views.proofs.head.Reads as head-reads
-use Rattle.views.proofs.is_empty.Reads as is-empty-reads
-use Rattle.views.proofs.reducible.Reads as reducible-reads
-use Rattle.views.proofs.tail.Reads as tail-reads
-use Rattle.walks.proofs.returned_to.Reads as returned-to-reads
-use Rattle.walks.proofs.task_at.Reads as task-at-reads
 
 is-empty-requires : tie.Need-is-empty-requires
 is-empty-requires c κs = search needs
@@ -37,7 +28,11 @@ reducible-requires : tie.Need-reducible-requires
 reducible-requires c κs = search needs
 
 returns-2 : tie.Need-returns-2
-returns-2 c = target-fits _ _ _ _ _ (c .before .before .before .before .before .before .before .is-empty .ensures) _ _ _ _ _ _ (c .before .before .before .before .before .before .if1 .left) (c .before .before .before .before .before .returned-to .ensures) (c .before .before .before .before .kind-at .ensures) (c .before .before .before .task-at .ensures) (c .before .before .head .ensures) (c .before .tail .ensures) (c .reducible .ensures)
+returns-2 c =
+    target-fits _ _ _ _ _ (c .before .before .before .before .before .before .before .is-empty .ensures) _ _ _ _ _ _
+    (c .before .before .before .before .before .before .if1 .left) (c .before .before .before .before .before .returned-to .ensures)
+    (c .before .before .before .before .kind-at .ensures) (c .before .before .before .task-at .ensures) (c .before .before .head .ensures)
+    (c .before .tail .ensures) (c .reducible .ensures)
 
 pub view-fits-spec : {M : Type 1} → statement M
 view-fits-spec =

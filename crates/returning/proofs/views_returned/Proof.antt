@@ -2,12 +2,6 @@ use Rattle.returning.proofs.Views.{nothing-returned, views-go}
 use borrow.Author.Needs.{needs}
 use Rattle.returning.proofs.views_returned.Statement.{statement}
 use Rattle.returning.proofs.views_returned.Tie as tie
-use Rattle.returning.proofs.views_returned.Reads as reads
-use Rattle.returning.proofs.views_returned.Lts as lts
-use Rattle.returning.proofs.no_views.Reads as no-views-reads
-use Rattle.returning.proofs.return_view.Reads as return-view-reads
-use Rattle.views.proofs.merge.Reads as merge-reads
-use Rattle.walks.proofs.returned_to.Reads as returned-to-reads
 
 no-views-requires : tie.Need-no-views-requires
 no-views-requires c κs = search needs
@@ -37,7 +31,12 @@ same-length-2 : tie.Need-same-length-2
 same-length-2 c = search needs
 
 returns-2 : tie.Need-returns-2
-returns-2 c = views-go _ _ _ _ _ _ _ _ (c .before .before .before .before .before .before .before .before .before .before .before .before .before .before .returned-to .ensures) (c .before .before .before .before .before .before .before .before .before .before .before .before .returned-to2 .ensures) (c .before .before .before .before .before .before .before .before .before .before .merge .ensures) (c .before .before .before .before .before .before .merge2 .ensures) (c .before .before .return-view .ensures)
+returns-2 c =
+    views-go _ _ _ _ _ _ _ _
+    (c .before .before .before .before .before .before .before .before .before .before .before .before .before .before .returned-to .ensures)
+    (c .before .before .before .before .before .before .before .before .before .before .before .before .returned-to2 .ensures)
+    (c .before .before .before .before .before .before .before .before .before .before .merge .ensures)
+    (c .before .before .before .before .before .before .merge2 .ensures) (c .before .before .return-view .ensures)
 
 pub views-returned-spec : {M : Type 1} → statement M
 views-returned-spec =

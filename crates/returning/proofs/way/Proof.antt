@@ -3,8 +3,6 @@ use mathlib.Core.Path.{refl, sym}
 use Rattle.words.specs.Words.{pass, halt}
 use Rattle.returning.proofs.way.Statement.{statement}
 use Rattle.returning.proofs.way.Tie as tie
-use Rattle.returning.proofs.way.Reads as reads
-use Rattle.returning.proofs.way.Lts as lts
 
 returns : tie.Need-returns
 returns c = sym (halt _ _ (eq-eqb _ _ (c .if1 .taken)))

@@ -1,13 +1,11 @@
 use mathlib.Core.Path.{ap}
-use Prim.Native.Nat.{ℕ, _/_, _%_}
+use Prim.Native.Nat.{ℕ, _/_}
 use lib.Dec.{eqb}
 use Rattle.tree.specs.Rights.{pops}
 use Rattle.rights.specs.Masks.{shift}
 use borrow.Author.Needs.{needs}
 use Rattle.rights.proofs.pops.Statement.{statement}
 use Rattle.rights.proofs.pops.Tie as tie
-use Rattle.rights.proofs.pops.Reads as reads
-use Rattle.rights.proofs.pops.Lts as lts
 
 mul-result : tie.Need-mul-result
 mul-result c = search needs

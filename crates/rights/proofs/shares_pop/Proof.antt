@@ -1,8 +1,6 @@
 use Rattle.rights.specs.Masks.{shares-mask}
 use Rattle.rights.proofs.shares_pop.Statement.{statement}
 use Rattle.rights.proofs.shares_pop.Tie as tie
-use Rattle.rights.proofs.shares_pop.Reads as reads
-use Rattle.rights.proofs.shares_pop.Lts as lts
 
 returns : tie.Need-returns
 returns c = shares-mask (c .args .a) (c .args .b)

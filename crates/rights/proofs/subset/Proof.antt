@@ -1,8 +1,6 @@
 use Rattle.rights.specs.Masks.{subset-mask, subset-wide}
 use Rattle.rights.proofs.subset.Statement.{statement}
 use Rattle.rights.proofs.subset.Tie as tie
-use Rattle.rights.proofs.subset.Reads as reads
-use Rattle.rights.proofs.subset.Lts as lts
 
 returns : tie.Need-returns
 returns c = subset-mask (c .before .args .a) (c .before .args .b) (c .if1 .taken)

@@ -1,14 +1,12 @@
 use mathlib.Core.Path.{ap}
 use mathlib.Core.Bool.{not}
-use Prim.Native.Nat.{ℕ, _/_, _%_}
+use Prim.Native.Nat.{ℕ}
 use lib.Dec.{eqb}
 use Rattle.tree.specs.Rights.{uses}
 use Rattle.rights.specs.Masks.{shift}
 use borrow.Author.Needs.{needs}
 use Rattle.rights.proofs.uses.Statement.{statement}
 use Rattle.rights.proofs.uses.Tie as tie
-use Rattle.rights.proofs.uses.Reads as reads
-use Rattle.rights.proofs.uses.Lts as lts
 
 mul-result : tie.Need-mul-result
 mul-result c = search needs

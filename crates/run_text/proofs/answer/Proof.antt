@@ -6,9 +6,6 @@ use Rattle.run_text.specs.Lines.{answerText, spaced}
 use borrow.Author.Needs.{needs}
 use Rattle.run_text.proofs.answer.Statement.{statement}
 use Rattle.run_text.proofs.answer.Tie as tie
-use Rattle.run_text.proofs.answer.Reads as reads
-use Rattle.run_text.proofs.answer.Lts as lts
-use Rattle.text.proofs.put.Reads as put-reads
 use Rattle.job.specs.Rows.{above}
 
 slice-aggregate-put : tie.Need-slice-aggregate-put

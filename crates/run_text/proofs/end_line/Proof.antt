@@ -5,10 +5,6 @@ use Rattle.run_text.proofs.Glue.{end-ended, end-spent, end-refused, end
 use borrow.Author.Needs.{needs}
 use Rattle.run_text.proofs.end_line.Statement.{statement}
 use Rattle.run_text.proofs.end_line.Tie as tie
-use Rattle.run_text.proofs.end_line.Reads as reads
-use Rattle.run_text.proofs.end_line.Lts as lts
-use Rattle.run_text.proofs.refused_line.Reads as refused-line-reads
-use Rattle.text.proofs.put.Reads as put-reads
 
 enum-told : tie.Need-enum-told
 enum-told c = search needs
@@ -32,7 +28,11 @@ same-length : tie.Need-same-length
 same-length c = search needs
 
 returns : tie.Need-returns
-returns c = (end-refused _ _ (c .before .before .before .before .before .before .e .given .1) (c .before .before .before .before .if1 .taken) (c .before .before .refused-line .ensures .0), let h = c .before .before .refused-line .ensures .1 in omega arith)
+returns c = (
+  end-refused _ _ (c .before .before .before .before .before .before .e .given .1) (c .before .before .before .before .if1 .taken)
+      (c .before .before .refused-line .ensures .0),
+  let h = c .before .before .refused-line .ensures .1 in omega arith,
+)
 
 slice-aggregate-put-2 : tie.Need-slice-aggregate-put-2
 slice-aggregate-put-2 c = search needs
@@ -51,14 +51,22 @@ same-length-2 c = search needs
 
 returns-3 : tie.Need-returns-3
 unfolding ascii
-returns-3 c = (end-spent _ (c .before .before .before .before .before .enum-told2 .given .1) refl (c .before .before .put .ensures), let h = c .before .before .put .ensures .end in omega arith)
+returns-3 c = (
+  end-spent _ (c .before .before .before .before .before .enum-told2 .given .1) refl (c .before .before .put .ensures),
+  let h = c .before .before .put .ensures .end in omega arith,
+)
 
 same-length-3 : tie.Need-same-length-3
 same-length-3 c = search needs
 
 returns-4 : tie.Need-returns-4
 unfolding ascii
-returns-4 c = (end-job _ _ (c .before .before .before .before .before .before .before .before .before .before .before .e .given .1) (c .before .before .before .before .before .before .before .before .before .if1 .left) refl (c .before .before .before .before .before .before .put2 .ensures) (c .before .before .refused-line2 .ensures .0), let h = c .before .before .before .before .before .before .put2 .ensures .end in let g = c .before .before .refused-line2 .ensures .1 in omega arith)
+returns-4 c = (
+  end-job _ _ (c .before .before .before .before .before .before .before .before .before .before .before .e .given .1)
+      (c .before .before .before .before .before .before .before .before .before .if1 .left) refl
+      (c .before .before .before .before .before .before .put2 .ensures) (c .before .before .refused-line2 .ensures .0),
+  let h = c .before .before .before .before .before .before .put2 .ensures .end in let g = c .before .before .refused-line2 .ensures .1 in omega arith,
+)
 
 pub end-line-spec : {M : Type 1} → statement M
 end-line-spec =

@@ -6,10 +6,6 @@ use Rattle.run_text.specs.Few.{number-ends}
 use borrow.Author.Needs.{needs}
 use Rattle.run_text.proofs.ended_number.Statement.{statement}
 use Rattle.run_text.proofs.ended_number.Tie as tie
-use Rattle.run_text.proofs.ended_number.Reads as reads
-use Rattle.run_text.proofs.ended_number.Lts as lts
-use Rattle.text.proofs.number.Reads as number-reads
-use Rattle.text.proofs.put.Reads as put-reads
 
 number-requires : tie.Need-number-requires
 number-requires c κs = search needs

@@ -5,11 +5,6 @@ use Rattle.run_text.proofs.Glue.{whole-left}
 use borrow.Author.Needs.{needs}
 use Rattle.run_text.proofs.left_line.Statement.{statement}
 use Rattle.run_text.proofs.left_line.Tie as tie
-use Rattle.run_text.proofs.left_line.Reads as reads
-use Rattle.run_text.proofs.left_line.Lts as lts
-use Rattle.run_text.proofs.ended_number.Reads as ended-number-reads
-use Rattle.run_text.proofs.spaced_number.Reads as spaced-number-reads
-use Rattle.text.proofs.put.Reads as put-reads
 
 slice-aggregate-put : tie.Need-slice-aggregate-put
 slice-aggregate-put c = search needs
@@ -28,7 +23,11 @@ same-length c = search needs
 
 returns : tie.Need-returns
 unfolding ascii
-returns c = (whole-left _ _ refl (c .before .before .before .before .before .before .before .before .before .before .put .ensures) (c .before .before .before .before .before .before .spaced-number .ensures .0) (c .before .before .ended-number .ensures .0), let h = c .before .before .before .before .before .before .before .before .before .before .put .ensures .end in omega arith)
+returns c = (
+  whole-left _ _ refl (c .before .before .before .before .before .before .before .before .before .before .put .ensures)
+      (c .before .before .before .before .before .before .spaced-number .ensures .0) (c .before .before .ended-number .ensures .0),
+  let h = c .before .before .before .before .before .before .before .before .before .before .put .ensures .end in omega arith,
+)
 
 pub left-line-spec : {M : Type 1} → statement M
 left-line-spec =

@@ -4,12 +4,6 @@ use Rattle.run_text.specs.Few.{answer-ends}
 use borrow.Author.Needs.{needs}
 use Rattle.run_text.proofs.line.Statement.{statement}
 use Rattle.run_text.proofs.line.Tie as tie
-use Rattle.run_text.proofs.line.Reads as reads
-use Rattle.run_text.proofs.line.Lts as lts
-use Rattle.run_text.proofs.answer.Reads as answer-reads
-use Rattle.run_text.proofs.spaced_long.Reads as spaced-long-reads
-use Rattle.run_text.proofs.spaced_number.Reads as spaced-number-reads
-use Rattle.run_text.proofs.value.Reads as value-reads
 
 spaced-long-requires : tie.Need-spaced-long-requires
 spaced-long-requires c κs = search needs
@@ -27,7 +21,13 @@ same-length : tie.Need-same-length
 same-length c = search needs
 
 returns : tie.Need-returns
-returns c = (whole-line _ _ _ _ (c .before .before .before .before .before .before .before .before .before .before .before .before .before .before .spaced-long .ensures .0) (c .before .before .before .before .before .before .before .before .before .before .spaced-number .ensures .0) (c .before .before .before .before .before .before .answer .ensures) (c .before .before .value .ensures .0), let h = answer-ends _ (c .before .before .before .before .before .before .answer .ensures) in omega arith)
+returns c = (
+  whole-line _ _ _ _
+      (c .before .before .before .before .before .before .before .before .before .before .before .before .before .before .spaced-long .ensures .0)
+      (c .before .before .before .before .before .before .before .before .before .before .spaced-number .ensures .0)
+      (c .before .before .before .before .before .before .answer .ensures) (c .before .before .value .ensures .0),
+  let h = answer-ends _ (c .before .before .before .before .before .before .answer .ensures) in omega arith,
+)
 
 pub line-spec : {M : Type 1} → statement M
 line-spec =

@@ -6,10 +6,6 @@ use Rattle.run_text.specs.Few.{long-ends}
 use borrow.Author.Needs.{needs}
 use Rattle.run_text.proofs.spaced_long.Statement.{statement}
 use Rattle.run_text.proofs.spaced_long.Tie as tie
-use Rattle.run_text.proofs.spaced_long.Reads as reads
-use Rattle.run_text.proofs.spaced_long.Lts as lts
-use Rattle.text.proofs.long_number.Reads as long-number-reads
-use Rattle.text.proofs.put.Reads as put-reads
 
 long-number-requires : tie.Need-long-number-requires
 long-number-requires c κs = search needs

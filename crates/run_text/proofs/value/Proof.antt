@@ -6,10 +6,6 @@ use Rattle.run_text.specs.Lines.{ended}
 use borrow.Author.Needs.{needs}
 use Rattle.run_text.proofs.value.Statement.{statement}
 use Rattle.run_text.proofs.value.Tie as tie
-use Rattle.run_text.proofs.value.Reads as reads
-use Rattle.run_text.proofs.value.Lts as lts
-use Rattle.run_text.proofs.ended_number.Reads as ended-number-reads
-use Rattle.text.proofs.put.Reads as put-reads
 
 ended-number-requires : tie.Need-ended-number-requires
 ended-number-requires c κs = search needs
@@ -27,20 +23,26 @@ same-length : tie.Need-same-length
 same-length c = search needs
 
 returns : tie.Need-returns
-returns c = (given-low _ _ (c .before .before .before .before .if1 .taken) (c .before .before .ended-number .ensures .0), c .before .before .ended-number .ensures .1)
+returns c =
+    (given-low _ _ (c .before .before .before .before .if1 .taken) (c .before .before .ended-number .ensures .0), c .before .before .ended-number .ensures .1)
 
 same-length-2 : tie.Need-same-length-2
 same-length-2 c = search needs
 
 returns-2 : tie.Need-returns-2
 unfolding ended ascii
-returns-2 c = (given-none _ _ (c .before .before .before .before .before .before .if1 .left) (c .before .before .before .before .before .if2 .taken) refl (c .before .before .put .ensures), let e = c .before .before .put .ensures .end in omega arith)
+returns-2 c = (
+  given-none _ _ (c .before .before .before .before .before .before .if1 .left) (c .before .before .before .before .before .if2 .taken) refl
+      (c .before .before .put .ensures),
+  let e = c .before .before .put .ensures .end in omega arith,
+)
 
 same-length-3 : tie.Need-same-length-3
 same-length-3 c = search needs
 
 returns-3 : tie.Need-returns-3
-returns-3 c = (given-high _ _ (c .before .before .before .before .if2 .left) (c .before .before .ended-number2 .ensures .0), c .before .before .ended-number2 .ensures .1)
+returns-3 c =
+    (given-high _ _ (c .before .before .before .before .if2 .left) (c .before .before .ended-number2 .ensures .0), c .before .before .ended-number2 .ensures .1)
 
 pub value-spec : {M : Type 1} → statement M
 value-spec =

@@ -8,9 +8,6 @@ use Rattle.runner.specs.Rules.{recordHolds, runnerHolds}
 use Rattle.job_test.proofs.Loops.{upto-next, upto-stop, upto-end}
 use Rattle.runner_words.proofs.holds.Statement.{statement}
 use Rattle.runner_words.proofs.holds.Tie as tie
-use Rattle.runner_words.proofs.holds.Reads as reads
-use Rattle.runner_words.proofs.holds.Lts as lts
-use Rattle.runner_words.proofs.record_holds.Reads as record-holds-reads
 
 abbrev Inv-loop : tie.InvT-loop
 Inv-loop job m r t₀ t = (t ≤ 128) × (upto (recordHolds job m r) (128 - t) t ≡ runnerHolds job m r)
@@ -26,7 +23,9 @@ record-holds-requires : tie.Need-record-holds-requires Inv-loop μ-loop
 record-holds-requires c κs = search needs
 
 returns : tie.Need-returns Inv-loop μ-loop
-returns c = upto-stop _ _ _ (c .before .before .loop-test .taken) (sym (c .before .record-holds .ensures) ∙ not-true _ (c .if1 .taken)) ∙ c .before .before .before .loop .inv .1
+returns c =
+    upto-stop _ _ _ (c .before .before .loop-test .taken) (sym (c .before .record-holds .ensures) ∙ not-true _ (c .if1 .taken))
+    ∙ c .before .before .before .loop .inv .1
 
 add-t : tie.Need-add-t Inv-loop μ-loop
 add-t c = omega arith
@@ -35,7 +34,11 @@ loop-less : tie.Need-loop-less Inv-loop μ-loop
 loop-less c = omega arith
 
 loop-again : tie.Need-loop-again Inv-loop μ-loop
-loop-again c = (omega arith, upto-next _ _ _ (c .before .before .loop-test .taken) (sym (c .before .record-holds .ensures) ∙ not-false _ (c .if1 .left)) ∙ c .before .before .before .loop .inv .1)
+loop-again c = (
+  omega arith,
+  upto-next _ _ _ (c .before .before .loop-test .taken) (sym (c .before .record-holds .ensures) ∙ not-false _ (c .if1 .left))
+      ∙ c .before .before .before .loop .inv .1,
+)
 
 returns-2 : tie.Need-returns-2 Inv-loop μ-loop
 returns-2 c = upto-end _ _ _ (c .loop-test .left) ∙ c .before .loop .inv .1

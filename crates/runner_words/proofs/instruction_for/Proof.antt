@@ -2,11 +2,6 @@ use Rattle.runner_words.proofs.Glue.{instruction-for}
 use borrow.Author.Needs.{needs}
 use Rattle.runner_words.proofs.instruction_for.Statement.{statement}
 use Rattle.runner_words.proofs.instruction_for.Tie as tie
-use Rattle.runner_words.proofs.instruction_for.Reads as reads
-use Rattle.runner_words.proofs.instruction_for.Lts as lts
-use Rattle.job_fields.proofs.instruction_at.Reads as instruction-at-reads
-use Rattle.runner_words.proofs.position.Reads as position-reads
-use Rattle.runner_words.proofs.procedure.Reads as procedure-reads
 
 procedure-requires : tie.Need-procedure-requires
 procedure-requires c κs = search needs

@@ -2,9 +2,6 @@ use Rattle.runner.specs.Words.{positionOf}
 use borrow.Author.Needs.{needs}
 use Rattle.runner_words.proofs.position.Statement.{statement}
 use Rattle.runner_words.proofs.position.Tie as tie
-use Rattle.runner_words.proofs.position.Reads as reads
-use Rattle.runner_words.proofs.position.Lts as lts
-use Rattle.memory.proofs.get.Reads as get-reads
 
 mul-get : tie.Need-mul-get
 mul-get c = search needs

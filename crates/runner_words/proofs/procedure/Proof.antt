@@ -2,9 +2,6 @@ use Rattle.runner.specs.Words.{procedureOf}
 use borrow.Author.Needs.{needs}
 use Rattle.runner_words.proofs.procedure.Statement.{statement}
 use Rattle.runner_words.proofs.procedure.Tie as tie
-use Rattle.runner_words.proofs.procedure.Reads as reads
-use Rattle.runner_words.proofs.procedure.Lts as lts
-use Rattle.memory.proofs.get.Reads as get-reads
 
 mul-get : tie.Need-mul-get
 mul-get c = search needs

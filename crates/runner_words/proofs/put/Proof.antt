@@ -2,9 +2,6 @@ use Rattle.runner_words.proofs.Glue.{three}
 use borrow.Author.Needs.{needs}
 use Rattle.runner_words.proofs.put.Statement.{statement}
 use Rattle.runner_words.proofs.put.Tie as tie
-use Rattle.runner_words.proofs.put.Reads as reads
-use Rattle.runner_words.proofs.put.Lts as lts
-use Rattle.memory.proofs.put.Reads as put-reads
 
 mul-a : tie.Need-mul-a
 mul-a c = search needs
@@ -28,7 +25,9 @@ same-length : tie.Need-same-length
 same-length c = search needs
 
 returns : tie.Need-returns
-returns c = three _ _ _ _ _ _ _ _ (c .before .before .before .before .before .before .before .before .before .before .put .ensures) (c .before .before .before .before .before .before .put2 .ensures) (c .before .before .put3 .ensures)
+returns c =
+    three _ _ _ _ _ _ _ _ (c .before .before .before .before .before .before .before .before .before .before .put .ensures)
+    (c .before .before .before .before .before .before .put2 .ensures) (c .before .before .put3 .ensures)
 
 pub put-spec : {M : Type 1} → statement M
 put-spec =

@@ -2,11 +2,6 @@ use Rattle.runner_words.proofs.Glue.{in-use, not-in-use}
 use borrow.Author.Needs.{needs}
 use Rattle.runner_words.proofs.record_holds.Statement.{statement}
 use Rattle.runner_words.proofs.record_holds.Tie as tie
-use Rattle.runner_words.proofs.record_holds.Reads as reads
-use Rattle.runner_words.proofs.record_holds.Lts as lts
-use Rattle.runner_words.proofs.task_holds.Reads as task-holds-reads
-use Rattle.runner_words.proofs.zeros.Reads as zeros-reads
-use Rattle.walks.proofs.unfinished.Reads as unfinished-reads
 
 unfinished-requires : tie.Need-unfinished-requires
 unfinished-requires c κs = search needs

@@ -2,10 +2,6 @@ use Rattle.runner_words.proofs.Glue.{other-core, other-runner, job-says
 use borrow.Author.Needs.{needs}
 use Rattle.runner_words.proofs.refusal.Statement.{statement}
 use Rattle.runner_words.proofs.refusal.Tie as tie
-use Rattle.runner_words.proofs.refusal.Reads as reads
-use Rattle.runner_words.proofs.refusal.Lts as lts
-use Rattle.job_test.proofs.job_test.Reads as job-test-reads
-use Rattle.runner_words.proofs.refusal_in.Reads as refusal-in-reads
 
 returns : tie.Need-returns
 returns c = other-core _ _ _ (c .if1 .taken)

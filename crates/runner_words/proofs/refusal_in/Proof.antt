@@ -2,8 +2,6 @@ use Rattle.runner_words.specs.Refusals.{refusalIn}
 use borrow.Author.Needs.{needs}
 use Rattle.runner_words.proofs.refusal_in.Statement.{statement}
 use Rattle.runner_words.proofs.refusal_in.Tie as tie
-use Rattle.runner_words.proofs.refusal_in.Reads as reads
-use Rattle.runner_words.proofs.refusal_in.Lts as lts
 
 enum-known-a : tie.Need-enum-known-a
 enum-known-a c = search needs

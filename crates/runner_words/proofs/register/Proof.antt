@@ -2,9 +2,6 @@ use Rattle.runner.specs.Words.{registerOf}
 use borrow.Author.Needs.{needs}
 use Rattle.runner_words.proofs.register.Statement.{statement}
 use Rattle.runner_words.proofs.register.Tie as tie
-use Rattle.runner_words.proofs.register.Reads as reads
-use Rattle.runner_words.proofs.register.Lts as lts
-use Rattle.memory.proofs.get.Reads as get-reads
 
 mul-get : tie.Need-mul-get
 mul-get c = search needs

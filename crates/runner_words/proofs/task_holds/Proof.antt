@@ -2,14 +2,6 @@ use Rattle.runner_words.proofs.Glue.{no-procedure, no-instruction, same
 use borrow.Author.Needs.{needs}
 use Rattle.runner_words.proofs.task_holds.Statement.{statement}
 use Rattle.runner_words.proofs.task_holds.Tie as tie
-use Rattle.runner_words.proofs.task_holds.Reads as reads
-use Rattle.runner_words.proofs.task_holds.Lts as lts
-use Rattle.job_fields.proofs.count.Reads as count-reads
-use Rattle.job_fields.proofs.procedures.Reads as procedures-reads
-use Rattle.job_fields.proofs.rights.Reads as rights-reads
-use Rattle.memory.proofs.task.Reads as task-reads
-use Rattle.runner_words.proofs.position.Reads as position-reads
-use Rattle.runner_words.proofs.procedure.Reads as procedure-reads
 
 procedure-requires : tie.Need-procedure-requires
 procedure-requires c κs = search needs
@@ -27,7 +19,9 @@ count-requires : tie.Need-count-requires
 count-requires c κs = search needs
 
 returns-2 : tie.Need-returns-2
-returns-2 c = no-instruction _ _ _ _ (c .before .before .before .before .before .procedure .ensures) (c .before .before .before .before .procedures .ensures) (c .before .before .before .if1 .left) (c .before .before .position .ensures) (c .before .count .ensures) (c .if2 .taken)
+returns-2 c =
+    no-instruction _ _ _ _ (c .before .before .before .before .before .procedure .ensures) (c .before .before .before .before .procedures .ensures)
+    (c .before .before .before .if1 .left) (c .before .before .position .ensures) (c .before .count .ensures) (c .if2 .taken)
 
 task-requires : tie.Need-task-requires
 task-requires c κs = search needs
@@ -36,7 +30,11 @@ rights-requires : tie.Need-rights-requires
 rights-requires c κs = search needs
 
 returns-3 : tie.Need-returns-3
-returns-3 c = same-rights _ _ _ _ (c .before .before .before .before .before .before .before .procedure .ensures) (c .before .before .before .before .before .before .procedures .ensures) (c .before .before .before .before .before .if1 .left) (c .before .before .before .before .position .ensures) (c .before .before .before .count .ensures) (c .before .before .if2 .left) (c .before .task .ensures) (c .rights .ensures)
+returns-3 c =
+    same-rights _ _ _ _ (c .before .before .before .before .before .before .before .procedure .ensures)
+    (c .before .before .before .before .before .before .procedures .ensures) (c .before .before .before .before .before .if1 .left)
+    (c .before .before .before .before .position .ensures) (c .before .before .before .count .ensures) (c .before .before .if2 .left)
+    (c .before .task .ensures) (c .rights .ensures)
 
 pub task-holds-spec : {M : Type 1} → statement M
 task-holds-spec =

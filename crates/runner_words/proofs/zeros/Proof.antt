@@ -2,11 +2,6 @@ use Rattle.runner_words.proofs.Glue.{some-procedure, some-position, all
 use borrow.Author.Needs.{needs}
 use Rattle.runner_words.proofs.zeros.Statement.{statement}
 use Rattle.runner_words.proofs.zeros.Tie as tie
-use Rattle.runner_words.proofs.zeros.Reads as reads
-use Rattle.runner_words.proofs.zeros.Lts as lts
-use Rattle.runner_words.proofs.position.Reads as position-reads
-use Rattle.runner_words.proofs.procedure.Reads as procedure-reads
-use Rattle.runner_words.proofs.register.Reads as register-reads
 
 procedure-requires : tie.Need-procedure-requires
 procedure-requires c κs = search needs
@@ -24,7 +19,9 @@ register-requires : tie.Need-register-requires
 register-requires c κs = search needs
 
 returns-3 : tie.Need-returns-3
-returns-3 c = all-zero _ _ (c .before .before .before .before .procedure .ensures) (c .before .before .before .if1 .left) (c .before .before .position .ensures) (c .before .if2 .left) (c .register .ensures)
+returns-3 c =
+    all-zero _ _ (c .before .before .before .before .procedure .ensures) (c .before .before .before .if1 .left) (c .before .before .position .ensures)
+    (c .before .if2 .left) (c .register .ensures)
 
 pub zeros-spec : {M : Type 1} → statement M
 zeros-spec =

@@ -4,8 +4,6 @@ use borrow.Author.Tests.{lt-ltb, le-ltb}
 use mathlib.Core.Path.{refl, sym}
 use Rattle.running.proofs.fit.Statement.{statement}
 use Rattle.running.proofs.fit.Tie as tie
-use Rattle.running.proofs.fit.Reads as reads
-use Rattle.running.proofs.fit.Lts as lts
 
 returns : tie.Need-returns
 unfolding fitting

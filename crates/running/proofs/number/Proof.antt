@@ -5,8 +5,6 @@ use mathlib.Core.Path.{ap, sym}
 use borrow.Author.Needs.{needs}
 use Rattle.running.proofs.number.Statement.{statement}
 use Rattle.running.proofs.number.Tie as tie
-use Rattle.running.proofs.number.Reads as reads
-use Rattle.running.proofs.number.Lts as lts
 
 enum-told : tie.Need-enum-told
 enum-told c = search needs

@@ -6,14 +6,11 @@ use native.Mathlib.Omega.{arith}
 use borrow.Author.Needs.{needs}
 use Rattle.running.proofs.run.Statement.{statement}
 use Rattle.running.proofs.run.Tie as tie
-use Rattle.running.proofs.run.Reads as reads
-use Rattle.running.proofs.run.Lts as lts
-use Rattle.running.proofs.fit.Reads as fit-reads
-use Rattle.running.proofs.make.Reads as make-reads
-use Rattle.running.proofs.wide.Reads as wide-reads
 
 abbrev Inv-loop : tie.InvT-loop
-Inv-loop job tasks m₀ r₀ answers₀ n i₀ m r answers i = (i ≤ n) × (n ≡ fitting (length tasks) (length answers₀)) × (length m ≡ length m₀) × (length r ≡ length r₀) × (length answers ≡ length answers₀) × Made job (take i tasks) m₀ r₀ answers₀ m r answers
+Inv-loop job tasks m₀ r₀ answers₀ n i₀ m r answers i =
+    (i ≤ n) × (n ≡ fitting (length tasks) (length answers₀)) × (length m ≡ length m₀) × (length r ≡ length r₀) × (length answers ≡ length answers₀)
+    × Made job (take i tasks) m₀ r₀ answers₀ m r answers
 
 abbrev μ-loop : tie.MeasureT-loop
 μ-loop job tasks m₀ r₀ answers₀ n i₀ m r answers i = n - i
@@ -31,7 +28,9 @@ wide-requires : tie.Need-wide-requires Inv-loop μ-loop
 wide-requires c κs = search needs
 
 make-requires : tie.Need-make-requires Inv-loop μ-loop
-make-requires c κs = let h = row-there _ _ (c .before .before .before .before .before .before .loop .inv .1) (c .before .before .before .before .before .loop-test .taken) in omega (arith, h)
+make-requires c κs =
+    let h = row-there _ _ (c .before .before .before .before .before .before .loop .inv .1) (c .before .before .before .before .before .loop-test .taken) in
+    omega (arith, h)
 
 add-i : tie.Need-add-i Inv-loop μ-loop
 add-i c = omega arith
@@ -40,7 +39,22 @@ loop-less : tie.Need-loop-less Inv-loop μ-loop
 loop-less c = omega arith
 
 loop-again : tie.Need-loop-again Inv-loop μ-loop
-loop-again c = (omega arith, c .before .before .before .before .before .before .before .before .before .before .before .before .before .loop .inv .1, c .before .before .before .before .before .before .make .kept .1 .1 .0 ∙ c .before .before .before .before .before .before .before .before .before .before .before .before .before .loop .inv .2, c .before .before .before .before .before .before .make .kept .1 .1 .1 .0 ∙ c .before .before .before .before .before .before .before .before .before .before .before .before .before .loop .inv .3, c .before .before .before .before .before .before .make .kept .1 .1 .1 .1 .0 ∙ c .before .before .before .before .before .before .before .before .before .before .before .before .before .loop .inv .4, next-made _ _ _ _ _ _ _ (task-there _ _ (c .before .before .before .before .before .before .before .before .before .before .before .before .before .loop .inv .1) (c .before .before .before .before .before .before .before .before .before .before .before .before .loop-test .taken)) (c .before .before .before .before .before .before .before .before .before .before .wide .ensures) (c .before .before .before .before .before .before .before .before .before .before .before .before .before .loop .inv .5) (c .before .before .before .before .before .before .make .ensures))
+loop-again c = (
+  omega arith,
+  c .before .before .before .before .before .before .before .before .before .before .before .before .before .loop .inv .1,
+  c .before .before .before .before .before .before .make .kept .1 .1 .0
+      ∙ c .before .before .before .before .before .before .before .before .before .before .before .before .before .loop .inv .2,
+  c .before .before .before .before .before .before .make .kept .1 .1 .1 .0
+      ∙ c .before .before .before .before .before .before .before .before .before .before .before .before .before .loop .inv .3,
+  c .before .before .before .before .before .before .make .kept .1 .1 .1 .1 .0
+      ∙ c .before .before .before .before .before .before .before .before .before .before .before .before .before .loop .inv .4,
+  next-made _ _ _ _ _ _ _ (task-there _ _
+      (c .before .before .before .before .before .before .before .before .before .before .before .before .before .loop .inv .1)
+      (c .before .before .before .before .before .before .before .before .before .before .before .before .loop-test .taken))
+      (c .before .before .before .before .before .before .before .before .before .before .wide .ensures)
+      (c .before .before .before .before .before .before .before .before .before .before .before .before .before .loop .inv .5)
+      (c .before .before .before .before .before .before .make .ensures),
+)
 
 same-length : tie.Need-same-length Inv-loop μ-loop
 same-length c = c .before .loop .inv .2

@@ -3,8 +3,6 @@ use mathlib.Core.Path.{ap, sym}
 use borrow.Author.Needs.{needs}
 use Rattle.running.proofs.value.Statement.{statement}
 use Rattle.running.proofs.value.Tie as tie
-use Rattle.running.proofs.value.Reads as reads
-use Rattle.running.proofs.value.Lts as lts
 
 enum-known-a : tie.Need-enum-known-a
 enum-known-a c = search needs

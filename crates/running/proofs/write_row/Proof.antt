@@ -4,11 +4,6 @@ use mathlib.Core.Path.{ap, _∙_}
 use borrow.Author.Needs.{needs}
 use Rattle.running.proofs.write_row.Statement.{statement}
 use Rattle.running.proofs.write_row.Tie as tie
-use Rattle.running.proofs.write_row.Reads as reads
-use Rattle.running.proofs.write_row.Lts as lts
-use Rattle.memory.proofs.put.Reads as put-reads
-use Rattle.running.proofs.number.Reads as number-reads
-use Rattle.running.proofs.value.Reads as value-reads
 
 mul-b : tie.Need-mul-b
 mul-b c = search needs
@@ -38,7 +33,11 @@ same-length : tie.Need-same-length
 same-length c = search needs
 
 returns : tie.Need-returns
-returns c = store-three _ _ _ _ _ _ _ _ (c .before .before .before .before .before .before .before .before .before .before .before .before .put .ensures) (c .before .before .before .before .before .before .before .put2 .ensures ∙ ap (store _ _) (c .before .before .before .before .before .before .before .before .number .ensures)) (c .before .before .put3 .ensures ∙ ap (store _ _) (c .before .before .before .value .ensures))
+returns c =
+    store-three _ _ _ _ _ _ _ _ (c .before .before .before .before .before .before .before .before .before .before .before .before .put .ensures)
+    (c .before .before .before .before .before .before .before .put2 .ensures
+    ∙ ap (store _ _) (c .before .before .before .before .before .before .before .before .number .ensures))
+    (c .before .before .put3 .ensures ∙ ap (store _ _) (c .before .before .before .value .ensures))
 
 pub write-row-spec : {M : Type 1} → statement M
 write-row-spec =

@@ -11,8 +11,6 @@ use native.Mathlib.Omega.{arith}
 use Rattle.rules.specs.Stack.{rest}
 use Rattle.segment_test.proofs.mark_free.Statement.{statement}
 use Rattle.segment_test.proofs.mark_free.Tie as tie
-use Rattle.segment_test.proofs.mark_free.Reads as reads
-use Rattle.segment_test.proofs.mark_free.Lts as lts
 
 abbrev Inv-loop : tie.InvT-loop
 Inv-loop d₀ m n h i₀ d i =

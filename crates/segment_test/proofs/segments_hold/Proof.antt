@@ -9,9 +9,6 @@ use borrow.Author.Needs.{needs}
 use native.Mathlib.Omega.{arith}
 use Rattle.segment_test.proofs.segments_hold.Statement.{statement}
 use Rattle.segment_test.proofs.segments_hold.Tie as tie
-use Rattle.segment_test.proofs.segments_hold.Reads as reads
-use Rattle.segment_test.proofs.segments_hold.Lts as lts
-use Rattle.segment_test.proofs.sound.Reads as sound-reads
 
 abbrev Inv-loop : tie.InvT-loop
 Inv-loop m n good₀ s₀ good s = (s ≤ n) × (both good (upto (segmentTest (decode m)) (n - s) s) ≡ upto (segmentTest (decode m)) n 0)

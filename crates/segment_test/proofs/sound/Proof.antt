@@ -2,8 +2,6 @@ use Rattle.segment_test.specs.Records.{sound-at}
 use borrow.Author.Needs.{needs}
 use Rattle.segment_test.proofs.sound.Statement.{statement}
 use Rattle.segment_test.proofs.sound.Tie as tie
-use Rattle.segment_test.proofs.sound.Reads as reads
-use Rattle.segment_test.proofs.sound.Lts as lts
 
 mul-next : tie.Need-mul-next
 mul-next c = search needs

@@ -3,9 +3,6 @@ use native.Mathlib.Omega.{arith}
 use Prim.Native.Nat.{_-_, _≤_}
 use Rattle.serial_program.proofs.print_left.Statement.{statement}
 use Rattle.serial_program.proofs.print_left.Tie as tie
-use Rattle.serial_program.proofs.print_left.Reads as reads
-use Rattle.serial_program.proofs.print_left.Lts as lts
-use Rattle.serial_program.proofs.print_queue.Reads as print-queue-reads
 
 abbrev Inv-loop : tie.InvT-loop
 Inv-loop w q₀ q = q ≤ 4

@@ -3,10 +3,6 @@ use native.Mathlib.Omega.{arith}
 use Prim.Native.Nat.{_-_, _^_, _<_, _≤_}
 use Rattle.serial_program.proofs.print_steps.Statement.{statement}
 use Rattle.serial_program.proofs.print_steps.Tie as tie
-use Rattle.serial_program.proofs.print_steps.Reads as reads
-use Rattle.serial_program.proofs.print_steps.Lts as lts
-use Rattle.serial_text.proofs.part.Reads as part-reads
-use Rattle.serial_program.proofs.print_step_block.Reads as print-step-block-reads
 
 abbrev Inv-loop : tie.InvT-loop
 Inv-loop a steps first₀ first = (first ≤ steps) × (steps < 2 ^ 32)

@@ -4,9 +4,6 @@ use mathlib.Core.Path.{ap, sym, _∙_}
 use borrow.Author.Needs.{needs}
 use Rattle.serial_queues.proofs.count.Statement.{statement}
 use Rattle.serial_queues.proofs.count.Tie as tie
-use Rattle.serial_queues.proofs.count.Reads as reads
-use Rattle.serial_queues.proofs.count.Lts as lts
-use Rattle.memory.proofs.get.Reads as get-reads
 
 returns : tie.Need-returns
 returns c = sym (ap length (queue-none _ _ (c .if1 .taken)))

@@ -4,10 +4,6 @@ use Rattle.serial_queues.specs.Front.{frontOf}
 use borrow.Author.Needs.{needs}
 use Rattle.serial_queues.proofs.first.Statement.{statement}
 use Rattle.serial_queues.proofs.first.Tie as tie
-use Rattle.serial_queues.proofs.first.Reads as reads
-use Rattle.serial_queues.proofs.first.Lts as lts
-use Rattle.memory.proofs.get.Reads as get-reads
-use Rattle.serial_queues.proofs.count.Reads as count-reads
 
 count-requires : tie.Need-count-requires
 count-requires c κs = search needs

@@ -5,11 +5,6 @@ use mathlib.Core.Path.{sym, _∙_}
 use borrow.Author.Needs.{needs}
 use Rattle.serial_queues.proofs.pop.Statement.{statement}
 use Rattle.serial_queues.proofs.pop.Tie as tie
-use Rattle.serial_queues.proofs.pop.Reads as reads
-use Rattle.serial_queues.proofs.pop.Lts as lts
-use Rattle.memory.proofs.get.Reads as get-reads
-use Rattle.memory.proofs.put.Reads as put-reads
-use Rattle.serial_queues.proofs.count.Reads as count-reads
 
 count-requires : tie.Need-count-requires
 count-requires c κs = search needs
@@ -63,7 +58,15 @@ same-length-2 : tie.Need-same-length-2
 same-length-2 c = search needs
 
 returns-2 : tie.Need-returns-2
-returns-2 c = popped _ _ _ _ (c .before .before .before .before .before .before .before .before .before .before .before .before .before .before .pre) (queue-there _ _ _ (c .before .before .before .before .before .before .before .before .before .before .before .count .ensures) (c .before .before .before .before .before .before .before .before .before .before .if1 .left)) (c .before .before .before .before .before .before .before .before .get .ensures) (counted _ _ (c .before .before .before .before .before .before .before .before .before .before .before .count .ensures) (c .before .before .before .before .before .before .before .before .before .before .if1 .left)) (c .before .before .before .before .before .before .before .before .before .before .if1 .left) (c .before .before .before .before .before .before .put .ensures) (c .before .before .put2 .ensures)
+returns-2 c =
+    popped _ _ _ _ (c .before .before .before .before .before .before .before .before .before .before .before .before .before .before .pre)
+    (queue-there _ _ _ (c .before .before .before .before .before .before .before .before .before .before .before .count .ensures)
+    (c .before .before .before .before .before .before .before .before .before .before .if1 .left))
+    (c .before .before .before .before .before .before .before .before .get .ensures)
+    (counted _ _ (c .before .before .before .before .before .before .before .before .before .before .before .count .ensures)
+    (c .before .before .before .before .before .before .before .before .before .before .if1 .left))
+    (c .before .before .before .before .before .before .before .before .before .before .if1 .left)
+    (c .before .before .before .before .before .before .put .ensures) (c .before .before .put2 .ensures)
 
 pub pop-spec : {M : Type 1} → statement M
 pop-spec =

@@ -4,10 +4,6 @@ use native.Mathlib.Omega.{arith}
 use borrow.Author.Needs.{needs}
 use Rattle.serial_queues.proofs.push.Statement.{statement}
 use Rattle.serial_queues.proofs.push.Tie as tie
-use Rattle.serial_queues.proofs.push.Reads as reads
-use Rattle.serial_queues.proofs.push.Lts as lts
-use Rattle.memory.proofs.get.Reads as get-reads
-use Rattle.memory.proofs.put.Reads as put-reads
 
 returns : tie.Need-returns
 returns c = no-queue _ _ _ (c .if1 .taken)
@@ -55,7 +51,10 @@ add-put-3 : tie.Need-add-put-3
 add-put-3 c = search needs
 
 add-put-4 : tie.Need-add-put-4
-add-put-4 c = let z = fewer _ _ (c .before .before .before .before .before .before .before .before .before .if1 .left) (c .before .before .before .before .before .get2 .ensures) (c .before .before .before .before .before .before .before .before .before .before .before .pre .1) in omega (arith, z)
+add-put-4 c =
+    let z = fewer _ _ (c .before .before .before .before .before .before .before .before .before .if1 .left)
+    (c .before .before .before .before .before .get2 .ensures)
+    (c .before .before .before .before .before .before .before .before .before .before .before .pre .1) in omega (arith, z)
 
 put-requires-2 : tie.Need-put-requires-2
 put-requires-2 c κs = search needs
@@ -64,7 +63,15 @@ same-length : tie.Need-same-length
 same-length c = search needs
 
 returns-2 : tie.Need-returns-2
-returns-2 c = pushed _ _ _ _ _ (c .before .before .before .before .before .before .before .before .before .before .before .before .before .before .pre .0) (c .before .before .before .before .before .before .before .before .before .before .before .before .if1 .left) (c .before .before .before .before .before .before .before .before .before .before .get .ensures) (c .before .before .before .before .before .before .before .before .get2 .ensures) (fewer _ _ (c .before .before .before .before .before .before .before .before .before .before .before .before .if1 .left) (c .before .before .before .before .before .before .before .before .get2 .ensures) (c .before .before .before .before .before .before .before .before .before .before .before .before .before .before .pre .1)) (c .before .before .before .before .before .before .put .ensures) (c .before .before .put2 .ensures)
+returns-2 c =
+    pushed _ _ _ _ _ (c .before .before .before .before .before .before .before .before .before .before .before .before .before .before .pre .0)
+    (c .before .before .before .before .before .before .before .before .before .before .before .before .if1 .left)
+    (c .before .before .before .before .before .before .before .before .before .before .get .ensures)
+    (c .before .before .before .before .before .before .before .before .get2 .ensures)
+    (fewer _ _ (c .before .before .before .before .before .before .before .before .before .before .before .before .if1 .left)
+    (c .before .before .before .before .before .before .before .before .get2 .ensures)
+    (c .before .before .before .before .before .before .before .before .before .before .before .before .before .before .pre .1))
+    (c .before .before .before .before .before .before .put .ensures) (c .before .before .put2 .ensures)
 
 pub push-spec : {M : Type 1} → statement M
 push-spec =

@@ -2,10 +2,6 @@ use Rattle.serial_queues.proofs.Glue.{value-none, value-there}
 use borrow.Author.Needs.{needs}
 use Rattle.serial_queues.proofs.value.Statement.{statement}
 use Rattle.serial_queues.proofs.value.Tie as tie
-use Rattle.serial_queues.proofs.value.Reads as reads
-use Rattle.serial_queues.proofs.value.Lts as lts
-use Rattle.memory.proofs.get.Reads as get-reads
-use Rattle.serial_queues.proofs.count.Reads as count-reads
 
 count-requires : tie.Need-count-requires
 count-requires c κs = search needs

@@ -1,14 +1,14 @@
 use Rattle.serial_runner.proofs.Glue.{inner-nine, inner-low, inner-some, eight-some, none-low, none-high, body-falls, child-falls, size-kept}
 use Rattle.serial_runner.specs.Child.{child-too-deep, child-runs}
-use Rattle.serial_runner.specs.Body.{position-small, Goes, goes-start, body-spent, body-full, body-returns, body-stops, goes-inner, child-less, goes-child}
+use Rattle.serial_runner.specs.Body.{position-small, Goes, goes-start, body-spent, body-full, body-returns, body-stops, goes-inner, child-less}
+use Rattle.serial_runner.specs.Body.{goes-child}
 use Rattle.serial.specs.Working.{lists}
 use mathlib.Core.Path.{_≡_, refl, sym, _∙_}
 use mathlib.Core.Logic.{⊎-elim}
-use mathlib.Core.List.{List}
 use lib.ListN.{length}
 use native.Mathlib.Omega.{arith}
 use borrow.Author.Needs.{needs}
-use Prim.Native.Nat.{ℕ, _+_, _-_, _^_, _<_, _≤_}
+use Prim.Native.Nat.{ℕ, _+_, _^_, _<_}
 use borrow.Fn.Kinds.{In}
 use borrow.Fn.PlainCycle.{Measures, is, falls, and}
 use Rattle.serial_runner.proofs.run_body.Reads as run-body
@@ -72,48 +72,108 @@ child-claims t = (
 )
 
 abbrev run-body-Inv-loop : run-body-lts.InvT-loop
-run-body-Inv-loop job w₀ a₀ number procedure register depth left made i₀ r₀ left₀ made₀ w a i r left' made' = (length w ≡ length w₀) × (length a ≡ length a₀) × (i < 2 ^ 32) × (r < 2 ^ 32) × Goes job number procedure depth register left made (lists w₀) a₀ left' made' i r (lists w) a
+run-body-Inv-loop job w₀ a₀ number procedure register depth left made i₀ w a r left' made' i =
+    (length w ≡ length w₀) × (length a ≡ length a₀) × (i < 2 ^ 32) × (r < 2 ^ 32) × Goes job number procedure depth register left made (lists w₀) a₀ left'
+    made' i r (lists w) a
 
 abbrev run-body-μ-loop : run-body-lts.MeasureT-loop
-run-body-μ-loop job w₀ a₀ number procedure register depth left made i₀ r₀ left₀ made₀ w a i r left' made' = left'
+run-body-μ-loop job w₀ a₀ number procedure register depth left made i₀ w a r left' made' i = left'
 
 run-body-loop-holds : (t : ℕ) → run-body-lts.Need-loop-holds (body-claims t) (run-body-at t) run-body.Post run-body-Inv-loop run-body-μ-loop
 run-body-loop-holds t c = (refl, refl, omega arith, search needs, goes-start _ _ _ _ _ _ _ _ _)
 
-run-body-instruction-at-requires : (t : ℕ) → run-body-lts.Need-instruction-at-requires (body-claims t) (run-body-at t) run-body.Post run-body-Inv-loop run-body-μ-loop
+run-body-instruction-at-requires : (t : ℕ) → run-body-lts.Need-instruction-at-requires (body-claims t) (run-body-at t) run-body.Post run-body-Inv-loop
+    run-body-μ-loop
 run-body-instruction-at-requires t c κs = search needs
 
-run-body-wrapping-add-u32-requires : (t : ℕ) → run-body-lts.Need-wrapping-add-u32-requires (body-claims t) (run-body-at t) run-body.Post run-body-Inv-loop run-body-μ-loop
+run-body-wrapping-add-u32-requires : (t : ℕ) → run-body-lts.Need-wrapping-add-u32-requires (body-claims t) (run-body-at t) run-body.Post run-body-Inv-loop
+    run-body-μ-loop
 run-body-wrapping-add-u32-requires t c κs = search needs
 
 run-body-run-child-requires : (t : ℕ) → run-body-lts.Need-run-child-requires (body-claims t) (run-body-at t) run-body.Post run-body-Inv-loop run-body-μ-loop
-run-body-run-child-requires t c κs = let f = c .before .before .before .before .before .before .loop .inv .4 .fewer in let g = c .before .before .before .before .before .before .loop .inv .4 .tasks in (body-falls _ _ _ (c .before .before .before .before .before .before .before .before .before .before .pre .0) f, (size-kept _ _ _ (c .before .before .before .before .before .before .loop .inv .0) (c .before .before .before .before .before .before .before .before .before .before .pre .1 .0), c .before .before .before .before .before .before .before .before .before .before .pre .1 .1, c .before .before .before .before .before .before .before .before .before .before .pre .1 .2, c .before .before .before .before .before .loop-test .taken, omega (arith, f, c .before .before .before .before .before .before .before .before .before .before .pre .1 .3), omega (arith, g, c .before .before .before .before .before .before .before .before .before .before .pre .1 .4)))
+run-body-run-child-requires t c κs =
+    let f = c .before .before .before .before .before .before .loop .inv .4 .fewer in
+    let g = c .before .before .before .before .before .before .loop .inv .4 .tasks in (
+      body-falls _ _ _ (c .before .before .before .before .before .before .before .before .before .before .pre .0) f,
+      (
+        size-kept _ _ _ (c .before .before .before .before .before .before .loop .inv .0)
+            (c .before .before .before .before .before .before .before .before .before .before .pre .1 .0),
+        c .before .before .before .before .before .before .before .before .before .before .pre .1 .1,
+        c .before .before .before .before .before .before .before .before .before .before .pre .1 .2,
+        c .before .before .before .before .before .loop-test .taken,
+        omega (arith, f, c .before .before .before .before .before .before .before .before .before .before .pre .1 .3),
+        omega (arith, g, c .before .before .before .before .before .before .before .before .before .before .pre .1 .4),
+      ),
+    )
 
 run-body-enum-told : (t : ℕ) → run-body-lts.Need-enum-told (body-claims t) (run-body-at t) run-body.Post run-body-Inv-loop run-body-μ-loop
 run-body-enum-told t c = search needs
 
 run-body-same-length : (t : ℕ) → run-body-lts.Need-same-length (body-claims t) (run-body-at t) run-body.Post run-body-Inv-loop run-body-μ-loop
-run-body-same-length t c = c .before .before .before .before .before .run-child .kept .1 .0 ∙ c .before .before .before .before .before .before .before .before .before .before .before .before .loop .inv .0
+run-body-same-length t c =
+    c .before .before .before .before .before .run-child .kept .1 .0
+    ∙ c .before .before .before .before .before .before .before .before .before .before .before .before .loop .inv .0
 
 run-body-same-length-2 : (t : ℕ) → run-body-lts.Need-same-length-2 (body-claims t) (run-body-at t) run-body.Post run-body-Inv-loop run-body-μ-loop
-run-body-same-length-2 t c = c .before .before .before .before .before .run-child .kept .1 .1 .0 ∙ c .before .before .before .before .before .before .before .before .before .before .before .before .loop .inv .1
+run-body-same-length-2 t c =
+    c .before .before .before .before .before .run-child .kept .1 .1 .0
+    ∙ c .before .before .before .before .before .before .before .before .before .before .before .before .loop .inv .1
 
 run-body-returns : (t : ℕ) → run-body-lts.Need-returns (body-claims t) (run-body-at t) run-body.Post run-body-Inv-loop run-body-μ-loop
-run-body-returns t c = body-stops _ _ _ _ _ _ _ _ _ (c .before .before .before .before .before .before .before .before .before .before .before .before .loop .inv .4) (c .before .before .before .before .before .before .before .before .before .before .before .before .before .before .before .before .pre .1 .3) _ (c .before .before .before .before .before .before .before .before .before .before .instruction-at .ensures) (c .before .before .before .before .before .before .before .before .before .before .before .loop-test .taken) _ _ _ _ (c .before .before .before .before .before .before .before .before .before .match .keys1) (c .before .before .before .before .before .before .before .before .wrapping-add-u32 .ensures) (c .before .before .before .before .before .run-child .ensures) (c .match2 .keys2)
+run-body-returns t c =
+    body-stops _ _ _ _ _ _ _ _ _ (c .before .before .before .before .before .before .before .before .before .before .before .before .loop .inv .4)
+    (c .before .before .before .before .before .before .before .before .before .before .before .before .before .before .before .before .pre .1 .3) _
+    (c .before .before .before .before .before .before .before .before .before .before .instruction-at .ensures)
+    (c .before .before .before .before .before .before .before .before .before .before .before .loop-test .taken) _ _ _ _
+    (c .before .before .before .before .before .before .before .before .before .match .keys1)
+    (c .before .before .before .before .before .before .before .before .wrapping-add-u32 .ensures)
+    (c .before .before .before .before .before .run-child .ensures) (c .match2 .keys2)
 
 run-body-add-i : (t : ℕ) → run-body-lts.Need-add-i (body-claims t) (run-body-at t) run-body.Post run-body-Inv-loop run-body-μ-loop
-run-body-add-i t c = let z = position-small _ _ _ _ _ (c .before .before .before .before .before .before .before .before .before .before .before .instruction-at .ensures) (eight-some _ (c .before .before .before .before .before .before .before .before .before .before .match .keys1)) (c .before .before .before .before .before .before .before .before .before .before .before .before .before .before .before .before .before .pre .1 .1) in omega (arith, z)
+run-body-add-i t c =
+    let z = position-small _ _ _ _ _ (c .before .before .before .before .before .before .before .before .before .before .before .instruction-at .ensures)
+    (eight-some _ (c .before .before .before .before .before .before .before .before .before .before .match .keys1))
+    (c .before .before .before .before .before .before .before .before .before .before .before .before .before .before .before .before .before .pre .1 .1) in
+    omega (arith, z)
 
 run-body-loop-less : (t : ℕ) → run-body-lts.Need-loop-less (body-claims t) (run-body-at t) run-body.Post run-body-Inv-loop run-body-μ-loop
-run-body-loop-less t c = child-less _ _ _ _ _ _ _ _ _ (c .before .before .before .before .before .before .before .before .before .before .before .before .before .loop .inv .4) (c .before .before .before .before .before .before .before .before .before .before .before .before .before .before .before .before .before .pre .1 .3) _ (c .before .before .before .before .before .before .before .before .before .before .before .instruction-at .ensures) (c .before .before .before .before .before .before .before .before .before .before .before .before .loop-test .taken) _ _ _ _ (c .before .before .before .before .before .before .before .before .before .before .match .keys1) (c .before .before .before .before .before .before .before .before .before .wrapping-add-u32 .ensures) (c .before .before .before .before .before .before .run-child .ensures) (c .before .match2 .keys1)
+run-body-loop-less t c =
+    child-less _ _ _ _ _ _ _ _ _ (c .before .before .before .before .before .before .before .before .before .before .before .before .before .loop .inv .4)
+    (c .before .before .before .before .before .before .before .before .before .before .before .before .before .before .before .before .before .pre .1 .3) _
+    (c .before .before .before .before .before .before .before .before .before .before .before .instruction-at .ensures)
+    (c .before .before .before .before .before .before .before .before .before .before .before .before .loop-test .taken) _ _ _ _
+    (c .before .before .before .before .before .before .before .before .before .before .match .keys1)
+    (c .before .before .before .before .before .before .before .before .before .wrapping-add-u32 .ensures)
+    (c .before .before .before .before .before .before .run-child .ensures) (c .before .match2 .keys1)
 
 run-body-loop-again : (t : ℕ) → run-body-lts.Need-loop-again (body-claims t) (run-body-at t) run-body.Post run-body-Inv-loop run-body-μ-loop
-run-body-loop-again t c = let z = position-small _ _ _ _ _ (c .before .before .before .before .before .before .before .before .before .before .before .instruction-at .ensures) (eight-some _ (c .before .before .before .before .before .before .before .before .before .before .match .keys1)) (c .before .before .before .before .before .before .before .before .before .before .before .before .before .before .before .before .before .pre .1 .1) in (c .before .before .before .before .before .before .run-child .kept .1 .0 ∙ c .before .before .before .before .before .before .before .before .before .before .before .before .before .loop .inv .0, c .before .before .before .before .before .before .run-child .kept .1 .1 .0 ∙ c .before .before .before .before .before .before .before .before .before .before .before .before .before .loop .inv .1, omega (arith, z), c .before .before .before .before .before .before .before .before .before .before .before .before .before .loop .inv .3, goes-child _ _ _ _ _ _ _ _ _ (c .before .before .before .before .before .before .before .before .before .before .before .before .before .loop .inv .4) (c .before .before .before .before .before .before .before .before .before .before .before .before .before .before .before .before .before .pre .1 .3) _ (c .before .before .before .before .before .before .before .before .before .before .before .instruction-at .ensures) (c .before .before .before .before .before .before .before .before .before .before .before .before .loop-test .taken) _ _ _ _ (c .before .before .before .before .before .before .before .before .before .before .match .keys1) (c .before .before .before .before .before .before .before .before .before .wrapping-add-u32 .ensures) (c .before .before .before .before .before .before .run-child .ensures) (c .before .match2 .keys1))
+run-body-loop-again t c =
+    let z = position-small _ _ _ _ _ (c .before .before .before .before .before .before .before .before .before .before .before .instruction-at .ensures)
+    (eight-some _ (c .before .before .before .before .before .before .before .before .before .before .match .keys1))
+    (c .before .before .before .before .before .before .before .before .before .before .before .before .before .before .before .before .before .pre .1 .1) in (
+      c .before .before .before .before .before .before .run-child .kept .1 .0
+          ∙ c .before .before .before .before .before .before .before .before .before .before .before .before .before .loop .inv .0,
+      c .before .before .before .before .before .before .run-child .kept .1 .1 .0
+          ∙ c .before .before .before .before .before .before .before .before .before .before .before .before .before .loop .inv .1,
+      omega (arith, z),
+      c .before .before .before .before .before .before .before .before .before .before .before .before .before .loop .inv .3,
+      goes-child _ _ _ _ _ _ _ _ _ (c .before .before .before .before .before .before .before .before .before .before .before .before .before .loop .inv .4)
+          (c .before .before .before .before .before .before .before .before .before .before .before .before .before .before .before .before .before .pre .1
+          .3) _
+          (c .before .before .before .before .before .before .before .before .before .before .before .instruction-at .ensures)
+          (c .before .before .before .before .before .before .before .before .before .before .before .before .loop-test .taken) _ _ _ _
+          (c .before .before .before .before .before .before .before .before .before .before .match .keys1)
+          (c .before .before .before .before .before .before .before .before .before .wrapping-add-u32 .ensures)
+          (c .before .before .before .before .before .before .run-child .ensures) (c .before .match2 .keys1),
+    )
 
 run-body-sub-write-answer : (t : ℕ) → run-body-lts.Need-sub-write-answer (body-claims t) (run-body-at t) run-body.Post run-body-Inv-loop run-body-μ-loop
-run-body-sub-write-answer t c = let f = c .before .before .before .before .before .loop .inv .4 .fewer in omega (arith, f, c .before .before .before .before .before .before .before .before .before .pre .1 .3)
+run-body-sub-write-answer t c =
+    let f = c .before .before .before .before .before .loop .inv .4 .fewer in
+    omega (arith, f, c .before .before .before .before .before .before .before .before .before .pre .1 .3)
 
-run-body-write-answer-requires : (t : ℕ) → run-body-lts.Need-write-answer-requires (body-claims t) (run-body-at t) run-body.Post run-body-Inv-loop run-body-μ-loop
+run-body-write-answer-requires : (t : ℕ) → run-body-lts.Need-write-answer-requires (body-claims t) (run-body-at t) run-body.Post run-body-Inv-loop
+    run-body-μ-loop
 run-body-write-answer-requires t c κs = search needs
 
 run-body-sub-left : (t : ℕ) → run-body-lts.Need-sub-left (body-claims t) (run-body-at t) run-body.Post run-body-Inv-loop run-body-μ-loop
@@ -126,7 +186,13 @@ run-body-same-length-4 : (t : ℕ) → run-body-lts.Need-same-length-4 (body-cla
 run-body-same-length-4 t c = c .before .before .write-answer .kept .0 ∙ c .before .before .before .before .before .before .before .before .loop .inv .1
 
 run-body-returns-2 : (t : ℕ) → run-body-lts.Need-returns-2 (body-claims t) (run-body-at t) run-body.Post run-body-Inv-loop run-body-μ-loop
-run-body-returns-2 t c = body-returns _ _ _ _ _ _ _ _ _ (c .before .before .before .before .before .before .before .before .loop .inv .4) (c .before .before .before .before .before .before .before .before .before .before .before .before .pre .1 .3) _ (c .before .before .before .before .before .before .instruction-at .ensures) (c .before .before .before .before .before .before .before .loop-test .taken) (⊎-elim (λ s. none-low _ (s .taken)) (λ s. none-high _ (s .1 .left) (c .before .before .before .before .before .match .rest .0 .1) (c .before .before .before .before .before .match .rest .1)) (c .before .before .before .before .if1 .came)) (c .before .before .write-answer .ensures)
+run-body-returns-2 t c =
+    body-returns _ _ _ _ _ _ _ _ _ (c .before .before .before .before .before .before .before .before .loop .inv .4)
+    (c .before .before .before .before .before .before .before .before .before .before .before .before .pre .1 .3) _
+    (c .before .before .before .before .before .before .instruction-at .ensures) (c .before .before .before .before .before .before .before .loop-test .taken)
+    (⊎-elim (λ s. none-low _ (s .taken))
+    (λ s. none-high _ (s .1 .left) (c .before .before .before .before .before .match .rest .0 .1) (c .before .before .before .before .before .match .rest .1))
+    (c .before .before .before .before .if1 .came)) (c .before .before .write-answer .ensures)
 
 run-body-is-full-requires : (t : ℕ) → run-body-lts.Need-is-full-requires (body-claims t) (run-body-at t) run-body.Post run-body-Inv-loop run-body-μ-loop
 run-body-is-full-requires t c κs = search needs
@@ -138,25 +204,60 @@ run-body-same-length-6 : (t : ℕ) → run-body-lts.Need-same-length-6 (body-cla
 run-body-same-length-6 t c = c .before .before .before .before .before .before .loop .inv .1
 
 run-body-returns-3 : (t : ℕ) → run-body-lts.Need-returns-3 (body-claims t) (run-body-at t) run-body.Post run-body-Inv-loop run-body-μ-loop
-run-body-returns-3 t c = body-full _ _ _ _ _ _ _ _ _ (c .before .before .before .before .before .before .loop .inv .4) (c .before .before .before .before .before .before .before .before .before .before .pre .1 .3) _ (c .before .before .before .before .instruction-at .ensures) (c .before .before .before .before .before .loop-test .taken) ((⊎-elim (λ s. inner-nine _ (s .keys2)) (λ s. inner-low _ (s .1 .left) (s .2 .taken)) (c .before .before .before .match .came)) .inside) (sym (c .before .is-full .ensures) ∙ c .if3 .taken)
+run-body-returns-3 t c =
+    body-full _ _ _ _ _ _ _ _ _ (c .before .before .before .before .before .before .loop .inv .4)
+    (c .before .before .before .before .before .before .before .before .before .before .pre .1 .3) _
+    (c .before .before .before .before .instruction-at .ensures) (c .before .before .before .before .before .loop-test .taken)
+    ((⊎-elim (λ s. inner-nine _ (s .keys2)) (λ s. inner-low _ (s .1 .left) (s .2 .taken)) (c .before .before .before .match .came)) .inside)
+    (sym (c .before .is-full .ensures) ∙ c .if3 .taken)
 
 run-body-step-requires : (t : ℕ) → run-body-lts.Need-step-requires (body-claims t) (run-body-at t) run-body.Post run-body-Inv-loop run-body-μ-loop
-run-body-step-requires t c κs = let h = ⊎-elim (λ s. inner-nine _ (s .keys2)) (λ s. inner-low _ (s .1 .left) (s .2 .taken)) (c .before .before .before .before .match .came) in (size-kept _ _ _ (c .before .before .before .before .before .before .before .loop .inv .0) (c .before .before .before .before .before .before .before .before .before .before .before .pre .1 .0), h, sym (c .before .before .is-full .ensures) ∙ c .before .if3 .left, position-small _ _ _ _ _ (c .before .before .before .before .before .instruction-at .ensures) (inner-some _ h) (c .before .before .before .before .before .before .before .before .before .before .before .pre .1 .1))
+run-body-step-requires t c κs =
+    let h = ⊎-elim (λ s. inner-nine _ (s .keys2)) (λ s. inner-low _ (s .1 .left) (s .2 .taken)) (c .before .before .before .before .match .came) in (
+      size-kept _ _ _ (c .before .before .before .before .before .before .before .loop .inv .0)
+          (c .before .before .before .before .before .before .before .before .before .before .before .pre .1 .0),
+      h,
+      sym (c .before .before .is-full .ensures)
+          ∙ c .before .if3 .left,
+      position-small _ _ _ _ _ (c .before .before .before .before .before .instruction-at .ensures) (inner-some _ h)
+          (c .before .before .before .before .before .before .before .before .before .before .before .pre .1 .1),
+    )
 
 run-body-sub-write-answer-2 : (t : ℕ) → run-body-lts.Need-sub-write-answer-2 (body-claims t) (run-body-at t) run-body.Post run-body-Inv-loop run-body-μ-loop
-run-body-sub-write-answer-2 t c = let f = c .before .before .before .before .before .before .before .before .before .before .before .loop .inv .4 .fewer in omega (arith, f, c .before .before .before .before .before .before .before .before .before .before .before .before .before .before .before .pre .1 .3)
+run-body-sub-write-answer-2 t c =
+    let f = c .before .before .before .before .before .before .before .before .before .before .before .loop .inv .4 .fewer in
+    omega (arith, f, c .before .before .before .before .before .before .before .before .before .before .before .before .before .before .before .pre .1 .3)
 
-run-body-write-answer-requires-2 : (t : ℕ) → run-body-lts.Need-write-answer-requires-2 (body-claims t) (run-body-at t) run-body.Post run-body-Inv-loop run-body-μ-loop
+run-body-write-answer-requires-2 : (t : ℕ) → run-body-lts.Need-write-answer-requires-2 (body-claims t) (run-body-at t) run-body.Post run-body-Inv-loop
+    run-body-μ-loop
 run-body-write-answer-requires-2 t c κs = search needs
 
 run-body-sub-left-2 : (t : ℕ) → run-body-lts.Need-sub-left-2 (body-claims t) (run-body-at t) run-body.Post run-body-Inv-loop run-body-μ-loop
 run-body-sub-left-2 t c = c .before .before .before .before .before .before .before .before .before .before .before .before .before .loop-test .taken
 
 run-body-loop-less-2 : (t : ℕ) → run-body-lts.Need-loop-less-2 (body-claims t) (run-body-at t) run-body.Post run-body-Inv-loop run-body-μ-loop
-run-body-loop-less-2 t c = omega (arith, c .before .before .before .before .before .before .before .before .before .before .before .before .before .loop-test .taken)
+run-body-loop-less-2 t c =
+    omega (arith, c .before .before .before .before .before .before .before .before .before .before .before .before .before .loop-test .taken)
 
 run-body-loop-again-2 : (t : ℕ) → run-body-lts.Need-loop-again-2 (body-claims t) (run-body-at t) run-body.Post run-body-Inv-loop run-body-μ-loop
-run-body-loop-again-2 t c = (c .before .before .before .before .before .before .step .kept .0 ∙ c .before .before .before .before .before .before .before .before .before .before .before .before .before .before .loop .inv .0, c .before .before .write-answer2 .kept .0 ∙ c .before .before .before .before .before .before .before .before .before .before .before .before .before .before .loop .inv .1, search needs, search needs, goes-inner _ _ _ _ _ _ _ _ _ (c .before .before .before .before .before .before .before .before .before .before .before .before .before .before .loop .inv .4) (c .before .before .before .before .before .before .before .before .before .before .before .before .before .before .before .before .before .before .pre .1 .3) _ (c .before .before .before .before .before .before .before .before .before .before .before .before .instruction-at .ensures) (c .before .before .before .before .before .before .before .before .before .before .before .before .before .loop-test .taken) _ _ (⊎-elim (λ s. inner-nine _ (s .keys2)) (λ s. inner-low _ (s .1 .left) (s .2 .taken)) (c .before .before .before .before .before .before .before .before .before .before .before .match .came)) (sym (c .before .before .before .before .before .before .before .before .before .is-full .ensures) ∙ c .before .before .before .before .before .before .before .before .if3 .left) (c .before .before .before .before .before .before .step .ensures) (c .before .before .write-answer2 .ensures))
+run-body-loop-again-2 t c = (
+  c .before .before .before .before .before .before .step .kept .0
+      ∙ c .before .before .before .before .before .before .before .before .before .before .before .before .before .before .loop .inv .0,
+  c .before .before .write-answer2 .kept .0
+      ∙ c .before .before .before .before .before .before .before .before .before .before .before .before .before .before .loop .inv .1,
+  search needs,
+  search needs,
+  goes-inner _ _ _ _ _ _ _ _ _
+      (c .before .before .before .before .before .before .before .before .before .before .before .before .before .before .loop .inv .4)
+      (c .before .before .before .before .before .before .before .before .before .before .before .before .before .before .before .before .before .before .pre .1
+      .3) _ (c .before .before .before .before .before .before .before .before .before .before .before .before .instruction-at .ensures)
+      (c .before .before .before .before .before .before .before .before .before .before .before .before .before .loop-test .taken) _ _
+      (⊎-elim (λ s. inner-nine _ (s .keys2)) (λ s. inner-low _ (s .1 .left) (s .2 .taken))
+      (c .before .before .before .before .before .before .before .before .before .before .before .match .came))
+      (sym (c .before .before .before .before .before .before .before .before .before .is-full .ensures)
+      ∙ c .before .before .before .before .before .before .before .before .if3 .left) (c .before .before .before .before .before .before .step .ensures)
+      (c .before .before .write-answer2 .ensures),
+)
 
 run-body-same-length-7 : (t : ℕ) → run-body-lts.Need-same-length-7 (body-claims t) (run-body-at t) run-body.Post run-body-Inv-loop run-body-μ-loop
 run-body-same-length-7 t c = c .before .loop .inv .0
@@ -168,7 +269,8 @@ run-body-returns-4 : (t : ℕ) → run-body-lts.Need-returns-4 (body-claims t) (
 run-body-returns-4 t c = body-spent _ _ _ _ _ _ _ _ _ (c .before .loop .inv .4) (c .before .before .before .before .before .pre .1 .3) (c .loop-test .left)
 
 run-child-returns : (t : ℕ) → run-child-lts.Need-returns (child-claims t) (run-child-at t) run-child.Post
-run-child-returns t c = child-too-deep _ _ _ _ _ _ _ _ _ (c .before .before .before .before .pre .1 .3) (c .before .before .before .before .pre .1 .4) (c .if1 .taken)
+run-child-returns t c =
+    child-too-deep _ _ _ _ _ _ _ _ _ (c .before .before .before .before .pre .1 .3) (c .before .before .before .before .pre .1 .4) (c .if1 .taken)
 
 run-child-sub-write-answer : (t : ℕ) → run-child-lts.Need-sub-write-answer (child-claims t) (run-child-at t) run-child.Post
 run-child-sub-write-answer t c = c .before .before .before .before .before .pre .1 .4
@@ -186,16 +288,37 @@ run-child-add-run-body-2 : (t : ℕ) → run-child-lts.Need-add-run-body-2 (chil
 run-child-add-run-body-2 t c = omega (arith, c .before .before .before .before .before .before .before .before .before .before .pre .1 .5)
 
 run-child-run-body-requires : (t : ℕ) → run-child-lts.Need-run-body-requires (child-claims t) (run-child-at t) run-child.Post
-run-child-run-body-requires t c κs = (child-falls _ _ (c .before .before .before .before .before .before .before .before .before .before .pre .0) (c .before .before .before .before .before .before .before .before .before .before .pre .1 .3), (c .before .before .before .before .before .before .before .before .before .before .pre .1 .0, c .before .before .before .before .before .before .before .before .before .before .pre .1 .1, omega (arith, c .before .before .before .before .before .before .if1 .left), omega (arith, c .before .before .before .before .before .before .before .before .before .before .pre .1 .4), omega (arith, c .before .before .before .before .before .before .before .before .before .before .pre .1 .3, c .before .before .before .before .before .before .before .before .before .before .pre .1 .5)))
+run-child-run-body-requires t c κs = (
+  child-falls _ _ (c .before .before .before .before .before .before .before .before .before .before .pre .0)
+      (c .before .before .before .before .before .before .before .before .before .before .pre .1 .3),
+  (
+    c .before .before .before .before .before .before .before .before .before .before .pre .1 .0,
+    c .before .before .before .before .before .before .before .before .before .before .pre .1 .1,
+    omega (arith, c .before .before .before .before .before .before .if1 .left),
+    omega (arith, c .before .before .before .before .before .before .before .before .before .before .pre .1 .4),
+    omega (
+      arith,
+      c .before .before .before .before .before .before .before .before .before .before .pre .1 .3,
+      c .before .before .before .before .before .before .before .before .before .before .pre .1 .5,
+    ),
+  ),
+)
 
 run-child-same-length : (t : ℕ) → run-child-lts.Need-same-length (child-claims t) (run-child-at t) run-child.Post
 run-child-same-length t c = c .before .before .before .before .run-body .kept .1 .0
 
 run-child-same-length-2 : (t : ℕ) → run-child-lts.Need-same-length-2 (child-claims t) (run-child-at t) run-child.Post
-run-child-same-length-2 t c = c .before .before .before .before .run-body .kept .1 .1 .0 ∙ c .before .before .before .before .before .before .before .before .before .write-answer .kept .0
+run-child-same-length-2 t c =
+    c .before .before .before .before .run-body .kept .1 .1 .0
+    ∙ c .before .before .before .before .before .before .before .before .before .write-answer .kept .0
 
 run-child-returns-2 : (t : ℕ) → run-child-lts.Need-returns-2 (child-claims t) (run-child-at t) run-child.Post
-run-child-returns-2 t c = child-runs _ _ _ _ _ _ _ _ _ (c .before .before .before .before .before .before .before .before .before .before .before .before .before .before .before .pre .1 .3) (c .before .before .before .before .before .before .before .before .before .before .before .before .before .before .before .pre .1 .4) _ _ _ (c .before .before .before .before .before .before .before .before .before .before .before .if1 .left) (c .before .before .before .before .before .before .before .before .before .write-answer .ensures) (c .before .before .before .before .run-body .ensures)
+run-child-returns-2 t c =
+    child-runs _ _ _ _ _ _ _ _ _
+    (c .before .before .before .before .before .before .before .before .before .before .before .before .before .before .before .pre .1 .3)
+    (c .before .before .before .before .before .before .before .before .before .before .before .before .before .before .before .pre .1 .4) _ _ _
+    (c .before .before .before .before .before .before .before .before .before .before .before .if1 .left)
+    (c .before .before .before .before .before .before .before .before .before .write-answer .ensures) (c .before .before .before .before .run-body .ensures)
 
 pub +run-body+run-child-spec : {M : Type 1} → statement M
 +run-body+run-child-spec = close μ-run-body μ-run-child (λ t. run-body-lts.spec (body-claims t)

@@ -2,11 +2,6 @@ use Rattle.serial_runner.specs.Handed.{handed}
 use borrow.Author.Needs.{needs}
 use Rattle.serial_runner.proofs.run_packed.Statement.{statement}
 use Rattle.serial_runner.proofs.run_packed.Tie as tie
-use Rattle.serial_runner.proofs.run_packed.Reads as reads
-use Rattle.serial_runner.proofs.run_packed.Lts as lts
-use Rattle.serial_runner.proofs.run_serially.Reads as run-serially-reads
-use Rattle.serial_runner.proofs.status.Reads as status-reads
-use Rattle.serial_runner.proofs.wide.Reads as wide-reads
 
 run-serially-requires : tie.Need-run-serially-requires
 run-serially-requires c κs = search needs
@@ -33,7 +28,9 @@ same-length-2 : tie.Need-same-length-2
 same-length-2 c = search needs
 
 returns : tie.Need-returns
-returns c = handed (c .before .before .before .before .before .before .before .run-serially .ensures) (c .before .before .status .ensures) (c .before .wide .ensures) (c .wide2 .ensures)
+returns c =
+    handed (c .before .before .before .before .before .before .before .run-serially .ensures) (c .before .before .status .ensures) (c .before .wide .ensures)
+    (c .wide2 .ensures)
 
 pub run-packed-spec : {M : Type 1} → statement M
 run-packed-spec =

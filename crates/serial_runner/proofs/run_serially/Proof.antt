@@ -6,11 +6,6 @@ use mathlib.Core.Path.{_∙_}
 use borrow.Author.Needs.{needs}
 use Rattle.serial_runner.proofs.run_serially.Statement.{statement}
 use Rattle.serial_runner.proofs.run_serially.Tie as tie
-use Rattle.serial_runner.proofs.run_serially.Reads as reads
-use Rattle.serial_runner.proofs.run_serially.Lts as lts
-use Rattle.job_test.proofs.job_test.Reads as job-test-reads
-use Rattle.memory.proofs.clear.Reads as clear-reads
-use Rattle.serial_runner.proofs.run_body.Reads as run-body-reads
 
 returns : tie.Need-returns
 unfolding turnedDown
@@ -28,13 +23,23 @@ enum-known-t c = search needs
 
 returns-3 : tie.Need-returns-3
 unfolding turnedDown
-returns-3 c = job-refused _ _ _ (c .before .before .before .before .before .if1 .left) (c .before .before .before .before .if2 .left) (c .before .before .before .job-test .ensures) _ (c .before .t .given .1)
+returns-3 c =
+    job-refused _ _ _ (c .before .before .before .before .before .if1 .left) (c .before .before .before .before .if2 .left)
+    (c .before .before .before .job-test .ensures) _ (c .before .t .given .1)
 
 clear-requires : tie.Need-clear-requires
 clear-requires c κs = search needs
 
 run-body-requires : tie.Need-run-body-requires
-run-body-requires c κs = (size-cleared (c .before .before .before .before .before .before .before .before .before .before .before .before .before .args .w .now) _ _ (c .before .before .before .before .clear .ensures) (c .before .before .before .before .before .before .before .before .before .if1 .left), job-short _ (c .before .before .before .before .before .before .before .job-test .ensures) (c .before .before .before .before .before .before .match .keys2), omega arith, omega arith, omega arith)
+run-body-requires c κs = (
+  size-cleared (c .before .before .before .before .before .before .before .before .before .before .before .before .before .args .w .now) _ _
+      (c .before .before .before .before .clear .ensures) (c .before .before .before .before .before .before .before .before .before .if1 .left),
+  job-short _ (c .before .before .before .before .before .before .before .job-test .ensures)
+      (c .before .before .before .before .before .before .match .keys2),
+  omega arith,
+  omega arith,
+  omega arith,
+)
 
 sub-steps : tie.Need-sub-steps
 sub-steps c = search needs
@@ -46,7 +51,16 @@ same-length-2 : tie.Need-same-length-2
 same-length-2 c = search needs
 
 returns-4 : tie.Need-returns-4
-returns-4 c = top-runs _ _ _ _ _ _ (cleared (c .before .before .before .before .before .before .before .before .before .before .before .before .before .before .before .before .before .before .before .args .w .now) _ (c .before .before .before .before .before .before .before .before .before .before .clear .ensures)) (c .before .before .before .before .before .run-body .ensures) ∙ job-accepted _ _ _ (c .before .before .before .before .before .before .before .before .before .before .before .before .before .before .before .if1 .left) (c .before .before .before .before .before .before .before .before .before .before .before .before .before .before .if2 .left) (c .before .before .before .before .before .before .before .before .before .before .before .before .before .job-test .ensures) (c .before .before .before .before .before .before .before .before .before .before .before .before .match .keys2)
+returns-4 c =
+    top-runs _ _ _ _ _ _ (cleared
+    (c .before .before .before .before .before .before .before .before .before .before .before .before .before .before .before .before .before .before .before
+    .args .w .now) _ (c .before .before .before .before .before .before .before .before .before .before .clear .ensures))
+    (c .before .before .before .before .before .run-body .ensures)
+    ∙ job-accepted _ _ _
+    (c .before .before .before .before .before .before .before .before .before .before .before .before .before .before .before .if1 .left)
+    (c .before .before .before .before .before .before .before .before .before .before .before .before .before .before .if2 .left)
+    (c .before .before .before .before .before .before .before .before .before .before .before .before .before .job-test .ensures)
+    (c .before .before .before .before .before .before .before .before .before .before .before .before .match .keys2)
 
 pub run-serially-spec : {M : Type 1} → statement M
 run-serially-spec =

@@ -3,8 +3,6 @@ use mathlib.Core.Path.{ap, sym}
 use borrow.Author.Needs.{needs}
 use Rattle.serial_runner.proofs.status.Statement.{statement}
 use Rattle.serial_runner.proofs.status.Tie as tie
-use Rattle.serial_runner.proofs.status.Reads as reads
-use Rattle.serial_runner.proofs.status.Lts as lts
 
 enum-told : tie.Need-enum-told
 enum-told c = search needs

@@ -2,9 +2,6 @@ use Rattle.serial_steps.proofs.Glue.{add-moves}
 use borrow.Author.Needs.{needs}
 use Rattle.serial_steps.proofs.add_step.Statement.{statement}
 use Rattle.serial_steps.proofs.add_step.Tie as tie
-use Rattle.serial_steps.proofs.add_step.Reads as reads
-use Rattle.serial_steps.proofs.add_step.Lts as lts
-use Rattle.std.proofs.num.wrapping_add_u32.Reads as wrapping-add-u32-reads
 
 wrapping-add-u32-requires : tie.Need-wrapping-add-u32-requires
 wrapping-add-u32-requires c κs = search needs

@@ -2,8 +2,6 @@ use Rattle.serial_steps.proofs.Glue.{go-moves, go-if-zero, go-if-not}
 use borrow.Author.Needs.{needs}
 use Rattle.serial_steps.proofs.go_step.Statement.{statement}
 use Rattle.serial_steps.proofs.go_step.Tie as tie
-use Rattle.serial_steps.proofs.go_step.Reads as reads
-use Rattle.serial_steps.proofs.go_step.Lts as lts
 
 returns : tie.Need-returns
 returns c = go-moves _ _ _ (c .if1 .taken)

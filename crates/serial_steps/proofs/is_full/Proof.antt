@@ -2,9 +2,6 @@ use Rattle.serial_steps.proofs.Glue.{full-push, full-below, full-above}
 use borrow.Author.Needs.{needs}
 use Rattle.serial_steps.proofs.is_full.Statement.{statement}
 use Rattle.serial_steps.proofs.is_full.Tie as tie
-use Rattle.serial_steps.proofs.is_full.Reads as reads
-use Rattle.serial_steps.proofs.is_full.Lts as lts
-use Rattle.serial_queues.proofs.count.Reads as count-reads
 
 count-requires : tie.Need-count-requires
 count-requires c κs = search needs

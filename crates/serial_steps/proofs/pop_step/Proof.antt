@@ -2,10 +2,6 @@ use Rattle.serial_steps.proofs.Glue.{pop-takes, pop-none}
 use borrow.Author.Needs.{needs}
 use Rattle.serial_steps.proofs.pop_step.Statement.{statement}
 use Rattle.serial_steps.proofs.pop_step.Tie as tie
-use Rattle.serial_steps.proofs.pop_step.Reads as reads
-use Rattle.serial_steps.proofs.pop_step.Lts as lts
-use Rattle.serial_queues.proofs.first.Reads as first-reads
-use Rattle.serial_queues.proofs.pop.Reads as pop-reads
 
 first-requires : tie.Need-first-requires
 first-requires c κs = search needs
@@ -29,13 +25,17 @@ same-length : tie.Need-same-length
 same-length c = search needs
 
 returns : tie.Need-returns
-returns c = pop-takes _ _ _ _ _ _ _ (c .before .before .before .before .before .before .before .first .ensures) (c .before .f .given .1) (c .before .before .before .before .before .pop .ensures)
+returns c =
+    pop-takes _ _ _ _ _ _ _ (c .before .before .before .before .before .before .before .first .ensures) (c .before .f .given .1)
+    (c .before .before .before .before .before .pop .ensures)
 
 same-length-2 : tie.Need-same-length-2
 same-length-2 c = search needs
 
 returns-2 : tie.Need-returns-2
-returns-2 c = pop-none _ _ _ _ _ _ _ (c .before .before .before .before .before .before .first .ensures) (c .before .match .keys2) (c .before .before .before .before .pop .ensures)
+returns-2 c =
+    pop-none _ _ _ _ _ _ _ (c .before .before .before .before .before .before .first .ensures) (c .before .match .keys2)
+    (c .before .before .before .before .pop .ensures)
 
 pub pop-step-spec : {M : Type 1} → statement M
 pop-step-spec =

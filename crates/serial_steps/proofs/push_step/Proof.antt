@@ -2,10 +2,6 @@ use Rattle.serial_steps.proofs.Glue.{push-does, push-sum-does}
 use borrow.Author.Needs.{needs}
 use Rattle.serial_steps.proofs.push_step.Statement.{statement}
 use Rattle.serial_steps.proofs.push_step.Tie as tie
-use Rattle.serial_steps.proofs.push_step.Reads as reads
-use Rattle.serial_steps.proofs.push_step.Lts as lts
-use Rattle.serial_queues.proofs.push.Reads as push-reads
-use Rattle.std.proofs.num.wrapping_add_u32.Reads as wrapping-add-u32-reads
 
 push-requires : tie.Need-push-requires
 push-requires c κs = search needs
@@ -32,7 +28,10 @@ same-length-2 : tie.Need-same-length-2
 same-length-2 c = search needs
 
 returns-2 : tie.Need-returns-2
-returns-2 c = push-sum-does _ _ _ _ _ _ (c .before .before .before .before .before .before .before .pre .2) (c .before .before .before .before .before .before .before .pre .3) (c .before .before .before .before .before .if1 .left) (c .before .before .before .before .wrapping-add-u32 .ensures) (c .before .before .push2 .ensures)
+returns-2 c =
+    push-sum-does _ _ _ _ _ _ (c .before .before .before .before .before .before .before .pre .2)
+    (c .before .before .before .before .before .before .before .pre .3) (c .before .before .before .before .before .if1 .left)
+    (c .before .before .before .before .wrapping-add-u32 .ensures) (c .before .before .push2 .ensures)
 
 pub push-step-spec : {M : Type 1} → statement M
 push-step-spec =

@@ -4,13 +4,6 @@ use native.Mathlib.Omega.{arith}
 use borrow.Author.Needs.{needs}
 use Rattle.serial_steps.proofs.step.Statement.{statement}
 use Rattle.serial_steps.proofs.step.Tie as tie
-use Rattle.serial_steps.proofs.step.Reads as reads
-use Rattle.serial_steps.proofs.step.Lts as lts
-use Rattle.serial_steps.proofs.add_step.Reads as add-step-reads
-use Rattle.serial_steps.proofs.go_step.Reads as go-step-reads
-use Rattle.serial_steps.proofs.pop_step.Reads as pop-step-reads
-use Rattle.serial_steps.proofs.push_step.Reads as push-step-reads
-use Rattle.serial_steps.proofs.test_step.Reads as test-step-reads
 
 pop-step-requires : tie.Need-pop-step-requires
 pop-step-requires c κs = search needs
@@ -22,7 +15,14 @@ add-step-requires : tie.Need-add-step-requires
 add-step-requires c κs = search needs
 
 push-step-requires : tie.Need-push-step-requires
-push-step-requires c κs = (c .before .before .before .before .before .pre .0, room _ _ (c .before .before .before .before .before .pre .2) (c .before .before .if1 .left) (c .before .if2 .taken), c .before .before .if1 .left, omega (arith, c .before .if2 .taken), c .before .before .before .before .before .pre .3)
+push-step-requires c κs = (
+  c .before .before .before .before .before .pre .0,
+  room _ _ (c .before .before .before .before .before .pre .2) (c .before .before .if1 .left)
+      (c .before .if2 .taken),
+  c .before .before .if1 .left,
+  omega (arith, c .before .if2 .taken),
+  c .before .before .before .before .before .pre .3,
+)
 
 go-step-requires : tie.Need-go-step-requires
 go-step-requires c κs = search needs
@@ -55,7 +55,9 @@ returns-5 : tie.Need-returns-5
 returns-5 c = c .go-step .ensures .moves _ _
 
 returns-6 : tie.Need-returns-6
-returns-6 c = sync-does _ _ _ _ _ _ (c .before .before .before .pre .1) (⊎-elim (λ s. none-below _ (c .before .before .before .pre .1) (s .taken)) (λ s. s .2 .left) (c .if1 .came)) (c .before .match .rest .1)
+returns-6 c =
+    sync-does _ _ _ _ _ _ (c .before .before .before .pre .1)
+    (⊎-elim (λ s. none-below _ (c .before .before .before .pre .1) (s .taken)) (λ s. s .2 .left) (c .if1 .came)) (c .before .match .rest .1)
 
 pub step-spec : {M : Type 1} → statement M
 step-spec =

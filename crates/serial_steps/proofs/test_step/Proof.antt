@@ -2,9 +2,6 @@ use Rattle.serial_steps.proofs.Glue.{test-empty, test-not}
 use borrow.Author.Needs.{needs}
 use Rattle.serial_steps.proofs.test_step.Statement.{statement}
 use Rattle.serial_steps.proofs.test_step.Tie as tie
-use Rattle.serial_steps.proofs.test_step.Reads as reads
-use Rattle.serial_steps.proofs.test_step.Lts as lts
-use Rattle.serial_queues.proofs.count.Reads as count-reads
 
 count-requires : tie.Need-count-requires
 count-requires c κs = search needs

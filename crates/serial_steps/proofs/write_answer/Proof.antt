@@ -2,9 +2,6 @@ use Rattle.words.specs.Blocks.{store-three}
 use borrow.Author.Needs.{needs}
 use Rattle.serial_steps.proofs.write_answer.Statement.{statement}
 use Rattle.serial_steps.proofs.write_answer.Tie as tie
-use Rattle.serial_steps.proofs.write_answer.Reads as reads
-use Rattle.serial_steps.proofs.write_answer.Lts as lts
-use Rattle.memory.proofs.put.Reads as put-reads
 
 mul-b : tie.Need-mul-b
 mul-b c = search needs

@@ -3,9 +3,6 @@ use Rattle.serial_text.specs.Blocks.{block}
 use borrow.Author.Needs.{needs}
 use Rattle.serial_text.proofs.end_line.Statement.{statement}
 use Rattle.serial_text.proofs.end_line.Tie as tie
-use Rattle.serial_text.proofs.end_line.Reads as reads
-use Rattle.serial_text.proofs.end_line.Lts as lts
-use Rattle.run_text.proofs.end_line.Reads as end-line-reads
 
 end-line-requires : tie.Need-end-line-requires
 end-line-requires c κs = search needs
@@ -14,7 +11,8 @@ same-length : tie.Need-same-length
 same-length c = search needs
 
 returns : tie.Need-returns
-returns c = block (c .before .before .end-line .kept .0) (let h = c .before .before .end-line .ensures .1 in omega arith) (c .before .before .end-line .ensures .0)
+returns c =
+    block (c .before .before .end-line .kept .0) (let h = c .before .before .end-line .ensures .1 in omega arith) (c .before .before .end-line .ensures .0)
 
 pub end-line-spec : {M : Type 1} → statement M
 end-line-spec = tie.close (tie.spec end-line-requires same-length returns)

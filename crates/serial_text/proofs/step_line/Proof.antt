@@ -2,10 +2,6 @@ use Rattle.serial_text.specs.Blocks.{step-line}
 use borrow.Author.Needs.{needs}
 use Rattle.serial_text.proofs.step_line.Statement.{statement}
 use Rattle.serial_text.proofs.step_line.Tie as tie
-use Rattle.serial_text.proofs.step_line.Reads as reads
-use Rattle.serial_text.proofs.step_line.Lts as lts
-use Rattle.memory.proofs.get.Reads as get-reads
-use Rattle.run_text.proofs.line.Reads as line-reads
 
 mul-b : tie.Need-mul-b
 mul-b c = search needs
@@ -35,7 +31,11 @@ same-length : tie.Need-same-length
 same-length c = search needs
 
 returns : tie.Need-returns
-returns c = (step-line _ _ (c .before .before .before .before .before .before .get .ensures) (c .before .before .before .before .before .get2 .ensures) (c .before .before .before .before .get3 .ensures) (c .before .before .line .ensures .0), c .before .before .line .ensures .1)
+returns c = (
+  step-line _ _ (c .before .before .before .before .before .before .get .ensures) (c .before .before .before .before .before .get2 .ensures)
+      (c .before .before .before .before .get3 .ensures) (c .before .before .line .ensures .0),
+  c .before .before .line .ensures .1,
+)
 
 pub step-line-spec : {M : Type 1} → statement M
 step-line-spec =

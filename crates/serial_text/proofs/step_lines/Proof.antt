@@ -8,9 +8,6 @@ use Rattle.serial_text.specs.Blocks.{no-lines, one-line, all-lines}
 use Rattle.serial_text.specs.Whole.{linesFrom, stepLine}
 use Rattle.serial_text.proofs.step_lines.Statement.{statement}
 use Rattle.serial_text.proofs.step_lines.Tie as tie
-use Rattle.serial_text.proofs.step_lines.Reads as reads
-use Rattle.serial_text.proofs.step_lines.Lts as lts
-use Rattle.serial_text.proofs.step_line.Reads as step-line-reads
 
 abbrev Inv-loop : tie.InvT-loop
 Inv-loop out₀ a first n at₀ i₀ out at i = (i ≤ n) × (at ≤ i * 52) × (length out ≡ length out₀) × Puts out₀ 0 (linesFrom (stepLine a) first i) out at
@@ -34,13 +31,20 @@ loop-less : tie.Need-loop-less Inv-loop μ-loop
 loop-less c = omega arith
 
 loop-again : tie.Need-loop-again Inv-loop μ-loop
-loop-again c = (omega arith, omega arith, c .before .before .step-line .kept .0 ∙ c .before .before .before .before .before .loop .inv .2, one-line _ _ _ (c .before .before .before .before .before .loop .inv .3) (c .before .before .step-line .ensures .0))
+loop-again c = (
+  omega arith,
+  omega arith,
+  c .before .before .step-line .kept .0 ∙ c .before .before .before .before .before .loop .inv .2,
+  one-line _ _ _ (c .before .before .before .before .before .loop .inv .3) (c .before .before .step-line .ensures .0),
+)
 
 same-length : tie.Need-same-length Inv-loop μ-loop
 same-length c = c .before .loop .inv .2
 
 returns : tie.Need-returns Inv-loop μ-loop
-returns c = all-lines _ _ _ _ (c .before .loop .inv .2) (c .before .before .before .before .pre .0) (c .before .before .before .before .pre .2) (c .before .loop .inv .0) (c .loop-test .left) (c .before .loop .inv .1) (c .before .loop .inv .3)
+returns c =
+    all-lines _ _ _ _ (c .before .loop .inv .2) (c .before .before .before .before .pre .0) (c .before .before .before .before .pre .2)
+    (c .before .loop .inv .0) (c .loop-test .left) (c .before .loop .inv .1) (c .before .loop .inv .3)
 
 pub step-lines-spec : {M : Type 1} → statement M
 step-lines-spec =

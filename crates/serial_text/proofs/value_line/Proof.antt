@@ -2,10 +2,6 @@ use Rattle.serial_text.specs.Blocks.{value-line}
 use borrow.Author.Needs.{needs}
 use Rattle.serial_text.proofs.value_line.Statement.{statement}
 use Rattle.serial_text.proofs.value_line.Tie as tie
-use Rattle.serial_text.proofs.value_line.Reads as reads
-use Rattle.serial_text.proofs.value_line.Lts as lts
-use Rattle.run_text.proofs.left_line.Reads as left-line-reads
-use Rattle.serial_queues.proofs.value.Reads as value-reads
 
 value-requires : tie.Need-value-requires
 value-requires c κs = search needs
@@ -17,7 +13,8 @@ same-length : tie.Need-same-length
 same-length c = search needs
 
 returns : tie.Need-returns
-returns c = (value-line _ _ _ (c .before .before .before .before .value .ensures) (c .before .before .left-line .ensures .0), c .before .before .left-line .ensures .1)
+returns c =
+    (value-line _ _ _ (c .before .before .before .before .value .ensures) (c .before .before .left-line .ensures .0), c .before .before .left-line .ensures .1)
 
 pub value-line-spec : {M : Type 1} → statement M
 value-line-spec = tie.close (tie.spec value-requires left-line-requires same-length returns)

@@ -2,10 +2,6 @@ use Rattle.spawning.proofs.Child.{links-made}
 use borrow.Author.Needs.{needs}
 use Rattle.spawning.proofs.child_links.Statement.{statement}
 use Rattle.spawning.proofs.child_links.Tie as tie
-use Rattle.spawning.proofs.child_links.Reads as reads
-use Rattle.spawning.proofs.child_links.Lts as lts
-use Rattle.memory.proofs.set_task.Reads as set-task-reads
-use Rattle.spawning.proofs.set_four.Reads as set-four-reads
 
 set-four-requires : tie.Need-set-four-requires
 set-four-requires c κs = search needs
@@ -20,7 +16,9 @@ same-length : tie.Need-same-length
 same-length c = search needs
 
 returns : tie.Need-returns
-returns c = links-made _ _ _ _ _ _ _ _ (c .before .before .before .before .before .before .before .before .before .before .set-four .ensures) (c .before .before .before .before .before .before .set-task .ensures) (c .before .before .set-task2 .ensures)
+returns c =
+    links-made _ _ _ _ _ _ _ _ (c .before .before .before .before .before .before .before .before .before .before .set-four .ensures)
+    (c .before .before .before .before .before .before .set-task .ensures) (c .before .before .set-task2 .ensures)
 
 pub child-links-spec : {M : Type 1} → statement M
 child-links-spec =

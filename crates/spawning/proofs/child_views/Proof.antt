@@ -2,11 +2,6 @@ use Rattle.spawning.proofs.Child.{views-made}
 use borrow.Author.Needs.{needs}
 use Rattle.spawning.proofs.child_views.Statement.{statement}
 use Rattle.spawning.proofs.child_views.Tie as tie
-use Rattle.spawning.proofs.child_views.Reads as reads
-use Rattle.spawning.proofs.child_views.Lts as lts
-use Rattle.spawning.proofs.pass_queues.Reads as pass-queues-reads
-use Rattle.spawning.proofs.pass_users.Reads as pass-users-reads
-use Rattle.spawning.proofs.set_none.Reads as set-none-reads
 
 pass-queues-requires : tie.Need-pass-queues-requires
 pass-queues-requires c κs = search needs
@@ -33,7 +28,17 @@ same-length : tie.Need-same-length
 same-length c = search needs
 
 returns : tie.Need-returns
-returns c = views-made _ _ _ _ _ _ _ _ _ _ _ (c .before .before .before .before .before .before .before .before .before .before .before .before .before .before .before .before .before .before .before .before .before .before .before .before .before .before .pass-queues .ensures) (c .before .before .before .before .before .before .before .before .before .before .before .before .before .before .before .before .before .before .before .before .before .before .set-none .ensures) (c .before .before .before .before .before .before .before .before .before .before .before .before .before .before .before .before .before .before .pass-users .ensures) (c .before .before .before .before .before .before .before .before .before .before .before .before .before .before .set-none2 .ensures) (c .before .before .before .before .before .before .before .before .before .before .set-none3 .ensures) (c .before .before .before .before .before .before .pass-users2 .ensures) (c .before .before .set-none4 .ensures)
+returns c =
+    views-made _ _ _ _ _ _ _ _ _ _ _
+    (c .before .before .before .before .before .before .before .before .before .before .before .before .before .before .before .before .before .before .before
+    .before .before .before .before .before .before .before .pass-queues .ensures)
+    (c .before .before .before .before .before .before .before .before .before .before .before .before .before .before .before .before .before .before .before
+    .before .before .before .set-none .ensures)
+    (c .before .before .before .before .before .before .before .before .before .before .before .before .before .before .before .before .before .before
+    .pass-users .ensures)
+    (c .before .before .before .before .before .before .before .before .before .before .before .before .before .before .set-none2 .ensures)
+    (c .before .before .before .before .before .before .before .before .before .before .set-none3 .ensures)
+    (c .before .before .before .before .before .before .pass-users2 .ensures) (c .before .before .set-none4 .ensures)
 
 pub child-views-spec : {M : Type 1} → statement M
 child-views-spec =

@@ -2,8 +2,6 @@ use Rattle.words.specs.Words.{halt, pass}
 use mathlib.Core.Path.{sym, refl}
 use Rattle.spawning.proofs.choose.Statement.{statement}
 use Rattle.spawning.proofs.choose.Tie as tie
-use Rattle.spawning.proofs.choose.Reads as reads
-use Rattle.spawning.proofs.choose.Lts as lts
 
 returns : tie.Need-returns
 returns c = sym (halt _ _ (c .if1 .taken))

@@ -2,10 +2,6 @@ use Rattle.spawning.proofs.Glue.{by-queue}
 use borrow.Author.Needs.{needs}
 use Rattle.spawning.proofs.keep_queues.Statement.{statement}
 use Rattle.spawning.proofs.keep_queues.Tie as tie
-use Rattle.spawning.proofs.keep_queues.Reads as reads
-use Rattle.spawning.proofs.keep_queues.Lts as lts
-use Rattle.spawning.proofs.kept_queue.Reads as kept-queue-reads
-use Rattle.spawning.proofs.set_four.Reads as set-four-reads
 
 kept-queue-requires : tie.Need-kept-queue-requires
 kept-queue-requires c κs = search needs
@@ -26,7 +22,11 @@ same-length : tie.Need-same-length
 same-length c = search needs
 
 returns : tie.Need-returns
-returns c = by-queue _ _ _ _ _ _ _ _ (c .before .before .before .before .before .before .before .before .before .before .kept-queue .ensures) (c .before .before .before .before .before .before .before .before .kept-queue2 .ensures) (c .before .before .before .before .before .before .kept-queue3 .ensures) (c .before .before .before .before .kept-queue4 .ensures) (c .before .before .set-four .ensures)
+returns c =
+    by-queue _ _ _ _ _ _ _ _ (c .before .before .before .before .before .before .before .before .before .before .kept-queue .ensures)
+    (c .before .before .before .before .before .before .before .before .kept-queue2 .ensures)
+    (c .before .before .before .before .before .before .kept-queue3 .ensures) (c .before .before .before .before .kept-queue4 .ensures)
+    (c .before .before .set-four .ensures)
 
 pub keep-queues-spec : {M : Type 1} → statement M
 keep-queues-spec =

@@ -2,10 +2,6 @@ use Rattle.spawning.proofs.Glue.{by-queue}
 use borrow.Author.Needs.{needs}
 use Rattle.spawning.proofs.keep_users.Statement.{statement}
 use Rattle.spawning.proofs.keep_users.Tie as tie
-use Rattle.spawning.proofs.keep_users.Reads as reads
-use Rattle.spawning.proofs.keep_users.Lts as lts
-use Rattle.spawning.proofs.kept_user.Reads as kept-user-reads
-use Rattle.spawning.proofs.set_four.Reads as set-four-reads
 
 kept-user-requires : tie.Need-kept-user-requires
 kept-user-requires c κs = search needs
@@ -26,7 +22,11 @@ same-length : tie.Need-same-length
 same-length c = search needs
 
 returns : tie.Need-returns
-returns c = by-queue _ _ _ _ _ _ _ _ (c .before .before .before .before .before .before .before .before .before .before .kept-user .ensures) (c .before .before .before .before .before .before .before .before .kept-user2 .ensures) (c .before .before .before .before .before .before .kept-user3 .ensures) (c .before .before .before .before .kept-user4 .ensures) (c .before .before .set-four .ensures)
+returns c =
+    by-queue _ _ _ _ _ _ _ _ (c .before .before .before .before .before .before .before .before .before .before .kept-user .ensures)
+    (c .before .before .before .before .before .before .before .before .kept-user2 .ensures)
+    (c .before .before .before .before .before .before .kept-user3 .ensures) (c .before .before .before .before .kept-user4 .ensures)
+    (c .before .before .set-four .ensures)
 
 pub keep-users-spec : {M : Type 1} → statement M
 keep-users-spec =

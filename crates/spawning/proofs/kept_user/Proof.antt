@@ -3,11 +3,6 @@ use Rattle.calls.specs.Spawn.{keptUser}
 use borrow.Author.Needs.{needs}
 use Rattle.spawning.proofs.kept_user.Statement.{statement}
 use Rattle.spawning.proofs.kept_user.Tie as tie
-use Rattle.spawning.proofs.kept_user.Reads as reads
-use Rattle.spawning.proofs.kept_user.Lts as lts
-use Rattle.memory.proofs.task.Reads as task-reads
-use Rattle.rights.proofs.uses.Reads as uses-reads
-use Rattle.spawning.proofs.choose.Reads as choose-reads
 
 uses-requires : tie.Need-uses-requires
 uses-requires c κs = search needs

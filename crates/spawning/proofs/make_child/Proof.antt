@@ -2,13 +2,6 @@ use Rattle.spawning.proofs.Child.{first-child, next-child}
 use borrow.Author.Needs.{needs}
 use Rattle.spawning.proofs.make_child.Statement.{statement}
 use Rattle.spawning.proofs.make_child.Tie as tie
-use Rattle.spawning.proofs.make_child.Reads as reads
-use Rattle.spawning.proofs.make_child.Lts as lts
-use Rattle.memory.proofs.set_task.Reads as set-task-reads
-use Rattle.memory.proofs.task.Reads as task-reads
-use Rattle.spawning.proofs.child_links.Reads as child-links-reads
-use Rattle.spawning.proofs.child_views.Reads as child-views-reads
-use Rattle.spawning.proofs.pass_on.Reads as pass-on-reads
 
 task-requires : tie.Need-task-requires
 task-requires c κs = search needs
@@ -29,7 +22,12 @@ same-length : tie.Need-same-length
 same-length c = search needs
 
 returns : tie.Need-returns
-returns c = first-child _ _ _ _ _ _ _ _ _ (c .before .before .before .before .before .before .before .before .before .before .before .before .before .before .before .before .before .task .ensures) (c .before .before .before .before .before .before .before .before .before .before .before .before .before .before .before .child-links .ensures) (c .before .before .before .before .before .before .before .before .before .before .before .child-views .ensures) (c .before .before .before .before .before .before .before .pass-on .ensures) (c .before .before .before .set-task .ensures) (c .if1 .taken)
+returns c =
+    first-child _ _ _ _ _ _ _ _ _
+    (c .before .before .before .before .before .before .before .before .before .before .before .before .before .before .before .before .before .task .ensures)
+    (c .before .before .before .before .before .before .before .before .before .before .before .before .before .before .before .child-links .ensures)
+    (c .before .before .before .before .before .before .before .before .before .before .before .child-views .ensures)
+    (c .before .before .before .before .before .before .before .pass-on .ensures) (c .before .before .before .set-task .ensures) (c .if1 .taken)
 
 set-task-requires-2 : tie.Need-set-task-requires-2
 set-task-requires-2 c κs = search needs
@@ -38,7 +36,16 @@ same-length-2 : tie.Need-same-length-2
 same-length-2 c = search needs
 
 returns-2 : tie.Need-returns-2
-returns-2 c = next-child _ _ _ _ _ _ _ _ _ (c .before .before .before .before .before .before .before .before .before .before .before .before .before .before .before .before .before .before .before .before .before .task .ensures) (c .before .before .before .before .before .before .before .before .before .before .before .before .before .before .before .before .before .before .before .child-links .ensures) (c .before .before .before .before .before .before .before .before .before .before .before .before .before .before .before .child-views .ensures) (c .before .before .before .before .before .before .before .before .before .before .before .pass-on .ensures) (c .before .before .before .before .before .before .before .set-task .ensures) _ (c .before .before .before .before .if1 .left) (c .before .before .set-task2 .ensures)
+returns-2 c =
+    next-child _ _ _ _ _ _ _ _ _
+    (c .before .before .before .before .before .before .before .before .before .before .before .before .before .before .before .before .before .before .before
+    .before .before .task .ensures)
+    (c .before .before .before .before .before .before .before .before .before .before .before .before .before .before .before .before .before .before .before
+    .child-links .ensures)
+    (c .before .before .before .before .before .before .before .before .before .before .before .before .before .before .before .child-views .ensures)
+    (c .before .before .before .before .before .before .before .before .before .before .before .pass-on .ensures)
+    (c .before .before .before .before .before .before .before .set-task .ensures) _ (c .before .before .before .before .if1 .left)
+    (c .before .before .set-task2 .ensures)
 
 pub make-child-spec : {M : Type 1} → statement M
 make-child-spec =

@@ -2,10 +2,6 @@ use Rattle.spawning.proofs.Child.{kept-made}
 use borrow.Author.Needs.{needs}
 use Rattle.spawning.proofs.pass_on.Statement.{statement}
 use Rattle.spawning.proofs.pass_on.Tie as tie
-use Rattle.spawning.proofs.pass_on.Reads as reads
-use Rattle.spawning.proofs.pass_on.Lts as lts
-use Rattle.spawning.proofs.keep_queues.Reads as keep-queues-reads
-use Rattle.spawning.proofs.keep_users.Reads as keep-users-reads
 
 keep-queues-requires : tie.Need-keep-queues-requires
 keep-queues-requires c κs = search needs
@@ -20,7 +16,9 @@ same-length : tie.Need-same-length
 same-length c = search needs
 
 returns : tie.Need-returns
-returns c = kept-made _ _ _ _ _ _ (c .before .before .before .before .before .before .before .before .before .before .keep-queues .ensures) (c .before .before .before .before .before .before .keep-users .ensures) (c .before .before .keep-users2 .ensures)
+returns c =
+    kept-made _ _ _ _ _ _ (c .before .before .before .before .before .before .before .before .before .before .keep-queues .ensures)
+    (c .before .before .before .before .before .before .keep-users .ensures) (c .before .before .keep-users2 .ensures)
 
 pub pass-on-spec : {M : Type 1} → statement M
 pass-on-spec =

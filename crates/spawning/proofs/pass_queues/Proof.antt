@@ -2,10 +2,6 @@ use Rattle.spawning.proofs.Glue.{by-queue}
 use borrow.Author.Needs.{needs}
 use Rattle.spawning.proofs.pass_queues.Statement.{statement}
 use Rattle.spawning.proofs.pass_queues.Tie as tie
-use Rattle.spawning.proofs.pass_queues.Reads as reads
-use Rattle.spawning.proofs.pass_queues.Lts as lts
-use Rattle.spawning.proofs.passed_queue.Reads as passed-queue-reads
-use Rattle.spawning.proofs.set_four.Reads as set-four-reads
 
 passed-queue-requires : tie.Need-passed-queue-requires
 passed-queue-requires c κs = search needs
@@ -26,7 +22,11 @@ same-length : tie.Need-same-length
 same-length c = search needs
 
 returns : tie.Need-returns
-returns c = by-queue _ _ _ _ _ _ _ _ (c .before .before .before .before .before .before .before .before .before .before .passed-queue .ensures) (c .before .before .before .before .before .before .before .before .passed-queue2 .ensures) (c .before .before .before .before .before .before .passed-queue3 .ensures) (c .before .before .before .before .passed-queue4 .ensures) (c .before .before .set-four .ensures)
+returns c =
+    by-queue _ _ _ _ _ _ _ _ (c .before .before .before .before .before .before .before .before .before .before .passed-queue .ensures)
+    (c .before .before .before .before .before .before .before .before .passed-queue2 .ensures)
+    (c .before .before .before .before .before .before .passed-queue3 .ensures) (c .before .before .before .before .passed-queue4 .ensures)
+    (c .before .before .set-four .ensures)
 
 pub pass-queues-spec : {M : Type 1} → statement M
 pass-queues-spec =

@@ -2,10 +2,6 @@ use Rattle.spawning.proofs.Glue.{by-queue}
 use borrow.Author.Needs.{needs}
 use Rattle.spawning.proofs.pass_users.Statement.{statement}
 use Rattle.spawning.proofs.pass_users.Tie as tie
-use Rattle.spawning.proofs.pass_users.Reads as reads
-use Rattle.spawning.proofs.pass_users.Lts as lts
-use Rattle.spawning.proofs.passed_user.Reads as passed-user-reads
-use Rattle.spawning.proofs.set_four.Reads as set-four-reads
 
 passed-user-requires : tie.Need-passed-user-requires
 passed-user-requires c κs = search needs
@@ -26,7 +22,11 @@ same-length : tie.Need-same-length
 same-length c = search needs
 
 returns : tie.Need-returns
-returns c = by-queue _ _ _ _ _ _ _ _ (c .before .before .before .before .before .before .before .before .before .before .passed-user .ensures) (c .before .before .before .before .before .before .before .before .passed-user2 .ensures) (c .before .before .before .before .before .before .passed-user3 .ensures) (c .before .before .before .before .passed-user4 .ensures) (c .before .before .set-four .ensures)
+returns c =
+    by-queue _ _ _ _ _ _ _ _ (c .before .before .before .before .before .before .before .before .before .before .passed-user .ensures)
+    (c .before .before .before .before .before .before .before .before .passed-user2 .ensures)
+    (c .before .before .before .before .before .before .passed-user3 .ensures) (c .before .before .before .before .passed-user4 .ensures)
+    (c .before .before .set-four .ensures)
 
 pub pass-users-spec : {M : Type 1} → statement M
 pass-users-spec =

@@ -3,11 +3,6 @@ use Rattle.calls.specs.Spawn.{passedQueue}
 use borrow.Author.Needs.{needs}
 use Rattle.spawning.proofs.passed_queue.Statement.{statement}
 use Rattle.spawning.proofs.passed_queue.Tie as tie
-use Rattle.spawning.proofs.passed_queue.Reads as reads
-use Rattle.spawning.proofs.passed_queue.Lts as lts
-use Rattle.memory.proofs.task.Reads as task-reads
-use Rattle.rights.proofs.pops.Reads as pops-reads
-use Rattle.spawning.proofs.choose.Reads as choose-reads
 
 pops-requires : tie.Need-pops-requires
 pops-requires c κs = search needs

@@ -2,9 +2,6 @@ use Rattle.layout.specs.Layout.{address}
 use borrow.Author.Needs.{needs}
 use Rattle.spawning.proofs.set_four.Statement.{statement}
 use Rattle.spawning.proofs.set_four.Tie as tie
-use Rattle.spawning.proofs.set_four.Reads as reads
-use Rattle.spawning.proofs.set_four.Lts as lts
-use Rattle.memory.proofs.put4.Reads as put4-reads
 
 mul-put4 : tie.Need-mul-put4
 mul-put4 c = search needs

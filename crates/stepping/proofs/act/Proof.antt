@@ -2,12 +2,6 @@ use Rattle.stepping.proofs.Replies.{moved, nothing, something, popped-n
 use borrow.Author.Needs.{needs}
 use Rattle.stepping.proofs.act.Statement.{statement}
 use Rattle.stepping.proofs.act.Tie as tie
-use Rattle.stepping.proofs.act.Reads as reads
-use Rattle.stepping.proofs.act.Lts as lts
-use Rattle.runner_words.proofs.instruction_for.Reads as instruction-for-reads
-use Rattle.runner_words.proofs.register.Reads as register-reads
-use Rattle.stepping.proofs.core_call.Reads as core-call-reads
-use Rattle.stepping.proofs.done.Reads as done-reads
 
 instruction-for-requires : tie.Need-instruction-for-requires
 instruction-for-requires c κs = search needs
@@ -52,7 +46,12 @@ same-length-2 : tie.Need-same-length-2
 same-length-2 c = search needs
 
 returns : tie.Need-returns
-returns c = popped-none _ _ _ _ _ (c .before .before .before .before .before .before .before .before .before .before .before .before .before .before .instruction-for .ensures) (c .before .before .before .before .before .before .before .before .before .before .before .register .ensures) _ (c .before .before .before .before .before .before .before .before .before .before .core-call .ensures) _ (c .before .before .before .before .before .before .a2 .given .1) (c .before .before .before .before .if1 .taken) (c .before .before .done4 .ensures)
+returns c =
+    popped-none _ _ _ _ _
+    (c .before .before .before .before .before .before .before .before .before .before .before .before .before .before .instruction-for .ensures)
+    (c .before .before .before .before .before .before .before .before .before .before .before .register .ensures) _
+    (c .before .before .before .before .before .before .before .before .before .before .core-call .ensures) _
+    (c .before .before .before .before .before .before .a2 .given .1) (c .before .before .before .before .if1 .taken) (c .before .before .done4 .ensures)
 
 same-length-3 : tie.Need-same-length-3
 same-length-3 c = search needs
@@ -61,7 +60,11 @@ same-length-4 : tie.Need-same-length-4
 same-length-4 c = search needs
 
 returns-2 : tie.Need-returns-2
-returns-2 c = moved _ _ _ _ _ (c .before .before .before .before .before .before .before .before .before .before .before .before .before .instruction-for .ensures) (c .before .before .before .before .before .before .before .before .before .before .register .ensures) _ (c .before .before .before .before .before .before .before .before .before .core-call .ensures) _ (c .before .before .before .before .before .a .given .1) (c .before .before .done .ensures)
+returns-2 c =
+    moved _ _ _ _ _ (c .before .before .before .before .before .before .before .before .before .before .before .before .before .instruction-for .ensures)
+    (c .before .before .before .before .before .before .before .before .before .before .register .ensures) _
+    (c .before .before .before .before .before .before .before .before .before .core-call .ensures) _ (c .before .before .before .before .before .a .given .1)
+    (c .before .before .done .ensures)
 
 same-length-5 : tie.Need-same-length-5
 same-length-5 c = search needs
@@ -70,7 +73,11 @@ same-length-6 : tie.Need-same-length-6
 same-length-6 c = search needs
 
 returns-3 : tie.Need-returns-3
-returns-3 c = nothing _ _ _ _ _ (c .before .before .before .before .before .before .before .before .before .before .before .before .instruction-for .ensures) (c .before .before .before .before .before .before .before .before .before .register .ensures) _ (c .before .before .before .before .before .before .before .before .core-call .ensures) _ (c .before .before .before .before .enum-told .given .1) (c .before .before .done2 .ensures)
+returns-3 c =
+    nothing _ _ _ _ _ (c .before .before .before .before .before .before .before .before .before .before .before .before .instruction-for .ensures)
+    (c .before .before .before .before .before .before .before .before .before .register .ensures) _
+    (c .before .before .before .before .before .before .before .before .core-call .ensures) _ (c .before .before .before .before .enum-told .given .1)
+    (c .before .before .done2 .ensures)
 
 same-length-7 : tie.Need-same-length-7
 same-length-7 c = search needs
@@ -79,7 +86,11 @@ same-length-8 : tie.Need-same-length-8
 same-length-8 c = search needs
 
 returns-4 : tie.Need-returns-4
-returns-4 c = something _ _ _ _ _ (c .before .before .before .before .before .before .before .before .before .before .before .before .instruction-for .ensures) (c .before .before .before .before .before .before .before .before .before .register .ensures) _ (c .before .before .before .before .before .before .before .before .core-call .ensures) _ (c .before .before .before .before .enum-told2 .given .1) (c .before .before .done3 .ensures)
+returns-4 c =
+    something _ _ _ _ _ (c .before .before .before .before .before .before .before .before .before .before .before .before .instruction-for .ensures)
+    (c .before .before .before .before .before .before .before .before .before .register .ensures) _
+    (c .before .before .before .before .before .before .before .before .core-call .ensures) _ (c .before .before .before .before .enum-told2 .given .1)
+    (c .before .before .done3 .ensures)
 
 same-length-9 : tie.Need-same-length-9
 same-length-9 c = search needs
@@ -88,7 +99,11 @@ same-length-10 : tie.Need-same-length-10
 same-length-10 c = search needs
 
 returns-5 : tie.Need-returns-5
-returns-5 c = waits _ _ _ _ _ (c .before .before .before .before .before .before .before .before .instruction-for .ensures) (c .before .before .before .before .before .register .ensures) _ (c .before .before .before .before .core-call .ensures) (c .before .before .before .before .before .before .before .before .before .before .before .before .before .pre .0) (c .before .before .before .before .before .before .before .before .before .before .before .before .before .pre .1) (c .enum-told3 .given .1)
+returns-5 c =
+    waits _ _ _ _ _ (c .before .before .before .before .before .before .before .before .instruction-for .ensures)
+    (c .before .before .before .before .before .register .ensures) _ (c .before .before .before .before .core-call .ensures)
+    (c .before .before .before .before .before .before .before .before .before .before .before .before .before .pre .0)
+    (c .before .before .before .before .before .before .before .before .before .before .before .before .before .pre .1) (c .enum-told3 .given .1)
 
 same-length-11 : tie.Need-same-length-11
 same-length-11 c = search needs
@@ -97,7 +112,12 @@ same-length-12 : tie.Need-same-length-12
 same-length-12 c = search needs
 
 returns-6 : tie.Need-returns-6
-returns-6 c = turned-down _ _ _ _ _ (c .before .before .before .before .before .before .before .before .before .before .instruction-for .ensures) (c .before .before .before .before .before .before .before .register .ensures) _ (c .before .before .before .before .before .before .core-call .ensures) (c .before .before .before .before .before .before .before .before .before .before .before .before .before .before .before .pre .0) (c .before .before .before .before .before .before .before .before .before .before .before .before .before .before .before .pre .1) (c .before .before .a2 .given .1) (c .if1 .left)
+returns-6 c =
+    turned-down _ _ _ _ _ (c .before .before .before .before .before .before .before .before .before .before .instruction-for .ensures)
+    (c .before .before .before .before .before .before .before .register .ensures) _ (c .before .before .before .before .before .before .core-call .ensures)
+    (c .before .before .before .before .before .before .before .before .before .before .before .before .before .before .before .pre .0)
+    (c .before .before .before .before .before .before .before .before .before .before .before .before .before .before .before .pre .1)
+    (c .before .before .a2 .given .1) (c .if1 .left)
 
 pub act-spec : {M : Type 1} → statement M
 act-spec =

@@ -5,16 +5,6 @@ use mathlib.Core.Logic.{inl, inr, ⊎-elim}
 use borrow.Author.Needs.{needs}
 use Rattle.stepping.proofs.core_call.Statement.{statement}
 use Rattle.stepping.proofs.core_call.Tie as tie
-use Rattle.stepping.proofs.core_call.Reads as reads
-use Rattle.stepping.proofs.core_call.Lts as lts
-use Rattle.finding.proofs.pop.Reads as pop-reads
-use Rattle.finding.proofs.test.Reads as test-reads
-use Rattle.finishing.proofs.finish.Reads as finish-reads
-use Rattle.finishing.proofs.sync.Reads as sync-reads
-use Rattle.job_fields.proofs.rights.Reads as rights-reads
-use Rattle.pushing.proofs.push.Reads as push-reads
-use Rattle.spawning.proofs.spawn.Reads as spawn-reads
-use Rattle.std.proofs.num.wrapping_add_u32.Reads as wrapping-add-u32-reads
 
 push-requires : tie.Need-push-requires
 push-requires c κs = search needs
@@ -53,7 +43,9 @@ same-length-2 : tie.Need-same-length-2
 same-length-2 c = search needs
 
 returns-2 : tie.Need-returns-2
-returns-2 c = sum-made _ _ _ _ _ (c .before .before .before .before .before .match .keys2) (c .before .before .before .wrapping-add-u32 .ensures) (c .before .before .push2 .ensures)
+returns-2 c =
+    sum-made _ _ _ _ _ (c .before .before .before .before .before .match .keys2) (c .before .before .before .wrapping-add-u32 .ensures)
+    (c .before .before .push2 .ensures)
 
 same-length-3 : tie.Need-same-length-3
 same-length-3 c = search needs
@@ -71,7 +63,9 @@ same-length-5 : tie.Need-same-length-5
 same-length-5 c = search needs
 
 returns-5 : tie.Need-returns-5
-returns-5 c = spawn-made _ _ _ _ _ (c .before .before .before .before .before .match .keys5) (c .before .before .before .rights .ensures) (c .before .before .spawn .ensures)
+returns-5 c =
+    spawn-made _ _ _ _ _ (c .before .before .before .before .before .match .keys5) (c .before .before .before .rights .ensures)
+    (c .before .before .spawn .ensures)
 
 same-length-6 : tie.Need-same-length-6
 same-length-6 c = search needs
@@ -80,13 +74,19 @@ returns-6 : tie.Need-returns-6
 returns-6 c = sync-made _ _ _ _ _ (c .before .before .before .before .match .keys6) (c .before .before .sync .ensures)
 
 returns-7 : tie.Need-returns-7
-returns-7 c = none-made _ _ _ _ _ (above 4 _ (above 3 _ (above 2 _ (above 1 _ (c .before .if1 .left) (c .before .before .match .rest .0 .0 .0 .0 .0 .1)) (c .before .before .match .rest .0 .0 .0 .0 .1)) (c .before .before .match .rest .0 .0 .0 .1)) (c .before .before .match .rest .0 .0 .1)) (c .if2 .taken)
+returns-7 c =
+    none-made _ _ _ _ _ (above 4 _
+    (above 3 _ (above 2 _ (above 1 _ (c .before .if1 .left) (c .before .before .match .rest .0 .0 .0 .0 .0 .1))
+    (c .before .before .match .rest .0 .0 .0 .0 .1)) (c .before .before .match .rest .0 .0 .0 .1)) (c .before .before .match .rest .0 .0 .1)) (c .if2 .taken)
 
 same-length-7 : tie.Need-same-length-7
 same-length-7 c = search needs
 
 returns-8 : tie.Need-returns-8
-returns-8 c = finish-made _ _ _ _ _ (⊎-elim (λ s. inl (omega (arith, s .taken))) (λ s. inr (above 9 _ (above 8 _ (s .1 .left) (c .before .before .before .before .before .match .rest .0 .1)) (c .before .before .before .before .before .match .rest .1))) (c .before .before .before .before .if1 .came)) (c .before .before .finish .ensures)
+returns-8 c =
+    finish-made _ _ _ _ _ (⊎-elim (λ s. inl (omega (arith, s .taken)))
+    (λ s. inr (above 9 _ (above 8 _ (s .1 .left) (c .before .before .before .before .before .match .rest .0 .1))
+    (c .before .before .before .before .before .match .rest .1))) (c .before .before .before .before .if1 .came)) (c .before .before .finish .ensures)
 
 pub core-call-spec : {M : Type 1} → statement M
 core-call-spec =

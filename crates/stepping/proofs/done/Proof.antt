@@ -2,12 +2,6 @@ use Rattle.stepping.proofs.Writes.{does-it}
 use borrow.Author.Needs.{needs}
 use Rattle.stepping.proofs.done.Statement.{statement}
 use Rattle.stepping.proofs.done.Tie as tie
-use Rattle.stepping.proofs.done.Reads as reads
-use Rattle.stepping.proofs.done.Lts as lts
-use Rattle.runner_words.proofs.position.Reads as position-reads
-use Rattle.runner_words.proofs.register.Reads as register-reads
-use Rattle.stepping.proofs.effect.Reads as effect-reads
-use Rattle.stepping.proofs.write.Reads as write-reads
 
 position-requires : tie.Need-position-requires
 position-requires c κs = search needs
@@ -25,7 +19,9 @@ same-length : tie.Need-same-length
 same-length c = search needs
 
 returns : tie.Need-returns
-returns c = does-it _ _ _ _ _ _ (c .before .before .before .before .before .before .before .position .ensures) (c .before .before .before .before .before .register .ensures) (c .before .before .before .before .effect .ensures) (c .before .before .write .ensures)
+returns c =
+    does-it _ _ _ _ _ _ (c .before .before .before .before .before .before .before .position .ensures)
+    (c .before .before .before .before .before .register .ensures) (c .before .before .before .before .effect .ensures) (c .before .before .write .ensures)
 
 pub done-spec : {M : Type 1} → statement M
 done-spec =

@@ -3,13 +3,6 @@ use Rattle.stepping.proofs.Numbers.{none-of-nine}
 use borrow.Author.Needs.{needs}
 use Rattle.stepping.proofs.effect.Statement.{statement}
 use Rattle.stepping.proofs.effect.Tie as tie
-use Rattle.stepping.proofs.effect.Reads as reads
-use Rattle.stepping.proofs.effect.Lts as lts
-use Rattle.std.proofs.num.wrapping_add_u32.Reads as wrapping-add-u32-reads
-use Rattle.stepping.proofs.gives.Reads as gives-reads
-use Rattle.stepping.proofs.pop_effect.Reads as pop-effect-reads
-use Rattle.stepping.proofs.test_effect.Reads as test-effect-reads
-use Rattle.stepping.proofs.zero_effect.Reads as zero-effect-reads
 
 wrapping-add-u32-requires : tie.Need-wrapping-add-u32-requires
 wrapping-add-u32-requires c κs = search needs

@@ -2,9 +2,6 @@ use Rattle.stepping.proofs.Effects.{took-value, took-none}
 use borrow.Author.Needs.{needs}
 use Rattle.stepping.proofs.pop_effect.Statement.{statement}
 use Rattle.stepping.proofs.pop_effect.Tie as tie
-use Rattle.stepping.proofs.pop_effect.Reads as reads
-use Rattle.stepping.proofs.pop_effect.Lts as lts
-use Rattle.stepping.proofs.gives.Reads as gives-reads
 
 add-gives : tie.Need-add-gives
 add-gives c = search needs

@@ -4,14 +4,6 @@ use Rattle.runner_words.specs.Refusals.{fits}
 use borrow.Author.Needs.{needs}
 use Rattle.stepping.proofs.step.Statement.{statement}
 use Rattle.stepping.proofs.step.Tie as tie
-use Rattle.stepping.proofs.step.Reads as reads
-use Rattle.stepping.proofs.step.Lts as lts
-use Rattle.memory_test.proofs.rules_hold.Reads as rules-hold-reads
-use Rattle.runner_words.proofs.holds.Reads as holds-reads
-use Rattle.runner_words.proofs.refusal.Reads as refusal-reads
-use Rattle.stepping.proofs.act.Reads as act-reads
-use Rattle.walks.proofs.blocked.Reads as blocked-reads
-use Rattle.walks.proofs.unfinished.Reads as unfinished-reads
 
 refusal-requires : tie.Need-refusal-requires
 refusal-requires c κs = search needs
@@ -36,7 +28,9 @@ same-length-4 : tie.Need-same-length-4
 same-length-4 c = search needs
 
 returns-2 : tie.Need-returns-2
-returns-2 c = core-fails _ _ _ _ (c .before .before .before .before .refusal .ensures) (c .before .before .before .if1 .left) (c .before .rules-hold .ensures) (c .if2 .taken)
+returns-2 c =
+    core-fails _ _ _ _ (c .before .before .before .before .refusal .ensures) (c .before .before .before .if1 .left) (c .before .rules-hold .ensures)
+    (c .if2 .taken)
 
 holds-requires : tie.Need-holds-requires
 holds-requires c κs = search needs
@@ -48,7 +42,10 @@ same-length-6 : tie.Need-same-length-6
 same-length-6 c = search needs
 
 returns-3 : tie.Need-returns-3
-returns-3 c = runner-fails _ _ _ _ (c .before .before .before .before .before .before .before .before .refusal .ensures) (c .before .before .before .before .before .before .before .if1 .left) (c .before .before .before .before .before .rules-hold .ensures) (c .before .before .before .before .if2 .left) (c .before .holds .ensures) (c .if3 .taken)
+returns-3 c =
+    runner-fails _ _ _ _ (c .before .before .before .before .before .before .before .before .refusal .ensures)
+    (c .before .before .before .before .before .before .before .if1 .left) (c .before .before .before .before .before .rules-hold .ensures)
+    (c .before .before .before .before .if2 .left) (c .before .holds .ensures) (c .if3 .taken)
 
 unfinished-requires : tie.Need-unfinished-requires
 unfinished-requires c κs = search needs
@@ -60,7 +57,12 @@ same-length-8 : tie.Need-same-length-8
 same-length-8 c = search needs
 
 returns-4 : tie.Need-returns-4
-returns-4 c = no-task _ _ _ _ (c .before .before .before .before .before .before .before .before .before .before .before .refusal .ensures) (c .before .before .before .before .before .before .before .before .before .before .if1 .left) (c .before .before .before .before .before .before .before .before .rules-hold .ensures) (c .before .before .before .before .before .before .before .if2 .left) (c .before .before .before .before .holds .ensures) (c .before .before .before .if3 .left) (c .before .unfinished .ensures) (c .if4 .taken)
+returns-4 c =
+    no-task _ _ _ _ (c .before .before .before .before .before .before .before .before .before .before .before .refusal .ensures)
+    (c .before .before .before .before .before .before .before .before .before .before .if1 .left)
+    (c .before .before .before .before .before .before .before .before .rules-hold .ensures)
+    (c .before .before .before .before .before .before .before .if2 .left) (c .before .before .before .before .holds .ensures)
+    (c .before .before .before .if3 .left) (c .before .unfinished .ensures) (c .if4 .taken)
 
 blocked-requires : tie.Need-blocked-requires
 blocked-requires c κs = search needs
@@ -72,11 +74,25 @@ same-length-10 : tie.Need-same-length-10
 same-length-10 c = search needs
 
 returns-5 : tie.Need-returns-5
-returns-5 c = waits _ _ _ _ (c .before .before .before .before .before .before .before .before .before .before .before .before .before .before .refusal .ensures) (c .before .before .before .before .before .before .before .before .before .before .before .before .before .if1 .left) (c .before .before .before .before .before .before .before .before .before .before .before .rules-hold .ensures) (c .before .before .before .before .before .before .before .before .before .before .if2 .left) (c .before .before .before .before .before .before .before .holds .ensures) (c .before .before .before .before .before .before .if3 .left) (c .before .before .before .before .unfinished .ensures) (c .before .before .before .if4 .left) (c .before .blocked .ensures) (c .if5 .taken)
+returns-5 c =
+    waits _ _ _ _ (c .before .before .before .before .before .before .before .before .before .before .before .before .before .before .refusal .ensures)
+    (c .before .before .before .before .before .before .before .before .before .before .before .before .before .if1 .left)
+    (c .before .before .before .before .before .before .before .before .before .before .before .rules-hold .ensures)
+    (c .before .before .before .before .before .before .before .before .before .before .if2 .left)
+    (c .before .before .before .before .before .before .before .holds .ensures) (c .before .before .before .before .before .before .if3 .left)
+    (c .before .before .before .before .unfinished .ensures) (c .before .before .before .if4 .left) (c .before .blocked .ensures) (c .if5 .taken)
 
 act-requires : tie.Need-act-requires
 unfolding size
-act-requires c κs = ready _ _ _ _ (c .before .before .before .before .before .before .before .before .before .before .before .before .before .before .before .before .refusal .ensures) (c .before .before .before .before .before .before .before .before .before .before .before .before .before .before .before .if1 .left) (c .before .before .before .before .before .before .before .before .before .before .before .before .before .rules-hold .ensures) (c .before .before .before .before .before .before .before .before .before .before .before .before .if2 .left) (c .before .before .before .before .before .before .before .before .before .holds .ensures) (c .before .before .before .before .before .before .before .before .if3 .left) (c .before .before .before .before .before .before .unfinished .ensures) (c .before .before .before .before .before .if4 .left)
+act-requires c κs =
+    ready _ _ _ _
+    (c .before .before .before .before .before .before .before .before .before .before .before .before .before .before .before .before .refusal .ensures)
+    (c .before .before .before .before .before .before .before .before .before .before .before .before .before .before .before .if1 .left)
+    (c .before .before .before .before .before .before .before .before .before .before .before .before .before .rules-hold .ensures)
+    (c .before .before .before .before .before .before .before .before .before .before .before .before .if2 .left)
+    (c .before .before .before .before .before .before .before .before .before .holds .ensures)
+    (c .before .before .before .before .before .before .before .before .if3 .left) (c .before .before .before .before .before .before .unfinished .ensures)
+    (c .before .before .before .before .before .if4 .left)
 
 same-length-11 : tie.Need-same-length-11
 same-length-11 c = search needs
@@ -85,7 +101,21 @@ same-length-12 : tie.Need-same-length-12
 same-length-12 c = search needs
 
 returns-6 : tie.Need-returns-6
-returns-6 c = acts _ _ _ _ (c .before .before .before .before .before .before .before .before .before .before .before .before .before .before .before .before .before .before .before .before .before .refusal .ensures) (c .before .before .before .before .before .before .before .before .before .before .before .before .before .before .before .before .before .before .before .before .if1 .left) (c .before .before .before .before .before .before .before .before .before .before .before .before .before .before .before .before .before .before .rules-hold .ensures) (c .before .before .before .before .before .before .before .before .before .before .before .before .before .before .before .before .before .if2 .left) (c .before .before .before .before .before .before .before .before .before .before .before .before .before .before .holds .ensures) (c .before .before .before .before .before .before .before .before .before .before .before .before .before .if3 .left) (c .before .before .before .before .before .before .before .before .before .before .before .unfinished .ensures) (c .before .before .before .before .before .before .before .before .before .before .if4 .left) (c .before .before .before .before .before .before .before .before .blocked .ensures) (c .before .before .before .before .before .before .before .if5 .left) (c .before .before .before .before .act .ensures)
+returns-6 c =
+    acts _ _ _ _
+    (c .before .before .before .before .before .before .before .before .before .before .before .before .before .before .before .before .before .before .before
+    .before .before .refusal .ensures)
+    (c .before .before .before .before .before .before .before .before .before .before .before .before .before .before .before .before .before .before .before
+    .before .if1 .left)
+    (c .before .before .before .before .before .before .before .before .before .before .before .before .before .before .before .before .before .before
+    .rules-hold .ensures)
+    (c .before .before .before .before .before .before .before .before .before .before .before .before .before .before .before .before .before .if2 .left)
+    (c .before .before .before .before .before .before .before .before .before .before .before .before .before .before .holds .ensures)
+    (c .before .before .before .before .before .before .before .before .before .before .before .before .before .if3 .left)
+    (c .before .before .before .before .before .before .before .before .before .before .before .unfinished .ensures)
+    (c .before .before .before .before .before .before .before .before .before .before .if4 .left)
+    (c .before .before .before .before .before .before .before .before .blocked .ensures)
+    (c .before .before .before .before .before .before .before .if5 .left) (c .before .before .before .before .act .ensures)
 
 pub step-spec : {M : Type 1} → statement M
 step-spec =

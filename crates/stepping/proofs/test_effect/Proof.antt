@@ -2,9 +2,6 @@ use Rattle.stepping.proofs.Effects.{not-empty, is-empty}
 use borrow.Author.Needs.{needs}
 use Rattle.stepping.proofs.test_effect.Statement.{statement}
 use Rattle.stepping.proofs.test_effect.Tie as tie
-use Rattle.stepping.proofs.test_effect.Reads as reads
-use Rattle.stepping.proofs.test_effect.Lts as lts
-use Rattle.stepping.proofs.gives.Reads as gives-reads
 
 add-gives : tie.Need-add-gives
 add-gives c = search needs

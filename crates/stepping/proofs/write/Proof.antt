@@ -5,12 +5,6 @@ use mathlib.Core.Logic.{inl, inr, ⊎-elim}
 use borrow.Author.Needs.{needs}
 use Rattle.stepping.proofs.write.Statement.{statement}
 use Rattle.stepping.proofs.write.Tie as tie
-use Rattle.stepping.proofs.write.Reads as reads
-use Rattle.stepping.proofs.write.Lts as lts
-use Rattle.runner_words.proofs.procedure.Reads as procedure-reads
-use Rattle.runner_words.proofs.put.Reads as put-reads
-use Rattle.runner_words.proofs.register.Reads as register-reads
-use Rattle.std.proofs.num.wrapping_add_u32.Reads as wrapping-add-u32-reads
 
 procedure-requires : tie.Need-procedure-requires
 procedure-requires c κs = search needs
@@ -37,19 +31,31 @@ same-length : tie.Need-same-length
 same-length c = search needs
 
 returns : tie.Need-returns
-returns c = spawn-writes _ _ _ _ _ _ (c .before .before .before .before .before .before .before .before .before .before .before .before .procedure .ensures) _ _ (c .before .before .before .before .before .before .before .before .before .before .register .ensures) (c .before .before .before .before .before .before .before .before .before .wrapping-add-u32 .ensures) (c .before .before .before .before .before .before .before .before .match .keys1) (c .before .before .before .before .before .before .put .ensures) (c .before .before .put2 .ensures)
+returns c =
+    spawn-writes _ _ _ _ _ _ (c .before .before .before .before .before .before .before .before .before .before .before .before .procedure .ensures) _ _
+    (c .before .before .before .before .before .before .before .before .before .before .register .ensures)
+    (c .before .before .before .before .before .before .before .before .before .wrapping-add-u32 .ensures)
+    (c .before .before .before .before .before .before .before .before .match .keys1) (c .before .before .before .before .before .before .put .ensures)
+    (c .before .before .put2 .ensures)
 
 same-length-2 : tie.Need-same-length-2
 same-length-2 c = search needs
 
 returns-2 : tie.Need-returns-2
-returns-2 c = finish-writes _ _ _ _ _ _ _ (⊎-elim (λ s. inl (omega (arith, s .taken))) (λ s. inr (above 9 _ (above 8 _ (s .1 .left) (c .before .before .before .before .before .match .rest .0 .1)) (c .before .before .before .before .before .match .rest .1))) (c .before .before .before .before .if1 .came)) (c .before .before .put3 .ensures)
+returns-2 c =
+    finish-writes _ _ _ _ _ _ _ (⊎-elim (λ s. inl (omega (arith, s .taken)))
+    (λ s. inr (above 9 _ (above 8 _ (s .1 .left) (c .before .before .before .before .before .match .rest .0 .1))
+    (c .before .before .before .before .before .match .rest .1))) (c .before .before .before .before .if1 .came)) (c .before .before .put3 .ensures)
 
 same-length-3 : tie.Need-same-length-3
 same-length-3 c = search needs
 
 returns-3 : tie.Need-returns-3
-returns-3 c = ⊎-elim (λ s. sync-writes _ _ _ _ _ _ (c .before .before .before .before .before .before .before .before .procedure .ensures) _ (c .before .before .put4 .ensures) (s .keys2)) (λ s. goes-writes _ _ _ _ _ _ (c .before .before .before .before .before .before .before .before .procedure .ensures) _ (c .before .before .put4 .ensures) (s .1 .left) (s .2 .taken)) (c .before .before .before .before .match .came)
+returns-3 c =
+    ⊎-elim (λ s. sync-writes _ _ _ _ _ _ (c .before .before .before .before .before .before .before .before .procedure .ensures) _
+    (c .before .before .put4 .ensures) (s .keys2))
+    (λ s. goes-writes _ _ _ _ _ _ (c .before .before .before .before .before .before .before .before .procedure .ensures) _ (c .before .before .put4 .ensures)
+    (s .1 .left) (s .2 .taken)) (c .before .before .before .before .match .came)
 
 pub write-spec : {M : Type 1} → statement M
 write-spec =

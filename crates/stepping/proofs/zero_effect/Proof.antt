@@ -2,9 +2,6 @@ use Rattle.stepping.proofs.Effects.{is-zero, not-zero}
 use borrow.Author.Needs.{needs}
 use Rattle.stepping.proofs.zero_effect.Statement.{statement}
 use Rattle.stepping.proofs.zero_effect.Tie as tie
-use Rattle.stepping.proofs.zero_effect.Reads as reads
-use Rattle.stepping.proofs.zero_effect.Lts as lts
-use Rattle.stepping.proofs.gives.Reads as gives-reads
 
 gives-requires : tie.Need-gives-requires
 gives-requires c κs = search needs

@@ -58,7 +58,10 @@ long-number-digit-requires-2 : (t : ℕ) → long-number-lts.Need-digit-requires
   long-number-below t,
   long-number.Post,
 ) (long-number-at t) long-number.Post
-long-number-digit-requires-2 t c κs = (digit-position (c .before .before .before .long-number .ensures) (omega arith) (c .before .before .before .before .before .before .before .pre .1), omega arith)
+long-number-digit-requires-2 t c κs = (
+  digit-position (c .before .before .before .long-number .ensures) (omega arith) (c .before .before .before .before .before .before .before .pre .1),
+  omega arith,
+)
 
 long-number-same-length-2 : (t : ℕ) → long-number-lts.Need-same-length-2 (
   digit-reads.Asked,
@@ -74,7 +77,9 @@ long-number-returns-2 : (t : ℕ) → long-number-lts.Need-returns-2 (
   long-number-below t,
   long-number.Post,
 ) (long-number-at t) long-number.Post
-long-number-returns-2 t c = more-digits (c .before .before .before .before .before .before .before .before .if1 .left) (c .before .before .before .before .before .before .long-number .ensures) (c .before .before .digit2 .ensures)
+long-number-returns-2 t c =
+    more-digits (c .before .before .before .before .before .before .before .before .if1 .left)
+    (c .before .before .before .before .before .before .long-number .ensures) (c .before .before .digit2 .ensures)
 
 pub +long-number-spec : {M : Type 1} → statement M
 +long-number-spec = close μ-long-number λ t. long-number-lts.spec (

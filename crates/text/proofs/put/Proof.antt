@@ -6,9 +6,6 @@ use Prim.Native.Nat.{_+_, _-_, _≤_}
 use Rattle.text.specs.Puts.{Puts, puts-first, puts-more, puts-all}
 use Rattle.text.proofs.put.Statement.{statement}
 use Rattle.text.proofs.put.Tie as tie
-use Rattle.text.proofs.put.Reads as reads
-use Rattle.text.proofs.put.Lts as lts
-use Rattle.text.proofs.put_byte.Reads as put-byte-reads
 
 abbrev Inv-loop : tie.InvT-loop
 Inv-loop out₀ at text i₀ out i = (i ≤ length text) × (length out ≡ length out₀) × Puts out₀ at (take i text) out (at + i)
@@ -35,7 +32,12 @@ loop-less : tie.Need-loop-less Inv-loop μ-loop
 loop-less c = omega arith
 
 loop-again : tie.Need-loop-again Inv-loop μ-loop
-loop-again c = (omega arith, c .before .before .put-byte .kept .0 ∙ c .before .before .before .before .before .before .loop .inv .1, puts-more _ _ _ _ (c .before .before .before .before .before .loop-test .taken) (c .before .before .before .before .before .before .loop .inv .2) (c .before .before .put-byte .ensures))
+loop-again c = (
+  omega arith,
+  c .before .before .put-byte .kept .0 ∙ c .before .before .before .before .before .before .loop .inv .1,
+  puts-more _ _ _ _ (c .before .before .before .before .before .loop-test .taken) (c .before .before .before .before .before .before .loop .inv .2)
+      (c .before .before .put-byte .ensures),
+)
 
 add-result : tie.Need-add-result Inv-loop μ-loop
 add-result c = omega arith

@@ -8,9 +8,6 @@ use borrow.Author.Needs.{needs}
 use mathlib.Core.Path.{_≡_, sym, _∙_, subst}
 use Rattle.tree_test.proofs.climb.Statement.{statement}
 use Rattle.tree_test.proofs.climb.Tie as tie
-use Rattle.tree_test.proofs.climb.Reads as reads
-use Rattle.tree_test.proofs.climb.Lts as lts
-use Rattle.tree_test.proofs.left_next.Reads as left-next-reads
 
 abbrev Inv-loop : tie.InvT-loop
 Inv-loop m xs₀ n t0 i0 t₀ i₀ xs t i = (i0 ≤ i) × (t < 128) × (length xs ≡ 256) × Same (decode m) n (128 + t0) i0 xs₀ (128 + t) i xs
@@ -19,13 +16,21 @@ abbrev μ-loop : tie.MeasureT-loop
 μ-loop m xs₀ n t0 i0 t₀ i₀ xs t i = n - i
 
 loop-holds : tie.Need-loop-holds Inv-loop μ-loop
-loop-holds c = (omega arith, c .before .before .pre .3, c .before .before .pre .1, same-here (decode (c .before .before .args .m .now)) (c .before .before .args .n) _ _ _)
+loop-holds c =
+    (omega arith, c .before .before .pre .3, c .before .before .pre .1, same-here (decode (c .before .before .args .m .now)) (c .before .before .args .n) _ _ _)
 
 same-length : tie.Need-same-length Inv-loop μ-loop
 same-length c = c .before .before .loop .inv .2 ∙ sym (c .before .before .before .before .before .pre .1)
 
 returns : tie.Need-returns Inv-loop μ-loop
-returns c = (led-here (decode (c .before .before .before .before .before .args .m .now)) (c .before .before .before .before .before .args .n) (omega arith) (subst (λ (y : ℕ). Same (decode (c .before .before .before .before .before .args .m .now)) (c .before .before .before .before .before .args .n) (128 + c .before .before .before .before .before .args .t0) (c .before .before .before .before .before .args .i0) (c .before .before .before .before .before .args .xs .now) y (c .before .before .loop .i) (c .before .before .loop .xs)) (let z : 128 + (c .before .before .loop .t) ≡ 128 = let e = c .if1 .taken in omega (arith, e) in z) (c .before .before .loop .inv .3)), c .before .before .loop .inv .0)
+returns c = (
+  led-here (decode (c .before .before .before .before .before .args .m .now)) (c .before .before .before .before .before .args .n) (omega arith)
+      (subst (λ (y : ℕ). Same (decode (c .before .before .before .before .before .args .m .now)) (c .before .before .before .before .before .args .n)
+      (128 + c .before .before .before .before .before .args .t0) (c .before .before .before .before .before .args .i0)
+      (c .before .before .before .before .before .args .xs .now) y (c .before .before .loop .i) (c .before .before .loop .xs))
+      (let z : 128 + (c .before .before .loop .t) ≡ 128 = let e = c .if1 .taken in omega (arith, e) in z) (c .before .before .loop .inv .3)),
+  c .before .before .loop .inv .0,
+)
 
 add-xs : tie.Need-add-xs Inv-loop μ-loop
 add-xs c = let a = c .before .before .loop .inv .1 in omega (arith, a)
@@ -34,7 +39,9 @@ mul-xs : tie.Need-mul-xs Inv-loop μ-loop
 mul-xs c = search needs
 
 slice-write-xs : tie.Need-slice-write-xs Inv-loop μ-loop
-slice-write-xs c = (let a = c .before .loop-test .taken in let b = c .before .before .before .before .before .pre .2 in let d = c .before .before .loop .inv .2 in omega (arith, a, b, d))
+slice-write-xs c =
+    (let a = c .before .loop-test .taken in let b = c .before .before .before .before .before .pre .2 in let d = c .before .before .loop .inv .2 in
+    omega (arith, a, b, d))
 
 add-i : tie.Need-add-i Inv-loop μ-loop
 add-i c = search needs
@@ -43,28 +50,81 @@ left-next-requires : tie.Need-left-next-requires Inv-loop μ-loop
 left-next-requires c κs = (c .before .before .before .before .before .pre .0, c .before .before .loop .inv .1)
 
 same-length-2 : tie.Need-same-length-2 Inv-loop μ-loop
-same-length-2 c = length-set (c .before .before .before .before .loop .xs) (c .before .before .before .before .loop .i) (128 + (c .before .before .before .before .loop .t)) ∙ c .before .before .before .before .loop .inv .2 ∙ sym (c .before .before .before .before .before .before .before .pre .1)
+same-length-2 c =
+    length-set (c .before .before .before .before .loop .xs) (c .before .before .before .before .loop .i) (128 + (c .before .before .before .before .loop .t))
+    ∙ c .before .before .before .before .loop .inv .2 ∙ sym (c .before .before .before .before .before .before .before .pre .1)
 
 returns-2 : tie.Need-returns-2 Inv-loop μ-loop
-returns-2 c = (led-here (decode (c .before .before .before .before .before .before .before .args .m .now)) (c .before .before .before .before .before .before .before .args .n) (let a = c .if2 .taken in omega (arith, a)) (same-on (decode (c .before .before .before .before .before .before .before .args .m .now)) (c .before .before .before .before .before .before .before .args .n) (c .before .before .before .before .loop .inv .3) (same-step (decode (c .before .before .before .before .before .before .before .args .m .now)) (c .before .before .before .before .before .before .before .args .n) (c .before .before .before .before .loop .i) (128 + (c .before .before .before .before .loop .t)) (c .before .before .before .loop-test .taken) (λ e. c .before .before .if1 .left (let z : (c .before .before .before .before .loop .t) ≡ 0 = omega (arith, e) in z)) _ (c .before .left-next .ensures ∙ next-up (decode (c .before .before .before .before .before .before .before .args .m .now)) (c .before .before .before .before .loop .t)) (c .before .before .before .before .loop .xs) (let a = c .before .before .before .loop-test .taken in let b = c .before .before .before .before .before .before .before .pre .2 in let d = c .before .before .before .before .loop .inv .2 in omega (arith, a, b, d)) (let a = c .if2 .taken in omega (arith, a)))), let a = c .before .before .before .before .loop .inv .0 in omega (arith, a))
+returns-2 c = (
+  led-here (decode (c .before .before .before .before .before .before .before .args .m .now))
+      (c .before .before .before .before .before .before .before .args .n) (let a = c .if2 .taken in omega (arith, a))
+      (same-on (decode (c .before .before .before .before .before .before .before .args .m .now))
+      (c .before .before .before .before .before .before .before .args .n) (c .before .before .before .before .loop .inv .3)
+      (same-step (decode (c .before .before .before .before .before .before .before .args .m .now))
+      (c .before .before .before .before .before .before .before .args .n) (c .before .before .before .before .loop .i)
+      (128 + (c .before .before .before .before .loop .t)) (c .before .before .before .loop-test .taken)
+      (λ e. c .before .before .if1 .left (let z : (c .before .before .before .before .loop .t) ≡ 0 = omega (arith, e) in z)) _
+      (c .before .left-next .ensures ∙ next-up (decode (c .before .before .before .before .before .before .before .args .m .now))
+      (c .before .before .before .before .loop .t)) (c .before .before .before .before .loop .xs) (let a = c .before .before .before .loop-test .taken in
+      let b = c .before .before .before .before .before .before .before .pre .2 in let d = c .before .before .before .before .loop .inv .2 in
+      omega (arith, a, b, d)) (let a = c .if2 .taken in omega (arith, a)))),
+  let a = c .before .before .before .before .loop .inv .0 in omega (arith, a),
+)
 
 same-length-3 : tie.Need-same-length-3 Inv-loop μ-loop
-same-length-3 c = length-set (c .before .before .before .before .before .loop .xs) (c .before .before .before .before .before .loop .i) (128 + (c .before .before .before .before .before .loop .t)) ∙ c .before .before .before .before .before .loop .inv .2 ∙ sym (c .before .before .before .before .before .before .before .before .pre .1)
+same-length-3 c =
+    length-set (c .before .before .before .before .before .loop .xs) (c .before .before .before .before .before .loop .i)
+    (128 + (c .before .before .before .before .before .loop .t)) ∙ c .before .before .before .before .before .loop .inv .2
+    ∙ sym (c .before .before .before .before .before .before .before .before .pre .1)
 
 returns-3 : tie.Need-returns-3 Inv-loop μ-loop
-returns-3 c = (led-wrong (decode (c .before .before .before .before .before .before .before .before .args .m .now)) (c .before .before .before .before .before .before .before .before .args .n) (walk-wrong (decode (c .before .before .before .before .before .before .before .before .args .m .now)) (c .before .before .before .before .before .before .before .before .args .n) (c .before .before .before .before .before .loop .i) (128 + (c .before .before .before .before .before .loop .t)) (c .before .before .before .before .loop-test .taken) (λ e. c .before .before .before .if1 .left (let z : (c .before .before .before .before .before .loop .t) ≡ 0 = omega (arith, e) in z)) _ (c .before .before .left-next .ensures ∙ next-up (decode (c .before .before .before .before .before .before .before .before .args .m .now)) (c .before .before .before .before .before .loop .t)) (c .if3 .taken) ∙ c .before .before .before .before .before .loop .inv .3 .test), let a = c .before .before .before .before .before .loop .inv .0 in omega (arith, a))
+returns-3 c = (
+  led-wrong (decode (c .before .before .before .before .before .before .before .before .args .m .now))
+      (c .before .before .before .before .before .before .before .before .args .n)
+      (walk-wrong (decode (c .before .before .before .before .before .before .before .before .args .m .now))
+      (c .before .before .before .before .before .before .before .before .args .n) (c .before .before .before .before .before .loop .i)
+      (128 + (c .before .before .before .before .before .loop .t)) (c .before .before .before .before .loop-test .taken)
+      (λ e. c .before .before .before .if1 .left (let z : (c .before .before .before .before .before .loop .t) ≡ 0 = omega (arith, e) in z)) _
+      (c .before .before .left-next .ensures ∙ next-up (decode (c .before .before .before .before .before .before .before .before .args .m .now))
+      (c .before .before .before .before .before .loop .t)) (c .if3 .taken) ∙ c .before .before .before .before .before .loop .inv .3 .test),
+  let a = c .before .before .before .before .before .loop .inv .0 in omega (arith, a),
+)
 
 loop-less : tie.Need-loop-less Inv-loop μ-loop
 loop-less c = omega arith
 
 loop-again : tie.Need-loop-again Inv-loop μ-loop
-loop-again c = (let a = c .before .before .before .before .before .loop .inv .0 in omega (arith, a), let a = c .before .if2 .left in let b = c .if3 .left in omega (arith, a, b), length-set (c .before .before .before .before .before .loop .xs) (c .before .before .before .before .before .loop .i) (128 + (c .before .before .before .before .before .loop .t)) ∙ c .before .before .before .before .before .loop .inv .2, same-on (decode (c .before .before .before .before .before .before .before .before .args .m .now)) (c .before .before .before .before .before .before .before .before .args .n) (c .before .before .before .before .before .loop .inv .3) (same-step (decode (c .before .before .before .before .before .before .before .before .args .m .now)) (c .before .before .before .before .before .before .before .before .args .n) (c .before .before .before .before .before .loop .i) (128 + (c .before .before .before .before .before .loop .t)) (c .before .before .before .before .loop-test .taken) (λ e. c .before .before .before .if1 .left (let z : (c .before .before .before .before .before .loop .t) ≡ 0 = omega (arith, e) in z)) (128 + ((c .before .before .left-next .result) - 128)) ((let a = c .before .if2 .left in let z : 128 + ((c .before .before .left-next .result) - 128) ≡ (c .before .before .left-next .result) = omega (arith, a) in z) ∙ c .before .before .left-next .ensures ∙ next-up (decode (c .before .before .before .before .before .before .before .before .args .m .now)) (c .before .before .before .before .before .loop .t)) (c .before .before .before .before .before .loop .xs) (let a = c .before .before .before .before .loop-test .taken in let b = c .before .before .before .before .before .before .before .before .pre .2 in let d = c .before .before .before .before .before .loop .inv .2 in omega (arith, a, b, d)) (let a = c .before .if2 .left in let b = c .if3 .left in omega (arith, a, b))))
+loop-again c = (
+  let a = c .before .before .before .before .before .loop .inv .0 in omega (arith, a),
+  let a = c .before .if2 .left in let b = c .if3 .left in
+      omega (arith, a, b),
+  length-set (c .before .before .before .before .before .loop .xs) (c .before .before .before .before .before .loop .i)
+      (128 + (c .before .before .before .before .before .loop .t)) ∙ c .before .before .before .before .before .loop .inv .2,
+  same-on (decode (c .before .before .before .before .before .before .before .before .args .m .now))
+      (c .before .before .before .before .before .before .before .before .args .n) (c .before .before .before .before .before .loop .inv .3)
+      (same-step (decode (c .before .before .before .before .before .before .before .before .args .m .now))
+      (c .before .before .before .before .before .before .before .before .args .n) (c .before .before .before .before .before .loop .i)
+      (128 + (c .before .before .before .before .before .loop .t)) (c .before .before .before .before .loop-test .taken)
+      (λ e. c .before .before .before .if1 .left (let z : (c .before .before .before .before .before .loop .t) ≡ 0 = omega (arith, e) in z))
+      (128 + ((c .before .before .left-next .result) - 128))
+      ((let a = c .before .if2 .left in let z : 128 + ((c .before .before .left-next .result) - 128) ≡ (c .before .before .left-next .result) = omega
+      (arith, a) in z) ∙ c .before .before .left-next .ensures
+      ∙ next-up (decode (c .before .before .before .before .before .before .before .before .args .m .now)) (c .before .before .before .before .before .loop .t))
+      (c .before .before .before .before .before .loop .xs) (let a = c .before .before .before .before .loop-test .taken in
+      let b = c .before .before .before .before .before .before .before .before .pre .2 in let d = c .before .before .before .before .before .loop .inv .2 in
+      omega (arith, a, b, d)) (let a = c .before .if2 .left in let b = c .if3 .left in omega (arith, a, b))),
+)
 
 same-length-4 : tie.Need-same-length-4 Inv-loop μ-loop
 same-length-4 c = c .before .loop .inv .2 ∙ sym (c .before .before .before .before .pre .1)
 
 returns-4 : tie.Need-returns-4 Inv-loop μ-loop
-returns-4 c = (led-wrong (decode (c .before .before .before .before .args .m .now)) (c .before .before .before .before .args .n) (walk-none (decode (c .before .before .before .before .args .m .now)) (c .before .before .before .before .args .n) (c .before .loop .i) (128 + (c .before .loop .t)) (c .loop-test .left) ∙ c .before .loop .inv .3 .test), c .before .loop .inv .0)
+returns-4 c = (
+  led-wrong (decode (c .before .before .before .before .args .m .now)) (c .before .before .before .before .args .n)
+      (walk-none (decode (c .before .before .before .before .args .m .now)) (c .before .before .before .before .args .n) (c .before .loop .i)
+      (128 + (c .before .loop .t)) (c .loop-test .left) ∙ c .before .loop .inv .3 .test),
+  c .before .loop .inv .0,
+)
 
 pub climb-spec : {M : Type 1} → statement M
 climb-spec =

@@ -4,9 +4,6 @@ use lib.Dec.{leb}
 use mathlib.Core.Path.{ap₂, _∙_}
 use Rattle.tree_test.proofs.few_free.Statement.{statement}
 use Rattle.tree_test.proofs.few_free.Tie as tie
-use Rattle.tree_test.proofs.few_free.Reads as reads
-use Rattle.tree_test.proofs.few_free.Lts as lts
-use Rattle.memory.proofs.header.Reads as header-reads
 
 header-requires : tie.Need-header-requires
 header-requires c κs = tt

@@ -6,9 +6,6 @@ use mathlib.Core.Path.{ap, sym, _∙_}
 use borrow.Author.Needs.{needs}
 use Rattle.tree_test.proofs.fitting.Statement.{statement}
 use Rattle.tree_test.proofs.fitting.Tie as tie
-use Rattle.tree_test.proofs.fitting.Reads as reads
-use Rattle.tree_test.proofs.fitting.Lts as lts
-use Rattle.rights.proofs.subset.Reads as subset-reads
 
 returns : tie.Need-returns
 returns c = fit-top _ _ _ _ _ (c .if1 .taken)
@@ -29,7 +26,9 @@ shared-slice-read-if3 : tie.Need-shared-slice-read-if3
 shared-slice-read-if3 c = search needs
 
 returns-3 : tie.Need-returns-3
-returns-3 c = fit-free _ _ _ _ _ (c .before .before .before .if1 .left) (c .before .before .if2 .left) (λ e. c .if3 .taken (status-at (c .before .before .before .before .before .args .m .now) (c .before .before .before .before .before .args .t) ∙ e))
+returns-3 c =
+    fit-free _ _ _ _ _ (c .before .before .before .if1 .left) (c .before .before .if2 .left)
+    (λ e. c .if3 .taken (status-at (c .before .before .before .before .before .args .m .now) (c .before .before .before .before .before .args .t) ∙ e))
 
 add-if4 : tie.Need-add-if4
 add-if4 c = search needs
@@ -41,7 +40,12 @@ shared-slice-read-if4 : tie.Need-shared-slice-read-if4
 shared-slice-read-if4 c = search needs
 
 returns-4 : tie.Need-returns-4
-returns-4 c = fit-parent _ _ _ _ _ (c .before .before .before .before .before .if1 .left) (c .before .before .before .before .if2 .left) (sym (status-at (c .before .before .before .before .before .before .before .args .m .now) (c .before .before .before .before .before .before .before .args .t)) ∙ c .before .before .if3 .left) (λ e. c .if4 .taken (word-at (c .before .before .before .before .before .before .before .args .m .now) (c .before .before .before .before .before .before .before .args .t) 2 ∙ e))
+returns-4 c =
+    fit-parent _ _ _ _ _ (c .before .before .before .before .before .if1 .left) (c .before .before .before .before .if2 .left)
+    (sym (status-at (c .before .before .before .before .before .before .before .args .m .now)
+    (c .before .before .before .before .before .before .before .args .t)) ∙ c .before .before .if3 .left)
+    (λ e. c .if4 .taken (word-at (c .before .before .before .before .before .before .before .args .m .now)
+    (c .before .before .before .before .before .before .before .args .t) 2 ∙ e))
 
 add-if5 : tie.Need-add-if5
 add-if5 c = search needs
@@ -53,7 +57,15 @@ shared-slice-read-if5 : tie.Need-shared-slice-read-if5
 shared-slice-read-if5 c = search needs
 
 returns-5 : tie.Need-returns-5
-returns-5 c = fit-younger _ _ _ _ _ (c .before .before .before .before .before .before .before .if1 .left) (c .before .before .before .before .before .before .if2 .left) (sym (status-at (c .before .before .before .before .before .before .before .before .before .args .m .now) (c .before .before .before .before .before .before .before .before .before .args .t)) ∙ c .before .before .before .before .if3 .left) (sym (word-at (c .before .before .before .before .before .before .before .before .before .args .m .now) (c .before .before .before .before .before .before .before .before .before .args .t) 2) ∙ c .before .before .if4 .left) (λ e. c .if5 .taken (word-at (c .before .before .before .before .before .before .before .before .before .args .m .now) (c .before .before .before .before .before .before .before .before .before .args .t) 4 ∙ e))
+returns-5 c =
+    fit-younger _ _ _ _ _ (c .before .before .before .before .before .before .before .if1 .left)
+    (c .before .before .before .before .before .before .if2 .left)
+    (sym (status-at (c .before .before .before .before .before .before .before .before .before .args .m .now)
+    (c .before .before .before .before .before .before .before .before .before .args .t)) ∙ c .before .before .before .before .if3 .left)
+    (sym (word-at (c .before .before .before .before .before .before .before .before .before .args .m .now)
+    (c .before .before .before .before .before .before .before .before .before .args .t) 2) ∙ c .before .before .if4 .left)
+    (λ e. c .if5 .taken (word-at (c .before .before .before .before .before .before .before .before .before .args .m .now)
+    (c .before .before .before .before .before .before .before .before .before .args .t) 4 ∙ e))
 
 add-subset : tie.Need-add-subset
 add-subset c = search needs
@@ -68,7 +80,19 @@ subset-requires : tie.Need-subset-requires
 subset-requires c κs = tt
 
 returns-6 : tie.Need-returns-6
-returns-6 c = c .subset .ensures ∙ ap (λ (w : ℕ). subset w (c .before .before .before .before .before .before .before .before .before .before .before .args .b)) (word-at (c .before .before .before .before .before .before .before .before .before .before .before .args .m .now) (c .before .before .before .before .before .before .before .before .before .before .before .args .t) 1) ∙ fit-rights _ _ _ _ _ (c .before .before .before .before .before .before .before .before .before .if1 .left) (c .before .before .before .before .before .before .before .before .if2 .left) (sym (status-at (c .before .before .before .before .before .before .before .before .before .before .before .args .m .now) (c .before .before .before .before .before .before .before .before .before .before .before .args .t)) ∙ c .before .before .before .before .before .before .if3 .left) (sym (word-at (c .before .before .before .before .before .before .before .before .before .before .before .args .m .now) (c .before .before .before .before .before .before .before .before .before .before .before .args .t) 2) ∙ c .before .before .before .before .if4 .left) (sym (word-at (c .before .before .before .before .before .before .before .before .before .before .before .args .m .now) (c .before .before .before .before .before .before .before .before .before .before .before .args .t) 4) ∙ c .before .before .if5 .left)
+returns-6 c =
+    c .subset .ensures ∙ ap (λ (w : ℕ). subset w (c .before .before .before .before .before .before .before .before .before .before .before .args .b))
+    (word-at (c .before .before .before .before .before .before .before .before .before .before .before .args .m .now)
+    (c .before .before .before .before .before .before .before .before .before .before .before .args .t) 1)
+    ∙ fit-rights _ _ _ _ _ (c .before .before .before .before .before .before .before .before .before .if1 .left)
+    (c .before .before .before .before .before .before .before .before .if2 .left)
+    (sym (status-at (c .before .before .before .before .before .before .before .before .before .before .before .args .m .now)
+    (c .before .before .before .before .before .before .before .before .before .before .before .args .t))
+    ∙ c .before .before .before .before .before .before .if3 .left)
+    (sym (word-at (c .before .before .before .before .before .before .before .before .before .before .before .args .m .now)
+    (c .before .before .before .before .before .before .before .before .before .before .before .args .t) 2) ∙ c .before .before .before .before .if4 .left)
+    (sym (word-at (c .before .before .before .before .before .before .before .before .before .before .before .args .m .now)
+    (c .before .before .before .before .before .before .before .before .before .before .before .args .t) 4) ∙ c .before .before .if5 .left)
 
 pub fitting-spec : {M : Type 1} → statement M
 fitting-spec =

@@ -8,18 +8,15 @@ use mathlib.Core.Path.{ap, refl, _∙_}
 use borrow.Author.Needs.{needs}
 use Rattle.tree_test.proofs.idle_ok.Statement.{statement}
 use Rattle.tree_test.proofs.idle_ok.Tie as tie
-use Rattle.tree_test.proofs.idle_ok.Reads as reads
-use Rattle.tree_test.proofs.idle_ok.Lts as lts
-use Rattle.memory.proofs.header.Reads as header-reads
-use Rattle.tree_test.proofs.mark_free.Reads as mark-free-reads
-use Rattle.tree_test.proofs.marks.Reads as marks-reads
 
 header-requires : tie.Need-header-requires
 header-requires c κs = tt
 
 returns : tie.Need-returns
 unfolding size
-returns c = idle-many (c .before .before .before .args .m .now) (c .before .before .before .pre) (let a = c .before .header .ensures in let b = c .if1 .taken in omega (arith, a, b))
+returns c =
+    idle-many (c .before .before .before .args .m .now) (c .before .before .before .pre) (let a = c .before .header .ensures in let b = c .if1 .taken in
+    omega (arith, a, b))
 
 slice-aggregate-mark-free : tie.Need-slice-aggregate-mark-free
 slice-aggregate-mark-free c = search needs
@@ -32,14 +29,21 @@ mark-free-requires c κs = (c .before .before .before .before .pre, refl, c .bef
 
 returns-2 : tie.Need-returns-2
 unfolding size
-returns-2 c = idle-wrong (c .before .before .before .before .before .before .before .args .m .now) (c .before .before .before .before .before .before .before .pre) (c .before .before .before .before .before .header .result) (c .before .before .before .before .before .header .ensures) (c .before .before .before .before .if1 .left) _ (c .before .before .mark-free .ensures .0) (c .if2 .taken)
+returns-2 c =
+    idle-wrong (c .before .before .before .before .before .before .before .args .m .now) (c .before .before .before .before .before .before .before .pre)
+    (c .before .before .before .before .before .header .result) (c .before .before .before .before .before .header .ensures)
+    (c .before .before .before .before .if1 .left) _ (c .before .before .mark-free .ensures .0) (c .if2 .taken)
 
 array-read-if3 : tie.Need-array-read-if3
 array-read-if3 c = search needs
 
 returns-3 : tie.Need-returns-3
 unfolding size load
-returns-3 c = idle-top (c .before .before .before .before .before .before .before .before .args .m .now) (c .before .before .before .before .before .before .before .before .pre) (c .before .before .before .before .before .before .header .result) (c .before .before .before .before .before .before .header .ensures) (c .before .before .before .before .before .if1 .left) _ (c .before .before .before .mark-free .ensures .0) (c .before .if2 .left) _ (c .before .before .before .mark-free .ensures .1) (c .if3 .taken)
+returns-3 c =
+    idle-top (c .before .before .before .before .before .before .before .before .args .m .now)
+    (c .before .before .before .before .before .before .before .before .pre) (c .before .before .before .before .before .before .header .result)
+    (c .before .before .before .before .before .before .header .ensures) (c .before .before .before .before .before .if1 .left) _
+    (c .before .before .before .mark-free .ensures .0) (c .before .if2 .left) _ (c .before .before .before .mark-free .ensures .1) (c .if3 .taken)
 
 slice-aggregate-marks : tie.Need-slice-aggregate-marks
 slice-aggregate-marks c = search needs
@@ -49,7 +53,14 @@ marks-requires c κs = search needs
 
 returns-4 : tie.Need-returns-4
 unfolding size load
-returns-4 c = ap (λ (n : ℕ). eqb n (c .before .before .before .before .before .before .before .before .header .result)) (c .marks .ensures) ∙ idle-count (c .before .before .before .before .before .before .before .before .before .before .args .m .now) (c .before .before .before .before .before .before .before .before .before .before .pre) (c .before .before .before .before .before .before .before .before .header .result) (c .before .before .before .before .before .before .before .before .header .ensures) (c .before .before .before .before .before .before .before .if1 .left) _ (c .before .before .before .before .before .mark-free .ensures .0) (c .before .before .before .if2 .left) _ (c .before .before .before .before .before .mark-free .ensures .1) (c .before .before .if3 .left)
+returns-4 c =
+    ap (λ (n : ℕ). eqb n (c .before .before .before .before .before .before .before .before .header .result)) (c .marks .ensures)
+    ∙ idle-count (c .before .before .before .before .before .before .before .before .before .before .args .m .now)
+    (c .before .before .before .before .before .before .before .before .before .before .pre)
+    (c .before .before .before .before .before .before .before .before .header .result)
+    (c .before .before .before .before .before .before .before .before .header .ensures)
+    (c .before .before .before .before .before .before .before .if1 .left) _ (c .before .before .before .before .before .mark-free .ensures .0)
+    (c .before .before .before .if2 .left) _ (c .before .before .before .before .before .mark-free .ensures .1) (c .before .before .if3 .left)
 
 pub idle-ok-spec : {M : Type 1} → statement M
 idle-ok-spec =

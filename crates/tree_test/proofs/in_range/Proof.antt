@@ -2,8 +2,6 @@ use Rattle.tree_test.specs.Top.{short, long, few, many, product, fits}
 use native.Mathlib.Omega.{arith}
 use Rattle.tree_test.proofs.in_range.Statement.{statement}
 use Rattle.tree_test.proofs.in_range.Tie as tie
-use Rattle.tree_test.proofs.in_range.Reads as reads
-use Rattle.tree_test.proofs.in_range.Lts as lts
 
 returns : tie.Need-returns
 returns c = short _ _ (c .if1 .taken)

@@ -8,9 +8,6 @@ use mathlib.Core.Path.{ap, sym, _∙_}
 use borrow.Author.Needs.{needs}
 use Rattle.tree_test.proofs.left_next.Statement.{statement}
 use Rattle.tree_test.proofs.left_next.Tie as tie
-use Rattle.tree_test.proofs.left_next.Reads as reads
-use Rattle.tree_test.proofs.left_next.Lts as lts
-use Rattle.tree_test.proofs.fitting.Reads as fitting-reads
 
 mul-a : tie.Need-mul-a
 mul-a c = search needs
@@ -28,7 +25,9 @@ shared-slice-read-p : tie.Need-shared-slice-read-p
 shared-slice-read-p c = search needs
 
 returns : tie.Need-returns
-returns c = left-out (decode (c .before .before .before .args .m .now)) (c .before .before .before .args .t) _ (word-at (c .before .before .before .args .m .now) (c .before .before .before .args .t) 2) (c .if1 .taken)
+returns c =
+    left-out (decode (c .before .before .before .args .m .now)) (c .before .before .before .args .t) _
+    (word-at (c .before .before .before .args .m .now) (c .before .before .before .args .t) 2) (c .if1 .taken)
 
 add-u : tie.Need-add-u
 add-u c = search needs
@@ -43,7 +42,10 @@ add-result : tie.Need-add-result
 add-result c = search needs
 
 returns-2 : tie.Need-returns-2
-returns-2 c = left-up (decode (c .before .before .before .before .before .args .m .now)) (c .before .before .before .before .before .args .t) _ (word-at (c .before .before .before .before .before .args .m .now) (c .before .before .before .before .before .args .t) 2) (c .before .before .if1 .left) _ (word-at (c .before .before .before .before .before .args .m .now) (c .before .before .before .before .before .args .t) 3) (c .if2 .taken)
+returns-2 c =
+    left-up (decode (c .before .before .before .before .before .args .m .now)) (c .before .before .before .before .before .args .t) _
+    (word-at (c .before .before .before .before .before .args .m .now) (c .before .before .before .before .before .args .t) 2) (c .before .before .if1 .left)
+    _ (word-at (c .before .before .before .before .before .args .m .now) (c .before .before .before .before .before .args .t) 3) (c .if2 .taken)
 
 cast-fitting : tie.Need-cast-fitting
 cast-fitting c = search needs
@@ -67,10 +69,32 @@ fitting-requires : tie.Need-fitting-requires
 fitting-requires c κs = c .before .before .before .before .before .before .pre .0
 
 returns-3 : tie.Need-returns-3
-returns-3 c = left-over (decode (c .before .before .before .before .before .before .before .before .args .m .now)) (c .before .before .before .before .before .before .before .before .args .t) _ (word-at (c .before .before .before .before .before .before .before .before .args .m .now) (c .before .before .before .before .before .before .before .before .args .t) 2) (c .before .before .before .before .before .if1 .left) _ (word-at (c .before .before .before .before .before .before .before .before .args .m .now) (c .before .before .before .before .before .before .before .before .args .t) 3) (c .before .before .before .if2 .left) (ap (fitting (decode (c .before .before .before .before .before .before .before .before .args .m .now)) _ _ (c .before .before .before .before .before .before .before .before .args .t)) (sym (word-at (c .before .before .before .before .before .before .before .before .args .m .now) (getD (c .before .before .before .before .before .before .before .before .args .m .now) (1472 + (c .before .before .before .before .before .before .before .before .args .t) * 48 + 2) 0) 1)) ∙ sym (c .before .fitting .ensures) ∙ c .if3 .taken)
+returns-3 c =
+    left-over (decode (c .before .before .before .before .before .before .before .before .args .m .now))
+    (c .before .before .before .before .before .before .before .before .args .t) _
+    (word-at (c .before .before .before .before .before .before .before .before .args .m .now)
+    (c .before .before .before .before .before .before .before .before .args .t) 2) (c .before .before .before .before .before .if1 .left) _
+    (word-at (c .before .before .before .before .before .before .before .before .args .m .now)
+    (c .before .before .before .before .before .before .before .before .args .t) 3) (c .before .before .before .if2 .left)
+    (ap (fitting (decode (c .before .before .before .before .before .before .before .before .args .m .now)) _ _
+    (c .before .before .before .before .before .before .before .before .args .t))
+    (sym (word-at (c .before .before .before .before .before .before .before .before .args .m .now)
+    (getD (c .before .before .before .before .before .before .before .before .args .m .now)
+    (1472 + (c .before .before .before .before .before .before .before .before .args .t) * 48 + 2) 0) 1)) ∙ sym (c .before .fitting .ensures) ∙ c .if3 .taken)
 
 returns-4 : tie.Need-returns-4
-returns-4 c = left-wrong (decode (c .before .before .before .before .before .before .before .before .args .m .now)) (c .before .before .before .before .before .before .before .before .args .t) _ (word-at (c .before .before .before .before .before .before .before .before .args .m .now) (c .before .before .before .before .before .before .before .before .args .t) 2) (c .before .before .before .before .before .if1 .left) _ (word-at (c .before .before .before .before .before .before .before .before .args .m .now) (c .before .before .before .before .before .before .before .before .args .t) 3) (c .before .before .before .if2 .left) (ap (fitting (decode (c .before .before .before .before .before .before .before .before .args .m .now)) _ _ (c .before .before .before .before .before .before .before .before .args .t)) (sym (word-at (c .before .before .before .before .before .before .before .before .args .m .now) (getD (c .before .before .before .before .before .before .before .before .args .m .now) (1472 + (c .before .before .before .before .before .before .before .before .args .t) * 48 + 2) 0) 1)) ∙ sym (c .before .fitting .ensures) ∙ c .if3 .left)
+returns-4 c =
+    left-wrong (decode (c .before .before .before .before .before .before .before .before .args .m .now))
+    (c .before .before .before .before .before .before .before .before .args .t) _
+    (word-at (c .before .before .before .before .before .before .before .before .args .m .now)
+    (c .before .before .before .before .before .before .before .before .args .t) 2) (c .before .before .before .before .before .if1 .left) _
+    (word-at (c .before .before .before .before .before .before .before .before .args .m .now)
+    (c .before .before .before .before .before .before .before .before .args .t) 3) (c .before .before .before .if2 .left)
+    (ap (fitting (decode (c .before .before .before .before .before .before .before .before .args .m .now)) _ _
+    (c .before .before .before .before .before .before .before .before .args .t))
+    (sym (word-at (c .before .before .before .before .before .before .before .before .args .m .now)
+    (getD (c .before .before .before .before .before .before .before .before .args .m .now)
+    (1472 + (c .before .before .before .before .before .before .before .before .args .t) * 48 + 2) 0) 1)) ∙ sym (c .before .fitting .ensures) ∙ c .if3 .left)
 
 pub left-next-spec : {M : Type 1} → statement M
 left-next-spec =

@@ -8,8 +8,6 @@ use native.Mathlib.Nat.{le-antisymm}
 use mathlib.Core.Path.{_≡_, refl, _∙_, ap}
 use Rattle.tree_test.proofs.marks.Statement.{statement}
 use Rattle.tree_test.proofs.marks.Tie as tie
-use Rattle.tree_test.proofs.marks.Reads as reads
-use Rattle.tree_test.proofs.marks.Lts as lts
 
 abbrev Inv-loop : tie.InvT-loop
 Inv-loop d n₀ i₀ n i = (i ≤ 128) × (n ≤ 255 * i) × (n ≡ total i (load d))
@@ -28,7 +26,9 @@ cast-n : tie.Need-cast-n Inv-loop μ-loop
 cast-n c = omega (arith, c .shared-slice-known .given (c .before .before .loop .i))
 
 add-n : tie.Need-add-n Inv-loop μ-loop
-add-n c = let a = c .shared-slice-known .given (c .before .before .loop .i) in let b = c .before .before .loop .inv .1 in let e = c .before .loop-test .taken in omega (arith, a, b, e)
+add-n c =
+    let a = c .shared-slice-known .given (c .before .before .loop .i) in let b = c .before .before .loop .inv .1 in let e = c .before .loop-test .taken in
+    omega (arith, a, b, e)
 
 add-i : tie.Need-add-i Inv-loop μ-loop
 add-i c = omega arith
@@ -38,11 +38,19 @@ loop-less c = omega arith
 
 loop-again : tie.Need-loop-again Inv-loop μ-loop
 unfolding load
-loop-again c = (let a = c .before .loop-test .taken in omega (arith, a), let a = c .shared-slice-known .given (c .before .before .loop .i) in let b = c .before .before .loop .inv .1 in omega (arith, a, b), sum-more (c .before .before .before .args .d .now) (c .before .before .loop .i) (c .before .before .loop .n) _ (c .before .before .loop .inv .2) refl)
+loop-again c = (
+  let a = c .before .loop-test .taken in omega (arith, a),
+  let a = c .shared-slice-known .given (c .before .before .loop .i) in
+      let b = c .before .before .loop .inv .1 in
+      omega (arith, a, b),
+  sum-more (c .before .before .before .args .d .now) (c .before .before .loop .i) (c .before .before .loop .n) _
+      (c .before .before .loop .inv .2) refl,
+)
 
 returns : tie.Need-returns Inv-loop μ-loop
 unfolding marks
-returns c = c .before .loop .inv .2 ∙ ap (λ (k : ℕ). total k (load (c .before .before .args .d .now))) (le-antisymm (c .before .loop .inv .0) (c .loop-test .left))
+returns c =
+    c .before .loop .inv .2 ∙ ap (λ (k : ℕ). total k (load (c .before .before .args .d .now))) (le-antisymm (c .before .loop .inv .0) (c .loop-test .left))
 
 pub marks-spec : {M : Type 1} → statement M
 marks-spec =

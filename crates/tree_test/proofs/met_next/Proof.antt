@@ -7,9 +7,6 @@ use mathlib.Core.Path.{ap, sym, _∙_}
 use borrow.Author.Needs.{needs}
 use Rattle.tree_test.proofs.met_next.Statement.{statement}
 use Rattle.tree_test.proofs.met_next.Tie as tie
-use Rattle.tree_test.proofs.met_next.Reads as reads
-use Rattle.tree_test.proofs.met_next.Lts as lts
-use Rattle.tree_test.proofs.fitting.Reads as fitting-reads
 
 mul-a : tie.Need-mul-a
 mul-a c = search needs
@@ -30,7 +27,9 @@ add-result : tie.Need-add-result
 add-result c = search needs
 
 returns : tie.Need-returns
-returns c = met-leaf (decode (c .before .before .before .args .m .now)) (c .before .before .before .args .t) _ (word-at (c .before .before .before .args .m .now) (c .before .before .before .args .t) 5) (c .if1 .taken)
+returns c =
+    met-leaf (decode (c .before .before .before .args .m .now)) (c .before .before .before .args .t) _
+    (word-at (c .before .before .before .args .m .now) (c .before .before .before .args .t) 5) (c .if1 .taken)
 
 add-fitting : tie.Need-add-fitting
 add-fitting c = search needs
@@ -45,10 +44,22 @@ fitting-requires : tie.Need-fitting-requires
 fitting-requires c κs = c .before .before .before .before .pre .0
 
 returns-2 : tie.Need-returns-2
-returns-2 c = met-down (decode (c .before .before .before .before .before .before .args .m .now)) (c .before .before .before .before .before .before .args .t) _ (word-at (c .before .before .before .before .before .before .args .m .now) (c .before .before .before .before .before .before .args .t) 5) (c .before .before .before .if1 .left) (ap (fitting (decode (c .before .before .before .before .before .before .args .m .now)) _ (c .before .before .before .before .before .before .args .t) NONE) (sym (word-at (c .before .before .before .before .before .before .args .m .now) (c .before .before .before .before .before .before .args .t) 1)) ∙ sym (c .before .fitting .ensures) ∙ c .if2 .taken)
+returns-2 c =
+    met-down (decode (c .before .before .before .before .before .before .args .m .now)) (c .before .before .before .before .before .before .args .t) _
+    (word-at (c .before .before .before .before .before .before .args .m .now) (c .before .before .before .before .before .before .args .t) 5)
+    (c .before .before .before .if1 .left)
+    (ap (fitting (decode (c .before .before .before .before .before .before .args .m .now)) _ (c .before .before .before .before .before .before .args .t)
+    NONE) (sym (word-at (c .before .before .before .before .before .before .args .m .now) (c .before .before .before .before .before .before .args .t) 1))
+    ∙ sym (c .before .fitting .ensures) ∙ c .if2 .taken)
 
 returns-3 : tie.Need-returns-3
-returns-3 c = met-wrong (decode (c .before .before .before .before .before .before .args .m .now)) (c .before .before .before .before .before .before .args .t) _ (word-at (c .before .before .before .before .before .before .args .m .now) (c .before .before .before .before .before .before .args .t) 5) (c .before .before .before .if1 .left) (ap (fitting (decode (c .before .before .before .before .before .before .args .m .now)) _ (c .before .before .before .before .before .before .args .t) NONE) (sym (word-at (c .before .before .before .before .before .before .args .m .now) (c .before .before .before .before .before .before .args .t) 1)) ∙ sym (c .before .fitting .ensures) ∙ c .if2 .left)
+returns-3 c =
+    met-wrong (decode (c .before .before .before .before .before .before .args .m .now)) (c .before .before .before .before .before .before .args .t) _
+    (word-at (c .before .before .before .before .before .before .args .m .now) (c .before .before .before .before .before .before .args .t) 5)
+    (c .before .before .before .if1 .left)
+    (ap (fitting (decode (c .before .before .before .before .before .before .args .m .now)) _ (c .before .before .before .before .before .before .args .t)
+    NONE) (sym (word-at (c .before .before .before .before .before .before .args .m .now) (c .before .before .before .before .before .before .args .t) 1))
+    ∙ sym (c .before .fitting .ensures) ∙ c .if2 .left)
 
 pub met-next-spec : {M : Type 1} → statement M
 met-next-spec =

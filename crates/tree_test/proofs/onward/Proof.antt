@@ -8,10 +8,6 @@ use mathlib.Core.Path.{_≡_, _∙_}
 use borrow.Author.Needs.{needs}
 use Rattle.tree_test.proofs.onward.Statement.{statement}
 use Rattle.tree_test.proofs.onward.Tie as tie
-use Rattle.tree_test.proofs.onward.Reads as reads
-use Rattle.tree_test.proofs.onward.Lts as lts
-use Rattle.tree_test.proofs.climb.Reads as climb-reads
-use Rattle.tree_test.proofs.met_next.Reads as met-next-reads
 
 mul-xs : tie.Need-mul-xs
 mul-xs c = search needs
@@ -26,31 +22,85 @@ add-t10 : tie.Need-add-t10
 add-t10 c = search needs
 
 same-length : tie.Need-same-length
-same-length c = length-set (c .before .before .before .before .args .xs .now) (c .before .before .before .before .args .i) (c .before .before .before .before .args .t)
+same-length c =
+    length-set (c .before .before .before .before .args .xs .now) (c .before .before .before .before .args .i) (c .before .before .before .before .args .t)
 
 returns : tie.Need-returns
-returns c = (led-here (decode (c .before .before .before .before .args .m .now)) (c .before .before .before .before .args .n) (let a = c .if1 .taken in omega (arith, a)) (same-step (decode (c .before .before .before .before .args .m .now)) (c .before .before .before .before .args .n) (c .before .before .before .before .args .i) (c .before .before .before .before .args .t) (c .before .before .before .before .pre .4) (λ e. let a = c .before .before .before .before .pre .3 in omega (arith, a, e)) _ (c .before .met-next .ensures ∙ next-met (decode (c .before .before .before .before .args .m .now)) (c .before .before .before .before .args .t) (c .before .before .before .before .pre .3)) (c .before .before .before .before .args .xs .now) (let a = c .before .before .before .before .pre .1 in let b = c .before .before .before .before .pre .2 in let d = c .before .before .before .before .pre .4 in omega (arith, a, b, d)) (let a = c .if1 .taken in omega (arith, a))), omega arith)
+returns c = (
+  led-here (decode (c .before .before .before .before .args .m .now)) (c .before .before .before .before .args .n) (let a = c .if1 .taken in
+      omega (arith, a)) (same-step (decode (c .before .before .before .before .args .m .now)) (c .before .before .before .before .args .n)
+      (c .before .before .before .before .args .i) (c .before .before .before .before .args .t) (c .before .before .before .before .pre .4)
+      (λ e. let a = c .before .before .before .before .pre .3 in omega (arith, a, e)) _
+      (c .before .met-next .ensures ∙ next-met (decode (c .before .before .before .before .args .m .now)) (c .before .before .before .before .args .t)
+      (c .before .before .before .before .pre .3)) (c .before .before .before .before .args .xs .now) (let a = c .before .before .before .before .pre .1 in
+      let b = c .before .before .before .before .pre .2 in let d = c .before .before .before .before .pre .4 in omega (arith, a, b, d))
+      (let a = c .if1 .taken in omega (arith, a))),
+  omega arith,
+)
 
 add-t11 : tie.Need-add-t11
 add-t11 c = search needs
 
 same-length-2 : tie.Need-same-length-2
-same-length-2 c = length-set (c .before .before .before .before .before .args .xs .now) (c .before .before .before .before .before .args .i) (c .before .before .before .before .before .args .t)
+same-length-2 c =
+    length-set (c .before .before .before .before .before .args .xs .now) (c .before .before .before .before .before .args .i)
+    (c .before .before .before .before .before .args .t)
 
 returns-2 : tie.Need-returns-2
-returns-2 c = (led-wrong (decode (c .before .before .before .before .before .args .m .now)) (c .before .before .before .before .before .args .n) (walk-wrong (decode (c .before .before .before .before .before .args .m .now)) (c .before .before .before .before .before .args .n) (c .before .before .before .before .before .args .i) (c .before .before .before .before .before .args .t) (c .before .before .before .before .before .pre .4) (λ e. let a = c .before .before .before .before .before .pre .3 in omega (arith, a, e)) _ (c .before .before .met-next .ensures ∙ next-met (decode (c .before .before .before .before .before .args .m .now)) (c .before .before .before .before .before .args .t) (c .before .before .before .before .before .pre .3)) (c .if2 .taken)), omega arith)
+returns-2 c = (
+  led-wrong (decode (c .before .before .before .before .before .args .m .now)) (c .before .before .before .before .before .args .n)
+      (walk-wrong (decode (c .before .before .before .before .before .args .m .now)) (c .before .before .before .before .before .args .n)
+      (c .before .before .before .before .before .args .i) (c .before .before .before .before .before .args .t)
+      (c .before .before .before .before .before .pre .4) (λ e. let a = c .before .before .before .before .before .pre .3 in omega (arith, a, e)) _
+      (c .before .before .met-next .ensures ∙ next-met (decode (c .before .before .before .before .before .args .m .now))
+      (c .before .before .before .before .before .args .t) (c .before .before .before .before .before .pre .3)) (c .if2 .taken)),
+  omega arith,
+)
 
 add-climb : tie.Need-add-climb
 add-climb c = search needs
 
 climb-requires : tie.Need-climb-requires
-climb-requires c κs = (c .before .before .before .before .before .before .pre .0, length-set (c .before .before .before .before .before .before .args .xs .now) (c .before .before .before .before .before .before .args .i) (c .before .before .before .before .before .before .args .t) ∙ c .before .before .before .before .before .before .pre .1, c .before .before .before .before .before .before .pre .2, let a = c .before .before .if1 .left in let b = c .before .if2 .left in omega (arith, a, b))
+climb-requires c κs = (
+  c .before .before .before .before .before .before .pre .0,
+  length-set (c .before .before .before .before .before .before .args .xs .now) (c .before .before .before .before .before .before .args .i)
+      (c .before .before .before .before .before .before .args .t) ∙ c .before .before .before .before .before .before .pre .1,
+  c .before .before .before .before .before .before .pre .2,
+  let a = c .before .before .if1 .left in let b = c .before .if2 .left in omega (arith, a, b),
+)
 
 same-length-3 : tie.Need-same-length-3
-same-length-3 c = c .before .before .climb .kept .1 .0 ∙ length-set (c .before .before .before .before .before .before .before .before .before .args .xs .now) (c .before .before .before .before .before .before .before .before .before .args .i) (c .before .before .before .before .before .before .before .before .before .args .t)
+same-length-3 c =
+    c .before .before .climb .kept .1 .0 ∙ length-set (c .before .before .before .before .before .before .before .before .before .args .xs .now)
+    (c .before .before .before .before .before .before .before .before .before .args .i)
+    (c .before .before .before .before .before .before .before .before .before .args .t)
 
 returns-3 : tie.Need-returns-3
-returns-3 c = (led-on (decode (c .before .before .before .before .before .before .before .before .before .args .m .now)) (c .before .before .before .before .before .before .before .before .before .args .n) (same-step (decode (c .before .before .before .before .before .before .before .before .before .args .m .now)) (c .before .before .before .before .before .before .before .before .before .args .n) (c .before .before .before .before .before .before .before .before .before .args .i) (c .before .before .before .before .before .before .before .before .before .args .t) (c .before .before .before .before .before .before .before .before .before .pre .4) (λ e. let a = c .before .before .before .before .before .before .before .before .before .pre .3 in omega (arith, a, e)) (128 + ((c .before .before .before .before .before .before .met-next .result) - 128)) ((let a = c .before .before .before .before .before .if1 .left in let z : 128 + ((c .before .before .before .before .before .before .met-next .result) - 128) ≡ (c .before .before .before .before .before .before .met-next .result) = omega (arith, a) in z) ∙ c .before .before .before .before .before .before .met-next .ensures ∙ next-met (decode (c .before .before .before .before .before .before .before .before .before .args .m .now)) (c .before .before .before .before .before .before .before .before .before .args .t) (c .before .before .before .before .before .before .before .before .before .pre .3)) (c .before .before .before .before .before .before .before .before .before .args .xs .now) (let a = c .before .before .before .before .before .before .before .before .before .pre .1 in let b = c .before .before .before .before .before .before .before .before .before .pre .2 in let d = c .before .before .before .before .before .before .before .before .before .pre .4 in omega (arith, a, b, d)) (let a = c .before .before .before .before .before .if1 .left in let b = c .before .before .before .before .if2 .left in omega (arith, a, b))) (c .before .before .climb .ensures .0), let a = c .before .before .climb .ensures .1 in omega (arith, a))
+returns-3 c = (
+  led-on (decode (c .before .before .before .before .before .before .before .before .before .args .m .now))
+      (c .before .before .before .before .before .before .before .before .before .args .n)
+      (same-step (decode (c .before .before .before .before .before .before .before .before .before .args .m .now))
+      (c .before .before .before .before .before .before .before .before .before .args .n)
+      (c .before .before .before .before .before .before .before .before .before .args .i)
+      (c .before .before .before .before .before .before .before .before .before .args .t)
+      (c .before .before .before .before .before .before .before .before .before .pre .4)
+      (λ e. let a = c .before .before .before .before .before .before .before .before .before .pre .3 in omega (arith, a, e))
+      (128 + ((c .before .before .before .before .before .before .met-next .result) - 128))
+      ((let a = c .before .before .before .before .before .if1 .left in
+      let z : 128 + ((c .before .before .before .before .before .before .met-next .result) - 128)
+      ≡ (c .before .before .before .before .before .before .met-next .result) = omega (arith, a) in z)
+      ∙ c .before .before .before .before .before .before .met-next .ensures
+      ∙ next-met (decode (c .before .before .before .before .before .before .before .before .before .args .m .now))
+      (c .before .before .before .before .before .before .before .before .before .args .t)
+      (c .before .before .before .before .before .before .before .before .before .pre .3))
+      (c .before .before .before .before .before .before .before .before .before .args .xs .now)
+      (let a = c .before .before .before .before .before .before .before .before .before .pre .1 in
+      let b = c .before .before .before .before .before .before .before .before .before .pre .2 in
+      let d = c .before .before .before .before .before .before .before .before .before .pre .4 in omega (arith, a, b, d))
+      (let a = c .before .before .before .before .before .if1 .left in let b = c .before .before .before .before .if2 .left in omega (arith, a, b)))
+      (c .before .before .climb .ensures .0),
+  let a = c .before .before .climb .ensures .1 in omega (arith, a),
+)
 
 pub onward-spec : {M : Type 1} → statement M
 onward-spec =

@@ -7,9 +7,6 @@ use borrow.Author.Tests.{eq-eqb, ne-eqb}
 use mathlib.Core.Path.{ap, sym, _∙_}
 use Rattle.tree_test.proofs.top_alone.Statement.{statement}
 use Rattle.tree_test.proofs.top_alone.Tie as tie
-use Rattle.tree_test.proofs.top_alone.Reads as reads
-use Rattle.tree_test.proofs.top_alone.Lts as lts
-use Rattle.memory.proofs.task.Reads as task-reads
 
 task-requires : tie.Need-task-requires
 task-requires c κs = tt
@@ -23,21 +20,31 @@ task-requires-2 c κs = tt
 
 returns-2 : tie.Need-returns-2
 unfolding topAlone
-returns-2 c = sym (both-on (eq-eqb _ _ (sym (c .before .before .before .task .ensures) ∙ c .before .before .if1 .left)) ∙ both-off _ (ne-eqb _ _ (λ e. c .if2 .taken (c .before .task2 .ensures ∙ e))))
+returns-2 c =
+    sym (both-on (eq-eqb _ _ (sym (c .before .before .before .task .ensures) ∙ c .before .before .if1 .left))
+    ∙ both-off _ (ne-eqb _ _ (λ e. c .if2 .taken (c .before .task2 .ensures ∙ e))))
 
 task-requires-3 : tie.Need-task-requires-3
 task-requires-3 c κs = tt
 
 returns-3 : tie.Need-returns-3
 unfolding topAlone
-returns-3 c = sym (both-on (eq-eqb _ _ (sym (c .before .before .before .before .before .task .ensures) ∙ c .before .before .before .before .if1 .left)) ∙ both-on (eq-eqb _ _ (sym (c .before .before .before .task2 .ensures) ∙ c .before .before .if2 .left)) ∙ both-off _ (ne-eqb _ _ (λ e. c .if3 .taken (c .before .task3 .ensures ∙ e))))
+returns-3 c =
+    sym (both-on (eq-eqb _ _ (sym (c .before .before .before .before .before .task .ensures) ∙ c .before .before .before .before .if1 .left))
+    ∙ both-on (eq-eqb _ _ (sym (c .before .before .before .task2 .ensures) ∙ c .before .before .if2 .left))
+    ∙ both-off _ (ne-eqb _ _ (λ e. c .if3 .taken (c .before .task3 .ensures ∙ e))))
 
 task-requires-4 : tie.Need-task-requires-4
 task-requires-4 c κs = tt
 
 returns-4 : tie.Need-returns-4
 unfolding topAlone
-returns-4 c = ap (λ (w : ℕ). eqb w NONE) (c .task4 .ensures) ∙ sym (both-on (eq-eqb _ _ (sym (c .before .before .before .before .before .before .task .ensures) ∙ c .before .before .before .before .before .if1 .left)) ∙ both-on (eq-eqb _ _ (sym (c .before .before .before .before .task2 .ensures) ∙ c .before .before .before .if2 .left)) ∙ both-on (eq-eqb _ _ (sym (c .before .before .task3 .ensures) ∙ c .before .if3 .left)))
+returns-4 c =
+    ap (λ (w : ℕ). eqb w NONE) (c .task4 .ensures)
+    ∙ sym (both-on (eq-eqb _ _ (sym (c .before .before .before .before .before .before .task .ensures)
+    ∙ c .before .before .before .before .before .if1 .left))
+    ∙ both-on (eq-eqb _ _ (sym (c .before .before .before .before .task2 .ensures) ∙ c .before .before .before .if2 .left))
+    ∙ both-on (eq-eqb _ _ (sym (c .before .before .task3 .ensures) ∙ c .before .if3 .left)))
 
 pub top-alone-spec : {M : Type 1} → statement M
 top-alone-spec =

@@ -2,10 +2,6 @@ use Rattle.tree_test.specs.Top.{top-open, top-closed, top-other, top-par
 use mathlib.Core.Path.{sym, _∙_}
 use Rattle.tree_test.proofs.top_ok.Statement.{statement}
 use Rattle.tree_test.proofs.top_ok.Tie as tie
-use Rattle.tree_test.proofs.top_ok.Reads as reads
-use Rattle.tree_test.proofs.top_ok.Lts as lts
-use Rattle.memory.proofs.task.Reads as task-reads
-use Rattle.tree_test.proofs.top_alone.Reads as top-alone-reads
 
 task-requires : tie.Need-task-requires
 task-requires c κs = tt
@@ -23,13 +19,17 @@ task-requires-2 : tie.Need-task-requires-2
 task-requires-2 c κs = tt
 
 returns-3 : tie.Need-returns-3
-returns-3 c = top-parent _ (λ e. c .before .before .before .if1 .left (c .before .before .before .before .task .ensures ∙ e)) (λ e. c .if3 .taken (c .before .task2 .ensures ∙ e))
+returns-3 c =
+    top-parent _ (λ e. c .before .before .before .if1 .left (c .before .before .before .before .task .ensures ∙ e))
+    (λ e. c .if3 .taken (c .before .task2 .ensures ∙ e))
 
 top-alone-requires-2 : tie.Need-top-alone-requires-2
 top-alone-requires-2 c κs = tt
 
 returns-4 : tie.Need-returns-4
-returns-4 c = c .top-alone2 .ensures ∙ top-closed _ (sym (c .before .before .before .before .before .task .ensures) ∙ c .before .before .before .if2 .left) (sym (c .before .before .task2 .ensures) ∙ c .before .if3 .left)
+returns-4 c =
+    c .top-alone2 .ensures ∙ top-closed _ (sym (c .before .before .before .before .before .task .ensures) ∙ c .before .before .before .if2 .left)
+    (sym (c .before .before .task2 .ensures) ∙ c .before .if3 .left)
 
 pub top-ok-spec : {M : Type 1} → statement M
 top-ok-spec =

@@ -3,8 +3,6 @@ use native.Mathlib.Omega.{arith}
 use borrow.Author.Needs.{needs}
 use Rattle.view_steps.proofs.count.Statement.{statement}
 use Rattle.view_steps.proofs.count.Tie as tie
-use Rattle.view_steps.proofs.count.Reads as reads
-use Rattle.view_steps.proofs.count.Lts as lts
 
 mul-result : tie.Need-mul-result
 mul-result c = search needs

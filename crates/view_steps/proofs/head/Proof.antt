@@ -2,10 +2,6 @@ use Rattle.view_events.specs.Steps.{head-far, head-wrong, head-right}
 use borrow.Author.Needs.{needs}
 use Rattle.view_steps.proofs.head.Statement.{statement}
 use Rattle.view_steps.proofs.head.Tie as tie
-use Rattle.view_steps.proofs.head.Reads as reads
-use Rattle.view_steps.proofs.head.Lts as lts
-use Rattle.std.proofs.num.wrapping_add_u32.Reads as wrapping-add-u32-reads
-use Rattle.view_steps.proofs.place.Reads as place-reads
 
 returns : tie.Need-returns
 returns c = λ f. record { same = λ es. head-far _ es _ f _ _ (c .if1 .taken) }
@@ -14,7 +10,11 @@ place-requires : tie.Need-place-requires
 place-requires c κs = search needs
 
 returns-2 : tie.Need-returns-2
-returns-2 c = λ f. record { same = λ es. head-wrong _ es _ f _ _ _ _ (c .before .before .before .before .before .pre .1) (c .before .before .before .if1 .left) (c .before .place .ensures) _ (c .if2 .taken) }
+returns-2 c =
+    λ f. record {
+      same = λ es. head-wrong _ es _ f _ _ _ _ (c .before .before .before .before .before .pre .1) (c .before .before .before .if1 .left)
+          (c .before .place .ensures) _ (c .if2 .taken);
+    }
 
 element-copy-out-wrapping-add-u32 : tie.Need-element-copy-out-wrapping-add-u32
 element-copy-out-wrapping-add-u32 c = search needs
@@ -35,7 +35,12 @@ element-write-w-2 : tie.Need-element-write-w-2
 element-write-w-2 c = search needs
 
 returns-3 : tie.Need-returns-3
-returns-3 c = λ f. record { same = λ es. head-right _ es _ f _ _ _ _ (c .before .before .before .before .before .before .before .before .before .pre .1) (c .before .before .before .before .before .before .before .if1 .left) (c .before .before .before .before .before .place .ensures) (c .before .before .before .before .if2 .left) _ _ (c .before .before .wrapping-add-u32 .ensures) (c .wrapping-add-u322 .ensures) }
+returns-3 c =
+    λ f. record {
+      same = λ es. head-right _ es _ f _ _ _ _ (c .before .before .before .before .before .before .before .before .before .pre .1)
+          (c .before .before .before .before .before .before .before .if1 .left) (c .before .before .before .before .before .place .ensures)
+          (c .before .before .before .before .if2 .left) _ _ (c .before .before .wrapping-add-u32 .ensures) (c .wrapping-add-u322 .ensures);
+    }
 
 pub head-spec : {M : Type 1} → statement M
 head-spec =

@@ -2,8 +2,6 @@ use mathlib.Core.Path.{sym}
 use Rattle.rules.specs.Passed.{marked-yes, marked-no}
 use Rattle.view_steps.proofs.marked.Statement.{statement}
 use Rattle.view_steps.proofs.marked.Tie as tie
-use Rattle.view_steps.proofs.marked.Reads as reads
-use Rattle.view_steps.proofs.marked.Lts as lts
 
 returns : tie.Need-returns
 returns c = sym (marked-yes _ (c .if1 .taken))

@@ -3,8 +3,6 @@ use native.Mathlib.Omega.{arith}
 use borrow.Author.Needs.{needs}
 use Rattle.view_steps.proofs.next.Statement.{statement}
 use Rattle.view_steps.proofs.next.Tie as tie
-use Rattle.view_steps.proofs.next.Reads as reads
-use Rattle.view_steps.proofs.next.Lts as lts
 
 mul-result : tie.Need-mul-result
 mul-result c = search needs

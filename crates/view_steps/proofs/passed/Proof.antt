@@ -3,9 +3,6 @@ use mathlib.Core.Path.{sym, _∙_}
 use borrow.Author.Needs.{needs}
 use Rattle.view_steps.proofs.passed.Statement.{statement}
 use Rattle.view_steps.proofs.passed.Tie as tie
-use Rattle.view_steps.proofs.passed.Reads as reads
-use Rattle.view_steps.proofs.passed.Lts as lts
-use Rattle.view_steps.proofs.marked.Reads as marked-reads
 
 returns : tie.Need-returns
 returns c = sym (passed-none _ _ _ (c .before .if1 .taken) (c .if2 .taken))

@@ -8,10 +8,6 @@ use borrow.Author.Needs.{needs}
 use native.Mathlib.Omega.{arith}
 use Rattle.view_steps.proofs.place.Statement.{statement}
 use Rattle.view_steps.proofs.place.Tie as tie
-use Rattle.view_steps.proofs.place.Reads as reads
-use Rattle.view_steps.proofs.place.Lts as lts
-use Rattle.view_steps.proofs.count.Reads as count-reads
-use Rattle.view_steps.proofs.next.Reads as next-reads
 
 abbrev Inv-loop : tie.InvT-loop
 Inv-loop d₀ m h n s₀ k₀ d s k = (s < 2 ^ 32) × (k ≤ n) × (placing (decode m) (n - k) s k d ≡ placing (decode m) n h 0 d₀)
@@ -35,7 +31,9 @@ element-copy-out-if2 : tie.Need-element-copy-out-if2 Inv-loop μ-loop
 element-copy-out-if2 c = omega arith
 
 returns-2 : tie.Need-returns-2 Inv-loop μ-loop
-returns-2 c = place-again _ _ _ _ _ (c .before .before .before .loop-test .taken) (c .before .before .if1 .left) (c .if2 .taken) ∙ c .before .before .before .before .loop .inv .2
+returns-2 c =
+    place-again _ _ _ _ _ (c .before .before .before .loop-test .taken) (c .before .before .if1 .left) (c .if2 .taken)
+    ∙ c .before .before .before .before .loop .inv .2
 
 cast-d : tie.Need-cast-d Inv-loop μ-loop
 cast-d c = omega arith
@@ -50,19 +48,32 @@ next-requires : tie.Need-next-requires Inv-loop μ-loop
 next-requires c κs = (search needs, omega arith)
 
 returns-3 : tie.Need-returns-3 Inv-loop μ-loop
-returns-3 c = place-last _ _ _ _ _ (c .before .before .before .before .before .loop-test .taken) (c .before .before .before .before .if1 .left) (c .before .before .if2 .left) (c .before .next .ensures) (c .if3 .taken) ∙ c .before .before .before .before .before .before .loop .inv .2
+returns-3 c =
+    place-last _ _ _ _ _ (c .before .before .before .before .before .loop-test .taken) (c .before .before .before .before .if1 .left)
+    (c .before .before .if2 .left) (c .before .next .ensures) (c .if3 .taken) ∙ c .before .before .before .before .before .before .loop .inv .2
 
 count-requires : tie.Need-count-requires Inv-loop μ-loop
 count-requires c κs = (search needs, omega arith)
 
 returns-4 : tie.Need-returns-4 Inv-loop μ-loop
-returns-4 c = place-empty _ _ _ _ _ (c .before .before .before .before .before .before .before .loop-test .taken) (c .before .before .before .before .before .before .if1 .left) (c .before .before .before .before .if2 .left) (c .before .before .before .next .ensures) _ (c .before .before .if3 .left) (sym (c .before .count .ensures) ∙ c .if4 .taken) ∙ c .before .before .before .before .before .before .before .before .loop .inv .2
+returns-4 c =
+    place-empty _ _ _ _ _ (c .before .before .before .before .before .before .before .loop-test .taken)
+    (c .before .before .before .before .before .before .if1 .left) (c .before .before .before .before .if2 .left) (c .before .before .before .next .ensures) _
+    (c .before .before .if3 .left) (sym (c .before .count .ensures) ∙ c .if4 .taken)
+    ∙ c .before .before .before .before .before .before .before .before .loop .inv .2
 
 loop-less : tie.Need-loop-less Inv-loop μ-loop
 loop-less c = omega arith
 
 loop-again : tie.Need-loop-again Inv-loop μ-loop
-loop-again c = (search needs, omega arith, place-more _ _ _ _ _ (c .before .before .before .before .before .before .before .loop-test .taken) (c .before .before .before .before .before .before .if1 .left) (c .before .before .before .before .if2 .left) (c .before .before .before .next .ensures) (c .before .before .if3 .left) (λ e. c .if4 .left (c .before .count .ensures ∙ e)) ∙ c .before .before .before .before .before .before .before .before .loop .inv .2)
+loop-again c = (
+  search needs,
+  omega arith,
+  place-more _ _ _ _ _ (c .before .before .before .before .before .before .before .loop-test .taken)
+      (c .before .before .before .before .before .before .if1 .left) (c .before .before .before .before .if2 .left) (c .before .before .before .next .ensures)
+      (c .before .before .if3 .left) (λ e. c .if4 .left (c .before .count .ensures ∙ e))
+      ∙ c .before .before .before .before .before .before .before .before .loop .inv .2,
+)
 
 returns-5 : tie.Need-returns-5 Inv-loop μ-loop
 returns-5 c = place-out _ _ _ _ _ (c .loop-test .left) ∙ c .before .loop .inv .2

@@ -5,9 +5,6 @@ use mathlib.Core.Path.{ap, _∙_}
 use borrow.Author.Needs.{needs}
 use Rattle.view_steps.proofs.queue.Statement.{statement}
 use Rattle.view_steps.proofs.queue.Tie as tie
-use Rattle.view_steps.proofs.queue.Reads as reads
-use Rattle.view_steps.proofs.queue.Lts as lts
-use Rattle.view_steps.proofs.head.Reads as head-reads
 
 mul-h : tie.Need-mul-h
 mul-h c = search needs
@@ -22,7 +19,8 @@ returns-2 : tie.Need-returns-2
 returns-2 c = λ f. record { same = λ es. queue-refused _ es _ f _ _ _ _ _ (c .before .if1 .left) (ap not (eq-eqb _ _ (c .if2 .taken))) }
 
 returns-3 : tie.Need-returns-3
-returns-3 c = λ f. record { same = λ es. queue-far _ es _ f _ _ _ _ (c .before .before .if1 .left) (ap not (ne-eqb _ _ (c .before .if2 .left))) _ (c .if3 .taken) }
+returns-3 c =
+    λ f. record { same = λ es. queue-far _ es _ f _ _ _ _ (c .before .before .if1 .left) (ap not (ne-eqb _ _ (c .before .if2 .left))) _ (c .if3 .taken) }
 
 add-if4 : tie.Need-add-if4
 add-if4 c = search needs
@@ -34,7 +32,11 @@ element-copy-out-if4 : tie.Need-element-copy-out-if4
 element-copy-out-if4 c = search needs
 
 returns-4 : tie.Need-returns-4
-returns-4 c = λ f. record { same = λ es. queue-twice _ es _ f _ _ _ _ (c .before .before .before .before .if1 .left) (ap not (ne-eqb _ _ (c .before .before .before .if2 .left))) _ (c .before .before .if3 .left) (c .if4 .taken) }
+returns-4 c =
+    λ f. record {
+      same = λ es. queue-twice _ es _ f _ _ _ _ (c .before .before .before .before .if1 .left)
+          (ap not (ne-eqb _ _ (c .before .before .before .if2 .left))) _ (c .before .before .if3 .left) (c .if4 .taken);
+    }
 
 add-w : tie.Need-add-w
 add-w c = search needs
@@ -49,7 +51,13 @@ head-requires : tie.Need-head-requires
 head-requires c κs = search needs
 
 returns-5 : tie.Need-returns-5
-returns-5 c = λ f. record { same = λ es. c .head .ensures f .same es ∙ queue-open _ es _ f _ _ _ _ (c .before .before .before .before .before .before .before .if1 .left) (ap not (ne-eqb _ _ (c .before .before .before .before .before .before .if2 .left))) (c .before .before .before .before .before .if3 .left) (c .before .before .before .if4 .left) }
+returns-5 c =
+    λ f. record {
+      same = λ es. c .head .ensures f .same es
+          ∙ queue-open _ es _ f _ _ _ _ (c .before .before .before .before .before .before .before .if1 .left)
+          (ap not (ne-eqb _ _ (c .before .before .before .before .before .before .if2 .left))) (c .before .before .before .before .before .if3 .left)
+          (c .before .before .before .if4 .left);
+    }
 
 pub queue-spec : {M : Type 1} → statement M
 queue-spec =

@@ -3,10 +3,6 @@ use mathlib.Core.Path.{sym, _∙_}
 use borrow.Author.Needs.{needs}
 use Rattle.view_steps.proofs.tail.Statement.{statement}
 use Rattle.view_steps.proofs.tail.Tie as tie
-use Rattle.view_steps.proofs.tail.Reads as reads
-use Rattle.view_steps.proofs.tail.Lts as lts
-use Rattle.std.proofs.num.wrapping_add_u32.Reads as wrapping-add-u32-reads
-use Rattle.view_steps.proofs.next.Reads as next-reads
 
 returns : tie.Need-returns
 returns c = λ d. record { same = λ es. tail-far _ es d _ _ _ (c .if1 .taken) }
@@ -21,13 +17,18 @@ element-copy-out-if3 : tie.Need-element-copy-out-if3
 element-copy-out-if3 c = search needs
 
 returns-3 : tie.Need-returns-3
-returns-3 c = λ d. record { same = λ es. tail-again _ es d _ _ _ (c .before .before .before .before .if1 .left) (c .before .before .if2 .left) _ (c .if3 .taken) }
+returns-3 c =
+    λ d. record { same = λ es. tail-again _ es d _ _ _ (c .before .before .before .before .if1 .left) (c .before .before .if2 .left) _ (c .if3 .taken) }
 
 next-requires : tie.Need-next-requires
 next-requires c κs = search needs
 
 returns-4 : tie.Need-returns-4
-returns-4 c = λ d. record { same = λ es. tail-inner _ es d _ _ _ (c .before .before .before .before .before .before .if1 .left) (c .before .before .before .before .if2 .left) _ (c .before .before .if3 .left) (λ q. c .if4 .taken (c .before .next .ensures ∙ q)) }
+returns-4 c =
+    λ d. record {
+      same = λ es. tail-inner _ es d _ _ _ (c .before .before .before .before .before .before .if1 .left)
+          (c .before .before .before .before .if2 .left) _ (c .before .before .if3 .left) (λ q. c .if4 .taken (c .before .next .ensures ∙ q));
+    }
 
 element-write-f : tie.Need-element-write-f
 element-write-f c = search needs
@@ -42,7 +43,12 @@ element-write-w : tie.Need-element-write-w
 element-write-w c = search needs
 
 returns-5 : tie.Need-returns-5
-returns-5 c = λ d. record { same = λ es. tail-right _ es d _ _ _ (c .before .before .before .before .before .before .before .before .if1 .left) (c .before .before .before .before .before .before .if2 .left) (c .before .before .before .before .if3 .left) (sym (c .before .before .before .next .ensures) ∙ c .before .before .if4 .left) _ (c .wrapping-add-u32 .ensures) }
+returns-5 c =
+    λ d. record {
+      same = λ es. tail-right _ es d _ _ _ (c .before .before .before .before .before .before .before .before .if1 .left)
+          (c .before .before .before .before .before .before .if2 .left) (c .before .before .before .before .if3 .left)
+          (sym (c .before .before .before .next .ensures) ∙ c .before .before .if4 .left) _ (c .wrapping-add-u32 .ensures);
+    }
 
 pub tail-spec : {M : Type 1} → statement M
 tail-spec =

@@ -7,11 +7,6 @@ use mathlib.Core.Path.{ap, _∙_}
 use borrow.Author.Needs.{needs}
 use Rattle.view_steps.proofs.view.Statement.{statement}
 use Rattle.view_steps.proofs.view.Tie as tie
-use Rattle.view_steps.proofs.view.Reads as reads
-use Rattle.view_steps.proofs.view.Lts as lts
-use Rattle.view_steps.proofs.head.Reads as head-reads
-use Rattle.view_steps.proofs.passed.Reads as passed-reads
-use Rattle.view_steps.proofs.tail.Reads as tail-reads
 
 mul-h : tie.Need-mul-h
 mul-h c = search needs
@@ -29,7 +24,12 @@ shared-slice-read-e : tie.Need-shared-slice-read-e
 shared-slice-read-e c = search needs
 
 returns : tie.Need-returns
-returns c = record { same = λ es. view-none _ es _ _ _ _ _ _ _ (and-none _ _ (omega (arith, c .before .before .before .shared-slice-known .given (c .before .before .before .before .args .a))) (omega (arith, c .before .before .before .shared-slice-known .given (c .before .before .before .before .args .a + 12))) (c .if1 .taken)) }
+returns c =
+    record {
+      same = λ es. view-none _ es _ _ _ _ _ _ _
+          (and-none _ _ (omega (arith, c .before .before .before .shared-slice-known .given (c .before .before .before .before .args .a)))
+          (omega (arith, c .before .before .before .shared-slice-known .given (c .before .before .before .before .args .a + 12))) (c .if1 .taken));
+    }
 
 returns-2 : tie.Need-returns-2
 returns-2 c = record { same = λ es. view-refused _ es _ _ _ _ _ _ _ (and-some _ _ (c .before .if1 .left)) _ (ap not (eq-eqb _ _ (c .if2 .taken))) }
@@ -53,13 +53,25 @@ tail-requires : tie.Need-tail-requires
 tail-requires c κs = search needs
 
 returns-3 : tie.Need-returns-3
-returns-3 c = record { same = λ es. stops _ _ (not-true _ (c .if3 .taken)) (c .before .tail .ensures _ .same _) ∙ view-open _ es _ _ _ _ _ _ _ (and-some _ _ (c .before .before .before .before .before .before .before .if1 .left)) _ (ap not (ne-eqb _ _ (c .before .before .before .before .before .before .if2 .left))) (c .before .before .before .before .passed .ensures) }
+returns-3 c =
+    record {
+      same = λ es. stops _ _ (not-true _ (c .if3 .taken)) (c .before .tail .ensures _ .same _)
+          ∙ view-open _ es _ _ _ _ _ _ _ (and-some _ _ (c .before .before .before .before .before .before .before .if1 .left)) _
+          (ap not (ne-eqb _ _ (c .before .before .before .before .before .before .if2 .left))) (c .before .before .before .before .passed .ensures);
+    }
 
 head-requires : tie.Need-head-requires
 head-requires c κs = search needs
 
 returns-4 : tie.Need-returns-4
-returns-4 c = record { same = λ es. c .head .ensures _ .same es ∙ goes (not-false _ (c .before .before .before .if3 .left)) (c .before .before .before .before .tail .ensures _ .same _) ∙ view-open _ es _ _ _ _ _ _ _ (and-some _ _ (c .before .before .before .before .before .before .before .before .before .before .if1 .left)) _ (ap not (ne-eqb _ _ (c .before .before .before .before .before .before .before .before .before .if2 .left))) (c .before .before .before .before .before .before .before .passed .ensures) }
+returns-4 c =
+    record {
+      same = λ es. c .head .ensures _ .same es ∙ goes (not-false _ (c .before .before .before .if3 .left))
+          (c .before .before .before .before .tail .ensures _ .same _)
+          ∙ view-open _ es _ _ _ _ _ _ _ (and-some _ _ (c .before .before .before .before .before .before .before .before .before .before .if1 .left)) _
+          (ap not (ne-eqb _ _ (c .before .before .before .before .before .before .before .before .before .if2 .left)))
+          (c .before .before .before .before .before .before .before .passed .ensures);
+    }
 
 pub view-spec : {M : Type 1} → statement M
 view-spec =

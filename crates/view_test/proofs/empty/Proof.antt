@@ -3,9 +3,6 @@ use borrow.Author.Tests.{eqb-true}
 use borrow.Author.Needs.{needs}
 use Rattle.view_test.proofs.empty.Statement.{statement}
 use Rattle.view_test.proofs.empty.Tie as tie
-use Rattle.view_test.proofs.empty.Reads as reads
-use Rattle.view_test.proofs.empty.Lts as lts
-use Rattle.view_test.proofs.shared.Reads as shared-reads
 
 mul-shared : tie.Need-mul-shared
 mul-shared c = search needs

@@ -7,9 +7,6 @@ use borrow.Author.Needs.{needs}
 use native.Mathlib.Omega.{arith}
 use Rattle.view_test.proofs.four.Statement.{statement}
 use Rattle.view_test.proofs.four.Tie as tie
-use Rattle.view_test.proofs.four.Reads as reads
-use Rattle.view_test.proofs.four.Lts as lts
-use Rattle.view_steps.proofs.view.Reads as view-reads
 
 abbrev Inv-loop : tie.InvT-loop
 Inv-loop d₀ f₀ w₀ m t k a r₀ q₀ d f w r q = (q ≤ 4) × (r < 2 ^ 32) × (r ≡ getD m (1473 + t * 48) 0 / 4 ^ q) × Left m t k q d₀ f₀ w₀ d f w
@@ -51,7 +48,11 @@ view-requires : tie.Need-view-requires Inv-loop μ-loop
 view-requires c κs = (search needs, omega arith, omega arith)
 
 returns : tie.Need-returns Inv-loop μ-loop
-returns c = left-stop _ (c .before .before .before .before .before .before .before .before .before .args .t) (c .before .before .before .before .before .before .before .before .before .args .k) _ _ (c .before .before .before .before .before .loop-test .taken) (c .before .before .before .before .before .before .loop .inv .2) (c .before .view .ensures) (c .before .before .before .before .before .before .loop .inv .3) (not-true _ (c .if1 .taken))
+returns c =
+    left-stop _ (c .before .before .before .before .before .before .before .before .before .args .t)
+    (c .before .before .before .before .before .before .before .before .before .args .k) _ _ (c .before .before .before .before .before .loop-test .taken)
+    (c .before .before .before .before .before .before .loop .inv .2) (c .before .view .ensures)
+    (c .before .before .before .before .before .before .loop .inv .3) (not-true _ (c .if1 .taken))
 
 add-q : tie.Need-add-q Inv-loop μ-loop
 add-q c = omega arith
@@ -60,10 +61,20 @@ loop-less : tie.Need-loop-less Inv-loop μ-loop
 loop-less c = omega arith
 
 loop-again : tie.Need-loop-again Inv-loop μ-loop
-loop-again c = (omega arith, omega arith, next-rights _ _ _ (c .before .before .before .before .before .loop-test .taken) (c .before .before .before .before .before .before .loop .inv .2), left-more _ (c .before .before .before .before .before .before .before .before .before .args .t) (c .before .before .before .before .before .before .before .before .before .args .k) _ _ (c .before .before .before .before .before .loop-test .taken) (c .before .before .before .before .before .before .loop .inv .2) (c .before .view .ensures) (c .before .before .before .before .before .before .loop .inv .3) (not-false _ (c .if1 .left)))
+loop-again c = (
+  omega arith,
+  omega arith,
+  next-rights _ _ _ (c .before .before .before .before .before .loop-test .taken)
+      (c .before .before .before .before .before .before .loop .inv .2),
+  left-more _ (c .before .before .before .before .before .before .before .before .before .args .t)
+      (c .before .before .before .before .before .before .before .before .before .args .k) _ _ (c .before .before .before .before .before .loop-test .taken)
+      (c .before .before .before .before .before .before .loop .inv .2) (c .before .view .ensures)
+      (c .before .before .before .before .before .before .loop .inv .3) (not-false _ (c .if1 .left)),
+)
 
 returns-2 : tie.Need-returns-2 Inv-loop μ-loop
-returns-2 c = left-done _ (c .before .before .before .before .args .t) (c .before .before .before .before .args .k) _ (c .loop-test .left) (c .before .loop .inv .3)
+returns-2 c =
+    left-done _ (c .before .before .before .before .args .t) (c .before .before .before .before .args .k) _ (c .loop-test .left) (c .before .loop .inv .3)
 
 pub four-spec : {M : Type 1} → statement M
 four-spec =

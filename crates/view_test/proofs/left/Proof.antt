@@ -2,10 +2,6 @@ use Rattle.view_events.specs.Chain.{kind-none}
 use borrow.Author.Needs.{needs}
 use Rattle.view_test.proofs.left.Statement.{statement}
 use Rattle.view_test.proofs.left.Tie as tie
-use Rattle.view_test.proofs.left.Reads as reads
-use Rattle.view_test.proofs.left.Lts as lts
-use Rattle.view_test.proofs.empty.Reads as empty-reads
-use Rattle.view_test.proofs.four.Reads as four-reads
 
 empty-requires : tie.Need-empty-requires
 empty-requires c κs = search needs

@@ -2,10 +2,6 @@ use Rattle.view_events.specs.Chain.{mark-met, mark-left}
 use borrow.Author.Needs.{needs}
 use Rattle.view_test.proofs.mark.Statement.{statement}
 use Rattle.view_test.proofs.mark.Tie as tie
-use Rattle.view_test.proofs.mark.Reads as reads
-use Rattle.view_test.proofs.mark.Lts as lts
-use Rattle.view_test.proofs.left.Reads as left-reads
-use Rattle.view_test.proofs.met.Reads as met-reads
 
 met-requires : tie.Need-met-requires
 met-requires c κs = search needs

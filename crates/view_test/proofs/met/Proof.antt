@@ -5,11 +5,6 @@ use mathlib.Core.Path.{refl}
 use borrow.Author.Needs.{needs}
 use Rattle.view_test.proofs.met.Statement.{statement}
 use Rattle.view_test.proofs.met.Tie as tie
-use Rattle.view_test.proofs.met.Reads as reads
-use Rattle.view_test.proofs.met.Lts as lts
-use Rattle.view_test.proofs.queues.Reads as queues-reads
-use Rattle.view_test.proofs.right.Reads as right-reads
-use Rattle.view_test.proofs.shared.Reads as shared-reads
 
 mul-shared : tie.Need-mul-shared
 mul-shared c = search needs
@@ -24,7 +19,9 @@ right-requires : tie.Need-right-requires
 right-requires c κs = search needs
 
 returns : tie.Need-returns
-returns c = follow _ _ _ refl (queues-none _ (c .before .before .before .before .before .before .before .args .t) (c .before .before .before .before .before .shared .ensures (omega (arith, c .before .before .before .before .if1 .taken)))) (c .right .ensures)
+returns c =
+    follow _ _ _ refl (queues-none _ (c .before .before .before .before .before .before .before .args .t)
+    (c .before .before .before .before .before .shared .ensures (omega (arith, c .before .before .before .before .if1 .taken)))) (c .right .ensures)
 
 queues-requires : tie.Need-queues-requires
 queues-requires c κs = search needs
@@ -36,7 +33,9 @@ right-requires-2 : tie.Need-right-requires-2
 right-requires-2 c κs = search needs
 
 returns-3 : tie.Need-returns-3
-returns-3 c = follow _ _ _ (not-false _ (c .before .before .before .before .if2 .left)) (c .before .before .before .before .before .queues .ensures _) (c .right2 .ensures)
+returns-3 c =
+    follow _ _ _ (not-false _ (c .before .before .before .before .if2 .left)) (c .before .before .before .before .before .queues .ensures _)
+    (c .right2 .ensures)
 
 pub met-spec : {M : Type 1} → statement M
 met-spec =

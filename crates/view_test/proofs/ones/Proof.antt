@@ -5,8 +5,6 @@ use mathlib.Core.Path.{sym, _∙_}
 use borrow.Author.Needs.{needs}
 use Rattle.view_test.proofs.ones.Statement.{statement}
 use Rattle.view_test.proofs.ones.Tie as tie
-use Rattle.view_test.proofs.ones.Reads as reads
-use Rattle.view_test.proofs.ones.Lts as lts
 
 mul-if1 : tie.Need-mul-if1
 mul-if1 c = search needs
@@ -42,7 +40,9 @@ element-copy-out-if3 c = search needs
 
 returns-3 : tie.Need-returns-3
 unfolding ones load
-returns-3 c = sym (both-on (eq-eqb _ _ (c .before .before .before .before .if1 .left)) ∙ both-on (eq-eqb _ _ (c .before .before .if2 .left)) ∙ both-off _ (ne-eqb _ _ (c .if3 .taken)))
+returns-3 c =
+    sym (both-on (eq-eqb _ _ (c .before .before .before .before .if1 .left)) ∙ both-on (eq-eqb _ _ (c .before .before .if2 .left))
+    ∙ both-off _ (ne-eqb _ _ (c .if3 .taken)))
 
 add-result : tie.Need-add-result
 add-result c = search needs
@@ -55,7 +55,9 @@ element-copy-out-result c = search needs
 
 returns-4 : tie.Need-returns-4
 unfolding ones load
-returns-4 c = sym (both-on (eq-eqb _ _ (c .before .before .before .before .before .if1 .left)) ∙ both-on (eq-eqb _ _ (c .before .before .before .if2 .left)) ∙ both-on (eq-eqb _ _ (c .before .if3 .left)))
+returns-4 c =
+    sym (both-on (eq-eqb _ _ (c .before .before .before .before .before .if1 .left)) ∙ both-on (eq-eqb _ _ (c .before .before .before .if2 .left))
+    ∙ both-on (eq-eqb _ _ (c .before .if3 .left)))
 
 pub ones-spec : {M : Type 1} → statement M
 ones-spec =

@@ -4,9 +4,6 @@ use borrow.Author.Tests.{not-true, not-false}
 use borrow.Author.Needs.{needs}
 use Rattle.view_test.proofs.queues.Statement.{statement}
 use Rattle.view_test.proofs.queues.Tie as tie
-use Rattle.view_test.proofs.queues.Reads as reads
-use Rattle.view_test.proofs.queues.Lts as lts
-use Rattle.view_steps.proofs.queue.Reads as queue-reads
 
 mul-r : tie.Need-mul-r
 mul-r c = search needs
@@ -31,7 +28,8 @@ queue-requires c κs = search needs
 
 returns : tie.Need-returns
 unfolding queuesAt
-returns c = λ f. end _ _ _ (not-true _ (c .if1 .taken)) (queue-first _ (c .before .before .before .before .before .before .args .t) (c .before .queue .ensures f))
+returns c =
+    λ f. end _ _ _ (not-true _ (c .if1 .taken)) (queue-first _ (c .before .before .before .before .before .before .args .t) (c .before .queue .ensures f))
 
 add-queue : tie.Need-add-queue
 add-queue c = search needs
@@ -41,7 +39,12 @@ queue-requires-2 c κs = search needs
 
 returns-2 : tie.Need-returns-2
 unfolding queuesAt
-returns-2 c = λ f. follow _ _ _ (not-false _ (c .before .before .before .before .if1 .left)) (queue-first _ (c .before .before .before .before .before .before .before .before .before .before .args .t) (c .before .before .before .before .before .queue .ensures f)) (end _ _ _ (not-true _ (c .if2 .taken)) (queue-later _ (c .before .before .before .before .before .before .before .before .before .before .args .t) 1 (c .before .queue2 .ensures f)))
+returns-2 c =
+    λ f. follow _ _ _ (not-false _ (c .before .before .before .before .if1 .left))
+    (queue-first _ (c .before .before .before .before .before .before .before .before .before .before .args .t)
+    (c .before .before .before .before .before .queue .ensures f))
+    (end _ _ _ (not-true _ (c .if2 .taken))
+    (queue-later _ (c .before .before .before .before .before .before .before .before .before .before .args .t) 1 (c .before .queue2 .ensures f)))
 
 add-queue-2 : tie.Need-add-queue-2
 add-queue-2 c = search needs
@@ -51,7 +54,16 @@ queue-requires-3 c κs = search needs
 
 returns-3 : tie.Need-returns-3
 unfolding queuesAt
-returns-3 c = λ f. follow _ _ _ (not-false _ (c .before .before .before .before .before .before .before .before .if1 .left)) (queue-first _ (c .before .before .before .before .before .before .before .before .before .before .before .before .before .before .args .t) (c .before .before .before .before .before .before .before .before .before .queue .ensures f)) (follow _ _ _ (not-false _ (c .before .before .before .before .if2 .left)) (queue-later _ (c .before .before .before .before .before .before .before .before .before .before .before .before .before .before .args .t) 1 (c .before .before .before .before .before .queue2 .ensures f)) (end _ _ _ (not-true _ (c .if3 .taken)) (queue-later _ (c .before .before .before .before .before .before .before .before .before .before .before .before .before .before .args .t) 2 (c .before .queue3 .ensures f))))
+returns-3 c =
+    λ f. follow _ _ _ (not-false _ (c .before .before .before .before .before .before .before .before .if1 .left))
+    (queue-first _ (c .before .before .before .before .before .before .before .before .before .before .before .before .before .before .args .t)
+    (c .before .before .before .before .before .before .before .before .before .queue .ensures f))
+    (follow _ _ _ (not-false _ (c .before .before .before .before .if2 .left))
+    (queue-later _ (c .before .before .before .before .before .before .before .before .before .before .before .before .before .before .args .t) 1
+    (c .before .before .before .before .before .queue2 .ensures f))
+    (end _ _ _ (not-true _ (c .if3 .taken))
+    (queue-later _ (c .before .before .before .before .before .before .before .before .before .before .before .before .before .before .args .t) 2
+    (c .before .queue3 .ensures f))))
 
 add-queue-3 : tie.Need-add-queue-3
 add-queue-3 c = search needs
@@ -61,7 +73,22 @@ queue-requires-4 c κs = search needs
 
 returns-4 : tie.Need-returns-4
 unfolding queuesAt
-returns-4 c = λ f. follow _ _ _ (not-false _ (c .before .before .before .before .before .before .before .before .before .before .before .if1 .left)) (queue-first _ (c .before .before .before .before .before .before .before .before .before .before .before .before .before .before .before .before .before .args .t) (c .before .before .before .before .before .before .before .before .before .before .before .before .queue .ensures f)) (follow _ _ _ (not-false _ (c .before .before .before .before .before .before .before .if2 .left)) (queue-later _ (c .before .before .before .before .before .before .before .before .before .before .before .before .before .before .before .before .before .args .t) 1 (c .before .before .before .before .before .before .before .before .queue2 .ensures f)) (follow _ _ _ (not-false _ (c .before .before .before .if3 .left)) (queue-later _ (c .before .before .before .before .before .before .before .before .before .before .before .before .before .before .before .before .before .args .t) 2 (c .before .before .before .before .queue3 .ensures f)) (queue-later _ (c .before .before .before .before .before .before .before .before .before .before .before .before .before .before .before .before .before .args .t) 3 (c .queue4 .ensures f))))
+returns-4 c =
+    λ f. follow _ _ _ (not-false _ (c .before .before .before .before .before .before .before .before .before .before .before .if1 .left))
+    (queue-first _
+    (c .before .before .before .before .before .before .before .before .before .before .before .before .before .before .before .before .before .args .t)
+    (c .before .before .before .before .before .before .before .before .before .before .before .before .queue .ensures f))
+    (follow _ _ _ (not-false _ (c .before .before .before .before .before .before .before .if2 .left))
+    (queue-later _
+    (c .before .before .before .before .before .before .before .before .before .before .before .before .before .before .before .before .before .args .t) 1
+    (c .before .before .before .before .before .before .before .before .queue2 .ensures f))
+    (follow _ _ _ (not-false _ (c .before .before .before .if3 .left))
+    (queue-later _
+    (c .before .before .before .before .before .before .before .before .before .before .before .before .before .before .before .before .before .args .t) 2
+    (c .before .before .before .before .queue3 .ensures f))
+    (queue-later _
+    (c .before .before .before .before .before .before .before .before .before .before .before .before .before .before .before .before .before .args .t) 3
+    (c .queue4 .ensures f))))
 
 pub queues-spec : {M : Type 1} → statement M
 queues-spec =

@@ -4,11 +4,6 @@ use mathlib.Core.Path.{refl}
 use borrow.Author.Needs.{needs}
 use Rattle.view_test.proofs.right.Statement.{statement}
 use Rattle.view_test.proofs.right.Tie as tie
-use Rattle.view_test.proofs.right.Reads as reads
-use Rattle.view_test.proofs.right.Lts as lts
-use Rattle.view_test.proofs.empty.Reads as empty-reads
-use Rattle.view_test.proofs.four.Reads as four-reads
-use Rattle.view_test.proofs.user.Reads as user-reads
 
 empty-requires : tie.Need-empty-requires
 empty-requires c κs = search needs
@@ -17,7 +12,9 @@ user-requires : tie.Need-user-requires
 user-requires c κs = search needs
 
 returns : tie.Need-returns
-returns c = follow _ _ _ refl (kind-none _ (c .before .before .before .before .before .before .before .args .t) 2 (c .before .before .before .before .before .empty .ensures (c .before .before .before .before .if1 .taken))) (c .user .ensures)
+returns c =
+    follow _ _ _ refl (kind-none _ (c .before .before .before .before .before .before .before .args .t) 2
+    (c .before .before .before .before .before .empty .ensures (c .before .before .before .before .if1 .taken))) (c .user .ensures)
 
 four-requires : tie.Need-four-requires
 four-requires c κs = search needs
@@ -29,7 +26,8 @@ user-requires-2 : tie.Need-user-requires-2
 user-requires-2 c κs = search needs
 
 returns-3 : tie.Need-returns-3
-returns-3 c = follow _ _ _ (not-false _ (c .before .before .before .before .if2 .left)) (c .before .before .before .before .before .four .ensures) (c .user2 .ensures)
+returns-3 c =
+    follow _ _ _ (not-false _ (c .before .before .before .before .if2 .left)) (c .before .before .before .before .before .four .ensures) (c .user2 .ensures)
 
 pub right-spec : {M : Type 1} → statement M
 right-spec =

@@ -4,8 +4,6 @@ use native.Mathlib.Omega.{arith}
 use borrow.Author.Needs.{needs}
 use Rattle.view_test.proofs.shared.Statement.{statement}
 use Rattle.view_test.proofs.shared.Tie as tie
-use Rattle.view_test.proofs.shared.Reads as reads
-use Rattle.view_test.proofs.shared.Lts as lts
 
 mul-result : tie.Need-mul-result
 mul-result c = search needs
@@ -41,7 +39,12 @@ shared-slice-read-result-4 : tie.Need-shared-slice-read-result-4
 shared-slice-read-result-4 c = search needs
 
 returns : tie.Need-returns
-returns c = full-blank (c .before .before .before .before .args .m .now) (c .before .before .before .before .args .a) (omega (arith, c .before .before .before .shared-slice-known .given (c .before .before .before .before .args .a))) (omega (arith, c .before .before .before .shared-slice-known .given (c .before .before .before .before .args .a + 1))) (omega (arith, c .before .before .before .shared-slice-known .given (c .before .before .before .before .args .a + 2))) (omega (arith, c .before .before .before .shared-slice-known .given (c .before .before .before .before .args .a + 3)))
+returns c =
+    full-blank (c .before .before .before .before .args .m .now) (c .before .before .before .before .args .a)
+    (omega (arith, c .before .before .before .shared-slice-known .given (c .before .before .before .before .args .a)))
+    (omega (arith, c .before .before .before .shared-slice-known .given (c .before .before .before .before .args .a + 1)))
+    (omega (arith, c .before .before .before .shared-slice-known .given (c .before .before .before .before .args .a + 2)))
+    (omega (arith, c .before .before .before .shared-slice-known .given (c .before .before .before .before .args .a + 3)))
 
 pub shared-spec : {M : Type 1} → statement M
 shared-spec =

@@ -5,11 +5,6 @@ use native.Mathlib.Omega.{arith}
 use borrow.Author.Needs.{needs}
 use Rattle.view_test.proofs.views_hold.Statement.{statement}
 use Rattle.view_test.proofs.views_hold.Tie as tie
-use Rattle.view_test.proofs.views_hold.Reads as reads
-use Rattle.view_test.proofs.views_hold.Lts as lts
-use Rattle.segment_test.proofs.mark_free.Reads as mark-free-reads
-use Rattle.segment_test.proofs.segments_hold.Reads as segments-hold-reads
-use Rattle.view_test.proofs.walk.Reads as walk-reads
 
 segments-hold-requires : tie.Need-segments-hold-requires
 segments-hold-requires c κs = ready _ _ (c .before .before .pre)
@@ -21,7 +16,9 @@ mark-free-requires : tie.Need-mark-free-requires
 mark-free-requires c κs = (ready _ _ (c .before .before .before .before .before .pre), height _ _ (c .before .before .before .before .before .pre))
 
 returns-2 : tie.Need-returns-2
-returns-2 c = no-free _ _ (c .before .before .before .before .before .before .before .pre) (c .before .before .before .before .segments-hold .ensures) (not-false _ (c .before .before .before .if1 .left)) (c .before .mark-free .ensures .0) (not-true _ (c .if2 .taken))
+returns-2 c =
+    no-free _ _ (c .before .before .before .before .before .before .before .pre) (c .before .before .before .before .segments-hold .ensures)
+    (not-false _ (c .before .before .before .if1 .left)) (c .before .mark-free .ensures .0) (not-true _ (c .if2 .taken))
 
 shared-slice-read-w : tie.Need-shared-slice-read-w
 shared-slice-read-w c = let a = ready _ _ (c .before .before .before .before .before .before .before .before .pre) .0 in omega (arith, a)
@@ -30,10 +27,18 @@ array-write-w : tie.Need-array-write-w
 array-write-w c = search needs
 
 walk-requires : tie.Need-walk-requires
-walk-requires c κs = (ready _ _ (c .before .before .before .before .before .before .before .before .before .before .before .pre), below _ _ (c .before .before .before .before .before .before .before .before .before .before .before .pre))
+walk-requires c κs = (
+  ready _ _ (c .before .before .before .before .before .before .before .before .before .before .before .pre),
+  below _ _ (c .before .before .before .before .before .before .before .before .before .before .before .pre),
+)
 
 returns-3 : tie.Need-returns-3
-returns-3 c = c .walk .ensures ∙ all-views _ _ (c .before .before .before .before .before .before .before .before .before .before .before .before .pre) (c .before .before .before .before .before .before .before .before .before .segments-hold .ensures) (not-false _ (c .before .before .before .before .before .before .before .before .if1 .left)) (c .before .before .before .before .before .before .mark-free .ensures .0) _ (not-false _ (c .before .before .before .before .before .if2 .left)) (c .before .before .before .before .before .before .mark-free .ensures .1 (not-false _ (c .before .before .before .before .before .if2 .left)))
+returns-3 c =
+    c .walk .ensures ∙ all-views _ _ (c .before .before .before .before .before .before .before .before .before .before .before .before .pre)
+    (c .before .before .before .before .before .before .before .before .before .segments-hold .ensures)
+    (not-false _ (c .before .before .before .before .before .before .before .before .if1 .left))
+    (c .before .before .before .before .before .before .mark-free .ensures .0) _ (not-false _ (c .before .before .before .before .before .if2 .left))
+    (c .before .before .before .before .before .before .mark-free .ensures .1 (not-false _ (c .before .before .before .before .before .if2 .left)))
 
 pub views-hold-spec : {M : Type 1} → statement M
 views-hold-spec =

@@ -10,10 +10,6 @@ use borrow.Author.Needs.{needs}
 use native.Mathlib.Omega.{arith}
 use Rattle.view_test.proofs.walk.Statement.{statement}
 use Rattle.view_test.proofs.walk.Tie as tie
-use Rattle.view_test.proofs.walk.Reads as reads
-use Rattle.view_test.proofs.walk.Lts as lts
-use Rattle.view_test.proofs.mark.Reads as mark-reads
-use Rattle.view_test.proofs.whole.Reads as whole-reads
 
 abbrev Inv-loop : tie.InvT-loop
 Inv-loop d₀ f₀ w₀ m xs i₀ d f w i = (i ≤ length xs) × (run (decode m) (events (decode m) (drop i xs)) d f w ≡ run (decode m) (events (decode m) xs) d₀ f₀ w₀)
@@ -31,10 +27,13 @@ shared-slice-read-mark : tie.Need-shared-slice-read-mark Inv-loop μ-loop
 shared-slice-read-mark c = omega arith
 
 mark-requires : tie.Need-mark-requires Inv-loop μ-loop
-mark-requires c κs = (search needs, c .before .before .before .before .before .before .before .before .pre .1 _ (c .before .before .before .before .loop-test .taken))
+mark-requires c κs =
+    (search needs, c .before .before .before .before .before .before .before .before .pre .1 _ (c .before .before .before .before .loop-test .taken))
 
 returns : tie.Need-returns Inv-loop μ-loop
-returns c = walk-stop _ _ _ (c .before .before .before .before .before .before .loop-test .taken) (c .before .mark .ensures) (not-true _ (c .if1 .taken)) ∙ c .before .before .before .before .before .before .before .loop .inv .1
+returns c =
+    walk-stop _ _ _ (c .before .before .before .before .before .before .loop-test .taken) (c .before .mark .ensures) (not-true _ (c .if1 .taken))
+    ∙ c .before .before .before .before .before .before .before .loop .inv .1
 
 add-i : tie.Need-add-i Inv-loop μ-loop
 add-i c = omega arith
@@ -43,7 +42,11 @@ loop-less : tie.Need-loop-less Inv-loop μ-loop
 loop-less c = omega arith
 
 loop-again : tie.Need-loop-again Inv-loop μ-loop
-loop-again c = (omega arith, walk-more _ _ _ (c .before .before .before .before .before .before .loop-test .taken) (c .before .mark .ensures) (not-false _ (c .if1 .left)) ∙ c .before .before .before .before .before .before .before .loop .inv .1)
+loop-again c = (
+  omega arith,
+  walk-more _ _ _ (c .before .before .before .before .before .before .loop-test .taken) (c .before .mark .ensures)
+      (not-false _ (c .if1 .left)) ∙ c .before .before .before .before .before .before .before .loop .inv .1,
+)
 
 whole-requires : tie.Need-whole-requires Inv-loop μ-loop
 whole-requires c κs = search needs

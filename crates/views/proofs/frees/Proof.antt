@@ -4,11 +4,6 @@ use Rattle.views.proofs.Reduce.{keeps-left, keeps-right, keeps-apart, f
 use borrow.Author.Needs.{needs}
 use Rattle.views.proofs.frees.Statement.{statement}
 use Rattle.views.proofs.frees.Tie as tie
-use Rattle.views.proofs.frees.Reads as reads
-use Rattle.views.proofs.frees.Lts as lts
-use Rattle.memory.proofs.segment.Reads as segment-reads
-use Rattle.views.proofs.is_empty.Reads as is-empty-reads
-use Rattle.views.proofs.local.Reads as local-reads
 
 is-empty-requires : tie.Need-is-empty-requires
 is-empty-requires c κs = search needs
@@ -20,19 +15,26 @@ is-empty-requires-2 : tie.Need-is-empty-requires-2
 is-empty-requires-2 c κs = search needs
 
 returns-2 : tie.Need-returns-2
-returns-2 c = keeps-right _ _ _ _ _ (sym (c .before .before .before .is-empty .ensures) ∙ c .before .before .if1 .left) (sym (c .before .is-empty2 .ensures) ∙ c .if2 .taken)
+returns-2 c =
+    keeps-right _ _ _ _ _ (sym (c .before .before .before .is-empty .ensures) ∙ c .before .before .if1 .left)
+    (sym (c .before .is-empty2 .ensures) ∙ c .if2 .taken)
 
 local-requires : tie.Need-local-requires
 local-requires c κs = search needs
 
 returns-3 : tie.Need-returns-3
-returns-3 c = keeps-apart _ _ _ _ _ (sym (c .before .before .before .before .before .is-empty .ensures) ∙ c .before .before .before .before .if1 .left) (sym (c .before .before .before .is-empty2 .ensures) ∙ c .before .before .if2 .left) (sym (c .before .local .ensures) ∙ not-true _ (c .if3 .taken))
+returns-3 c =
+    keeps-apart _ _ _ _ _ (sym (c .before .before .before .before .before .is-empty .ensures) ∙ c .before .before .before .before .if1 .left)
+    (sym (c .before .before .before .is-empty2 .ensures) ∙ c .before .before .if2 .left) (sym (c .before .local .ensures) ∙ not-true _ (c .if3 .taken))
 
 segment-requires : tie.Need-segment-requires
 segment-requires c κs = search needs
 
 returns-4 : tie.Need-returns-4
-returns-4 c = frees-empty _ _ _ _ _ (sym (c .before .before .before .before .before .before .is-empty .ensures) ∙ c .before .before .before .before .before .if1 .left) (sym (c .before .before .before .before .is-empty2 .ensures) ∙ c .before .before .before .if2 .left) _ (sym (c .before .before .local .ensures) ∙ not-false _ (c .before .if3 .left)) (c .segment .ensures)
+returns-4 c =
+    frees-empty _ _ _ _ _ (sym (c .before .before .before .before .before .before .is-empty .ensures) ∙ c .before .before .before .before .before .if1 .left)
+    (sym (c .before .before .before .before .is-empty2 .ensures) ∙ c .before .before .before .if2 .left) _
+    (sym (c .before .before .local .ensures) ∙ not-false _ (c .before .if3 .left)) (c .segment .ensures)
 
 pub frees-spec : {M : Type 1} → statement M
 frees-spec =

@@ -2,9 +2,6 @@ use Rattle.layout.specs.Layout.{read, address}
 use borrow.Author.Needs.{needs}
 use Rattle.views.proofs.head.Statement.{statement}
 use Rattle.views.proofs.head.Tie as tie
-use Rattle.views.proofs.head.Reads as reads
-use Rattle.views.proofs.head.Lts as lts
-use Rattle.memory.proofs.get.Reads as get-reads
 
 mul-get : tie.Need-mul-get
 mul-get c = search needs

@@ -3,9 +3,6 @@ use Rattle.views.proofs.Reduce.{head-other, head-freed, head-kept}
 use borrow.Author.Needs.{needs}
 use Rattle.views.proofs.head_behind.Statement.{statement}
 use Rattle.views.proofs.head_behind.Tie as tie
-use Rattle.views.proofs.head_behind.Reads as reads
-use Rattle.views.proofs.head_behind.Lts as lts
-use Rattle.views.proofs.frees.Reads as frees-reads
 
 returns : tie.Need-returns
 returns c = λ e. head-other _ _ _ _ _ _ e (c .if1 .taken)

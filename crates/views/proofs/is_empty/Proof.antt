@@ -3,8 +3,6 @@ use Rattle.calls.specs.Views.{not-empty}
 use Rattle.views.proofs.Reduce.{empty-tail}
 use Rattle.views.proofs.is_empty.Statement.{statement}
 use Rattle.views.proofs.is_empty.Tie as tie
-use Rattle.views.proofs.is_empty.Reads as reads
-use Rattle.views.proofs.is_empty.Lts as lts
 
 returns : tie.Need-returns
 returns c = sym (not-empty _ _ (c .if1 .taken))

@@ -3,15 +3,6 @@ use Rattle.views.proofs.Memory.{join-nothing, join-first, join-local, j
 use borrow.Author.Needs.{needs}
 use Rattle.views.proofs.join.Statement.{statement}
 use Rattle.views.proofs.join.Tie as tie
-use Rattle.views.proofs.join.Reads as reads
-use Rattle.views.proofs.join.Lts as lts
-use Rattle.segments.proofs.link.Reads as link-reads
-use Rattle.views.proofs.head.Reads as head-reads
-use Rattle.views.proofs.is_empty.Reads as is-empty-reads
-use Rattle.views.proofs.local.Reads as local-reads
-use Rattle.views.proofs.set_tail.Reads as set-tail-reads
-use Rattle.views.proofs.set_view.Reads as set-view-reads
-use Rattle.views.proofs.tail.Reads as tail-reads
 
 is-empty-requires : tie.Need-is-empty-requires
 is-empty-requires c κs = search needs
@@ -35,7 +26,11 @@ same-length : tie.Need-same-length
 same-length c = search needs
 
 returns-2 : tie.Need-returns-2
-returns-2 c = join-first _ _ _ _ _ _ _ _ (sym (c .before .before .before .before .before .before .before .before .before .before .before .is-empty .ensures) ∙ c .before .before .before .before .before .before .before .before .before .before .if1 .left) (c .before .before .before .before .before .before .head .ensures) (c .before .before .before .before .before .before .before .before .tail .ensures) _ (sym (c .before .before .before .before .before .is-empty2 .ensures) ∙ c .before .before .before .before .if2 .taken) (c .before .before .set-view .ensures)
+returns-2 c =
+    join-first _ _ _ _ _ _ _ _ (sym (c .before .before .before .before .before .before .before .before .before .before .before .is-empty .ensures)
+    ∙ c .before .before .before .before .before .before .before .before .before .before .if1 .left)
+    (c .before .before .before .before .before .before .head .ensures) (c .before .before .before .before .before .before .before .before .tail .ensures) _
+    (sym (c .before .before .before .before .before .is-empty2 .ensures) ∙ c .before .before .before .before .if2 .taken) (c .before .before .set-view .ensures)
 
 local-requires : tie.Need-local-requires
 local-requires c κs = search needs
@@ -50,7 +45,17 @@ same-length-2 : tie.Need-same-length-2
 same-length-2 c = search needs
 
 returns-3 : tie.Need-returns-3
-returns-3 c = join-local _ _ _ _ _ _ _ _ (sym (c .before .before .before .before .before .before .before .before .before .before .before .before .before .before .before .before .before .is-empty .ensures) ∙ c .before .before .before .before .before .before .before .before .before .before .before .before .before .before .before .before .if1 .left) (c .before .before .before .before .before .before .before .before .before .before .before .before .head .ensures) (c .before .before .before .before .before .before .before .before .before .before .before .before .before .before .tail .ensures) (sym (c .before .before .before .before .before .before .before .before .before .before .before .is-empty2 .ensures) ∙ c .before .before .before .before .before .before .before .before .before .before .if2 .left) _ _ (sym (c .before .before .before .before .before .before .before .before .before .local .ensures) ∙ c .before .before .before .before .before .before .before .before .if3 .taken) (c .before .before .before .before .before .before .link .ensures) (c .before .before .set-tail .ensures)
+returns-3 c =
+    join-local _ _ _ _ _ _ _ _ (sym
+    (c .before .before .before .before .before .before .before .before .before .before .before .before .before .before .before .before .before .is-empty
+    .ensures) ∙ c .before .before .before .before .before .before .before .before .before .before .before .before .before .before .before .before .if1 .left)
+    (c .before .before .before .before .before .before .before .before .before .before .before .before .head .ensures)
+    (c .before .before .before .before .before .before .before .before .before .before .before .before .before .before .tail .ensures)
+    (sym (c .before .before .before .before .before .before .before .before .before .before .before .is-empty2 .ensures)
+    ∙ c .before .before .before .before .before .before .before .before .before .before .if2 .left) _ _
+    (sym (c .before .before .before .before .before .before .before .before .before .local .ensures)
+    ∙ c .before .before .before .before .before .before .before .before .if3 .taken) (c .before .before .before .before .before .before .link .ensures)
+    (c .before .before .set-tail .ensures)
 
 set-tail-requires-2 : tie.Need-set-tail-requires-2
 set-tail-requires-2 c κs = search needs
@@ -59,7 +64,14 @@ same-length-3 : tie.Need-same-length-3
 same-length-3 c = search needs
 
 returns-4 : tie.Need-returns-4
-returns-4 c = join-apart _ _ _ _ _ _ _ _ (sym (c .before .before .before .before .before .before .before .before .before .before .before .before .before .is-empty .ensures) ∙ c .before .before .before .before .before .before .before .before .before .before .before .before .if1 .left) (c .before .before .before .before .before .before .before .before .head .ensures) (c .before .before .before .before .before .before .before .before .before .before .tail .ensures) (sym (c .before .before .before .before .before .before .before .is-empty2 .ensures) ∙ c .before .before .before .before .before .before .if2 .left) _ (sym (c .before .before .before .before .before .local .ensures) ∙ c .before .before .before .before .if3 .left) (c .before .before .set-tail2 .ensures)
+returns-4 c =
+    join-apart _ _ _ _ _ _ _ _ (sym
+    (c .before .before .before .before .before .before .before .before .before .before .before .before .before .is-empty .ensures)
+    ∙ c .before .before .before .before .before .before .before .before .before .before .before .before .if1 .left)
+    (c .before .before .before .before .before .before .before .before .head .ensures)
+    (c .before .before .before .before .before .before .before .before .before .before .tail .ensures)
+    (sym (c .before .before .before .before .before .before .before .is-empty2 .ensures) ∙ c .before .before .before .before .before .before .if2 .left) _
+    (sym (c .before .before .before .before .before .local .ensures) ∙ c .before .before .before .before .if3 .left) (c .before .before .set-tail2 .ensures)
 
 pub join-spec : {M : Type 1} → statement M
 join-spec =

@@ -1,8 +1,6 @@
 use Rattle.views.proofs.Reduce.{not-local, local-head}
 use Rattle.views.proofs.local.Statement.{statement}
 use Rattle.views.proofs.local.Tie as tie
-use Rattle.views.proofs.local.Reads as reads
-use Rattle.views.proofs.local.Lts as lts
 
 returns : tie.Need-returns
 returns c = not-local _ (c .before .args .h) (c .if1 .taken)

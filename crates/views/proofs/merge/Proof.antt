@@ -2,12 +2,6 @@ use Rattle.views.proofs.Memory.{merge-two}
 use borrow.Author.Needs.{needs}
 use Rattle.views.proofs.merge.Statement.{statement}
 use Rattle.views.proofs.merge.Tie as tie
-use Rattle.views.proofs.merge.Reads as reads
-use Rattle.views.proofs.merge.Lts as lts
-use Rattle.views.proofs.head.Reads as head-reads
-use Rattle.views.proofs.join.Reads as join-reads
-use Rattle.views.proofs.set_view.Reads as set-view-reads
-use Rattle.views.proofs.tail.Reads as tail-reads
 
 head-requires : tie.Need-head-requires
 head-requires c κs = search needs
@@ -25,7 +19,10 @@ same-length : tie.Need-same-length
 same-length c = search needs
 
 returns : tie.Need-returns
-returns c = merge-two _ _ _ _ _ _ _ _ _ _ (c .before .before .before .before .before .before .before .before .before .before .head .ensures) (c .before .before .before .before .before .before .before .before .tail .ensures) (c .before .before .before .before .before .before .join .ensures) (c .before .before .set-view .ensures)
+returns c =
+    merge-two _ _ _ _ _ _ _ _ _ _ (c .before .before .before .before .before .before .before .before .before .before .head .ensures)
+    (c .before .before .before .before .before .before .before .before .tail .ensures) (c .before .before .before .before .before .before .join .ensures)
+    (c .before .before .set-view .ensures)
 
 pub merge-spec : {M : Type 1} → statement M
 merge-spec =

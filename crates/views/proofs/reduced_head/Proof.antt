@@ -3,10 +3,6 @@ use Rattle.views.proofs.Reduce.{right-alone, left-alone, two-reduced, h
 use borrow.Author.Needs.{needs}
 use Rattle.views.proofs.reduced_head.Statement.{statement}
 use Rattle.views.proofs.reduced_head.Tie as tie
-use Rattle.views.proofs.reduced_head.Reads as reads
-use Rattle.views.proofs.reduced_head.Lts as lts
-use Rattle.views.proofs.head_behind.Reads as head-behind-reads
-use Rattle.views.proofs.is_empty.Reads as is-empty-reads
 
 is-empty-requires : tie.Need-is-empty-requires
 is-empty-requires c κs = search needs
@@ -18,13 +14,17 @@ is-empty-requires-2 : tie.Need-is-empty-requires-2
 is-empty-requires-2 c κs = search needs
 
 returns-2 : tie.Need-returns-2
-returns-2 c = head-is (left-alone _ _ _ _ _ (sym (c .before .before .before .is-empty .ensures) ∙ c .before .before .if1 .left) (sym (c .before .is-empty2 .ensures) ∙ c .if2 .taken))
+returns-2 c =
+    head-is (left-alone _ _ _ _ _ (sym (c .before .before .before .is-empty .ensures) ∙ c .before .before .if1 .left)
+    (sym (c .before .is-empty2 .ensures) ∙ c .if2 .taken))
 
 head-behind-requires : tie.Need-head-behind-requires
 head-behind-requires c κs = search needs
 
 returns-3 : tie.Need-returns-3
-returns-3 c = head-is (two-reduced _ _ _ _ _ (sym (c .before .before .before .before .is-empty .ensures) ∙ c .before .before .before .if1 .left) _ (sym (c .before .before .is-empty2 .ensures) ∙ c .before .if2 .left) (c .head-behind .ensures _))
+returns-3 c =
+    head-is (two-reduced _ _ _ _ _ (sym (c .before .before .before .before .is-empty .ensures) ∙ c .before .before .before .if1 .left) _
+    (sym (c .before .before .is-empty2 .ensures) ∙ c .before .if2 .left) (c .head-behind .ensures _))
 
 pub reduced-head-spec : {M : Type 1} → statement M
 reduced-head-spec =

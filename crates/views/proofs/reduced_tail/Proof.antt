@@ -3,9 +3,6 @@ use Rattle.views.proofs.Reduce.{right-alone, left-alone, tail-reduced, 
 use borrow.Author.Needs.{needs}
 use Rattle.views.proofs.reduced_tail.Statement.{statement}
 use Rattle.views.proofs.reduced_tail.Tie as tie
-use Rattle.views.proofs.reduced_tail.Reads as reads
-use Rattle.views.proofs.reduced_tail.Lts as lts
-use Rattle.views.proofs.is_empty.Reads as is-empty-reads
 
 is-empty-requires : tie.Need-is-empty-requires
 is-empty-requires c κs = search needs
@@ -17,10 +14,14 @@ is-empty-requires-2 : tie.Need-is-empty-requires-2
 is-empty-requires-2 c κs = search needs
 
 returns-2 : tie.Need-returns-2
-returns-2 c = λ m. tail-is (left-alone m _ _ _ _ (sym (c .before .before .before .is-empty .ensures) ∙ c .before .before .if1 .left) (sym (c .before .is-empty2 .ensures) ∙ c .if2 .taken))
+returns-2 c =
+    λ m. tail-is (left-alone m _ _ _ _ (sym (c .before .before .before .is-empty .ensures) ∙ c .before .before .if1 .left)
+    (sym (c .before .is-empty2 .ensures) ∙ c .if2 .taken))
 
 returns-3 : tie.Need-returns-3
-returns-3 c = λ m. tail-reduced m _ _ _ _ (sym (c .before .before .before .is-empty .ensures) ∙ c .before .before .if1 .left) (sym (c .before .is-empty2 .ensures) ∙ c .if2 .left)
+returns-3 c =
+    λ m. tail-reduced m _ _ _ _ (sym (c .before .before .before .is-empty .ensures) ∙ c .before .before .if1 .left)
+    (sym (c .before .is-empty2 .ensures) ∙ c .if2 .left)
 
 pub reduced-tail-spec : {M : Type 1} → statement M
 reduced-tail-spec =

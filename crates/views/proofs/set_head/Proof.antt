@@ -2,9 +2,6 @@ use Rattle.layout.specs.Layout.{write, address}
 use borrow.Author.Needs.{needs}
 use Rattle.views.proofs.set_head.Statement.{statement}
 use Rattle.views.proofs.set_head.Tie as tie
-use Rattle.views.proofs.set_head.Reads as reads
-use Rattle.views.proofs.set_head.Lts as lts
-use Rattle.memory.proofs.put.Reads as put-reads
 
 mul-put : tie.Need-mul-put
 mul-put c = search needs

@@ -2,10 +2,6 @@ use Rattle.views.proofs.Memory.{view-set}
 use borrow.Author.Needs.{needs}
 use Rattle.views.proofs.set_view.Statement.{statement}
 use Rattle.views.proofs.set_view.Tie as tie
-use Rattle.views.proofs.set_view.Reads as reads
-use Rattle.views.proofs.set_view.Lts as lts
-use Rattle.views.proofs.set_head.Reads as set-head-reads
-use Rattle.views.proofs.set_tail.Reads as set-tail-reads
 
 set-head-requires : tie.Need-set-head-requires
 set-head-requires c κs = search needs

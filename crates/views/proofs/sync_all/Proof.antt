@@ -2,9 +2,6 @@ use Rattle.views.proofs.Memory.{sync-four}
 use borrow.Author.Needs.{needs}
 use Rattle.views.proofs.sync_all.Statement.{statement}
 use Rattle.views.proofs.sync_all.Tie as tie
-use Rattle.views.proofs.sync_all.Reads as reads
-use Rattle.views.proofs.sync_all.Lts as lts
-use Rattle.views.proofs.sync_queue.Reads as sync-queue-reads
 
 sync-queue-requires : tie.Need-sync-queue-requires
 sync-queue-requires c κs = search needs
@@ -22,7 +19,11 @@ same-length : tie.Need-same-length
 same-length c = search needs
 
 returns : tie.Need-returns
-returns c = sync-four _ _ _ _ _ _ (c .before .before .before .before .before .before .before .before .before .before .before .before .before .before .sync-queue .ensures) (c .before .before .before .before .before .before .before .before .before .before .sync-queue2 .ensures) (c .before .before .before .before .before .before .sync-queue3 .ensures) (c .before .before .sync-queue4 .ensures)
+returns c =
+    sync-four _ _ _ _ _ _
+    (c .before .before .before .before .before .before .before .before .before .before .before .before .before .before .sync-queue .ensures)
+    (c .before .before .before .before .before .before .before .before .before .before .sync-queue2 .ensures)
+    (c .before .before .before .before .before .before .sync-queue3 .ensures) (c .before .before .sync-queue4 .ensures)
 
 pub sync-all-spec : {M : Type 1} → statement M
 sync-all-spec =

@@ -2,12 +2,6 @@ use Rattle.views.proofs.Memory.{sync-one}
 use borrow.Author.Needs.{needs}
 use Rattle.views.proofs.sync_queue.Statement.{statement}
 use Rattle.views.proofs.sync_queue.Tie as tie
-use Rattle.views.proofs.sync_queue.Reads as reads
-use Rattle.views.proofs.sync_queue.Lts as lts
-use Rattle.views.proofs.head.Reads as head-reads
-use Rattle.views.proofs.merge.Reads as merge-reads
-use Rattle.views.proofs.set_view.Reads as set-view-reads
-use Rattle.views.proofs.tail.Reads as tail-reads
 
 merge-requires : tie.Need-merge-requires
 merge-requires c κs = search needs
@@ -28,7 +22,12 @@ same-length : tie.Need-same-length
 same-length c = search needs
 
 returns : tie.Need-returns
-returns c = sync-one _ _ _ _ _ _ _ _ (c .before .before .before .before .before .before .before .before .before .before .before .before .before .before .merge .ensures) (c .before .before .before .before .before .before .before .before .before .before .head .ensures) (c .before .before .before .before .before .before .before .before .tail .ensures) (c .before .before .before .before .before .before .set-view .ensures) (c .before .before .set-view2 .ensures)
+returns c =
+    sync-one _ _ _ _ _ _ _ _
+    (c .before .before .before .before .before .before .before .before .before .before .before .before .before .before .merge .ensures)
+    (c .before .before .before .before .before .before .before .before .before .before .head .ensures)
+    (c .before .before .before .before .before .before .before .before .tail .ensures) (c .before .before .before .before .before .before .set-view .ensures)
+    (c .before .before .set-view2 .ensures)
 
 pub sync-queue-spec : {M : Type 1} → statement M
 sync-queue-spec =

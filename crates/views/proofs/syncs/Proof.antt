@@ -2,11 +2,6 @@ use Rattle.views.proofs.Memory.{sync-allowed}
 use borrow.Author.Needs.{needs}
 use Rattle.views.proofs.syncs.Statement.{statement}
 use Rattle.views.proofs.syncs.Tie as tie
-use Rattle.views.proofs.syncs.Reads as reads
-use Rattle.views.proofs.syncs.Lts as lts
-use Rattle.views.proofs.head.Reads as head-reads
-use Rattle.views.proofs.reducible.Reads as reducible-reads
-use Rattle.views.proofs.tail.Reads as tail-reads
 
 head-requires : tie.Need-head-requires
 head-requires c κs = search needs
@@ -24,7 +19,9 @@ reducible-requires : tie.Need-reducible-requires
 reducible-requires c κs = search needs
 
 returns : tie.Need-returns
-returns c = sync-allowed _ _ _ _ _ _ _ _ (c .before .before .before .before .head .ensures) (c .before .before .before .tail .ensures) (c .before .before .head2 .ensures) (c .before .tail2 .ensures) (c .reducible .ensures)
+returns c =
+    sync-allowed _ _ _ _ _ _ _ _ (c .before .before .before .before .head .ensures) (c .before .before .before .tail .ensures)
+    (c .before .before .head2 .ensures) (c .before .tail2 .ensures) (c .reducible .ensures)
 
 pub syncs-spec : {M : Type 1} → statement M
 syncs-spec =

@@ -1,10 +1,6 @@
 use Rattle.walks.proofs.Glue.{after-met, after-left}
 use Rattle.walks.proofs.after.Statement.{statement}
 use Rattle.walks.proofs.after.Tie as tie
-use Rattle.walks.proofs.after.Reads as reads
-use Rattle.walks.proofs.after.Lts as lts
-use Rattle.memory.proofs.task.Reads as task-reads
-use Rattle.walks.proofs.entering.Reads as entering-reads
 
 task-requires : tie.Need-task-requires
 task-requires c κs = tt

@@ -1,10 +1,6 @@
 use Rattle.walks.proofs.Glue.{blocked-by}
 use Rattle.walks.proofs.blocked.Statement.{statement}
 use Rattle.walks.proofs.blocked.Tie as tie
-use Rattle.walks.proofs.blocked.Reads as reads
-use Rattle.walks.proofs.blocked.Lts as lts
-use Rattle.memory.proofs.task.Reads as task-reads
-use Rattle.walks.proofs.sharing.Reads as sharing-reads
 
 task-requires : tie.Need-task-requires
 task-requires c κs = tt

@@ -1,10 +1,6 @@
 use Rattle.walks.proofs.Glue.{child-pops}
 use Rattle.walks.proofs.child_pops.Statement.{statement}
 use Rattle.walks.proofs.child_pops.Tie as tie
-use Rattle.walks.proofs.child_pops.Reads as reads
-use Rattle.walks.proofs.child_pops.Lts as lts
-use Rattle.memory.proofs.task.Reads as task-reads
-use Rattle.walks.proofs.popping.Reads as popping-reads
 
 task-requires : tie.Need-task-requires
 task-requires c κs = tt

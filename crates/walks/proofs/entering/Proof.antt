@@ -4,9 +4,6 @@ use Rattle.words.specs.Words.{pass, halt}
 use Rattle.tree.specs.Tour.{entering}
 use Rattle.walks.proofs.entering.Statement.{statement}
 use Rattle.walks.proofs.entering.Tie as tie
-use Rattle.walks.proofs.entering.Reads as reads
-use Rattle.walks.proofs.entering.Lts as lts
-use Rattle.walks.proofs.leaving.Reads as leaving-reads
 
 leaving-requires : tie.Need-leaving-requires
 leaving-requires c κs = tt

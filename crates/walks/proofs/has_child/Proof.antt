@@ -6,9 +6,6 @@ use Rattle.layout.specs.Layout.{NONE}
 use Rattle.calls.specs.Waits.{hasChild}
 use Rattle.walks.proofs.has_child.Statement.{statement}
 use Rattle.walks.proofs.has_child.Tie as tie
-use Rattle.walks.proofs.has_child.Reads as reads
-use Rattle.walks.proofs.has_child.Lts as lts
-use Rattle.memory.proofs.task.Reads as task-reads
 
 task-requires : tie.Need-task-requires
 task-requires c κs = tt

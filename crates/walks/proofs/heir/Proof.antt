@@ -1,10 +1,6 @@
 use Rattle.walks.proofs.Glue.{heir-from}
 use Rattle.walks.proofs.heir.Statement.{statement}
 use Rattle.walks.proofs.heir.Tie as tie
-use Rattle.walks.proofs.heir.Reads as reads
-use Rattle.walks.proofs.heir.Lts as lts
-use Rattle.memory.proofs.task.Reads as task-reads
-use Rattle.walks.proofs.oldest_popping.Reads as oldest-popping-reads
 
 task-requires : tie.Need-task-requires
 task-requires c κs = tt

@@ -1,10 +1,6 @@
 use Rattle.walks.proofs.Glue.{heir-self, heir-pops, heir-not}
 use Rattle.walks.proofs.heir_or.Statement.{statement}
 use Rattle.walks.proofs.heir_or.Tie as tie
-use Rattle.walks.proofs.heir_or.Reads as reads
-use Rattle.walks.proofs.heir_or.Lts as lts
-use Rattle.memory.proofs.task.Reads as task-reads
-use Rattle.rights.proofs.pops.Reads as pops-reads
 
 returns : tie.Need-returns
 returns c = heir-self _ _ _ _ _ (c .if1 .taken)

@@ -1,10 +1,6 @@
 use Rattle.walks.proofs.Glue.{just-before}
 use Rattle.walks.proofs.just_before.Statement.{statement}
 use Rattle.walks.proofs.just_before.Tie as tie
-use Rattle.walks.proofs.just_before.Reads as reads
-use Rattle.walks.proofs.just_before.Lts as lts
-use Rattle.walks.proofs.after.Reads as after-reads
-use Rattle.walks.proofs.standing.Reads as standing-reads
 
 after-requires : tie.Need-after-requires
 after-requires c κs = tt

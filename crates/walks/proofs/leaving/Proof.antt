@@ -5,8 +5,6 @@ use Rattle.tree.specs.Tour.{leaving}
 use borrow.Author.Needs.{needs}
 use Rattle.walks.proofs.leaving.Statement.{statement}
 use Rattle.walks.proofs.leaving.Tie as tie
-use Rattle.walks.proofs.leaving.Reads as reads
-use Rattle.walks.proofs.leaving.Lts as lts
 
 add-result : tie.Need-add-result
 add-result c = search needs

@@ -7,10 +7,6 @@ use Rattle.calls.specs.Waits.{rightsOf}
 use Rattle.walks.proofs.Glue.{both-so}
 use Rattle.walks.proofs.meets_pusher.Statement.{statement}
 use Rattle.walks.proofs.meets_pusher.Tie as tie
-use Rattle.walks.proofs.meets_pusher.Reads as reads
-use Rattle.walks.proofs.meets_pusher.Lts as lts
-use Rattle.memory.proofs.task.Reads as task-reads
-use Rattle.rights.proofs.pushes.Reads as pushes-reads
 
 task-requires : tie.Need-task-requires
 task-requires c κs = tt

@@ -1,4 +1,4 @@
-use mathlib.Core.Path.{_≡_, refl, sym, _∙_}
+use mathlib.Core.Path.{_≡_, refl, _∙_}
 use mathlib.Core.Bool.{not}
 use lib.Dec.{eqb}
 use native.Mathlib.Omega.{arith}
@@ -10,13 +10,11 @@ use Rattle.calls.specs.Waits.{rightsOf}
 use Rattle.walks.specs.Steps.{oldest-none, oldest-end, oldest-on}
 use Rattle.walks.proofs.oldest_popping.Statement.{statement}
 use Rattle.walks.proofs.oldest_popping.Tie as tie
-use Rattle.walks.proofs.oldest_popping.Reads as reads
-use Rattle.walks.proofs.oldest_popping.Lts as lts
-use Rattle.memory.proofs.task.Reads as task-reads
-use Rattle.walks.proofs.heir_or.Reads as heir-or-reads
 
 abbrev Inv-loop : tie.InvT-loop
-Inv-loop m t q from p c₀ d₀ n₀ c d n = oldest n (λ c. both (not (eqb c t)) (pops (rightsOf m c) q)) (recordOf m) c d ≡ oldest 128 (λ c. both (not (eqb c t)) (pops (rightsOf m c) q)) (recordOf m) from p
+Inv-loop m t q from p c₀ d₀ n₀ c d n =
+    oldest n (λ c. both (not (eqb c t)) (pops (rightsOf m c) q)) (recordOf m) c d ≡ oldest 128 (λ c. both (not (eqb c t)) (pops (rightsOf m c) q))
+    (recordOf m) from p
 
 abbrev μ-loop : tie.MeasureT-loop
 μ-loop m t q from p c₀ d₀ n₀ c d n = n
@@ -40,7 +38,9 @@ loop-less : tie.Need-loop-less Inv-loop μ-loop
 loop-less c = omega arith
 
 loop-again : tie.Need-loop-again Inv-loop μ-loop
-loop-again c = oldest-on _ _ _ _ _ _ _ (c .before .before .before .loop-test .taken) (c .before .before .if1 .left) (c .task .ensures) (c .before .heir-or .ensures) ∙ c .before .before .before .before .loop .inv
+loop-again c =
+    oldest-on _ _ _ _ _ _ _ (c .before .before .before .loop-test .taken) (c .before .before .if1 .left) (c .task .ensures) (c .before .heir-or .ensures)
+    ∙ c .before .before .before .before .loop .inv
 
 returns-2 : tie.Need-returns-2 Inv-loop μ-loop
 returns-2 c = oldest-none _ _ _ _ _ (c .loop-test .left) ∙ c .before .loop .inv

@@ -1,10 +1,6 @@
 use Rattle.walks.proofs.Glue.{pusher-before}
 use Rattle.walks.proofs.pusher_before.Statement.{statement}
 use Rattle.walks.proofs.pusher_before.Tie as tie
-use Rattle.walks.proofs.pusher_before.Reads as reads
-use Rattle.walks.proofs.pusher_before.Lts as lts
-use Rattle.walks.proofs.after.Reads as after-reads
-use Rattle.walks.proofs.pushing.Reads as pushing-reads
 
 after-requires : tie.Need-after-requires
 after-requires c κs = tt

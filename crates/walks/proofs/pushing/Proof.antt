@@ -9,13 +9,10 @@ use Rattle.calls.specs.Waits.{rightsOf}
 use Rattle.walks.specs.Steps.{seek-none, seek-end, seek-here, seek-on}
 use Rattle.walks.proofs.pushing.Statement.{statement}
 use Rattle.walks.proofs.pushing.Tie as tie
-use Rattle.walks.proofs.pushing.Reads as reads
-use Rattle.walks.proofs.pushing.Lts as lts
-use Rattle.walks.proofs.after.Reads as after-reads
-use Rattle.walks.proofs.meets_pusher.Reads as meets-pusher-reads
 
 abbrev Inv-loop : tie.InvT-loop
-Inv-loop m q from x₀ n₀ x n = seek n (λ x. both (ltb x 128) (pushes (rightsOf m x) q)) (recordOf m) x ≡ seek MARKS (λ x. both (ltb x 128) (pushes (rightsOf m x) q)) (recordOf m) from
+Inv-loop m q from x₀ n₀ x n =
+    seek n (λ x. both (ltb x 128) (pushes (rightsOf m x) q)) (recordOf m) x ≡ seek MARKS (λ x. both (ltb x 128) (pushes (rightsOf m x) q)) (recordOf m) from
 
 abbrev μ-loop : tie.MeasureT-loop
 μ-loop m q from x₀ n₀ x n = n
@@ -30,7 +27,9 @@ meets-pusher-requires : tie.Need-meets-pusher-requires Inv-loop μ-loop
 meets-pusher-requires c κs = c .before .before .before .before .pre
 
 returns-2 : tie.Need-returns-2 Inv-loop μ-loop
-returns-2 c = seek-here _ _ _ _ (c .before .before .before .loop-test .taken) (c .before .before .if1 .left) (sym (c .before .meets-pusher .ensures) ∙ c .if2 .taken) ∙ c .before .before .before .before .loop .inv
+returns-2 c =
+    seek-here _ _ _ _ (c .before .before .before .loop-test .taken) (c .before .before .if1 .left) (sym (c .before .meets-pusher .ensures) ∙ c .if2 .taken)
+    ∙ c .before .before .before .before .loop .inv
 
 after-requires : tie.Need-after-requires Inv-loop μ-loop
 after-requires c κs = tt
@@ -42,7 +41,9 @@ loop-less : tie.Need-loop-less Inv-loop μ-loop
 loop-less c = omega arith
 
 loop-again : tie.Need-loop-again Inv-loop μ-loop
-loop-again c = seek-on _ _ _ _ _ (c .before .before .before .before .loop-test .taken) (c .before .before .before .if1 .left) (sym (c .before .before .meets-pusher .ensures) ∙ c .before .if2 .left) (c .after .ensures) ∙ c .before .before .before .before .before .loop .inv
+loop-again c =
+    seek-on _ _ _ _ _ (c .before .before .before .before .loop-test .taken) (c .before .before .before .if1 .left)
+    (sym (c .before .before .meets-pusher .ensures) ∙ c .before .if2 .left) (c .after .ensures) ∙ c .before .before .before .before .before .loop .inv
 
 returns-3 : tie.Need-returns-3 Inv-loop μ-loop
 returns-3 c = seek-none _ _ _ _ (c .loop-test .left) ∙ c .before .loop .inv

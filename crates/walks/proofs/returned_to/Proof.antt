@@ -2,11 +2,6 @@ use Rattle.walks.proofs.Glue.{returned-part, returned-stands}
 use borrow.Author.Needs.{needs}
 use Rattle.walks.proofs.returned_to.Statement.{statement}
 use Rattle.walks.proofs.returned_to.Tie as tie
-use Rattle.walks.proofs.returned_to.Reads as reads
-use Rattle.walks.proofs.returned_to.Lts as lts
-use Rattle.walks.proofs.after.Reads as after-reads
-use Rattle.walks.proofs.standing.Reads as standing-reads
-use Rattle.walks.proofs.taking.Reads as taking-reads
 
 add-after : tie.Need-add-after
 add-after c = search needs

@@ -8,10 +8,6 @@ use Rattle.calls.specs.Waits.{rightsOf}
 use Rattle.walks.specs.Steps.{sibling-none, sibling-end, sibling-here, sibling-on}
 use Rattle.walks.proofs.sharing.Statement.{statement}
 use Rattle.walks.proofs.sharing.Tie as tie
-use Rattle.walks.proofs.sharing.Reads as reads
-use Rattle.walks.proofs.sharing.Lts as lts
-use Rattle.memory.proofs.task.Reads as task-reads
-use Rattle.rights.proofs.shares_pop.Reads as shares-pop-reads
 
 abbrev Inv-loop : tie.InvT-loop
 Inv-loop m a from c₀ n₀ c n = sibling n (λ c. sharesPop (rightsOf m c) a) (recordOf m) c ≡ sibling 128 (λ c. sharesPop (rightsOf m c) a) (recordOf m) from
@@ -33,7 +29,10 @@ shares-pop-requires c κs = tt
 
 returns-2 : tie.Need-returns-2 Inv-loop μ-loop
 unfolding rightsOf
-returns-2 c = sibling-here _ _ _ _ (c .before .before .before .before .loop-test .taken) (c .before .before .before .if1 .left) (ap (λ (w : ℕ). sharesPop w (c .before .before .before .before .before .before .before .args .a)) (sym (c .before .before .task .ensures)) ∙ sym (c .before .shares-pop .ensures) ∙ c .if2 .taken) ∙ c .before .before .before .before .before .loop .inv
+returns-2 c =
+    sibling-here _ _ _ _ (c .before .before .before .before .loop-test .taken) (c .before .before .before .if1 .left)
+    (ap (λ (w : ℕ). sharesPop w (c .before .before .before .before .before .before .before .args .a)) (sym (c .before .before .task .ensures))
+    ∙ sym (c .before .shares-pop .ensures) ∙ c .if2 .taken) ∙ c .before .before .before .before .before .loop .inv
 
 task-requires-2 : tie.Need-task-requires-2 Inv-loop μ-loop
 task-requires-2 c κs = tt
@@ -46,7 +45,10 @@ loop-less c = omega arith
 
 loop-again : tie.Need-loop-again Inv-loop μ-loop
 unfolding rightsOf
-loop-again c = sibling-on _ _ _ _ _ (c .before .before .before .before .before .loop-test .taken) (c .before .before .before .before .if1 .left) (ap (λ (w : ℕ). sharesPop w (c .before .before .before .before .before .before .before .before .args .a)) (sym (c .before .before .before .task .ensures)) ∙ sym (c .before .before .shares-pop .ensures) ∙ c .before .if2 .left) (c .task2 .ensures) ∙ c .before .before .before .before .before .before .loop .inv
+loop-again c =
+    sibling-on _ _ _ _ _ (c .before .before .before .before .before .loop-test .taken) (c .before .before .before .before .if1 .left)
+    (ap (λ (w : ℕ). sharesPop w (c .before .before .before .before .before .before .before .before .args .a)) (sym (c .before .before .before .task .ensures))
+    ∙ sym (c .before .before .shares-pop .ensures) ∙ c .before .if2 .left) (c .task2 .ensures) ∙ c .before .before .before .before .before .before .loop .inv
 
 returns-3 : tie.Need-returns-3 Inv-loop μ-loop
 returns-3 c = sibling-none _ _ _ _ (c .loop-test .left) ∙ c .before .loop .inv

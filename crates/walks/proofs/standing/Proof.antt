@@ -6,10 +6,6 @@ use Rattle.calls.specs.Views.{standsAt}
 use Rattle.walks.specs.Steps.{seek-none, seek-end, seek-here, seek-on}
 use Rattle.walks.proofs.standing.Statement.{statement}
 use Rattle.walks.proofs.standing.Tie as tie
-use Rattle.walks.proofs.standing.Reads as reads
-use Rattle.walks.proofs.standing.Lts as lts
-use Rattle.walks.proofs.after.Reads as after-reads
-use Rattle.walks.proofs.stands_at.Reads as stands-at-reads
 
 abbrev Inv-loop : tie.InvT-loop
 Inv-loop m q from x₀ n₀ x n = seek n (standsAt m q) (recordOf m) x ≡ seek MARKS (standsAt m q) (recordOf m) from
@@ -27,7 +23,9 @@ stands-at-requires : tie.Need-stands-at-requires Inv-loop μ-loop
 stands-at-requires c κs = c .before .before .before .before .pre
 
 returns-2 : tie.Need-returns-2 Inv-loop μ-loop
-returns-2 c = seek-here _ _ _ _ (c .before .before .before .loop-test .taken) (c .before .before .if1 .left) (sym (c .before .stands-at .ensures) ∙ c .if2 .taken) ∙ c .before .before .before .before .loop .inv
+returns-2 c =
+    seek-here _ _ _ _ (c .before .before .before .loop-test .taken) (c .before .before .if1 .left) (sym (c .before .stands-at .ensures) ∙ c .if2 .taken)
+    ∙ c .before .before .before .before .loop .inv
 
 after-requires : tie.Need-after-requires Inv-loop μ-loop
 after-requires c κs = tt
@@ -39,7 +37,9 @@ loop-less : tie.Need-loop-less Inv-loop μ-loop
 loop-less c = omega arith
 
 loop-again : tie.Need-loop-again Inv-loop μ-loop
-loop-again c = seek-on _ _ _ _ _ (c .before .before .before .before .loop-test .taken) (c .before .before .before .if1 .left) (sym (c .before .before .stands-at .ensures) ∙ c .before .if2 .left) (c .after .ensures) ∙ c .before .before .before .before .before .loop .inv
+loop-again c =
+    seek-on _ _ _ _ _ (c .before .before .before .before .loop-test .taken) (c .before .before .before .if1 .left)
+    (sym (c .before .before .stands-at .ensures) ∙ c .before .if2 .left) (c .after .ensures) ∙ c .before .before .before .before .before .loop .inv
 
 returns-3 : tie.Need-returns-3 Inv-loop μ-loop
 returns-3 c = seek-none _ _ _ _ (c .loop-test .left) ∙ c .before .loop .inv

@@ -3,10 +3,6 @@ use Rattle.walks.proofs.Glue.{stands-not, stands-met, stands-head, stan
 use borrow.Author.Needs.{needs}
 use Rattle.walks.proofs.stands_at.Statement.{statement}
 use Rattle.walks.proofs.stands_at.Tie as tie
-use Rattle.walks.proofs.stands_at.Reads as reads
-use Rattle.walks.proofs.stands_at.Lts as lts
-use Rattle.memory.proofs.task.Reads as task-reads
-use Rattle.walks.proofs.takes_part.Reads as takes-part-reads
 
 takes-part-requires : tie.Need-takes-part-requires
 takes-part-requires c κs = c .before .pre
@@ -27,7 +23,9 @@ task-requires : tie.Need-task-requires
 task-requires c κs = tt
 
 returns-3 : tie.Need-returns-3
-returns-3 c = stands-head _ _ _ (c .before .before .before .before .takes-part .ensures) (not-false _ (c .before .before .before .if1 .left)) (c .before .task .ensures) (c .if3 .taken)
+returns-3 c =
+    stands-head _ _ _ (c .before .before .before .before .takes-part .ensures) (not-false _ (c .before .before .before .if1 .left)) (c .before .task .ensures)
+    (c .if3 .taken)
 
 sub-task-2 : tie.Need-sub-task-2
 sub-task-2 c = search needs
@@ -39,7 +37,9 @@ task-requires-2 : tie.Need-task-requires-2
 task-requires-2 c κs = tt
 
 returns-4 : tie.Need-returns-4
-returns-4 c = stands-tail _ _ _ (c .before .before .before .before .before .takes-part .ensures) (not-false _ (c .before .before .before .before .if1 .left)) (c .before .before .before .if2 .left) (c .before .before .task .ensures) (c .before .if3 .left) (c .task2 .ensures)
+returns-4 c =
+    stands-tail _ _ _ (c .before .before .before .before .before .takes-part .ensures) (not-false _ (c .before .before .before .before .if1 .left))
+    (c .before .before .before .if2 .left) (c .before .before .task .ensures) (c .before .if3 .left) (c .task2 .ensures)
 
 pub stands-at-spec : {M : Type 1} → statement M
 stands-at-spec =

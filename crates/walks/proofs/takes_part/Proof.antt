@@ -1,11 +1,6 @@
 use Rattle.walks.proofs.Glue.{takes-part}
 use Rattle.walks.proofs.takes_part.Statement.{statement}
 use Rattle.walks.proofs.takes_part.Tie as tie
-use Rattle.walks.proofs.takes_part.Reads as reads
-use Rattle.walks.proofs.takes_part.Lts as lts
-use Rattle.memory.proofs.task.Reads as task-reads
-use Rattle.rights.proofs.uses.Reads as uses-reads
-use Rattle.walks.proofs.task_at.Reads as task-at-reads
 
 task-at-requires : tie.Need-task-at-requires
 task-at-requires c κs = tt

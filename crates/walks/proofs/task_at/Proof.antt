@@ -4,8 +4,6 @@ use Rattle.words.specs.Words.{pass, halt}
 use Rattle.calls.specs.Views.{taskAt}
 use Rattle.walks.proofs.task_at.Statement.{statement}
 use Rattle.walks.proofs.task_at.Tie as tie
-use Rattle.walks.proofs.task_at.Reads as reads
-use Rattle.walks.proofs.task_at.Lts as lts
 
 returns : tie.Need-returns
 unfolding taskAt

@@ -7,9 +7,6 @@ use Rattle.calls.specs.Waits.{unfinished}
 use Rattle.walks.proofs.Glue.{both-so}
 use Rattle.walks.proofs.unfinished.Statement.{statement}
 use Rattle.walks.proofs.unfinished.Tie as tie
-use Rattle.walks.proofs.unfinished.Reads as reads
-use Rattle.walks.proofs.unfinished.Lts as lts
-use Rattle.memory.proofs.task.Reads as task-reads
 
 task-requires : tie.Need-task-requires
 task-requires c κs = tt

@@ -3,10 +3,6 @@ use Rattle.hyperqueue.specs.Packed.{packed}
 use borrow.Author.Needs.{needs}
 use Rattle.hyperqueue.proofs.jobs.hq_job_test.Statement.{statement}
 use Rattle.hyperqueue.proofs.jobs.hq_job_test.Tie as tie
-use Rattle.hyperqueue.proofs.jobs.hq_job_test.Reads as reads
-use Rattle.hyperqueue.proofs.jobs.hq_job_test.Lts as lts
-use Rattle.hyperqueue.proofs.pack.Reads as pack-reads
-use Rattle.job_test.proofs.job_test.Reads as job-test-reads
 
 job-test-requires : tie.Need-job-test-requires
 job-test-requires c κs = search needs

@@ -2,10 +2,6 @@ use Rattle.hyperqueue.specs.Steps.{step-handed}
 use borrow.Author.Needs.{needs}
 use Rattle.hyperqueue.proofs.runs.hq_job_open.Statement.{statement}
 use Rattle.hyperqueue.proofs.runs.hq_job_open.Tie as tie
-use Rattle.hyperqueue.proofs.runs.hq_job_open.Reads as reads
-use Rattle.hyperqueue.proofs.runs.hq_job_open.Lts as lts
-use Rattle.hyperqueue.proofs.runs.pack_step.Reads as pack-step-reads
-use Rattle.job_opening.proofs.open.Reads as open-reads
 
 open-requires : tie.Need-open-requires
 open-requires c κs = search needs

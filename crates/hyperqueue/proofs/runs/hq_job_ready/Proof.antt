@@ -2,10 +2,6 @@ use Rattle.hyperqueue.specs.Steps.{map-handed}
 use borrow.Author.Needs.{needs}
 use Rattle.hyperqueue.proofs.runs.hq_job_ready.Statement.{statement}
 use Rattle.hyperqueue.proofs.runs.hq_job_ready.Tie as tie
-use Rattle.hyperqueue.proofs.runs.hq_job_ready.Reads as reads
-use Rattle.hyperqueue.proofs.runs.hq_job_ready.Lts as lts
-use Rattle.hyperqueue.proofs.runs.pack_step.Reads as pack-step-reads
-use Rattle.ready_map.proofs.ready.Reads as ready-reads
 
 ready-requires : tie.Need-ready-requires
 ready-requires c κs = search needs

@@ -2,10 +2,6 @@ use Rattle.hyperqueue.specs.Steps.{step-handed}
 use borrow.Author.Needs.{needs}
 use Rattle.hyperqueue.proofs.runs.hq_job_step.Statement.{statement}
 use Rattle.hyperqueue.proofs.runs.hq_job_step.Tie as tie
-use Rattle.hyperqueue.proofs.runs.hq_job_step.Reads as reads
-use Rattle.hyperqueue.proofs.runs.hq_job_step.Lts as lts
-use Rattle.hyperqueue.proofs.runs.pack_step.Reads as pack-step-reads
-use Rattle.stepping.proofs.step.Reads as step-reads
 
 step-requires : tie.Need-step-requires
 step-requires c κs = search needs

@@ -3,9 +3,6 @@ use Rattle.hyperqueue.specs.Steps.{packedStep}
 use borrow.Author.Needs.{needs}
 use Rattle.hyperqueue.proofs.runs.pack_step.Statement.{statement}
 use Rattle.hyperqueue.proofs.runs.pack_step.Tie as tie
-use Rattle.hyperqueue.proofs.runs.pack_step.Reads as reads
-use Rattle.hyperqueue.proofs.runs.pack_step.Lts as lts
-use Rattle.hyperqueue.proofs.runs.with_value.Reads as with-value-reads
 
 enum-known-a : tie.Need-enum-known-a
 enum-known-a c = search needs
