@@ -63,6 +63,6 @@ module _ (j : List ℕ) (e : jobAnswer j ≡ Moved 0) (w v : List ℕ) (sw : siz
             beside = begins j acc;
             written = record { sized = length-replicate {A = ℕ} RUNNER 0; held = (record { small = omega arith; words = zeros 0 }, tt); free = λ t o. zeros t };
             count = 0;
-            moves = Moves.none;
+            moves = Moves.no-move;
             log = refl;
           }

@@ -41,7 +41,7 @@ module _ {S : Type 0} (T : Tasks S) where
 
   -- any run
   pub data Moves : ℕ → List (Item S) → List (Item S) → Type 0 where
-    none : {l : List (Item S)} → Moves zero l l
+    no-move : {l : List (Item S)} → Moves zero l l
     moves : {n : ℕ} {l k j : List (Item S)} → Move l k → Moves n k j → Moves (suc n) l j
 
   -- the first task's move is a move
@@ -52,7 +52,7 @@ module _ {S : Type 0} (T : Tasks S) where
 
   -- so the serial run is a list of moves
   unfoldable pub serial-moves : {n : ℕ} {l z : List (Item S)} → Serial n l z → Moves n l z
-  serial-moves (ends a) = none
+  serial-moves (ends a) = no-move
   serial-moves (steps f r) = moves (record { search = f .search; begins = f .begins; walk = lead-walk (f .lead) }) (serial-moves r)
 
   no-walk : {m : Search} {l k : List (Item S)} → All NoSpot l → Walk T m l k → ⊥
@@ -94,7 +94,7 @@ module _ {S : Type 0} (T : Tasks S) where
 
   -- after any list of moves the rest of the serial run is the serial run from there
   pub agree : {n k : ℕ} {l j z : List (Item S)} → Serial n l z → Moves k l j → Agrees n k j z
-  agree {n} r none = record { left = n; count = omega arith; run = r }
+  agree {n} r no-move = record { left = n; count = omega arith; run = r }
   agree r (moves m ms) =
       let a = after-move r m in
       let b = agree (a .run) ms in

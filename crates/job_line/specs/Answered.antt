@@ -22,7 +22,7 @@ use Rattle.job_line.specs.Log.{Logged, moves-logged, Has, has?, has-answ
 
 -- one event a move
 pub log-length : (j : List ℕ) {n : ℕ} {l k : List (Item Runner)} (ms : Moves (jobTasks j) n l k) → length (log j ms) ≡ n
-log-length j Moves.none = refl
+log-length j Moves.no-move = refl
 log-length j (Moves.moves m ms) = ap suc (log-length j ms)
 
 module _ (j : List ℕ) (acc : Accepted j) (m : ℕ) (end : stackOf (run m j) ≡ []) where

@@ -27,16 +27,16 @@ module _ (j : List ℕ) where
   walkEvent (Walk.finds w) = walkEvent w
 
   abbrev pub log : {n : ℕ} {l k : List (Item Runner)} → Moves (jobTasks j) n l k → List Event
-  log Moves.none = []
+  log Moves.no-move = []
   log (Moves.moves m ms) = walkEvent (m .walk) ∷ log ms
 
   -- one move more, and its event behind the others
   pub one-more : {n : ℕ} {l k i : List (Item Runner)} → Moves (jobTasks j) n l k → Move (jobTasks j) k i → Moves (jobTasks j) (suc n) l i
-  one-more Moves.none m = Moves.moves m Moves.none
+  one-more Moves.no-move m = Moves.moves m Moves.no-move
   one-more (Moves.moves a ms) m = Moves.moves a (one-more ms m)
 
   pub more-log : {n : ℕ} {l k i : List (Item Runner)} (ms : Moves (jobTasks j) n l k) (m : Move (jobTasks j) k i)
       → log (one-more ms m) ≡ log ms ++ (walkEvent (m .walk) ∷ [])
   unfolding one-more
-  more-log Moves.none m = refl
+  more-log Moves.no-move m = refl
   more-log (Moves.moves a ms) m = ap (λ (es : List Event). walkEvent (a .walk) ∷ es) (more-log ms m)

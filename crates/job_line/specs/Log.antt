@@ -93,7 +93,7 @@ module _ (j : List ℕ) (es : List Event) (u : Runner) (a : Event) (made : a .na
 module _ (j : List ℕ) (acc : Accepted j) where
   all-logged : {n : ℕ} {l k : List (Item Runner)} (es : List Event) → All (Standing j) l → Logged l es → (ms : Moves (jobTasks j) n l k)
       → Logged k (es ++ log j ms)
-  all-logged {l = l} es st h Moves.none = subst (Logged l) (sym (append-nil es)) h
+  all-logged {l = l} es st h Moves.no-move = subst (Logged l) (sym (append-nil es)) h
   all-logged {k = k} es st h (Moves.moves m ms) =
       let a = walkEvent j (m .walk) in
       let c = walk-moved j acc st (m .walk) in

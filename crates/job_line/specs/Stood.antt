@@ -72,7 +72,7 @@ module _ (j : List ℕ) (acc : Accepted j) where
   start-stands = (begin-stands j acc .0, tt)
 
   all-stand : {n : ℕ} {l k : List (Item Runner)} → All (Standing j) l → Moves (jobTasks j) n l k → All (Standing j) k
-  all-stand h Moves.none = h
+  all-stand h Moves.no-move = h
   all-stand h (Moves.moves m ms) = all-stand (stand-kept j (walk-moved h (m .walk) .replaces) h) ms
 
   pub moves-stand : {n : ℕ} {l : List (Item Runner)} (ms : Moves (jobTasks j) n start l) (u : Runner) → Unfinished u l → Stands j (u .task)

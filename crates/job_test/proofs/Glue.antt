@@ -24,8 +24,8 @@ pub few : (j : List ℕ) (p a : ℕ) {m : ℕ} → entryHolds j p a ≡ true →
 few j p a {m} e q = let w = entry-says j p a e .2 in omega (arith, w)
 
 -- and, where all hold, at least one
-pub some : (j : List ℕ) (p : ℕ) {n : ℕ} → contentsHold j ≡ true → n ≡ procedures j → p < n → 0 < count j p
-some j p {n} e q h = let w = contents-say j e p (rw q at h) .some in omega (arith, w)
+pub some-instruction : (j : List ℕ) (p : ℕ) {n : ℕ} → contentsHold j ≡ true → n ≡ procedures j → p < n → 0 < count j p
+some-instruction j p {n} e q h = let w = contents-say j e p (rw q at h) .some in omega (arith, w)
 
 -- the two fields of an instruction s that was read
 module _ (j : List ℕ) (r n : ℕ) {s t : Instruction} {b : Bool} (e : s ≡ t) (w : b ≡ whichHolds j r (rowOf (s .operation)) (s .which)) where

@@ -155,23 +155,23 @@ module _ (m : List ℕ) (ys zs : List Item) (s : Task) (r : Represents m (ys ++ 
 
     -- THE TASK HAS NO RIGHT, so no views
     module _ (no-right : usesIn m q t ≡ false) where
-      none : Vacant Q t
-      none = way .bare q small t no-right
+      no-views : Vacant Q t
+      no-views = way .bare q small t no-right
 
       vacant-allowed : syncs n t q ≡ true
       vacant-allowed =
-          sync-test n t q (task-unfinished m ys zs s r .0) small ∙ ap (λ (x : Extent). reduces x (viewIn n q USER t)) (C ∙ none .0)
+          sync-test n t q (task-unfinished m ys zs s r .0) small ∙ ap (λ (x : Extent). reduces x (viewIn n q USER t)) (C ∙ no-views .0)
 
       vacant-syncable : Syncs n t q (holder q)
       vacant-syncable =
           record {
-            tailed = subst Tailed (sym (U ∙ none .1)) tt;
-            links = subst (λ (x : Extent). Links n q (holder q) x (viewIn n q USER t)) (sym (C ∙ none .0)) tt;
+            tailed = subst Tailed (sym (U ∙ no-views .1)) tt;
+            links = subst (λ (x : Extent). Links n q (holder q) x (viewIn n q USER t)) (sym (C ∙ no-views .0)) tt;
           }
 
       vacant-done : Becomes n (syncedQueue n t q) (meaningOf n)
       vacant-done =
-          becomes-as (vacant-synced (meaningOf n) q (holder q) t (C ∙ none .0) (U ∙ none .1))
+          becomes-as (vacant-synced (meaningOf n) q (holder q) t (C ∙ no-views .0) (U ∙ no-views .1))
           (queue-synced n t q (holder q) (way .sized) (task-unfinished m ys zs s r .0) small vacant-syncable)
 
       vacant-turned : Turn m n (syncedQueue n t q) q (line q) (holder q)

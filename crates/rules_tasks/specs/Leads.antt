@@ -41,13 +41,13 @@ module _ (c : Contents) (r : TaskRules c) where
   -- how far t is below the top
   data Depth : ℕ → ℕ → Type 0 where
     top : {d t : ℕ} → t ≡ 0 → d ≡ 0 → Depth d t
-    under : {d t : ℕ} (i p : ℕ) → Child c p t → Depth i p → d ≡ suc i → Depth d t
+    deeper : {d t : ℕ} (i p : ℕ) → Child c p t → Depth i p → d ≡ suc i → Depth d t
 
   depth-most : (d t k : ℕ) → Depth d t → walk (λ x. word c x PARENT) k t ≡ 0 → d ≤ k
   unfolding walk
   depth-most d t k (top a b) e = omega (arith, b)
-  depth-most d t zero (under i p h w q) e = absurd (h .0 e)
-  depth-most d t (suc k) (under i p h w q) e =
+  depth-most d t zero (deeper i p h w q) e = absurd (h .0 e)
+  depth-most d t (suc k) (deeper i p h w q) e =
       let a = depth-most i p k w (ap (walk (λ x. word c x PARENT) k) (sym (h .1 .1)) ∙ e) in omega (arith, a, q)
 
   depth-few : (d t : ℕ) → Holder c t → Depth d t → d ≤ 127
@@ -67,7 +67,7 @@ module _ (c : Contents) (r : TaskRules c) where
       (λ g.
       let w = holder-child t h g in
       let f = depth-from k (word c t PARENT) (inr (r .parents t _ w)) e in
-      (suc (f .0), under (f .0) (word c t PARENT) w (f .1) refl))
+      (suc (f .0), deeper (f .0) (word c t PARENT) w (f .1) refl))
       (eq-zero-or-pos t)
 
   depth : (t : ℕ) → Holder c t → (d : ℕ) × Depth d t
@@ -100,7 +100,7 @@ module _ (c : Contents) (r : TaskRules c) where
       ⊎-elim
       (λ q. (suc (lead .0), met-none c (lead .0) t (holder-below c t h) q (lead .1)))
       (λ k.
-      let through : (u : ℕ) → Child c t u → Leads (128 + u) → Leads u = λ u g. passes n (suc d) u (under d t g w refl) (omega (arith, l)) (inr (g .1 .0)) in
+      let through : (u : ℕ) → Child c t u → Leads (128 + u) → Leads u = λ u g. passes n (suc d) u (deeper d t g w refl) (omega (arith, l)) (inr (g .1 .0)) in
       let m = r .no-sibling-ring _ t (k .0) in
       let f = through (word c t YOUNGEST) (k .0) (siblings t lead through (m .0) (word c t YOUNGEST) (k .0) (m .2)) in
       (suc (f .0), met-child c (f .0) t (holder-below c t h) (k .1) (f .1)))
@@ -108,9 +108,9 @@ module _ (c : Contents) (r : TaskRules c) where
 
   leaves : (d t : ℕ) → Depth d t → Leads (128 + t)
   leaves d t (top a b) = (1, ap (λ (x : ℕ). treeTest c 1 (128 + x)) a ∙ tree-last c)
-  leaves d t (under i p h w q) =
+  leaves d t (deeper i p h w q) =
       let m = r .no-sibling-ring t p h in
-      siblings p (leaves i p w) (λ u g. passes 128 (suc i) u (under i p g w refl) (omega arith) (inr (g .1 .0))) (m .0) t h (m .2)
+      siblings p (leaves i p w) (λ u g. passes 128 (suc i) u (deeper i p g w refl) (omega arith) (inr (g .1 .0))) (m .0) t h (m .2)
 
   pub left-leads : (t : ℕ) → Holder c t → Leads (128 + t)
   left-leads t h = let w = depth t h in leaves (w .0) t (w .1)

@@ -20,9 +20,9 @@ module _ (c : Contents) (idle : Idle c) (e : treeTest c (count c) 0 ≡ true) wh
   abbrev Visited : ℕ → Type 0
   Visited = Visit c idle e
 
-  some : (j x : ℕ) → treeTest c j x ≡ true → 0 < j
-  some zero x f = absurd (tree-none c x f)
-  some (suc j) x f = omega arith
+  some-left : (j x : ℕ) → treeTest c j x ≡ true → 0 < j
+  some-left zero x f = absurd (tree-none c x f)
+  some-left (suc j) x f = omega arith
 
   -- the parent of a task that is met
   pub parent-visit : (t : ℕ) → (v : Visited t) → 0 < t → (w : Visited (word c t PARENT)) × (v .met < w .met) × Holder c (word c t PARENT)
@@ -81,7 +81,7 @@ module _ (c : Contents) (idle : Idle c) (e : treeTest c (count c) 0 ≡ true) wh
 
       last : word c t OLDER ≡ NONE → treeTest c j (128 + word c t PARENT) ≡ true → Ends (suc j) t
       last q g =
-          let a = some j (128 + word c t PARENT) g in
+          let a = some-left j (128 + word c t PARENT) g in
           record { steps = 1; few = omega (arith, a); end = q; later = j; order = omega arith; parent = g }
 
       more : (i : ℕ) → i < j → Kin c (word c t OLDER) (word c t PARENT) t → Ends i (word c t OLDER) → Ends (suc j) t
@@ -98,7 +98,7 @@ module _ (c : Contents) (idle : Idle c) (e : treeTest c (count c) 0 ≡ true) wh
           }
 
   ends : (n j t : ℕ) → j ≤ n → 0 < t → Visited t → treeTest c j (128 + t) ≡ true → Ends j t
-  ends zero j t l h v f = let a = some j (128 + t) f in let z : ⊥ = omega (arith, a, l) in absurd z
+  ends zero j t l h v f = let a = some-left j (128 + t) f in let z : ⊥ = omega (arith, a, l) in absurd z
   ends (suc n) j t l h v f = go j l f (λ i u o g w k. ends n i u o g w k)
     where
       go : (j : ℕ) → j ≤ suc n → treeTest c j (128 + t) ≡ true
@@ -128,7 +128,7 @@ module _ (c : Contents) (idle : Idle c) (e : treeTest c (count c) 0 ≡ true) wh
   unfolding walk
   rises-none t v q =
       let a = v .most in
-      let b = some (v .left) (128 + t) (v .leaves) in
+      let b = some-left (v .left) (128 + t) (v .leaves) in
       record { steps = 0; few = omega (arith, a, b); end = q }
 
   rises : (n t : ℕ) → (v : Visited t) → count c ≤ v .met + n → Rises t v

@@ -3,13 +3,13 @@ use mathlib.Core.Path.{_≡_, refl}
 use mathlib.Core.List.{List, [], _∷_, _++_}
 use Prim.Native.Char.{code}
 use Prim.Native.Nat.{ℕ, zero, suc, _+_, _/_, _%_}
-use Prim.Native.String.{String, [] as none, _∷_ as _then_}
+use Prim.Native.String.{String, [] as nothing, _∷_ as _then_}
 use lib.Dec.{ltb}
 use Rattle.words.specs.Words.{pick}
 
 -- the codes of a text's characters, which are its bytes where each is below 128
 unfoldable pub ascii : String → List ℕ
-ascii none = []
+ascii nothing = []
 ascii (c then s) = code c ∷ ascii s
 
 -- the digits of n, where n is below f

@@ -13,13 +13,13 @@ use Rattle.view_events.specs.Place.{placing, answered}
 use Rattle.view_events.specs.Place.Placed.{placed, wrong}
 use Rattle.view_events.specs.Parts.{number-at}
 
-none : (d : List ℕ) → answered 0 d ≡ wrong
+answered-wrong : (d : List ℕ) → answered 0 d ≡ wrong
 unfolding answered
-none d = halt _ _ (eq-eqb 0 0 refl)
+answered-wrong d = halt _ _ (eq-eqb 0 0 refl)
 
-some : (k : ℕ) (d : List ℕ) → answered (k + 1) d ≡ placed (k + 1) d
+answered-placed : (k : ℕ) (d : List ℕ) → answered (k + 1) d ≡ placed (k + 1) d
 unfolding answered
-some k d = pass _ (ne-eqb (k + 1) 0 (λ e. omega (arith, e))) refl
+answered-placed k d = pass _ (ne-eqb (k + 1) 0 (λ e. omega (arith, e))) refl
 
 module _ (m : List ℕ) (d : List ℕ) (s k : ℕ) where
   abbrev n : ℕ
@@ -33,14 +33,14 @@ module _ (m : List ℕ) (d : List ℕ) (s k : ℕ) where
 
   pub place-far : (d' : List ℕ) → k < n → n ≤ s → answered 0 d' ≡ placing c (n - k) s k d
   unfolding placing
-  place-far d' h l = none d' ∙ sym (left h ∙ far (n - (k + 1)))
+  place-far d' h l = answered-wrong d' ∙ sym (left h ∙ far (n - (k + 1)))
     where
       far : (j : ℕ) → placing c (suc j) s k d ≡ wrong
       far j = pass _ (le-ltb s (c .number) (rw (number-at m) at l)) refl
 
   pub place-again : (d' : List ℕ) → k < n → s < n → (getD d s 0 ≡ 0 → ⊥) → answered 0 d' ≡ placing c (n - k) s k d
   unfolding placing load
-  place-again d' h l q = none d' ∙ sym (left h ∙ again (n - (k + 1)))
+  place-again d' h l q = answered-wrong d' ∙ sym (left h ∙ again (n - (k + 1)))
     where
       again : (j : ℕ) → placing c (suc j) s k d ≡ wrong
       again j = halt _ _ (lt-ltb s (c .number) (rw (number-at m) at l)) ∙ pass _ (ne-eqb _ _ q) refl
@@ -54,10 +54,10 @@ module _ (m : List ℕ) (d : List ℕ) (s k : ℕ) where
 
     pub place-last : b ≡ NONE → answered (k + 1) (set d s 1) ≡ placing c (n - k) s k d
     unfolding store
-    place-last e = some k _ ∙ sym (left h ∙ here (n - (k + 1)) ∙ halt _ _ (eq-eqb _ _ (sym behind ∙ e)))
+    place-last e = answered-placed k _ ∙ sym (left h ∙ here (n - (k + 1)) ∙ halt _ _ (eq-eqb _ _ (sym behind ∙ e)))
 
     pub place-empty : (d' : List ℕ) → (b ≡ NONE → ⊥) → part c s 1 ≡ 0 → answered 0 d' ≡ placing c (n - k) s k d
-    place-empty d' e z = none d' ∙ sym (left h ∙ here (n - (k + 1)) ∙ pass _ (ne-eqb _ _ (λ q. e (behind ∙ q))) (halt _ _ (eq-eqb _ _ z)))
+    place-empty d' e z = answered-wrong d' ∙ sym (left h ∙ here (n - (k + 1)) ∙ pass _ (ne-eqb _ _ (λ q. e (behind ∙ q))) (halt _ _ (eq-eqb _ _ z)))
 
     pub place-more : (b ≡ NONE → ⊥) → (part c s 1 ≡ 0 → ⊥) → placing c (n - (k + 1)) b (k + 1) (set d s 1) ≡ placing c (n - k) s k d
     unfolding store
@@ -66,7 +66,7 @@ module _ (m : List ℕ) (d : List ℕ) (s k : ℕ) where
         ∙ sym (left h ∙ here (n - (k + 1)) ∙ pass _ (ne-eqb _ _ (λ q. e (behind ∙ q))) (pass _ (ne-eqb _ _ z) refl))
 
   pub place-out : (d' : List ℕ) → n ≤ k → answered 0 d' ≡ placing c (n - k) s k d
-  place-out d' h = none d' ∙ sym (ap (λ (j : ℕ). placing c j s k d) (let z : n - k ≡ 0 = omega arith in z) ∙ out)
+  place-out d' h = answered-wrong d' ∙ sym (ap (λ (j : ℕ). placing c j s k d) (let z : n - k ≡ 0 = omega arith in z) ∙ out)
     where
       out : placing c 0 s k d ≡ wrong
       out = unfold placing in refl

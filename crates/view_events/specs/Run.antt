@@ -22,8 +22,8 @@ unfoldable pub raised : List ℕ → ℕ → ℕ → List ℕ
 raised w k v = store w k ((load w k + v) % 2 ^ 32)
 
 -- the four words from a on are 1
-unfoldable pub ones : List ℕ → ℕ → Bool
-ones w a = both (eqb (load w a) 1) (both (eqb (load w (a + 1)) 1) (both (eqb (load w (a + 2)) 1) (eqb (load w (a + 3)) 1)))
+unfoldable pub fourOnes : List ℕ → ℕ → Bool
+fourOnes w a = both (eqb (load w a) 1) (both (eqb (load w (a + 1)) 1) (both (eqb (load w (a + 2)) 1) (eqb (load w (a + 3)) 1)))
 
 module _ (c : Contents) where
   -- a segment with a next is not empty
@@ -32,7 +32,7 @@ module _ (c : Contents) where
 
   -- at the end: the order of each queue is right, each queue view was met, each segment placed, each chain has its tail
   unfoldable pub whole : List ℕ → Bool
-  whole w = both (ones w 0) (both (ones w 4) (both (eqb (load w 8) (c .number)) (eqb (load w 9) (load w 10))))
+  whole w = both (fourOnes w 0) (both (fourOnes w 4) (both (eqb (load w 8) (c .number)) (eqb (load w 9) (load w 10))))
 
   unfoldable pub run : List Event → List ℕ → List ℕ → List ℕ → Bool
   run [] d f w = whole w

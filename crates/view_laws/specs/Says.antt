@@ -19,7 +19,7 @@ use Rattle.rules.specs.Test.{chains}
 use Rattle.rules_views.specs.Marks.{yes-no}
 use Rattle.view_events.specs.Events.{Event}
 use Rattle.view_events.specs.Events.Event.{entry, owner, order, tail, head}
-use Rattle.view_events.specs.Run.{ones, whole, run, raised}
+use Rattle.view_events.specs.Run.{fourOnes, whole, run, raised}
 use Rattle.view_laws.specs.Good.{Good, Queued, allowed, orderFrom, ownersOf, tailsOf, headsOf}
 use Rattle.view_laws.specs.State.{Reads, reads-order, reads-owner, reads-tail, reads-head}
 use Rattle.view_laws.specs.Conses.{same-good, same-back, no-owner, no-order, no-tail, no-head, add-entry, off-entry, add-owner, off-owner, add-order}
@@ -27,8 +27,8 @@ use Rattle.view_laws.specs.Conses.{off-order}
 use Rattle.view_laws.specs.Ends.{segs, add-head, off-head, add-tail, off-tail}
 
 -- the end: four words of the state
-ones-says : (w : List ℕ) (k : ℕ) → ones w k ≡ true → (q : ℕ) → q < 4 → load w (k + q) ≡ 1
-unfolding ones
+ones-says : (w : List ℕ) (k : ℕ) → fourOnes w k ≡ true → (q : ℕ) → q < 4 → load w (k + q) ≡ 1
+unfolding fourOnes
 ones-says w k e q l =
     let x = both-true _ _ e in
     let y = both-true _ _ (x .1) in
@@ -39,8 +39,8 @@ ones-says w k e q l =
     (λ n2. ap (λ (j : ℕ). load w (k + j)) (let j : q ≡ 3 = omega (arith, l, n0, n1, n2) in j) ∙ eqb-true _ _ (z .1))
     (equal? q 2)) (equal? q 1)) (equal? q 0)
 
-says-ones : (w : List ℕ) (k : ℕ) → ((q : ℕ) → q < 4 → load w (k + q) ≡ 1) → ones w k ≡ true
-unfolding ones
+says-ones : (w : List ℕ) (k : ℕ) → ((q : ℕ) → q < 4 → load w (k + q) ≡ 1) → fourOnes w k ≡ true
+unfolding fourOnes
 says-ones w k f =
     true-both (eq-eqb _ _ (ap (load w) (let j : k ≡ k + 0 = omega arith in j) ∙ f 0 (omega arith)))
     (true-both (eq-eqb _ _ (f 1 (omega arith))) (true-both (eq-eqb _ _ (f 2 (omega arith))) (eq-eqb _ _ (f 3 (omega arith)))))

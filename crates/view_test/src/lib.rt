@@ -7,7 +7,7 @@ ghost use Rattle.layout.specs.Layout.{NONE, CHILDREN, USER, RIGHT};
 ghost use Rattle.rules.specs.Contents.{decode};
 ghost use Rattle.rules.specs.Test.{viewTests};
 ghost use Rattle.view_events.specs.Events.{queuesAt, kindAt, eventsAt, events};
-ghost use Rattle.view_events.specs.Run.{ones, whole, run};
+ghost use Rattle.view_events.specs.Run.{fourOnes, whole, run};
 ghost use Rattle.view_events.specs.Walk.{Marks};
 ghost use Rattle.view_events.specs.Groups.{Blank};
 ghost use Rattle.view_events.specs.Does.{Ready, Does, DoesHeads};
@@ -147,7 +147,7 @@ fn mark(d: &mut [u8; 256], f: &mut [u8; 256], w: &mut [u32; 12], m: &[u32], x: u
 // The four words of the state from a on are 1.
 fn ones(w: &[u32; 12], a: usize) -> bool
     requires { ⌜ a < 9 ⌝ }
-    ensures { λ b. ⌜ b ≡ ones (now (w .entry)) a ⌝ }
+    ensures { λ b. ⌜ b ≡ fourOnes (now (w .entry)) a ⌝ }
 {
     if w[a] != 1 {
         return false;

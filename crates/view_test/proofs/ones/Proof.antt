@@ -1,4 +1,4 @@
-use Rattle.view_events.specs.Run.{ones}
+use Rattle.view_events.specs.Run.{fourOnes}
 use Rattle.words.specs.Words.{load, both-on, both-off}
 use borrow.Author.Tests.{eq-eqb, ne-eqb}
 use mathlib.Core.Path.{sym, _∙_}
@@ -13,7 +13,7 @@ element-copy-out-if1 : tie.Need-element-copy-out-if1
 element-copy-out-if1 c = search needs
 
 returns : tie.Need-returns
-unfolding ones load
+unfolding fourOnes load
 returns c = sym (both-off _ (ne-eqb _ _ (c .if1 .taken)))
 
 add-if2 : tie.Need-add-if2
@@ -26,7 +26,7 @@ element-copy-out-if2 : tie.Need-element-copy-out-if2
 element-copy-out-if2 c = search needs
 
 returns-2 : tie.Need-returns-2
-unfolding ones load
+unfolding fourOnes load
 returns-2 c = sym (both-on (eq-eqb _ _ (c .before .before .if1 .left)) ∙ both-off _ (ne-eqb _ _ (c .if2 .taken)))
 
 add-if3 : tie.Need-add-if3
@@ -39,7 +39,7 @@ element-copy-out-if3 : tie.Need-element-copy-out-if3
 element-copy-out-if3 c = search needs
 
 returns-3 : tie.Need-returns-3
-unfolding ones load
+unfolding fourOnes load
 returns-3 c =
     sym (both-on (eq-eqb _ _ (c .before .before .before .before .if1 .left)) ∙ both-on (eq-eqb _ _ (c .before .before .if2 .left))
     ∙ both-off _ (ne-eqb _ _ (c .if3 .taken)))
@@ -54,7 +54,7 @@ element-copy-out-result : tie.Need-element-copy-out-result
 element-copy-out-result c = search needs
 
 returns-4 : tie.Need-returns-4
-unfolding ones load
+unfolding fourOnes load
 returns-4 c =
     sym (both-on (eq-eqb _ _ (c .before .before .before .before .before .if1 .left)) ∙ both-on (eq-eqb _ _ (c .before .before .before .if2 .left))
     ∙ both-on (eq-eqb _ _ (c .before .if3 .left)))
