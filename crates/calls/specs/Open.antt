@@ -1,10 +1,12 @@
 -- open (length, segments)
-use mathlib.Core.Bool.{not}
+use mathlib.Core.Path.{_≡_, refl, ap, sym}
+use mathlib.Core.Bool.{Bool, true, false, not}
 use mathlib.Core.List.{List, [], _∷_}
 use Prim.Native.Nat.{ℕ, zero, suc, _-_}
 use lib.Dec.{eqb}
 use lib.ListN.{replicate}
-use Rattle.words.specs.Words.{size, pick}
+use borrow.Author.Tests.{eq-eqb}
+use Rattle.words.specs.Words.{size, pick, pass}
 use Rattle.words.specs.Blocks.{storeAll}
 use Rattle.layout.specs.Layout.{WORDS, NONE, NL, UNFINISHED, freeSegment, freeTask, segment, task, address}
 use Rattle.answers.specs.declared.Answer.the-variants.{Moved, Refused}
@@ -54,3 +56,9 @@ openOutcome m l n =
     pick (not (eqb (size m) WORDS)) (outcome (Refused 1) m)
     (pick (not (inRange l n)) (outcome (Refused 3) m)
     (outcome (Moved 0) (opened l n)))
+
+-- "opening may find any words in the lent memory": it leaves nothing of them
+pub open-forgets : (m w : List ℕ) (l n : ℕ) → size m ≡ WORDS → size w ≡ WORDS → inRange l n ≡ true → openOutcome m l n ≡ openOutcome w l n
+unfolding openOutcome
+open-forgets m w l n a b e =
+    let inside = ap not e in pass _ (ap not (eq-eqb _ _ a)) (pass _ inside (sym (pass _ (ap not (eq-eqb _ _ b)) (pass _ inside refl))))

@@ -1,8 +1,8 @@
 -- The core opens for every accepted job: its segment length, and the number of segments that goes with it, are in range.
 use mathlib.Core.Path.{_≡_, refl}
-use mathlib.Core.Bool.{Bool, true}
+use mathlib.Core.Bool.{Bool, true, false, not}
 use mathlib.Core.List.{List}
-use Prim.Native.Nat.{ℕ}
+use Prim.Native.Nat.{ℕ, _+_}
 use native.Mathlib.Omega.{arith}
 use Rattle.words.specs.Words.{pick, both}
 use Rattle.lists.specs.Tests.{upto, upto-says}
@@ -11,7 +11,10 @@ use Rattle.answers.specs.declared.Answer.the-variants.{Moved}
 use Rattle.job.specs.Fields.{segmentLength}
 use Rattle.job.specs.Test.{jobAnswer}
 use Rattle.job.specs.Accepted.{accepted}
-use Rattle.runner.specs.Open.{segmentsFor}
+use Rattle.runner.specs.declared.StepAnswer.the-variants.{Moved as Went, Refused}
+use Rattle.runner.specs.Answers.{Outcome, outcome, answerOf}
+use Rattle.runner.specs.Rules.{refused, jobTested}
+use Rattle.runner.specs.Open.{segmentsFor, jobOpened, openOutcome}
 
 -- a segment length with its number of segments
 abbrev fitting : ℕ → Bool
@@ -22,6 +25,11 @@ each-fits : upto fitting 64 1 ≡ true
 unfolding upto inRange within both pick segmentsFor
 each-fits = refl
 
+-- "the smaller of 256 and 8,192 divided by L, rounded down": with a segment more, none opens
+each-most : upto (λ l. not (inRange l (segmentsFor l + 1))) 64 1 ≡ true
+unfolding upto inRange within both pick segmentsFor
+each-most = refl
+
 -- refusal 3 cannot arise
 pub in-range : (j : List ℕ) → jobAnswer j ≡ Moved 0 → inRange (segmentLength j) (segmentsFor (segmentLength j)) ≡ true
 in-range j e =
@@ -29,3 +37,16 @@ in-range j e =
     let low = a .segmentSome in
     let high = a .segmentFew in
     upto-says fitting 64 1 each-fits (segmentLength j) low (omega (arith, high))
+
+-- a test that an opening which moves has passed
+passed : (b : Bool) (k : ℕ) (m r : List ℕ) (o p : Outcome) → (answerOf o ≡ Went → o ≡ p)
+    → answerOf (pick b (outcome (Refused k) m r) o) ≡ Went → pick b (outcome (Refused k) m r) o ≡ p
+unfolding pick answerOf
+passed true k m r o p f e = let z : _≡_ {A = ℕ} 0 1 = cc in absurd (omega (arith, z))
+passed false k m r o p f e = f e
+
+-- "opening may find any words in the lent memory": where it moves, it leaves what the job alone says, and nothing of them
+pub open-forgets : (j m r : List ℕ) → answerOf (openOutcome j m r) ≡ Went → openOutcome j m r ≡ jobOpened j
+unfolding openOutcome jobTested refused
+open-forgets j m r =
+    passed _ 1 m r _ _ (passed _ 1 m r _ _ (passed _ 10 m r _ _ (passed _ 11 m r _ _ (passed _ 12 m r _ _ (λ e. refl)))))
