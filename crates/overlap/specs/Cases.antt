@@ -12,21 +12,25 @@ use Rattle.answers.specs.Answers.{answerOf as coreAnswer, wordsOf, statusOf as 
 use Rattle.tree.specs.Rights.{bits, pushes, pops, uses, eachQueue, someQueue, sharesPop, subset}
 use Rattle.tree.specs.Tour.{leaving, entering, after, tour, met, seek, sibling, oldest}
 use Rattle.rules.specs.Contents.{segmentOf, tables, look, scan, word, part, locals, heads, tails, owners}
-use Rattle.rules.specs.Test.{within, inRange, topTest, idleTest, kin, linkTest, treeTest, viewWord, viewsTest, marked, passed, passedAt, orderAt, orderOf, orderTest, ownersTest, segmentTest, chain, chains, heldTest, viewTests, test, rulesHold}
+use Rattle.rules.specs.Test.{within, inRange, topTest, idleTest, kin, linkTest, treeTest, viewWord, viewsTest, marked, passed, passedAt, orderAt, orderOf}
+use Rattle.rules.specs.Test.{orderTest, ownersTest, segmentTest, chain, chains, heldTest, viewTests, test, rulesHold}
 use Rattle.calls.specs.Open.{down, stacked, segmented, topped, opened}
 use Rattle.calls.specs.Segments.{place, valueAt, stored, dropped, noneFree, nextFree, taken, released, indexOf, headIndex, linkedBy, renamed, linked}
-use Rattle.calls.specs.Views.{viewOf, isEmpty, headOf, tailOf, reducible, frees, behind, reduced, setView, joined, merged, taskAt, kindAt, takesPart, standsAt, justBefore, returnedTo}
+use Rattle.calls.specs.Views.{viewOf, isEmpty, headOf, tailOf, reducible, frees, behind, reduced, setView, joined, merged, taskAt, kindAt, takesPart}
+use Rattle.calls.specs.Views.{standsAt, justBefore, returnedTo}
 use Rattle.calls.specs.Waits.{tested as coreTested, rightsOf, unfinished, blocked, childPops, hasChild, pusherBefore}
 use Rattle.calls.specs.Spawn.{forQueues, passedUser, passedQueue, keptUser, keptQueue, childViews, passedOn, childMade, spawned, spawnTested}
 use Rattle.calls.specs.Push.{pushedApart, pushedBehind, pushed, pushTested}
 use Rattle.calls.specs.Find.{hasValue, finding, popped, popGives, testGives, popAllowed, popTested, testTested}
 use Rattle.calls.specs.Sync.{syncs, syncedQueue, synced, whenReduced, syncTested}
-use Rattle.calls.specs.Finish.{returned, finishes, viewsReturned, heir, queueReturned, finishedQueue, unlinked, recordFreed, finished, topFinished, finishTested}
+use Rattle.calls.specs.Finish.{returned, finishes, viewsReturned, heir, queueReturned, finishedQueue, unlinked, recordFreed, finished, topFinished}
+use Rattle.calls.specs.Finish.{finishTested}
 use Rattle.calls.specs.Left.{queued, leftTested}
 use Rattle.job.specs.Fields.{bytes2, bytes4, procedures, segmentLength, offset, count, rights, reserved, instructionFrom, instructionAt}
 use Rattle.job.specs.Operations.{rowOf, operationOf, operationAt}
 use Rattle.job.specs.Effects.{sum, effect}
-use Rattle.job.specs.Test.{between, headHolds, refusal10, entryHolds, entriesHold, contentsHold, refusal11, whichHolds, operandHolds, fitting, instructionHolds, lastHolds, bodyHolds, refusal12}
+use Rattle.job.specs.Test.{between, headHolds, refusal10, entryHolds, entriesHold, contentsHold, refusal11, whichHolds, operandHolds, fitting}
+use Rattle.job.specs.Test.{instructionHolds, lastHolds, bodyHolds, refusal12}
 use Rattle.runner.specs.Words.{procedureOf, positionOf, registerOf, put, instructionFor}
 use Rattle.runner.specs.Answers.{answerWith, valueOf, statusOf, hasMoved, wordOf, answerOf, coreOf, runnerOf}
 use Rattle.runner.specs.Rules.{taskHolds, zeros, recordHolds, runnerHolds, refused, jobTested, tested}
@@ -52,5 +56,19 @@ abbrev pub lastText : List ℕ
 lastText = ascii "10 3 finished -\n11 0 moved -\n12 0 finished -\nleft 0 20\n"
 
 pub in-full : overlapText fullRun tasks ≡ callsText ++ lastText
-unfolding load store size pick both either storeAll rows one occurrences total each upto eachWord fresh distinct address read write recordOf coreAnswer wordsOf coreStatus coreValue bits pushes pops uses eachQueue someQueue sharesPop subset leaving entering after tour met seek sibling oldest segmentOf tables look scan word part locals heads tails owners within inRange topTest idleTest kin linkTest treeTest viewWord viewsTest marked passed passedAt orderAt orderOf orderTest ownersTest segmentTest chain chains heldTest viewTests test rulesHold down stacked segmented topped opened place valueAt stored dropped noneFree nextFree taken released indexOf headIndex linkedBy renamed linked viewOf isEmpty headOf tailOf reducible frees behind reduced setView joined merged taskAt kindAt takesPart standsAt justBefore returnedTo coreTested rightsOf unfinished blocked childPops hasChild pusherBefore forQueues passedUser passedQueue keptUser keptQueue childViews passedOn childMade spawned spawnTested pushedApart pushedBehind pushed pushTested hasValue finding popped popGives testGives popAllowed popTested testTested syncs syncedQueue synced whenReduced syncTested returned finishes viewsReturned heir queueReturned finishedQueue unlinked recordFreed finished topFinished finishTested queued leftTested bytes2 bytes4 procedures segmentLength offset count rights reserved instructionFrom instructionAt rowOf operationOf operationAt sum effect between headHolds refusal10 entryHolds entriesHold contentsHold refusal11 whichHolds operandHolds fitting instructionHolds lastHolds bodyHolds refusal12 procedureOf positionOf registerOf put instructionFor answerWith valueOf statusOf taskHolds zeros recordHolds runnerHolds refused jobTested tested segmentsFor jobOpened openOutcome callOf replyOf runnerAfter done replied coreOutcome repliedTo makes stepTested stepOutcome hasMoved answerOf coreOf runnerOf wordOf stepsFrom numberOf ascii digits decimal answerText printsValue valueText spaced ended line leftLine openLine endLine linesFrom numbered printed callLines leftAt isValue leftFrom leftIn valueLine queueLines unfinishedIn endText textFrom overlapText
+unfolding load store size pick both either storeAll rows one occurrences total each upto eachWord fresh distinct address read write recordOf coreAnswer
+    wordsOf coreStatus coreValue bits pushes pops uses eachQueue someQueue sharesPop subset leaving entering after tour met seek sibling oldest segmentOf
+    tables look scan word part locals heads tails owners within inRange topTest idleTest kin linkTest treeTest viewWord viewsTest marked passed passedAt
+    orderAt orderOf orderTest ownersTest segmentTest chain chains heldTest viewTests test rulesHold down stacked segmented topped opened place valueAt
+    stored dropped noneFree nextFree taken released indexOf headIndex linkedBy renamed linked viewOf isEmpty headOf tailOf reducible frees behind reduced
+    setView joined merged taskAt kindAt takesPart standsAt justBefore returnedTo coreTested rightsOf unfinished blocked childPops hasChild pusherBefore
+    forQueues passedUser passedQueue keptUser keptQueue childViews passedOn childMade spawned spawnTested pushedApart pushedBehind pushed pushTested
+    hasValue finding popped popGives testGives popAllowed popTested testTested syncs syncedQueue synced whenReduced syncTested returned finishes
+    viewsReturned heir queueReturned finishedQueue unlinked recordFreed finished topFinished finishTested queued leftTested bytes2 bytes4 procedures
+    segmentLength offset count rights reserved instructionFrom instructionAt rowOf operationOf operationAt sum effect between headHolds refusal10 entryHolds
+    entriesHold contentsHold refusal11 whichHolds operandHolds fitting instructionHolds lastHolds bodyHolds refusal12 procedureOf positionOf registerOf put
+    instructionFor answerWith valueOf statusOf taskHolds zeros recordHolds runnerHolds refused jobTested tested segmentsFor jobOpened openOutcome callOf
+    replyOf runnerAfter done replied coreOutcome repliedTo makes stepTested stepOutcome hasMoved answerOf coreOf runnerOf wordOf stepsFrom numberOf ascii
+    digits decimal answerText printsValue valueText spaced ended line leftLine openLine endLine linesFrom numbered printed callLines leftAt isValue leftFrom
+    leftIn valueLine queueLines unfinishedIn endText textFrom overlapText
 in-full = refl

@@ -7,7 +7,7 @@ use Rattle.answers.specs.declared.Answer.the-variants.{Moved as Gives, Refused 
 use Rattle.job.specs.Examples.{head, entry, ins, alone, fullRun, wrappedSpawn}
 use Rattle.runner.specs.declared.StepAnswer.the-variants.{Spawned, Pushed, Took, Finished, Moved, Empty, Waits, Refused}
 use Rattle.runner.specs.Ready.{noMap}
-use Rattle.runner_table.specs.Table.{step, map, left, lent, lentRunner, right}
+use Rattle.runner_table.specs.Table.{step, ready, left, lent, lentRunner, right}
 
 -- Four poppers of queue 0, each blocked by those before it: the first tests and pops an empty queue, the others begin with
 -- operations 7, 6 and 5.
@@ -51,34 +51,34 @@ five = 7 ∷ 7 ∷ 7 ∷ 7 ∷ 7 ∷ []
 
 -- THE READY MAP: the top alone, then the pushers 1 and 3 while 0 and 2 wait; not six words, which stay as they are
 pub maps : right fullRun
-    (map five (Refused 1) five ∷ map six Moved (1 ∷ 0 ∷ 0 ∷ 0 ∷ 1 ∷ 0 ∷ []) ∷ step 0 (Spawned 1) ∷ step 0 (Spawned 2) ∷ step 0 (Spawned 3)
-    ∷ map six Moved (10 ∷ 0 ∷ 0 ∷ 0 ∷ 2 ∷ 1 ∷ []) ∷ [])
+    (ready five (Refused 1) five ∷ ready six Moved (1 ∷ 0 ∷ 0 ∷ 0 ∷ 1 ∷ 0 ∷ []) ∷ step 0 (Spawned 1) ∷ step 0 (Spawned 2) ∷ step 0 (Spawned 3)
+    ∷ ready six Moved (10 ∷ 0 ∷ 0 ∷ 0 ∷ 2 ∷ 1 ∷ []) ∷ [])
     lent lentRunner ≡ true
 unfolding right
 maps = refl
 
 -- nobody is ready once all have finished
-pub no-more : right (alone 1 (ins 0 0 0 [])) (step 0 Finished ∷ map six Moved noMap ∷ []) lent lentRunner ≡ true
+pub no-more : right (alone 1 (ins 0 0 0 [])) (step 0 Finished ∷ ready six Moved noMap ∷ []) lent lentRunner ≡ true
 unfolding right
 no-more = refl
 
 -- REFUSALS of a step and of a map: 1 for either memory, 10, 11, 12
-pub short-core : right fullRun (step 0 (Refused 1) ∷ map six (Refused 1) noMap ∷ []) five lentRunner ≡ true
+pub short-core : right fullRun (step 0 (Refused 1) ∷ ready six (Refused 1) noMap ∷ []) five lentRunner ≡ true
 unfolding right
 short-core = refl
 
-pub short-runner : right fullRun (step 0 (Refused 1) ∷ map six (Refused 1) noMap ∷ []) lent five ≡ true
+pub short-runner : right fullRun (step 0 (Refused 1) ∷ ready six (Refused 1) noMap ∷ []) lent five ≡ true
 unfolding right
 short-runner = refl
 
-pub tens : right five (step 0 (Refused 10) ∷ map six (Refused 10) noMap ∷ []) lent lentRunner ≡ true
+pub tens : right five (step 0 (Refused 10) ∷ ready six (Refused 10) noMap ∷ []) lent lentRunner ≡ true
 unfolding right
 tens = refl
 
-pub elevens : right (head 1 1 (entry 10 1 3 (ins 0 0 0 []))) (step 0 (Refused 11) ∷ map six (Refused 11) noMap ∷ []) lent lentRunner ≡ true
+pub elevens : right (head 1 1 (entry 10 1 3 (ins 0 0 0 []))) (step 0 (Refused 11) ∷ ready six (Refused 11) noMap ∷ []) lent lentRunner ≡ true
 unfolding right
 elevens = refl
 
-pub twelves : right (alone 1 (ins 10 0 0 [])) (step 0 (Refused 12) ∷ map six (Refused 12) noMap ∷ []) lent lentRunner ≡ true
+pub twelves : right (alone 1 (ins 10 0 0 [])) (step 0 (Refused 12) ∷ ready six (Refused 12) noMap ∷ []) lent lentRunner ≡ true
 unfolding right
 twelves = refl

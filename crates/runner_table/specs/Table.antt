@@ -47,7 +47,7 @@ use Rattle.runner.specs.Ready.{readyBit, bitsFrom, wordsFor, lowestFrom, mapOf,
 -- a queue and an index
 pub data Row : Type 0 where
   step : ℕ → StepAnswer → Row
-  map : List ℕ → StepAnswer → List ℕ → Row
+  ready : List ℕ → StepAnswer → List ℕ → Row
   left : ℕ → ℕ → Answer → Row
 
 -- two answers have the same number and the same value
@@ -64,7 +64,7 @@ sameWords (x ∷ xs) (y ∷ ys) = let rest = sameWords xs ys in both (eqb x y) r
 unfoldable pub ran : List ℕ → List Row → List ℕ → List ℕ → Bool
 ran j [] m r = true
 ran j (step t a ∷ rest) m r = elim (stepOutcome j m r t) [ outcome b n s ↦ let more = ran j rest n s in both (sameAnswer b a) more ]
-ran j (map o a p ∷ rest) m r =
+ran j (ready o a p ∷ rest) m r =
     let more = ran j rest m r in
     elim (readyOutcome j m r o) [ mapped b q ↦ both (both (sameAnswer b a) (sameWords q p)) more ]
 ran j (left q i a ∷ rest) m r = let more = ran j rest m r in both (sameLeft (coreAnswer (leftOutcome m q i)) a) more
