@@ -5,11 +5,12 @@ use mathlib.Core.List.{List}
 use Prim.Native.Nat.{ℕ, _<_, _≤_}
 use native.Mathlib.Omega.{arith}
 use lib.Dec.{leb, eqb}
-use borrow.Author.Tests.{lt-ltb, le-ltb, le-leb, lt-leb, eq-eqb, ne-eqb, eqb-false}
+use borrow.Author.Tests.{lt-ltb, le-ltb, le-leb, lt-leb, eq-eqb, ne-eqb}
 use Rattle.words.specs.Words.{both, both-on, both-off, either, halt, pass, true-left}
 use Rattle.layout.specs.Layout.{NL, USER, RIGHTS, lengthWord, freeSegments, freeTasks, task, segment, head, tail, read}
 use Rattle.tree.specs.Rights.{subset, eachQueue}
 use Rattle.rules.specs.Views.{view}
+use Rattle.segments.proofs.Stack.{some-left}
 use Rattle.calls.specs.Segments.{noneFree, nextFree}
 use Rattle.calls.specs.Views.{viewOf, isEmpty, reducible, tailOf, taskAt, kindAt, justBefore}
 use Rattle.calls.specs.Waits.{rightsOf, hasChild}
@@ -53,11 +54,7 @@ module _ (m : List ℕ) (e : ℕ) {n k : ℕ} (en : n ≡ read m (segment e 1)) 
   free-room h eb = sym (pass _ (le-ltb _ _ (rw (en, ek) at h)) (ap not (sym eb)))
 
 pub some-free : (m : List ℕ) {b : Bool} → b ≡ noneFree m → b ≡ false → 0 < read m freeSegments
-unfolding noneFree
-some-free m e f = above (read m freeSegments) (eqb-false _ _ (sym e ∙ f))
-  where
-    above : (x : ℕ) → (x ≡ 0 → ⊥) → 0 < x
-    above x n = omega (arith, n)
+some-free m e f = some-left m (sym e ∙ f)
 
 module _ (m : List ℕ) (t q : ℕ) {h e : ℕ} {b : Bool} (ee : e ≡ read m (tail USER t q)) (eh : h ≡ read m (head USER t q)) (eb : b ≡ isEmpty (view h e)) where
   empty-same : b ≡ isEmpty (viewOf m q t USER)

@@ -125,10 +125,7 @@ found-value false false true v w e = let k = ap (tagOf the-type) e in let z : �
 found-value false false false v w e = let k = ap (tagOf the-type) e in let z : ⊥ = omega (arith, k) in absurd z
 
 counted : (x : ℕ) → not (eqb x 0) ≡ true → 0 < x
-counted x e = let n = eqb-false x 0 (not-true _ e) in ne-zero x n
-  where
-    ne-zero : (x : ℕ) → (x ≡ 0 → ⊥) → 0 < x
-    ne-zero x n = omega (arith, n)
+counted x e = let n = eqb-false x 0 (not-true _ e) in omega (arith, n)
 
 pub value-there : (m : List ℕ) (t q v : ℕ) {f : Finding} → f ≡ finding m t q → f ≡ Found v → 0 < read m (segment (read m (task t (16 + q))) 1)
 unfolding finding hasValue

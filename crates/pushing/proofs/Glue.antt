@@ -4,7 +4,7 @@ use mathlib.Core.Bool.{Bool, true, false, not}
 use mathlib.Core.List.{List}
 use Prim.Native.Nat.{ℕ, _+_, _*_, _<_, _≤_}
 use native.Mathlib.Omega.{arith}
-use borrow.Author.Tests.{lt-ltb, le-ltb, le-leb, lt-leb, eqb-false}
+use borrow.Author.Tests.{lt-ltb, le-ltb, le-leb, lt-leb}
 use Rattle.words.specs.Words.{size, halt, pass}
 use Rattle.layout.specs.Layout.{NL, CHILDREN, USER, RIGHT, RIGHTS, lengthWord, numberWord, freeSegments, count, segment, task, head, tail, read, write}
 use Rattle.answers.specs.declared.Answer.the-variants.{Moved, Waits, Refused}
@@ -12,6 +12,7 @@ use Rattle.answers.specs.Answers.{Outcome, outcome}
 use Rattle.tree.specs.Rights.{pushes}
 use Rattle.rules.specs.Views.{view}
 use Rattle.rules.specs.Test.{rulesHold}
+use Rattle.segments.proofs.Stack.{some-left}
 use Rattle.calls.specs.Segments.{stored, noneFree, nextFree, taken}
 use Rattle.calls.specs.Views.{viewOf, isEmpty, tailOf, reducible, setView, joined, taskAt, kindAt, justBefore}
 use Rattle.calls.specs.Waits.{rightsOf, unfinished, blocked}
@@ -50,14 +51,8 @@ behind m m1 m2 m3 t q v e s es e1 e2 e3 = ap (outcome (Moved v)) (e3 ∙ rw (e2,
 -- what the rules promise to a push
 module _ (m : List ℕ) (t q : ℕ) (big : size m ≡ 16384) (ok : rulesHold m ≡ true) (alive : unfinished m t ≡ true) (l : q < 4) where
   room : (noneFree m ≡ false) → (0 < read m freeSegments) × (nextFree m < read m numberWord)
-  unfolding noneFree nextFree
-  room e =
-      let n = eqb-false _ _ e in
-      let p : 0 < read m freeSegments = above (read m freeSegments) n in
-      (p, rules-sound m big ok .free-open _ (omega (arith, p)))
-    where
-      above : (x : ℕ) → (x ≡ 0 → ⊥) → 0 < x
-      above x n = omega (arith, n)
+  unfolding nextFree
+  room e = let p = some-left m e in (p, rules-sound m big ok .free-open _ (omega (arith, p)))
 
   pub can-take : {b : Bool} → b ≡ noneFree m → b ≡ false
       → (size m ≡ 16384) × (0 < read m freeSegments) × (nextFree m < read m numberWord) × (0 < read m lengthWord)

@@ -2,7 +2,7 @@
 use mathlib.Core.Path.{_≡_, refl, ap, sym, _∙_}
 use mathlib.Core.Bool.{false}
 use mathlib.Core.List.{List, [], _∷_}
-use Prim.Native.Nat.{ℕ, zero, suc, _+_, _-_, _*_, _<_, _≤_}
+use Prim.Native.Nat.{ℕ, suc, _+_, _-_, _*_, _<_, _≤_}
 use native.Mathlib.Omega.{arith}
 use lib.Dec.{eqb}
 use borrow.Author.Tests.{eqb-false, lt-ltb, le-ltb}
@@ -32,11 +32,7 @@ none-left m n e = ap (λ (k : ℕ). eqb k 0) e
 -- what a caller of next_free and take has to show, from what none_free answers
 pub some-left : (m : List ℕ) → noneFree m ≡ false → 0 < read m freeSegments
 unfolding noneFree
-some-left m e = positive (read m freeSegments) (eqb-false _ _ e)
-  where
-    positive : (n : ℕ) → (n ≡ 0 → ⊥) → 0 < n
-    positive zero h = absurd (h refl)
-    positive (suc n) h = omega arith
+some-left m e = let n = eqb-false (read m freeSegments) 0 e in omega (arith, n)
 
 pub top-of : (m : List ℕ) (n s : ℕ) → n ≡ read m freeSegments → s ≡ read m (freeSegment (n - 1)) → s ≡ nextFree m
 unfolding nextFree
