@@ -20,7 +20,7 @@ use Rattle.rules.specs.Test.{test, rulesHold}
 use Rattle.rules_segments.specs.Segments.{segments-say}
 use Rattle.rules_segments.specs.Tested.{segments-sound}
 use Rattle.rules_tasks.specs.Tasks.{tasks-say}
-use Rattle.rules_views.specs.Ends.{tails-fit}
+use Rattle.rules_views.specs.Ends.{heads-fit, tails-fit}
 use Rattle.rules_same.specs.Passed.{Passed, test-says, opening-says, toured}
 use Rattle.rules_same.specs.Same.{whole-tour}
 use Rattle.calls.specs.Waits.{unfinished}
@@ -58,7 +58,8 @@ module _ (m : List ℕ) where
     pub firsts : (s : ℕ) → s < read m numberWord → read m (first s) < read m lengthWord
     pub counts : (s : ℕ) → s < read m numberWord → read m (count s) ≤ read m lengthWord
     pub nexts : (s : ℕ) → s < read m numberWord → Link (read m numberWord) (read m (next s))
-    -- tails that are no marks: of the children, user and right views, 4 words each
+    -- heads and tails that are no marks: of the queue, children, user and right views, 4 words each
+    pub heads-open : (t i : ℕ) → Live t → i < 16 → read m (task t (16 + i)) < NL → read m (task t (16 + i)) < read m numberWord
     pub tails-open : (t i : ℕ) → Live t → i < 12 → read m (task t (32 + i)) < NL → read m (task t (32 + i)) < read m numberWord
     -- the stack of free segments
     pub free-height : read m freeSegments ≤ read m numberWord
@@ -107,6 +108,10 @@ module _ (m : List ℕ) where
         firsts = λ s l. let a = sound s l .first in let b = part-word m s 0 in omega (arith, a, b);
         counts = λ s l. let a = sound s l .count in let b = part-word m s 1 in omega (arith, a, b);
         nexts = λ s l. rw (part-word m s 2) at (sound s l .link);
+        heads-open = λ t i h l q.
+            let e = task-word t (16 + i) in
+            let a = heads-fit c xs v (g .1) t i (live-holder t h) l (omega (arith, e, q)) in
+            omega (arith, e, a);
         tails-open = λ t i h l q.
             let e = task-word t (32 + i) in
             let a = tails-fit c xs v (g .2) t i (live-holder t h) l (omega (arith, e, q)) in
