@@ -40,7 +40,7 @@ unfolding procedureOf positionOf registerOf
 zeros t = record { procedure = no-word (t * 3); position = no-word (t * 3 + 1); register = no-word (t * 3 + 2) }
 
 module _ (j : List ℕ) (e : jobAnswer j ≡ Moved 0) (w v : List ℕ) (sw : size w ≡ WORDS) (sv : size v ≡ RUNNER) where
-  opened-is : openOutcome j w v ≡ jobOpened j
+  pub opened-is : openOutcome j w v ≡ jobOpened j
   unfolding openOutcome
   opened-is = job-passes j w v e sw sv (jobOpened j)
 
