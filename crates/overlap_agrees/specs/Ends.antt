@@ -19,13 +19,13 @@ use Rattle.runner.specs.Words.{RUNNER}
 use Rattle.runner.specs.Answers.{Outcome, hasMoved, answerOf, coreOf, runnerOf}
 use Rattle.runner.specs.Open.{jobOpened, openOutcome}
 use Rattle.runner.specs.Run.{Steps, stepsFrom}
-use Rattle.any_order.specs.Statement.{Stand, fresh, afterCalls}
+use Rattle.any_order.specs.Statement.{fresh, afterCalls}
 use Rattle.any_order.specs.Fresh.{opened-is}
 use Rattle.any_order.specs.Fold.{same-words}
 use Rattle.any_order.specs.AnyOrder.{any-order}
 use Rattle.serial.specs.declared.End.the-variants.{Ended}
 use Rattle.serial_text.specs.Whole.{endText as lastLines}
-use Rattle.overlap_text.specs.Whole.{callLines, endText, textFrom, overlapText}
+use Rattle.overlap_text.specs.Whole.{callLines, textFrom, overlapText}
 use Rattle.overlap_text.specs.Left.{left-whole}
 
 -- the memories that the program lends

@@ -2,13 +2,6 @@ use Rattle.segments.proofs.Ring.{one-less}
 use borrow.Author.Needs.{needs}
 use Rattle.segments.proofs.drop_one.Statement.{statement}
 use Rattle.segments.proofs.drop_one.Tie as tie
-use Rattle.segments.proofs.drop_one.Reads as reads
-use Rattle.segments.proofs.drop_one.Lts as lts
-use Rattle.memory.proofs.header.Reads as header-reads
-use Rattle.memory.proofs.set_segment.Reads as set-segment-reads
-use Rattle.segment_record.proofs.with_one_less.Reads as with-one-less-reads
-use Rattle.segments.proofs.place.Reads as place-reads
-use Rattle.segments.proofs.read_record.Reads as read-record-reads
 
 read-record-requires : tie.Need-read-record-requires
 read-record-requires c κs = search needs

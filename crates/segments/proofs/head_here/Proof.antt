@@ -2,9 +2,6 @@ use Rattle.segments.proofs.Links.{head-elsewhere, head-tested}
 use borrow.Author.Needs.{needs}
 use Rattle.segments.proofs.head_here.Statement.{statement}
 use Rattle.segments.proofs.head_here.Tie as tie
-use Rattle.segments.proofs.head_here.Reads as reads
-use Rattle.segments.proofs.head_here.Lts as lts
-use Rattle.segments.proofs.head_index.Reads as head-index-reads
 
 returns : tie.Need-returns
 returns c = head-elsewhere _ _ _ (c .if1 .taken)

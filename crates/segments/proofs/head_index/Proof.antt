@@ -6,9 +6,6 @@ use Rattle.calls.specs.Segments.{headIndex}
 use Rattle.segments.proofs.Links.{headFrom, head-start, head-found, head-next, head-none}
 use Rattle.segments.proofs.head_index.Statement.{statement}
 use Rattle.segments.proofs.head_index.Tie as tie
-use Rattle.segments.proofs.head_index.Reads as reads
-use Rattle.segments.proofs.head_index.Lts as lts
-use Rattle.memory.proofs.task.Reads as task-reads
 
 abbrev Inv-loop : tie.InvT-loop
 Inv-loop m s t i₀ i = (i ≤ 16) × (headFrom m s t i ≡ headIndex m s t)

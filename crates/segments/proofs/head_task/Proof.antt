@@ -1,5 +1,5 @@
 use mathlib.Core.Path.{_≡_, refl, sym, _∙_}
-use Prim.Native.Nat.{_<_, _-_, _^_}
+use Prim.Native.Nat.{_<_, _^_}
 use native.Mathlib.Omega.{arith}
 use borrow.Author.Needs.{needs}
 use Rattle.layout.specs.Layout.{recordOf}
@@ -8,10 +8,6 @@ use Rattle.segments.specs.Names.{headHere}
 use Rattle.walks.specs.Steps.{seek-none, seek-end, seek-here, seek-on}
 use Rattle.segments.proofs.head_task.Statement.{statement}
 use Rattle.segments.proofs.head_task.Tie as tie
-use Rattle.segments.proofs.head_task.Reads as reads
-use Rattle.segments.proofs.head_task.Lts as lts
-use Rattle.walks.proofs.after.Reads as after-reads
-use Rattle.segments.proofs.head_here.Reads as head-here-reads
 
 abbrev Inv-loop : tie.InvT-loop
 Inv-loop m s x₀ k₀ x k = (x < 2 ^ 32) × (seek k (headHere m s) (recordOf m) x ≡ seek MARKS (headHere m s) (recordOf m) 0)

@@ -9,10 +9,6 @@ use Rattle.segments.specs.Names.{held}
 use Rattle.segments.proofs.Free.{rest-out, held-start, held-found, held-next, held-none}
 use Rattle.segments.proofs.held.Statement.{statement}
 use Rattle.segments.proofs.held.Tie as tie
-use Rattle.segments.proofs.held.Reads as reads
-use Rattle.segments.proofs.held.Lts as lts
-use Rattle.memory.proofs.free_segment.Reads as free-segment-reads
-use Rattle.memory.proofs.header.Reads as header-reads
 
 abbrev Inv-loop : tie.InvT-loop
 Inv-loop m y h i₀ i = (i ≤ h) × (h < 2 ^ 32) × (eqb (occurrences y (rest m h i)) 0 ≡ held m y)

@@ -2,12 +2,6 @@ use Rattle.segments.proofs.Links.{link-full, link-empty}
 use borrow.Author.Needs.{needs}
 use Rattle.segments.proofs.link.Statement.{statement}
 use Rattle.segments.proofs.link.Tie as tie
-use Rattle.segments.proofs.link.Reads as reads
-use Rattle.segments.proofs.link.Lts as lts
-use Rattle.memory.proofs.segment.Reads as segment-reads
-use Rattle.memory.proofs.set_segment.Reads as set-segment-reads
-use Rattle.segments.proofs.release.Reads as release-reads
-use Rattle.segments.proofs.rename.Reads as rename-reads
 
 segment-requires : tie.Need-segment-requires
 segment-requires c κs = search needs

@@ -8,11 +8,6 @@ use Rattle.segments.specs.Names.{freeMarks}
 use Rattle.segments.proofs.Links.{by-start, by-found, by-next, by-end}
 use Rattle.segments.proofs.linked_by.Statement.{statement}
 use Rattle.segments.proofs.linked_by.Tie as tie
-use Rattle.segments.proofs.linked_by.Reads as reads
-use Rattle.segments.proofs.linked_by.Lts as lts
-use Rattle.memory.proofs.header.Reads as header-reads
-use Rattle.segments.proofs.mark_free.Reads as mark-free-reads
-use Rattle.segments.proofs.next_is.Reads as next-is-reads
 
 abbrev Inv-loop : tie.InvT-loop
 Inv-loop m s d n y₀ y = (y ≤ n) × (n < 2 ^ 32) × (linkedBy (n - y) m s y ≡ linkedBy (read m numberWord) m s 0)

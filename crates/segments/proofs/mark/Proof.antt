@@ -4,8 +4,6 @@ use Rattle.words.specs.Words.{store}
 use borrow.Author.Needs.{needs}
 use Rattle.segments.proofs.mark.Statement.{statement}
 use Rattle.segments.proofs.mark.Tie as tie
-use Rattle.segments.proofs.mark.Reads as reads
-use Rattle.segments.proofs.mark.Lts as lts
 
 slice-write-d : tie.Need-slice-write-d
 slice-write-d c = search needs

@@ -9,11 +9,6 @@ use Rattle.segments.specs.Names.{freeStack}
 use Rattle.segments.proofs.Free.{rest-out, marks-start, marks-next, marks-none}
 use Rattle.segments.proofs.mark_free.Statement.{statement}
 use Rattle.segments.proofs.mark_free.Tie as tie
-use Rattle.segments.proofs.mark_free.Reads as reads
-use Rattle.segments.proofs.mark_free.Lts as lts
-use Rattle.memory.proofs.free_segment.Reads as free-segment-reads
-use Rattle.memory.proofs.header.Reads as header-reads
-use Rattle.segments.proofs.mark.Reads as mark-reads
 
 abbrev Inv-loop : tie.InvT-loop
 Inv-loop m d₀ h i₀ d i = (i ≤ h) × (h < 2 ^ 32) × (length d ≡ length d₀) × (marking (rest m h i) d ≡ marking (freeStack m) d₀)

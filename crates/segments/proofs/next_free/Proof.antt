@@ -2,10 +2,6 @@ use Rattle.segments.proofs.Stack.{top-of}
 use borrow.Author.Needs.{needs}
 use Rattle.segments.proofs.next_free.Statement.{statement}
 use Rattle.segments.proofs.next_free.Tie as tie
-use Rattle.segments.proofs.next_free.Reads as reads
-use Rattle.segments.proofs.next_free.Lts as lts
-use Rattle.memory.proofs.free_segment.Reads as free-segment-reads
-use Rattle.memory.proofs.header.Reads as header-reads
 
 header-requires : tie.Need-header-requires
 header-requires c κs = search needs

@@ -3,10 +3,6 @@ use Rattle.segments.proofs.Links.{next-other, next-same}
 use borrow.Author.Needs.{needs}
 use Rattle.segments.proofs.next_is.Statement.{statement}
 use Rattle.segments.proofs.next_is.Tie as tie
-use Rattle.segments.proofs.next_is.Reads as reads
-use Rattle.segments.proofs.next_is.Lts as lts
-use Rattle.memory.proofs.segment.Reads as segment-reads
-use Rattle.segments.proofs.held.Reads as held-reads
 
 segment-requires : tie.Need-segment-requires
 segment-requires c κs = search needs

@@ -2,9 +2,6 @@ use Rattle.segments.proofs.Stack.{none-left}
 use borrow.Author.Needs.{needs}
 use Rattle.segments.proofs.none_free.Statement.{statement}
 use Rattle.segments.proofs.none_free.Tie as tie
-use Rattle.segments.proofs.none_free.Reads as reads
-use Rattle.segments.proofs.none_free.Lts as lts
-use Rattle.memory.proofs.header.Reads as header-reads
 
 header-requires : tie.Need-header-requires
 header-requires c κs = search needs

@@ -3,8 +3,6 @@ use Rattle.calls.specs.Places.{place-low, place-high, place-past}
 use borrow.Author.Needs.{needs}
 use Rattle.segments.proofs.place.Statement.{statement}
 use Rattle.segments.proofs.place.Tie as tie
-use Rattle.segments.proofs.place.Reads as reads
-use Rattle.segments.proofs.place.Lts as lts
 
 add-p : tie.Need-add-p
 add-p c = search needs

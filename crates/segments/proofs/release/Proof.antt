@@ -2,12 +2,6 @@ use Rattle.segments.proofs.Stack.{give-back, no-room}
 use borrow.Author.Needs.{needs}
 use Rattle.segments.proofs.release.Statement.{statement}
 use Rattle.segments.proofs.release.Tie as tie
-use Rattle.segments.proofs.release.Reads as reads
-use Rattle.segments.proofs.release.Lts as lts
-use Rattle.memory.proofs.header.Reads as header-reads
-use Rattle.memory.proofs.set_free_segment.Reads as set-free-segment-reads
-use Rattle.memory.proofs.set_header.Reads as set-header-reads
-use Rattle.segments.proofs.set_record.Reads as set-record-reads
 
 header-requires : tie.Need-header-requires
 header-requires c κs = search needs

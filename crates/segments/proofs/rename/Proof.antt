@@ -3,14 +3,6 @@ use Rattle.segments.proofs.Links.{head-few, rename-head, rename-next, r
 use borrow.Author.Needs.{needs}
 use Rattle.segments.proofs.rename.Statement.{statement}
 use Rattle.segments.proofs.rename.Tie as tie
-use Rattle.segments.proofs.rename.Reads as reads
-use Rattle.segments.proofs.rename.Lts as lts
-use Rattle.memory.proofs.header.Reads as header-reads
-use Rattle.memory.proofs.set_segment.Reads as set-segment-reads
-use Rattle.memory.proofs.set_task.Reads as set-task-reads
-use Rattle.segments.proofs.head_index.Reads as head-index-reads
-use Rattle.segments.proofs.head_task.Reads as head-task-reads
-use Rattle.segments.proofs.linked_by.Reads as linked-by-reads
 
 head-task-requires : tie.Need-head-task-requires
 head-task-requires c κs = search needs

@@ -2,9 +2,6 @@ use Rattle.segments.proofs.Stack.{three-words}
 use borrow.Author.Needs.{needs}
 use Rattle.segments.proofs.set_record.Statement.{statement}
 use Rattle.segments.proofs.set_record.Tie as tie
-use Rattle.segments.proofs.set_record.Reads as reads
-use Rattle.segments.proofs.set_record.Lts as lts
-use Rattle.memory.proofs.set_segment.Reads as set-segment-reads
 
 set-segment-requires : tie.Need-set-segment-requires
 set-segment-requires c κs = search needs

@@ -2,9 +2,6 @@ use Rattle.segments.proofs.Ring.{store-part, store-value}
 use borrow.Author.Needs.{needs}
 use Rattle.segments.proofs.store_at.Statement.{statement}
 use Rattle.segments.proofs.store_at.Tie as tie
-use Rattle.segments.proofs.store_at.Reads as reads
-use Rattle.segments.proofs.store_at.Lts as lts
-use Rattle.segments.proofs.store.Reads as store-reads
 
 mul-a : tie.Need-mul-a
 mul-a c = search needs

@@ -3,14 +3,6 @@ use Rattle.segments.proofs.Ring.{place-inside, values-inside, one-more}
 use borrow.Author.Needs.{needs}
 use Rattle.segments.proofs.store_one.Statement.{statement}
 use Rattle.segments.proofs.store_one.Tie as tie
-use Rattle.segments.proofs.store_one.Reads as reads
-use Rattle.segments.proofs.store_one.Lts as lts
-use Rattle.memory.proofs.header.Reads as header-reads
-use Rattle.memory.proofs.set_segment.Reads as set-segment-reads
-use Rattle.segment_record.proofs.with_one_more.Reads as with-one-more-reads
-use Rattle.segments.proofs.place.Reads as place-reads
-use Rattle.segments.proofs.read_record.Reads as read-record-reads
-use Rattle.segments.proofs.store_at.Reads as store-at-reads
 
 header-requires : tie.Need-header-requires
 header-requires c κs = search needs

@@ -4,13 +4,6 @@ use Rattle.segments.proofs.Stack.{below, top-of, take-it}
 use borrow.Author.Needs.{needs}
 use Rattle.segments.proofs.take.Statement.{statement}
 use Rattle.segments.proofs.take.Tie as tie
-use Rattle.segments.proofs.take.Reads as reads
-use Rattle.segments.proofs.take.Lts as lts
-use Rattle.memory.proofs.free_segment.Reads as free-segment-reads
-use Rattle.memory.proofs.header.Reads as header-reads
-use Rattle.memory.proofs.set_header.Reads as set-header-reads
-use Rattle.segments.proofs.set_record.Reads as set-record-reads
-use Rattle.segments.proofs.store_at.Reads as store-at-reads
 
 header-requires : tie.Need-header-requires
 header-requires c κs = search needs

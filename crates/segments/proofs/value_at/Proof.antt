@@ -3,12 +3,6 @@ use Rattle.segments.proofs.Ring.{product-fits, value-read}
 use borrow.Author.Needs.{needs}
 use Rattle.segments.proofs.value_at.Statement.{statement}
 use Rattle.segments.proofs.value_at.Tie as tie
-use Rattle.segments.proofs.value_at.Reads as reads
-use Rattle.segments.proofs.value_at.Lts as lts
-use Rattle.memory.proofs.get.Reads as get-reads
-use Rattle.memory.proofs.header.Reads as header-reads
-use Rattle.memory.proofs.segment.Reads as segment-reads
-use Rattle.segments.proofs.place.Reads as place-reads
 
 header-requires : tie.Need-header-requires
 header-requires c κs = search needs
