@@ -23,8 +23,12 @@ use Rattle.job.specs.Test.{jobAnswer}
 use Rattle.job.specs.Accepted.{accepted}
 use Rattle.plain.specs.Machine.{Event}
 use Rattle.plain.specs.Run.{stackOf, run as plain-run, answersOf}
-use Rattle.exchange.specs.Line.{Item, value, spot, finished, NoSpot}
+use Rattle.line.specs.Line.{Item, value, spot, finished, gave, NoSpot}
 use Rattle.job_line.specs.Tasks.{does}
+use Rattle.job_line.specs.Within.{jobTasks}
+use Rattle.timed_line.specs.Times.{untimed}
+use Rattle.timed_line.specs.Walks.{Waits as Waiters}
+use Rattle.job_times.specs.Times.{jobWaits}
 use Rattle.job_line.specs.Agree.{moves-agree}
 use Rattle.job_line.specs.Answered.{log-length, answers-first, answers-all}
 use Rattle.job_line.specs.Front.{valuesOf}
@@ -60,6 +64,7 @@ front [] = nobody refl
 front (value q v ∷ l) = front-past (value q v) (λ k. refl) (front l)
 front (spot n ∷ l) = somebody [] l n refl
 front (finished n ∷ l) = front-past (finished n) (λ k. refl) (front l)
+front (gave q ∷ l) = front-past (gave q) (λ k. refl) (front l)
 
 bare : (l : List (Item Numbered)) → standing l ≡ [] → All NoSpot (unnumbered l)
 unfolding standing unnumbered
@@ -67,37 +72,38 @@ bare [] h = tt
 bare (value q v ∷ l) h = (tt, bare l h)
 bare (spot n ∷ l) h = absurd (nil≢cons (sym h))
 bare (finished n ∷ l) h = (tt, bare l h)
+bare (gave q ∷ l) h = (tt, bare l h)
 
-module _ (j : List ℕ) (e : jobAnswer j ≡ Moved 0) where
+module _ (j : List ℕ) (ticks : ℕ → ℕ) (e : jobAnswer j ≡ Moved 0) where
   -- ONE CALL
-  call : (s : Stand) (l : List (Item Numbered)) → Running j s l → (t : ℕ) → Called j e s l t
+  call : (s : Stand) (l : List (Item Numbered)) → Running j ticks s l → (t : ℕ) → Called j ticks e s l t
   call s l run t = go (unfinished t (s .order)) refl
     where
-      stands : (a b : List (Item Numbered)) (n : Numbered) → Running j s (a ++ spot n ∷ b) → Called j e s (a ++ spot n ∷ b) (n .number)
-      stands a b n r = called-by j e s a b n r (step-does (place j e s a b n r))
+      stands : (a b : List (Item Numbered)) (n : Numbered) → Running j ticks s (a ++ spot n ∷ b) → Called j ticks e s (a ++ spot n ∷ b) (n .number)
+      stands a b n r = called-by j ticks e s a b n r (step-does (place j ticks e s a b n r))
 
-      go : (d : Bool) → unfinished t (s .order) ≡ d → Called j e s l t
-      go false d = refused-four j e s l t run d
+      go : (d : Bool) → unfinished t (s .order) ≡ d → Called j ticks e s l t
+      go false d = refused-four j ticks e s l t run d
       go true d =
           let o = unfinished-stands j (run .beside) t d in
-          subst (Called j e s l) (o .number)
-          (subst (λ (k : List (Item Numbered)). Called j e s k (o .who .number)) (sym (o .here))
-          (stands (o .before) (o .behind) (o .who) (subst (Running j s) (o .here) run)))
+          subst (Called j ticks e s l) (o .number)
+          (subst (λ (k : List (Item Numbered)). Called j ticks e s k (o .who .number)) (sym (o .here))
+          (stands (o .before) (o .behind) (o .who) (subst (Running j ticks s) (o .here) run)))
 
   -- A LIST OF CALLS
-  calls : (ts : List ℕ) (s : Stand) (l : List (Item Numbered)) → Running j s l → (k : List (Item Numbered)) × Running j (afterCalls j ts s) k
+  pub calls : (ts : List ℕ) (s : Stand) (l : List (Item Numbered)) → Running j ticks s l → (k : List (Item Numbered)) × Running j ticks (afterCalls j ts s) k
   unfolding afterCalls
   calls [] s l run = (l, run)
   calls (t ∷ ts) s l run = go (calls ts (stepped j t s)) (call s l run t)
     where
-      go : ((k : List (Item Numbered)) → Running j (stepped j t s) k → (i : List (Item Numbered)) × Running j (afterCalls j ts (stepped j t s)) i)
-          → Called j e s l t → (i : List (Item Numbered)) × Running j (afterCalls j ts (stepped j t s)) i
-      go rest (absent f a same) = rest l (subst (λ (x : Stand). Running j x l) (sym same) run)
-      go rest (held a b n x f g y z same) = rest l (subst (λ (x : Stand). Running j x l) (sym same) run)
+      go : ((k : List (Item Numbered)) → Running j ticks (stepped j t s) k → (i : List (Item Numbered)) × Running j ticks (afterCalls j ts (stepped j t s)) i)
+          → Called j ticks e s l t → (i : List (Item Numbered)) × Running j ticks (afterCalls j ts (stepped j t s)) i
+      go rest (absent f a same) = rest l (subst (λ (x : Stand). Running j ticks x l) (sym same) run)
+      go rest (held a b n x f g y z same) = rest l (subst (λ (x : Stand). Running j ticks x l) (sym same) run)
       go rest (went k m r) = rest k r
 
   -- WHAT HOLDS OF A RUN UNDER WAY
-  module _ (s : Stand) (l : List (Item Numbered)) (run : Running j s l) where
+  module _ (s : Stand) (l : List (Item Numbered)) (run : Running j ticks s l) where
     -- a call that does not move
     only : (t : ℕ) → hasMoved (stepAnswer j s t) ≡ false
         → (stepAnswer j s t ≡ Waits) ⊎ ((stepAnswer j s t ≡ Refused 4) ⊎ ((stepAnswer j s t ≡ Refused 8) ⊎ (stepAnswer j s t ≡ Refused 9)))
@@ -109,7 +115,7 @@ module _ (j : List ℕ) (e : jobAnswer j ≡ Moved 0) where
         by n x eight a = inr (inr (inl a))
         by n x nine a = inr (inr (inr a))
 
-        go : Called j e s l t
+        go : Called j ticks e s l t
             → (stepAnswer j s t ≡ Waits) ⊎ ((stepAnswer j s t ≡ Refused 4) ⊎ ((stepAnswer j s t ≡ Refused 8) ⊎ (stepAnswer j s t ≡ Refused 9)))
         go (absent f a same) = inr (inl a)
         go (held a b n x f g y z same) = by n x y z
@@ -119,9 +125,9 @@ module _ (j : List ℕ) (e : jobAnswer j ≡ Moved 0) where
     abbrev Ready : ℕ → Type 0
     Ready t = (hasMoved (stepAnswer j s t) ≡ true) ⊎ ((stepAnswer j s t ≡ Refused 8) ⊎ (stepAnswer j s t ≡ Refused 9))
 
-    first-ready : (a b : List (Item Numbered)) (n : Numbered) → standing a ≡ [] → Running j s (a ++ spot n ∷ b) → Ready (n .number)
+    first-ready : (a b : List (Item Numbered)) (n : Numbered) → standing a ≡ [] → Running j ticks s (a ++ spot n ∷ b) → Ready (n .number)
     unfolding stepAnswer answerOf
-    first-ready a b n none r = go (step-does (place j e s a b n r))
+    first-ready a b n none r = go (step-does (place j ticks e s a b n r))
       where
         there : unfinished (n .number) (s .order) ≡ true
         there = stands-unfinished j a b n (r .beside)
@@ -150,7 +156,7 @@ module _ (j : List ℕ) (e : jobAnswer j ≡ Moved 0) where
         let o = unfinished-stands j (run .beside) t (sym (state-unfinished (s .core) (s .order) (run .state) t) ∙ there) in
         go l run o (front l)
       where
-        go : (k : List (Item Numbered)) → Running j s k → On t k → Front k → (u : ℕ) × (unfinishedIn (s .core) u ≡ true) × Ready u
+        go : (k : List (Item Numbered)) → Running j ticks s k → On t k → Front k → (u : ℕ) × (unfinishedIn (s .core) u ≡ true) × Ready u
         go k r o (somebody a b n none) =
             (n .number, state-unfinished (s .core) (s .order) (r .state) (n .number) ∙ stands-unfinished j a b n (r .beside), first-ready a b n none r)
         go k r o (nobody none) =
@@ -164,7 +170,7 @@ module _ (j : List ℕ) (e : jobAnswer j ≡ Moved 0) where
     all-gone : AllFinished s → All NoSpot (unnumbered l)
     all-gone f = go l run (front l)
       where
-        go : (k : List (Item Numbered)) → Running j s k → Front k → All NoSpot (unnumbered k)
+        go : (k : List (Item Numbered)) → Running j ticks s k → Front k → All NoSpot (unnumbered k)
         go k r (nobody none) = bare k none
         go k r (somebody a b n none) =
             absurd (false≢true (sym (f (n .number)) ∙ state-unfinished (s .core) (s .order) (r .state) (n .number) ∙ stands-unfinished j a b n (r .beside)))
@@ -176,24 +182,30 @@ module _ (j : List ℕ) (e : jobAnswer j ≡ Moved 0) where
         ∙ pass _ (lt-leb 4 q small)
         (pass _ (sym (state-unfinished (s .core) (s .order) (run .state) 0) ∙ f 0) (ap leftAnswer (left-along j (run .beside) q i small)))
 
+    abbrev W : Waiters (jobTasks j)
+    W = jobWaits j ticks
+
+    gone : AllFinished s → All NoSpot (untimed (run .times))
+    gone f = subst (All NoSpot) (sym (run .same)) (all-gone f)
+
     -- with the plain machine, which ends after n steps
     agreed : (n : ℕ) → stackOf (plain-run n j) ≡ [] → Agreed j n s
     agreed n end =
         let acc = accepted j e in
-        let plain = moves-agree j acc n end (run .moves) in
+        let plain = moves-agree j W acc n end (run .moves) in
         record {
           first = λ p.
-              let w = answers-first j acc n end (run .moves) p in
+              let w = answers-first j W acc n end (run .moves) p in
               (w .0, w .1 ∙ ap (λ (es : List Event). answersOf p es ++ w .0) (run .log));
           progress = some-ready;
           others = only;
-          all = λ f p. ap (answersOf p) (sym (run .log)) ∙ answers-all j acc n end (run .moves) (all-gone f) p;
-          left = λ f q i small. left-is f q i small ∙ ap (λ (vs : List ℕ). leftAnswer (getElem? vs i)) (plain .left (all-gone f) q small);
-          moves = λ f. ap length (sym (run .log)) ∙ log-length j (run .moves) ∙ plain .all-moved (all-gone f);
+          all = λ f p. ap (answersOf p) (sym (run .log)) ∙ answers-all j W acc n end (run .moves) (gone f) p;
+          left = λ f q i small. left-is f q i small ∙ ap (λ (vs : List ℕ). leftAnswer (getElem? vs i)) (sym (ap (valuesOf q) (run .same)) ∙ plain .left (gone f) q small);
+          moves = λ f. ap length (sym (run .log)) ∙ log-length j W (run .moves) ∙ plain .all-moved (gone f);
         }
 
 -- THE PROMISE HOLDS.
 pub any-order : Promise
 any-order j e n end w v sw sv ts =
-    let r = calls j e ts (fresh j w v) (spot topNumbered ∷ []) (fresh-runs j e w v sw sv) in
-    agreed j e (afterCalls j ts (fresh j w v)) (r .0) (r .1) n end
+    let r = calls j (λ k. 0) e ts (fresh j w v) (spot topNumbered ∷ []) (fresh-runs j e w v sw sv (λ k. 0)) in
+    agreed j (λ k. 0) e (afterCalls j ts (fresh j w v)) (r .0) (r .1) n end

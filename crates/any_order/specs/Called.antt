@@ -12,9 +12,14 @@ use Rattle.job.specs.Test.{jobAnswer}
 use Rattle.job.specs.Accepted.{accepted}
 use Rattle.plain.specs.Stack.{Stands}
 use Rattle.plain.specs.Machine.{Event}
-use Rattle.exchange.specs.Line.{Item, value, spot, finished}
+use Rattle.line.specs.Line.{Item, value, spot, finished, gave}
 use Rattle.job_line.specs.Tasks.{Runner, does, instructionOf}
-use Rattle.job_line.specs.Events.{one-more, more-log, eventWith}
+use Rattle.job_line.specs.Events.{more-log, eventWith}
+use Rattle.job_line.specs.Within.{jobTasks}
+use Rattle.job_line.specs.Agree.{none-back}
+use Rattle.timed_line.specs.Agreement.{Move, one-more}
+use Rattle.job_times.specs.Times.{jobWaits}
+use Rattle.job_waits.specs.Halted.{free-front}
 use Rattle.job_line.specs.Stood.{Unfinished, first, behind, moves-stand}
 use Rattle.job_order.specs.Beside.{Numbered, unnumbered, standing}
 use Rattle.runner.specs.declared.StepAnswer.{StepAnswer}
@@ -38,7 +43,7 @@ stays-still x (waits w) = refl
 stays-still x eight = refl
 stays-still x nine = refl
 
-module _ (j : List ℕ) (e : jobAnswer j ≡ Moved 0) where
+module _ (j : List ℕ) (ticks : ℕ → ℕ) (e : jobAnswer j ≡ Moved 0) where
   -- every task on the line is at an instruction that exists
   all-stood : (l : List (Item Numbered)) → ((u : Runner) → Unfinished u (unnumbered l) → Stands j (u .task))
       → All (λ n. Stands j (n .runner .task)) (standing l)
@@ -47,19 +52,20 @@ module _ (j : List ℕ) (e : jobAnswer j ≡ Moved 0) where
   all-stood (value q v ∷ l) f = all-stood l (λ u i. f u (behind i))
   all-stood (spot n ∷ l) f = (f (n .runner) first, all-stood l (λ u i. f u (behind i)))
   all-stood (finished n ∷ l) f = all-stood l (λ u i. f u (behind i))
+  all-stood (gave q ∷ l) f = all-stood l (λ u i. f u (behind i))
 
-  pub stood : {s : Stand} {l : List (Item Numbered)} → Running j s l → All (λ n. Stands j (n .runner .task)) (standing l)
-  stood {l = l} run = all-stood l (λ u i. moves-stand j (accepted j e) (run .moves) u i)
+  pub stood : {s : Stand} {l : List (Item Numbered)} → Running j ticks s l → All (λ n. Stands j (n .runner .task)) (standing l)
+  stood {l = l} run = all-stood l (λ u i. moves-stand j (jobWaits j ticks) (accepted j e) (run .moves) u (subst (Unfinished u) (sym (run .same)) i))
 
   -- What a call of task number t does.
   pub data Called (s : Stand) (l : List (Item Numbered)) (t : ℕ) : Type 0 where
     absent : unfinished t (s .order) ≡ false → stepAnswer j s t ≡ Refused 4 → stepped j t s ≡ s → Called s l t
     held : (a b : List (Item Numbered)) (n : Numbered) (x : StepAnswer) → l ≡ a ++ spot n ∷ b → n .number ≡ t → Stays j (s .order) n x → stepAnswer j s t ≡ x
         → stepped j t s ≡ s → Called s l t
-    went : (k : List (Item Numbered)) → hasMoved (stepAnswer j s t) ≡ true → Running j (stepped j t s) k → Called s l t
+    went : (k : List (Item Numbered)) → hasMoved (stepAnswer j s t) ≡ true → Running j ticks (stepped j t s) k → Called s l t
 
   -- 4: nobody unfinished has the number
-  pub refused-four : (s : Stand) (l : List (Item Numbered)) (t : ℕ) → Running j s l → unfinished t (s .order) ≡ false → Called s l t
+  pub refused-four : (s : Stand) (l : List (Item Numbered)) (t : ℕ) → Running j ticks s l → unfinished t (s .order) ≡ false → Called s l t
   unfolding stepOutcome stepTested stepAnswer answerOf hasMoved
   refused-four s l t run f =
       let o : stepOutcome j (s .core) (s .runner) t ≡ outcome (Refused 4) (s .core) (s .runner) =
@@ -67,35 +73,44 @@ module _ (j : List ℕ) (e : jobAnswer j ≡ Moved 0) where
       ∙ halt _ _ (ap not (state-unfinished (s .core) (s .order) (run .state) t ∙ f)) in
       absent f (ap answerOf o) (same-stand j s t (Refused 4) refl o)
 
-  module _ (s : Stand) (a b : List (Item Numbered)) (n : Numbered) (run : Running j s (a ++ spot n ∷ b)) where
+  module _ (s : Stand) (a b : List (Item Numbered)) (n : Numbered) (run : Running j ticks s (a ++ spot n ∷ b)) where
     abbrev t : ℕ
     t = n .number
 
     pub place : Place j (s .core) (s .runner) (s .order) a b n
     place = record { accepted = e; state = run .state; beside = run .beside; written = run .written; stood = stood run }
 
-    moves-on : Goes j (s .core) (s .runner) (s .order) a b n → Called s (a ++ spot n ∷ b) t
-    unfolding stepAnswer answerOf
-    moves-on g =
+    -- the run after a step that goes on
+    pub after-goes : (g : Goes j (s .core) (s .runner) (s .order) a b n) → Running j ticks (stepped j t s) (g .after .line)
+    unfolding answerOf
+    after-goes g =
         let f = g .found in
         let d = does (n .runner) (instructionOf j (n .runner)) f in
         let yes : hasMoved (answerWith (d .word) (d .value) (g .new)) ≡ true = unfold does in has-moved _ _ _ _ f _ (g .new) in
         let p = common.represents place .played in
-        let v = event-is j s n f (g .new) (name-is j (s .order) a b n p (run .beside))
-        (common.instruction-is place) in
-        let next : Stand = record { core = g .core; runner = g .runner; order = g .order; events = s .events ++ eventWith j (n .runner) f ∷ [] } in
-        went (g .after .line) (ap (λ o. hasMoved (answerOf o)) (g .outcome-is) ∙ yes)
-        (subst (λ (k : Stand). Running j k (g .after .line)) (sym (next-stand j s t _ (g .core) (g .runner) (g .order) _ yes (g .outcome-is) (g .noted-is) v))
+        let v = event-is j s n f (g .new) (name-is j (s .order) a b n p (run .beside)) (common.instruction-is place) in
+        let o = g .after .move ticks (free-front j ticks p a b n (run .beside) (g .free) (g .childless)) (run .times) (run .same) in
+        let k : Move (jobTasks j) (jobWaits j ticks) none-back (run .times) none-back (o .times) =
+        record { task = n .runner; end = o .end; done = o .done; move = o .move } in
+        subst (λ (k : Stand). Running j ticks k (g .after .line)) (sym (next-stand j s t _ (g .core) (g .runner) (g .order) _ yes (g .outcome-is) (g .noted-is) v))
         (record {
           state = g .state;
           beside = g .after .beside;
           written = subst (Written (g .runner)) (sym (g .after .stand)) (g .written);
           count = suc (run .count);
-          moves = one-more j (run .moves) (g .after .move);
+          times = o .times;
+          same = o .same;
+          moves = one-more (jobTasks j) (jobWaits j ticks) (run .moves) k;
           log =
-              more-log j (run .moves) (g .after .move)
-              ∙ ap₂ (λ (es : List Event) (x : Event). es ++ x ∷ []) (run .log) (g .after .event);
-        }))
+              more-log j (jobWaits j ticks) (run .moves) k
+              ∙ ap₂ (λ (es : List Event) (x : Event). es ++ x ∷ []) (run .log) (ap (eventWith j (n .runner)) (o .finds));
+        })
+
+    moves-on : Goes j (s .core) (s .runner) (s .order) a b n → Called s (a ++ spot n ∷ b) t
+    unfolding stepAnswer answerOf
+    moves-on g =
+        went (g .after .line)
+        (ap (λ o. hasMoved (answerOf o)) (g .outcome-is) ∙ (unfold does in has-moved _ _ _ _ (g .found) _ (g .new))) (after-goes g)
 
     pub called-by : Does j (s .core) (s .runner) (s .order) a b n → Called s (a ++ spot n ∷ b) t
     unfolding stepAnswer answerOf

@@ -14,8 +14,9 @@ use Rattle.represents_spawn.specs.Open.{open-represents}
 use Rattle.job.specs.Fields.{segmentLength}
 use Rattle.job.specs.Test.{jobAnswer}
 use Rattle.job.specs.Accepted.{Accepted, accepted}
-use Rattle.exchange.specs.Line.{spot}
-use Rattle.exchange.specs.Agreement.{Moves}
+use Rattle.line.specs.Line.{spot}
+use Rattle.timed_line.specs.Agreement.{Moves}
+use Rattle.job_line.specs.Agree.{start}
 use Rattle.job_order.specs.Beside.{unnumbered, standing}
 use Rattle.job_order.specs.Located.{topNumbered, begins}
 use Rattle.runner.specs.Words.{RUNNER, procedureOf, positionOf, registerOf}
@@ -48,14 +49,14 @@ module _ (j : List ℕ) (e : jobAnswer j ≡ Moved 0) (w v : List ℕ) (sw : siz
   abbrev after : Outcome → Stand
   after o = record { core = coreOf o; runner = runnerOf o; order = begin; events = [] }
 
-  pub fresh-runs : Running j (fresh j w v) (spot topNumbered ∷ [])
+  pub fresh-runs : (ticks : ℕ → ℕ) → Running j ticks (fresh j w v) (spot topNumbered ∷ [])
   unfolding fresh
-  fresh-runs = subst (λ (o : Outcome). Running j (after o) (spot topNumbered ∷ [])) (sym opened-is) begun
+  fresh-runs ticks = subst (λ (o : Outcome). Running j ticks (after o) (spot topNumbered ∷ [])) (sym opened-is) begun
     where
       acc : Accepted j
       acc = accepted j e
 
-      begun : Running j (after (jobOpened j)) (spot topNumbered ∷ [])
+      begun : Running j ticks (after (jobOpened j)) (spot topNumbered ∷ [])
       begun =
           unfold jobOpened coreOf runnerOf standing unnumbered size in
           record {
@@ -63,6 +64,8 @@ module _ (j : List ℕ) (e : jobAnswer j ≡ Moved 0) (w v : List ℕ) (sw : siz
             beside = begins j acc;
             written = record { sized = length-replicate {A = ℕ} RUNNER 0; held = (record { small = omega arith; words = zeros 0 }, tt); free = λ t o. zeros t };
             count = 0;
+            times = start;
+            same = refl;
             moves = Moves.no-move;
             log = refl;
           }

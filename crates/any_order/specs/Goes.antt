@@ -30,10 +30,11 @@ use Rattle.job.specs.Operations.{operationAt}
 use Rattle.job.specs.Effects.{Effect, effect}
 use Rattle.job.specs.Test.{jobAnswer}
 use Rattle.plain.specs.Stack.{Stands, rightsOf}
-use Rattle.exchange.specs.Line.{Item, spot}
+use Rattle.line.specs.Line.{Item, spot}
 use Rattle.job_line.specs.Tasks.{Runner, does, instructionOf}
 use Rattle.job_order.specs.Beside.{Numbered, standing, taskOf, Beside}
 use Rattle.job_order.specs.Located.{located, stands-unfinished}
+use Rattle.job_times.specs.Kin.{awaits}
 use Rattle.job_order.specs.After.{After}
 use Rattle.runner.specs.declared.StepAnswer.{StepAnswer}
 use Rattle.runner.specs.declared.StepAnswer.the-variants.{Waits, Refused}
@@ -65,6 +66,8 @@ pub record Goes (j m r : List ℕ) (xs : List Mark) (a b : List (Item Numbered))
   pub runner : List ℕ
   pub order : List Mark
   pub tasks : List Numbered
+  pub free : blocked (n .number) xs ≡ false
+  pub childless : awaits (operationAt (instructionOf j (n .runner) .operation)) ≡ true → hasChild (n .number) xs ≡ false
   pub outcome-is : let e = does (n .runner) (instructionOf j (n .runner)) found in
       stepOutcome j m r (n .number) ≡ outcome (answerWith (e .word) (e .value) new) core runner
   pub noted-is : let i = instructionFor j r (n .number) in

@@ -24,9 +24,10 @@ use Rattle.job.specs.Rows.{from, row-past}
 use Rattle.job.specs.Test.{whichHolds}
 use Rattle.job.specs.Accepted.{Accepted, accepted}
 use Rattle.plain.specs.Stack.{Stands, rightsOf}
-use Rattle.exchange.specs.Line.{Item}
+use Rattle.line.specs.Line.{Item}
 use Rattle.job_line.specs.Tasks.{Runner, instructionOf}
 use Rattle.job_order.specs.Beside.{Numbered}
+use Rattle.job_times.specs.Kin.{awaits}
 use Rattle.job_order.specs.Instructions.{instruction, which-holds}
 use Rattle.job_order.specs.Finds.{pop-after, pop-empty-after, test-after, test-empty-after}
 use Rattle.runner.specs.declared.StepAnswer.the-variants.{Waits as Held}
@@ -67,7 +68,7 @@ module _ {j m r : List ℕ} {xs : List Mark} {a b : List (Item Numbered)} {n : N
   may-look i is e = let w = both-true _ _ (sym e ∙ which-holds j u i is acc stands) in (ltb-true (i .which) 4 (w .0), w .1)
 
   pop-case : (q x : ℕ) → instructionOf j u ≡ instruction 3 q x → Result
-  unfolding rowOf operationOf operationAt callOf runnerAfter replyOf replied noted counted whichHolds pick popAnswer
+  unfolding rowOf operationOf operationAt callOf runnerAfter replyOf replied noted counted whichHolds pick popAnswer awaits
   pop-case q x is = go (finding t q xs) refl
     where
       small : q < 4
@@ -78,11 +79,11 @@ module _ {j m r : List ℕ} {xs : List Mark} {a b : List (Item Numbered)} {n : N
 
       go : (f : Finding) → finding t q xs ≡ f → Result
       go (Found v) d =
-          other.called p free (instruction 3 q x) is (pop-call t q) refl (Moved v)
+          other.called p free (instruction 3 q x) is (λ e. absurd (false≢true e)) (pop-call t q) refl (Moved v)
           (pop-answer m xs t (common.is-unfinished p) free q small (held-right q may) ∙ ap popAnswer d)
           (some v) v _ refl (pop-after j acc played a b n stands (p .beside) q x v is d) (other.on-written p free (instruction 3 q x) is (some v))
       go Nothing d =
-          other.called p free (instruction 3 q x) is (pop-call t q) refl (Refused 7)
+          other.called p free (instruction 3 q x) is (λ e. absurd (false≢true e)) (pop-call t q) refl (Refused 7)
           (pop-answer m xs t (common.is-unfinished p) free q small (held-right q may) ∙ ap popAnswer d)
           none 0 _ refl (pop-empty-after j acc played a b n stands (p .beside) q x is d) (other.on-written p free (instruction 3 q x) is none)
       go Later d =
@@ -91,7 +92,7 @@ module _ {j m r : List ℕ} {xs : List Mark} {a b : List (Item Numbered)} {n : N
           Held (waits (for-queue q small may d)) refl
 
   test-case : (q x : ℕ) → instructionOf j u ≡ instruction 4 q x → Result
-  unfolding rowOf operationOf operationAt callOf runnerAfter replyOf replied noted counted whichHolds testAnswer done effect
+  unfolding rowOf operationOf operationAt callOf runnerAfter replyOf replied noted counted whichHolds testAnswer done effect awaits
   test-case q x is = go (finding t q xs) refl
     where
       small : q < 4
@@ -102,11 +103,11 @@ module _ {j m r : List ℕ} {xs : List Mark} {a b : List (Item Numbered)} {n : N
 
       go : (f : Finding) → finding t q xs ≡ f → Result
       go (Found v) d =
-          other.called p free (instruction 4 q x) is (test-call t q) refl NotEmpty
+          other.called p free (instruction 4 q x) is (λ e. absurd (false≢true e)) (test-call t q) refl NotEmpty
           (test-answer m xs t (common.is-unfinished p) free q small (held-right q may) ∙ ap testAnswer d)
           (some v) 0 _ refl (test-after j acc played a b n stands (p .beside) q x v is d) (other.on-written p free (instruction 4 q x) is (some v))
       go Nothing d =
-          other.called p free (instruction 4 q x) is (test-call t q) refl Empty
+          other.called p free (instruction 4 q x) is (λ e. absurd (false≢true e)) (test-call t q) refl Empty
           (test-answer m xs t (common.is-unfinished p) free q small (held-right q may) ∙ ap testAnswer d)
           none 0 _ refl (test-empty-after j acc played a b n stands (p .beside) q x is d) (other.on-written p free (instruction 4 q x) is none)
       go Later d =

@@ -1,6 +1,6 @@
 -- What a step does, operation by operation: those that look in no queue.
 use mathlib.Core.Path.{_≡_, refl, ap, sym, _∙_, subst}
-use mathlib.Core.Bool.{true, false}
+use mathlib.Core.Bool.{true, false, false≢true}
 use mathlib.Core.List.{List, [], _∷_, _++_}
 use mathlib.Core.Logic.{⊎-elim}
 use mathlib.Core.Option.{Option, none, some}
@@ -15,7 +15,8 @@ use Rattle.answers.specs.Answers.{wordsOf}
 use Rattle.answers.specs.Calls.{Call, spawn-call, push-call, sync-call, finish-call}
 use Rattle.calls.specs.Outcomes.{outcomeOf}
 use Rattle.order.specs.Steps.{Item as Mark, noted, counted, advance, spawns, pushes, finishes}
-use Rattle.order.specs.Waits.{blocked}
+use Rattle.order.specs.Waits.{blocked, hasChild}
+use Rattle.job_times.specs.Kin.{awaits}
 use Rattle.order_waits.specs.Played.{Played}
 use Rattle.in_order.specs.Answered.{nextTask, answered}
 use Rattle.in_order.specs.State.{State}
@@ -28,7 +29,7 @@ use Rattle.job.specs.Test.{whichHolds}
 use Rattle.job.specs.Accepted.{Accepted, accepted}
 use Rattle.plain.specs.Machine.{advanced, parent, child}
 use Rattle.plain.specs.Stack.{Stands, rightsOf}
-use Rattle.exchange.specs.Line.{Item, spot}
+use Rattle.line.specs.Line.{Item, spot}
 use Rattle.job_line.specs.Tasks.{Runner, does, goesOn, afterSpawn, newTask, instructionOf}
 use Rattle.job_order.specs.Beside.{Numbered, standing}
 use Rattle.job_order.specs.Points.{standing-append}
@@ -88,11 +89,11 @@ module _ {j m r : List ℕ} {xs : List Mark} {a b : List (Item Numbered)} {n : N
         (words.goes-on r (standing a) (standing b) n written (apart .0) (apart .1) (on n (goesOn u i f)) refl)
 
     -- the step goes on
-    pub goes-with : (f : Option ℕ) (c : ℕ) (core : List ℕ) (order : List Mark) (ns : List Numbered) → stepOutcome j m r t ≡ done t i f c core r
+    pub goes-with : (awaits (operationAt (i .operation)) ≡ true → hasChild t xs ≡ false) → (f : Option ℕ) (c : ℕ) (core : List ℕ) (order : List Mark) (ns : List Numbered) → stepOutcome j m r t ≡ done t i f c core r
         → notedBy (callOf (operationAt (instructionFor j r t .operation)) j t (registerOf r t) (instructionFor j r t)) m xs ≡ order
         → State core order → After j order a b n ns f
         → Written (runnerAfter (operationAt (i .operation)) t c i (does u i f) r) (standing a ++ (ns ++ standing b)) → Result
-    goes-with f c core order ns o d s x y =
+    goes-with lone f c core order ns o d s x y =
         goes
         (record {
           found = f;
@@ -101,6 +102,8 @@ module _ {j m r : List ℕ} {xs : List Mark} {a b : List (Item Numbered)} {n : N
           runner = runnerAfter (operationAt (i .operation)) t c i (does u i f) r;
           order = order;
           tasks = ns;
+          free = free;
+          childless = subst (λ (s : Instruction). awaits (operationAt (s .operation)) ≡ true → hasChild t xs ≡ false) (sym is) lone;
           outcome-is =
               o
               ∙ common.done-is p free i is f c core
@@ -114,11 +117,11 @@ module _ {j m r : List ℕ} {xs : List Mark} {a b : List (Item Numbered)} {n : N
         })
 
     -- without a core call
-    pub alone : callOf (operationAt (i .operation)) j t (u .task .register) i ≡ none → (ns : List Numbered) → After j xs a b n ns none
+    pub alone : (awaits (operationAt (i .operation)) ≡ true → hasChild t xs ≡ false) → callOf (operationAt (i .operation)) j t (u .task .register) i ≡ none → (ns : List Numbered) → After j xs a b n ns none
         → Written (runnerAfter (operationAt (i .operation)) t 0 i (does u i none) r) (standing a ++ (ns ++ standing b)) → Result
     unfolding makes notedBy
-    alone which ns x y =
-        goes-with none 0 m xs ns
+    alone lone which ns x y =
+        goes-with lone none 0 m xs ns
         (common.makes-it p free i is ∙ ap (λ (o : Option Call). makes t i o m r) which)
         (ap (λ (o : Option Call). notedBy o m xs) (common.call-is p free i is ∙ which))
         (p .state) x y
@@ -129,12 +132,12 @@ module _ {j m r : List ℕ} {xs : List Mark} {a b : List (Item Numbered)} {n : N
     held c which x answer y why o = stays y why (common.call-replied p free i is c which x answer ∙ o)
 
     -- with a core call that moves
-    pub called : (c : Call) → callOf (operationAt (i .operation)) j t (u .task .register) i ≡ some c → (x : Answer) → answered c m xs ≡ x
+    pub called : (awaits (operationAt (i .operation)) ≡ true → hasChild t xs ≡ false) → (c : Call) → callOf (operationAt (i .operation)) j t (u .task .register) i ≡ some c → (x : Answer) → answered c m xs ≡ x
         → (f : Option ℕ) (v : ℕ) (ns : List Numbered) → replied t i (replyOf x) (wordsOf (outcomeOf c m)) m r ≡ done t i f v (wordsOf (outcomeOf c m)) r
         → After j (noted c x xs) a b n ns f → Written (runnerAfter (operationAt (i .operation)) t v i (does u i f) r) (standing a ++ (ns ++ standing b))
         → Result
-    called c which x answer f v ns o after y =
-        goes-with f v (wordsOf (outcomeOf c m)) (noted c x xs) ns
+    called lone c which x answer f v ns o after y =
+        goes-with lone f v (wordsOf (outcomeOf c m)) (noted c x xs) ns
         (common.call-replied p free i is c which x answer ∙ o)
         (common.call-noted p free i is c which x answer)
         (common.call-state p free i is c which x answer)
@@ -145,44 +148,44 @@ module _ {j m r : List ℕ} {xs : List Mark} {a b : List (Item Numbered)} {n : N
   Case k = (q x : ℕ) → instructionOf j u ≡ instruction k q x → Result
 
   pub go-case : Case 5
-  unfolding rowOf operationOf operationAt callOf runnerAfter
-  go-case q x is = alone (instruction 5 q x) is refl _ (go-after j acc played a b n stands (p .beside) q x is) (on-written (instruction 5 q x) is none)
+  unfolding rowOf operationOf operationAt callOf runnerAfter awaits
+  go-case q x is = alone (instruction 5 q x) is (λ e. absurd (false≢true e)) refl _ (go-after j acc played a b n stands (p .beside) q x is) (on-written (instruction 5 q x) is none)
 
   pub zero-case : Case 6
-  unfolding rowOf operationOf operationAt callOf runnerAfter
-  zero-case q x is = alone (instruction 6 q x) is refl _ (zero-after j acc played a b n stands (p .beside) q x is) (on-written (instruction 6 q x) is none)
+  unfolding rowOf operationOf operationAt callOf runnerAfter awaits
+  zero-case q x is = alone (instruction 6 q x) is (λ e. absurd (false≢true e)) refl _ (zero-after j acc played a b n stands (p .beside) q x is) (on-written (instruction 6 q x) is none)
 
   pub add-case : Case 7
-  unfolding rowOf operationOf operationAt callOf runnerAfter
-  add-case q x is = alone (instruction 7 q x) is refl _ (add-after j acc played a b n stands (p .beside) q x is) (on-written (instruction 7 q x) is none)
+  unfolding rowOf operationOf operationAt callOf runnerAfter awaits
+  add-case q x is = alone (instruction 7 q x) is (λ e. absurd (false≢true e)) refl _ (add-after j acc played a b n stands (p .beside) q x is) (on-written (instruction 7 q x) is none)
 
   -- a push moves, or is refused with 9
-  push-with : (i : Instruction) → instructionOf j u ≡ i → (v : ℕ)
+  push-with : (i : Instruction) → instructionOf j u ≡ i → (awaits (operationAt (i .operation)) ≡ true → hasChild t xs ≡ false) → (v : ℕ)
       → callOf (operationAt (i .operation)) j t (u .task .register) i ≡ some (push-call t (i .which) v)
       → i .which < 4 → mayPush (rightsOf j (u .task)) (i .which) ≡ true
       → done t i (some v) v (wordsOf (outcomeOf (push-call t (i .which) v) m)) r ≡ done t i none v (wordsOf (outcomeOf (push-call t (i .which) v) m)) r
       → After j (advance t (pushes (i .which) v) xs) a b n (on n (goesOn u i none) ∷ []) none
       → runnerAfter (operationAt (i .operation)) t v i (does u i none) r ≡ put r t (procedureOf r t) (does u i none .next) (does u i none .register) → Result
   unfolding replyOf replied noted counted pick
-  push-with i is v which small may same after words =
+  push-with i is lone v which small may same after words =
       ⊎-elim
-      (λ d. called i is (push-call t (i .which) v) which (Moved v) d none v _ same after
+      (λ d. called i is lone (push-call t (i .which) v) which (Moved v) d none v _ same after
       (subst (λ (k : List ℕ). Written k (standing a ++ on n (goesOn u i none) ∷ standing b)) (sym words) (on-written i is none)))
       (λ d. held i is (push-call t (i .which) v) which (Refused 9) d (TurnedDown 9) nine refl)
       (push-answer m xs t (common.is-unfinished p) free (i .which) v small
       (subst (λ (k : ℕ). mayPush k (i .which) ≡ true) (sym (common.rights-is p)) may))
 
   pub push-case : Case 1
-  unfolding rowOf operationOf operationAt callOf runnerAfter whichHolds done effect does
+  unfolding rowOf operationOf operationAt callOf runnerAfter whichHolds done effect does awaits
   push-case q x is =
       let holds = both-true _ _ (which-holds j u (instruction 1 q x) is acc stands) in
-      push-with (instruction 1 q x) is x refl (ltb-true q 4 (holds .0)) (holds .1) refl (push-after j acc played a b n stands (p .beside) q x is) refl
+      push-with (instruction 1 q x) is (λ e. absurd (false≢true e)) x refl (ltb-true q 4 (holds .0)) (holds .1) refl (push-after j acc played a b n stands (p .beside) q x is) refl
 
   pub sum-case : Case 2
-  unfolding rowOf operationOf operationAt callOf runnerAfter whichHolds done effect does
+  unfolding rowOf operationOf operationAt callOf runnerAfter whichHolds done effect does awaits
   sum-case q x is =
       let holds = both-true _ _ (which-holds j u (instruction 2 q x) is acc stands) in
-      push-with (instruction 2 q x) is (sum (u .task .register) x) refl (ltb-true q 4 (holds .0)) (holds .1) refl
+      push-with (instruction 2 q x) is (λ e. absurd (false≢true e)) (sum (u .task .register) x) refl (ltb-true q 4 (holds .0)) (holds .1) refl
       (sum-after j acc played a b n stands (p .beside) q x is) refl
 
   pub sync-case : Case 9
@@ -190,7 +193,7 @@ module _ {j m r : List ℕ} {xs : List Mark} {a b : List (Item Numbered)} {n : N
   sync-case q x is =
       let i = instruction 9 q x in
       ⊎-elim
-      (λ d. called i is (sync-call t) refl (Moved 0) d none 0 _ refl (sync-after j acc played a b n stands (p .beside) q x is) (on-written i is none))
+      (λ d. called i is (λ e. d .0) (sync-call t) refl (Moved 0) (d .1) none 0 _ refl (sync-after j acc played a b n stands (p .beside) q x is) (on-written i is none))
       (λ d. held i is (sync-call t) refl Waits (d .1) Later (waits (for-child (d .0))) refl)
       (sync-answer m xs t (common.is-unfinished p) free)
 
@@ -199,7 +202,7 @@ module _ {j m r : List ℕ} {xs : List Mark} {a b : List (Item Numbered)} {n : N
   finish-case q x is =
       let i = instruction 0 q x in
       ⊎-elim
-      (λ d. called i is (finish-call t) refl (Moved 0) d none 0 [] refl (finish-after j acc played a b n stands (p .beside) q x is)
+      (λ d. called i is (λ e. d .0) (finish-call t) refl (Moved 0) (d .1) none 0 [] refl (finish-after j acc played a b n stands (p .beside) q x is)
       (words.finishes r (standing a) (standing b) n written (apart .0) (apart .1)))
       (λ d. held i is (finish-call t) refl Waits (d .1) Later (waits (for-child (d .0))) refl)
       (finish-answer m xs t (common.is-unfinished p) free)
@@ -238,12 +241,12 @@ module _ {j m r : List ℕ} {xs : List Mark} {a b : List (Item Numbered)} {n : N
         (subst (All (Other c)) (standing-append a (spot n ∷ b)) (nobody j xs (a ++ spot n ∷ b) c (p .beside) (fresh m xs (p .state) t (rights j q) c d)))))
 
     pub spawn-does : Result
-    unfolding rowOf operationOf operationAt callOf runnerAfter replyOf replied noted counted done effect whichHolds pick
+    unfolding rowOf operationOf operationAt callOf runnerAfter replyOf replied noted counted done effect whichHolds pick awaits
     spawn-does =
         let holds = both-true _ _ (which-holds j u i is acc stands) in
         ⊎-elim
         (λ d.
-        called i is call refl (Moved c) d none c _ refl (spawn-after j acc played a b n stands (p .beside) q x c is)
+        called i is (λ e. absurd (false≢true e)) call refl (Moved c) d none c _ refl (spawn-after j acc played a b n stands (p .beside) q x c is)
         (spawn-written d (common.call-state p free i is call refl (Moved c) d)))
         (λ d. held i is call refl (Refused 8) d (TurnedDown 8) eight refl)
         (spawn-answer m xs t (common.is-unfinished p) free (rights j q)

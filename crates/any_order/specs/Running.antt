@@ -11,10 +11,13 @@ use Rattle.in_order.specs.State.{State}
 use Rattle.job.specs.Operations.{Operation, return, push, pushSum, pop, goIfEmpty, go, goIfZero, add, spawn, sync, operationAt}
 use Rattle.job.specs.Effects.{Word, spawned, pushed, took, moved, finished, empty, notEmpty, waits, refused, effect}
 use Rattle.plain.specs.Machine.{Event}
-use Rattle.exchange.specs.Line.{Item}
-use Rattle.exchange.specs.Agreement.{Moves}
+use Rattle.line.specs.Line.{Item}
+use Rattle.timed_line.specs.Times.{Timed, untimed}
+use Rattle.timed_line.specs.Agreement.{Moves}
+use Rattle.job_times.specs.Times.{jobWaits}
 use Rattle.job_line.specs.Within.{jobTasks}
-use Rattle.job_line.specs.Agree.{start}
+use Rattle.job_line.specs.Tasks.{Runner}
+use Rattle.job_line.specs.Agree.{start, none-back}
 use Rattle.job_line.specs.Events as Log
 use Rattle.job_order.specs.Beside.{Numbered, unnumbered, standing, Beside}
 use Rattle.runner.specs.declared.StepAnswer.{StepAnswer}
@@ -24,13 +27,16 @@ use Rattle.runner.specs.Step.{callOf, stepOutcome}
 use Rattle.any_order.specs.Statement.{Stand, aside, eventFor, notedBy, standAfter, stepped}
 use Rattle.any_order.specs.Written.{Written}
 
-pub record Running (j : List ℕ) (s : Stand) (line : List (Item Numbered)) : Type 0 where
+-- with the times of its line, by any ticks
+pub record Running (j : List ℕ) (ticks : ℕ → ℕ) (s : Stand) (line : List (Item Numbered)) : Type 0 where
   pub state : State (s .core) (s .order)
   pub beside : Beside j (s .order) line
   pub written : Written (s .runner) (standing line)
   pub count : ℕ
-  pub moves : Moves (jobTasks j) count start (unnumbered line)
-  pub log : Log.log j moves ≡ s .events
+  pub times : List (Timed Runner)
+  pub same : untimed times ≡ unnumbered line
+  pub moves : Moves (jobTasks j) (jobWaits j ticks) count none-back start none-back times
+  pub log : Log.log j (jobWaits j ticks) moves ≡ s .events
 
 -- THE WORDS of a step that goes on: its event has the word and the value of its effect
 pub same-word : (w : Word) (v c : ℕ) → wordOf (answerWith w v c) ≡ w

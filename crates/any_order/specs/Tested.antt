@@ -19,7 +19,7 @@ use Rattle.job.specs.Fields.{procedures, count, rights}
 use Rattle.job.specs.Test.{jobAnswer}
 use Rattle.job.specs.Accepted.{passed}
 use Rattle.plain.specs.Stack.{Stands, rightsOf}
-use Rattle.exchange.specs.Line.{Item, value, spot, finished}
+use Rattle.line.specs.Line.{Item, value, spot, finished, gave}
 use Rattle.job_order.specs.Beside.{Numbered, standing, taskOf, Beside}
 use Rattle.job_order.specs.Points.{standing-append}
 use Rattle.job_order.specs.Located.{located, stands-unfinished, unfinished-stands}
@@ -54,6 +54,7 @@ other-numbers t (x ∷ l) g = go x g (other-numbers t l (λ a b n e. g (x ∷ a)
         → All (Other t) (standing (x ∷ l))
     go (value q v) g rest = rest
     go (finished n) g rest = rest
+    go (gave q) g rest = rest
     go (spot n) g rest = (g [] l n refl, rest)
 
 -- where task number t is not unfinished, nobody on the line has its number

@@ -1,6 +1,6 @@
 -- ANY ORDER OF MOVES of an accepted job's tasks agrees with its plain run, where that ends.
-use mathlib.Core.Path.{_≡_, refl, ap, _∙_}
-use mathlib.Core.List.{List, [], _∷_, append-nil}
+use mathlib.Core.Path.{_≡_, refl, ap, ap₂, sym, _∙_}
+use mathlib.Core.List.{List, [], _∷_, _++_, append-nil}
 use Prim.Native.Nat.{ℕ, _+_, _<_}
 use lib.ListN.{getD}
 use native.Mathlib.Omega.{arith}
@@ -10,8 +10,12 @@ use Rattle.job.specs.Accepted.{Accepted}
 use Rattle.plain.specs.Machine.{begin, queue}
 use Rattle.plain.specs.Run.{queuesOf, stackOf, stepsOf, run, events}
 use Rattle.plain.specs.Kept.{begin-stands}
-use Rattle.exchange.specs.Line.{Item, spot, NoSpot}
-use Rattle.exchange.specs.Agreement.{Moves, agree, all-finished}
+use Rattle.line.specs.Line.{Item, spot, NoSpot}
+use Rattle.line.specs.Fronts.{Fronts}
+use Rattle.timed_line.specs.Times.{Timed, at, untimed}
+use Rattle.timed_line.specs.Walks.{Waits}
+use Rattle.timed_line.specs.Agreement.{Moves, agree, all-finished}
+use Rattle.timed_line.specs.First.{bare-timed}
 use Rattle.job_line.specs.Tasks.{Runner}
 use Rattle.job_line.specs.Within.{jobTasks}
 use Rattle.job_line.specs.Front.{valuesOf}
@@ -22,38 +26,43 @@ use Rattle.job_line.specs.Serial.{Ran, plain-runs}
 abbrev pub top : Runner
 top = record { task = record { name = []; procedure = 0; position = 0; register = 0; children = 0 }; answers = [] }
 
-abbrev pub start : List (Item Runner)
-start = spot top ∷ []
+abbrev pub start : List (Timed Runner)
+start = at 0 (spot top) ∷ []
+
+abbrev pub none-back : Fronts
+none-back q = []
 
 no-value : (q : ℕ) → q < 4 → [] ≡ getD {A = List ℕ} ([] ∷ [] ∷ [] ∷ [] ∷ []) q []
 no-value = by-four (λ q. [] ≡ getD {A = List ℕ} ([] ∷ [] ∷ [] ∷ [] ∷ []) q []) refl refl refl refl
 
-begins : Serially ([] ∷ [] ∷ [] ∷ [] ∷ []) (top ∷ []) start
+begins : Serially none-back ([] ∷ [] ∷ [] ∷ [] ∷ []) (top ∷ []) start
 unfolding valuesOf queue
 begins = record { before = []; line = refl; bare = tt; lists = record { four = refl; same = no-value } }
 
--- the line l after k moves, where the plain run makes n steps in all and leaves the lists qs
-pub record Agrees (k n : ℕ) (qs : List (List ℕ)) (l : List (Item Runner)) : Type 0 where
+-- the line l with r in front after k moves, where the plain run makes n steps in all and leaves the lists qs
+pub record Agrees (k n : ℕ) (qs : List (List ℕ)) (r : Fronts) (l : List (Item Runner)) : Type 0 where
   pub rest : ℕ
   pub count : n ≡ k + rest
   -- once all have finished
   pub all-moved : All NoSpot l → k ≡ n
-  pub left : All NoSpot l → (q : ℕ) → q < 4 → valuesOf q l ≡ queue qs q
+  pub left : All NoSpot l → (q : ℕ) → q < 4 → r q ++ valuesOf q l ≡ queue qs q
 
-module _ (j : List ℕ) (acc : Accepted j) (m : ℕ) (end : stackOf (run m j) ≡ []) where
-  pub ran : Ran j start 0 (run m j) (events m j)
+module _ (j : List ℕ) (W : Waits (jobTasks j)) (acc : Accepted j) (m : ℕ) (end : stackOf (run m j) ≡ []) where
+  pub ran : Ran j W none-back start 0 (run m j) (events m j)
   unfolding run events begin
-  ran = plain-runs j acc m 0 ([] ∷ [] ∷ [] ∷ [] ∷ []) (top ∷ []) start begins (unfold stackOf begin in begin-stands j acc) (unfold run begin in end)
+  ran = plain-runs j W acc m 0 none-back ([] ∷ [] ∷ [] ∷ [] ∷ []) (top ∷ []) start begins (unfold stackOf begin in begin-stands j acc) (unfold run begin in end)
 
-  pub moves-agree : {k : ℕ} {l : List (Item Runner)} → Moves (jobTasks j) k start l → Agrees k (stepsOf (run m j)) (queuesOf (run m j)) l
-  moves-agree {k} {l} ms =
-      let a = agree (jobTasks j) (ran .serial) ms in
+  pub moves-agree : {k : ℕ} {r : Fronts} {l : List (Timed Runner)} → Moves (jobTasks j) W k none-back start r l
+      → Agrees k (stepsOf (run m j)) (queuesOf (run m j)) r (untimed l)
+  moves-agree {k} {r} {l} ms =
+      let a = agree (jobTasks j) W (ran .bare) (ran .run) ms in
       let c = ran .count in
       record {
         rest = a .left;
         count = let d = a .count in omega (arith, c, d);
-        all-moved = λ b. let d = all-finished (jobTasks j) (ran .serial) ms b .0 in omega (arith, c, d);
+        all-moved = λ b. let d = all-finished (jobTasks j) W (ran .bare) (ran .run) (bare-timed (jobTasks j) W l b) ms .0 in omega (arith, c, d);
         left = λ b q i.
-            let e = all-finished (jobTasks j) (ran .serial) ms b .1 in
-            ap (valuesOf q) (e ∙ ran .serially .line ∙ append-nil (ran .serially .before)) ∙ ran .serially .lists .same q i;
+            let e = all-finished (jobTasks j) W (ran .bare) (ran .run) (bare-timed (jobTasks j) W l b) ms in
+            ap₂ (λ (x : Fronts) (y : List (Item Runner)). x q ++ valuesOf q y) (sym (e .1))
+            (ap untimed (sym (e .2)) ∙ ran .serially .line ∙ append-nil (ran .serially .before)) ∙ ran .serially .lists .same q i;
       }

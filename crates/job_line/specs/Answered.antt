@@ -10,52 +10,59 @@ use Rattle.order.specs.Steps.{Name}
 use Rattle.job.specs.Accepted.{Accepted}
 use Rattle.plain.specs.Machine.{Event}
 use Rattle.plain.specs.Run.{stackOf, run, events, answersOf}
-use Rattle.exchange.specs.Line.{Item, NoSpot}
-use Rattle.exchange.specs.Agreement.{Moves, serial-moves, all-finished}
-use Rattle.exchange.specs.Answers.{answers}
+use Rattle.line.specs.Line.{Item, NoSpot}
+use Rattle.line.specs.Fronts.{Fronts}
+use Rattle.timed_line.specs.Times.{Timed, untimed}
+use Rattle.timed_line.specs.Walks.{Waits}
+use Rattle.timed_line.specs.Agreement.{Moves, all-finished}
+use Rattle.timed_line.specs.Answers.{answers}
+use Rattle.timed_line.specs.First.{bare-timed}
 use Rattle.job_line.specs.Tasks.{Runner}
 use Rattle.job_line.specs.Within.{jobTasks}
 use Rattle.job_line.specs.Lasting.{jobLasting}
-use Rattle.job_line.specs.Agree.{start, ran}
+use Rattle.job_line.specs.Agree.{start, none-back, ran}
 use Rattle.job_line.specs.Events.{log}
 use Rattle.job_line.specs.Log.{Logged, moves-logged, Has, has?, has-answers}
 
 -- one event a move
-pub log-length : (j : List ℕ) {n : ℕ} {l k : List (Item Runner)} (ms : Moves (jobTasks j) n l k) → length (log j ms) ≡ n
-log-length j Moves.no-move = refl
-log-length j (Moves.moves m ms) = ap suc (log-length j ms)
+pub log-length : (j : List ℕ) (W : Waits (jobTasks j)) {n : ℕ} {r x : Fronts} {l k : List (Timed Runner)} (ms : Moves (jobTasks j) W n r l x k)
+    → length (log j W ms) ≡ n
+log-length j W Moves.no-move = refl
+log-length j W (Moves.moves m ms) = ap suc (log-length j W ms)
 
-module _ (j : List ℕ) (acc : Accepted j) (m : ℕ) (end : stackOf (run m j) ≡ []) where
+module _ (j : List ℕ) (W : Waits (jobTasks j)) (acc : Accepted j) (m : ℕ) (end : stackOf (run m j) ≡ []) where
   -- the last line of the plain run, and its events
-  plain-logged : Logged (ran j acc m end .last) (events m j)
-  plain-logged = subst (Logged (ran j acc m end .last)) (ran j acc m end .events) (moves-logged j acc (serial-moves (jobTasks j) (ran j acc m end .serial)))
+  plain-logged : Logged (untimed (ran j W acc m end .last)) (events m j)
+  plain-logged = subst (Logged (untimed (ran j W acc m end .last))) (ran j W acc m end .events) (moves-logged j W acc (ran j W acc m end .run))
 
   -- what a task has been answered so far, it is answered first in the plain run
-  pub answers-first : {n : ℕ} {l : List (Item Runner)} (ms : Moves (jobTasks j) n start l) (p : Name)
-      → (more : List Event) × (answersOf p (events m j) ≡ answersOf p (log j ms) ++ more)
+  pub answers-first : {n : ℕ} {x : Fronts} {l : List (Timed Runner)} (ms : Moves (jobTasks j) W n none-back start x l) (p : Name)
+      → (more : List Event) × (answersOf p (events m j) ≡ answersOf p (log j W ms) ++ more)
   answers-first {l = l} ms p =
-      ⊎-elim there (λ n. (answersOf p (events m j), ap (λ (es : List Event). es ++ answersOf p (events m j)) (sym (g .heard p n)))) (has? p l)
+      ⊎-elim there (λ n. (answersOf p (events m j), ap (λ (es : List Event). es ++ answersOf p (events m j)) (sym (g .heard p n)))) (has? p (untimed l))
     where
-      g : Logged l (log j ms)
-      g = moves-logged j acc ms
+      g : Logged (untimed l) (log j W ms)
+      g = moves-logged j W acc ms
 
-      there : Has p l → (more : List Event) × (answersOf p (events m j) ≡ answersOf p (log j ms) ++ more)
+      there : Has p (untimed l) → (more : List Event) × (answersOf p (events m j) ≡ answersOf p (log j W ms) ++ more)
       there h =
-          let w = answers (jobTasks j) (jobLasting j) (h .task) (ran j acc m end .serial) ms (h .on) in
-          let k : Has p (ran j acc m end .last) = record { task = w .task; on = w .on; name = sym (w .later .name) ∙ h .name } in (
+          let w = answers (jobTasks j) W (jobLasting j) (h .task) (ran j W acc m end .bare) (ran j W acc m end .run) ms (h .on) in
+          let k : Has p (untimed (ran j W acc m end .last)) = record { task = w .task; on = w .on; name = sym (w .later .name) ∙ h .name } in (
             w .later .more,
             sym (has-answers p plain-logged k) ∙ w .later .answers ∙ ap (λ (es : List Event). es ++ w .later .more) (has-answers p g h),
           )
 
   -- once all tasks have finished, each has been answered what it is answered in the plain run
-  pub answers-all : {n : ℕ} {l : List (Item Runner)} (ms : Moves (jobTasks j) n start l) → All NoSpot l → (p : Name)
-      → answersOf p (log j ms) ≡ answersOf p (events m j)
+  pub answers-all : {n : ℕ} {x : Fronts} {l : List (Timed Runner)} (ms : Moves (jobTasks j) W n none-back start x l) → All NoSpot (untimed l) → (p : Name)
+      → answersOf p (log j W ms) ≡ answersOf p (events m j)
   answers-all {l = l} ms a p =
-      ⊎-elim (λ h. sym (has-answers p g h) ∙ has-answers p same h) (λ n. g .heard p n ∙ sym (same .heard p n)) (has? p l)
+      ⊎-elim (λ h. sym (has-answers p g h) ∙ has-answers p same h) (λ n. g .heard p n ∙ sym (same .heard p n)) (has? p (untimed l))
     where
-      g : Logged l (log j ms)
-      g = moves-logged j acc ms
+      g : Logged (untimed l) (log j W ms)
+      g = moves-logged j W acc ms
 
       -- the line is the last of the plain run
-      same : Logged l (events m j)
-      same = subst (λ (x : List (Item Runner)). Logged x (events m j)) (sym (all-finished (jobTasks j) (ran j acc m end .serial) ms a .1)) plain-logged
+      same : Logged (untimed l) (events m j)
+      same =
+          subst (λ (x : List (Timed Runner)). Logged (untimed x) (events m j))
+          (all-finished (jobTasks j) W (ran j W acc m end .bare) (ran j W acc m end .run) (bare-timed (jobTasks j) W l a) ms .2) plain-logged

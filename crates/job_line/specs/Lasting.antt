@@ -6,8 +6,8 @@ use Prim.Native.Nat.{ℕ}
 use Rattle.job.specs.declared.Instruction.{Instruction}
 use Rattle.job.specs.Operations.{Operation, return, push, pushSum, pop, goIfEmpty, go, goIfZero, add, spawn, sync, operationAt}
 use Rattle.plain.specs.Machine.{Task, Event, eventOf, advanced, parent}
-use Rattle.exchange.specs.Line.{Item, Action, puts, looks, Search, free, seeking, found, Acts}
-use Rattle.exchange.specs.Answers.{On, unfinished, over, behind, Lasting}
+use Rattle.line.specs.Line.{Item, Action, puts, looks, returns, Search, free, seeking, found, putting, Acts}
+use Rattle.timed_line.specs.Answers.{On, unfinished, over, behind, Lasting}
 use Rattle.job_line.specs.Tasks.{Runner, does, answering, actionBy, action, instructionOf, by-test}
 use Rattle.job_line.specs.Within.{jobTasks}
 
@@ -38,6 +38,7 @@ Stay u xs = (v : Runner) × Later u v × On v xs
 abbrev pub Stays : Runner → Action Runner → Type 0
 Stays u (puts xs) = Stay u xs
 Stays u (looks b q f) = (a : Option ℕ) → Stay u (f a)
+Stays u (returns q v xs) = Stay u xs
 
 acts-stay : (j : List ℕ) (o : Operation) (u : Runner) (s : Instruction) → Stays u (actionBy o j u s)
 unfolding advanced parent
@@ -56,9 +57,15 @@ pub put-stay : (u : Runner) (i : Action Runner) (m : Search) (xs : List (Item Ru
 put-stay u (puts ys) free xs h d = rw d h
 put-stay u (puts ys) (seeking b q) xs h d = absurd d
 put-stay u (puts ys) (found b q v) xs h d = absurd d
+put-stay u (puts ys) (putting q v) xs h d = absurd d
 put-stay u (looks c p f) free xs h d = absurd d
 put-stay u (looks c p f) (seeking b q) xs h d = rw (d .2) (h none)
 put-stay u (looks c p f) (found b q v) xs h d = rw (d .2) (h (some v))
+put-stay u (looks c p f) (putting q v) xs h d = absurd d
+put-stay u (returns p w ys) free xs h d = absurd d
+put-stay u (returns p w ys) (seeking b q) xs h d = absurd d
+put-stay u (returns p w ys) (found b q v) xs h d = absurd d
+put-stay u (returns p w ys) (putting q v) xs h d = rw (d .2) h
 
 pub action-stays : (j : List ℕ) (u : Runner) → Stays u (action j u)
 unfolding action

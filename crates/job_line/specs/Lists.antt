@@ -2,7 +2,7 @@
 use mathlib.Core.Path.{_≡_, refl, ap, sym, _∙_}
 use mathlib.Core.Logic.{⊎-elim}
 use mathlib.Core.Bool.{Bool, true, false}
-use mathlib.Core.List.{List, [], _∷_, _++_, append-nil}
+use mathlib.Core.List.{List, [], _∷_, _++_, append-nil, append-assoc}
 use Prim.Native.Nat.{ℕ, _<_}
 use native.Mathlib.Omega.{arith}
 use lib.Dec.{eqb}
@@ -13,7 +13,9 @@ use Rattle.words.specs.Words.{pick, halt, pass}
 use Rattle.lists.specs.Counting.{equal?}
 use Rattle.gaps.specs.Maps.{All}
 use Rattle.plain.specs.Machine.{queue}
-use Rattle.exchange.specs.Line.{Item, value, spot, finished, NoSpot}
+use Rattle.line.specs.Line.{Item, value, spot, finished, gave, NoSpot}
+use Rattle.gaps.specs.Maps.{put, put-same, put-other}
+use Rattle.line.specs.Fronts.{Fronts}
 use Rattle.job_line.specs.Front.{valuesOf, without}
 
 module _ {S : Type 0} where
@@ -28,6 +30,7 @@ module _ {S : Type 0} where
       go false e = unfold pick in e
   values-append q (spot s ∷ a) b = values-append q a b
   values-append q (finished s ∷ a) b = values-append q a b
+  values-append q (gave p ∷ a) b = values-append q a b
 
   pub bare-append : (a b : List (Item S)) → All NoSpot a → All NoSpot b → All NoSpot (a ++ b)
   bare-append [] b h k = k
@@ -44,6 +47,7 @@ module _ {S : Type 0} where
       go false k = unfold pick in (tt, k)
   bare-without q (spot s ∷ l) h = absurd (h .0)
   bare-without q (finished s ∷ l) h = (tt, bare-without q l (h .1))
+  bare-without q (gave p ∷ l) h = (tt, bare-without q l (h .1))
 
   pub values-without : (q : ℕ) (l : List (Item S)) → valuesOf q (without q l) ≡ drop 1 (valuesOf q l)
   unfolding without valuesOf
@@ -56,6 +60,7 @@ module _ {S : Type 0} where
       go false e k = unfold pick valuesOf in pass _ e k
   values-without q (spot s ∷ l) = values-without q l
   values-without q (finished s ∷ l) = values-without q l
+  values-without q (gave p ∷ l) = values-without q l
 
   pub values-other : (p q : ℕ) (l : List (Item S)) → (p ≡ q → ⊥) → valuesOf p (without q l) ≡ valuesOf p l
   unfolding without valuesOf
@@ -72,46 +77,57 @@ module _ {S : Type 0} where
       other k e = ap (valuesOf p) (pass l (ne-eqb r q e) refl) ∙ rest k
   values-other p q (spot s ∷ l) n = values-other p q l n
   values-other p q (finished s ∷ l) n = values-other p q l n
+  values-other p q (gave r ∷ l) n = values-other p q l n
 
--- THE FOUR LISTS of the plain machine, and the values along the items vs
-pub record Lists {S : Type 0} (qs : List (List ℕ)) (vs : List (Item S)) : Type 0 where
+-- THE FOUR LISTS of the plain machine: the values put back, and those along the items vs
+pub record Lists {S : Type 0} (r : Fronts) (qs : List (List ℕ)) (vs : List (Item S)) : Type 0 where
   pub four : length qs ≡ 4
-  pub same : (q : ℕ) → q < 4 → valuesOf q vs ≡ queue qs q
+  pub same : (q : ℕ) → q < 4 → r q ++ valuesOf q vs ≡ queue qs q
 
-module _ {S : Type 0} (qs : List (List ℕ)) (vs : List (Item S)) (h : Lists qs vs) where
+module _ {S : Type 0} (r : Fronts) (qs : List (List ℕ)) (vs : List (Item S)) (h : Lists r qs vs) where
   -- one list changes
-  lists-changed : (q : ℕ) (l : List ℕ) (ws : List (Item S)) → q < 4 → valuesOf q ws ≡ l → ((p : ℕ) → (p ≡ q → ⊥) → valuesOf p ws ≡ valuesOf p vs)
-      → Lists (set qs q l) ws
+  lists-changed : (x : Fronts) (q : ℕ) (l : List ℕ) (ws : List (Item S)) → q < 4 → x q ++ valuesOf q ws ≡ l
+      → ((p : ℕ) → (p ≡ q → ⊥) → x p ++ valuesOf p ws ≡ r p ++ valuesOf p vs) → Lists x (set qs q l) ws
   unfolding queue
-  lists-changed q l ws small e f =
+  lists-changed x q l ws small e f =
       record {
         four = length-set qs q l ∙ h .four;
         same = λ p i.
             ⊎-elim
-            (λ d. ap (λ (x : ℕ). valuesOf x ws) d ∙ e
-            ∙ sym (ap (λ (x : ℕ). getD (set qs q l) x []) d ∙ getD-set-same qs q l [] (let k = h .four in omega (arith, k, small))))
+            (λ d. ap (λ (y : ℕ). x y ++ valuesOf y ws) d ∙ e
+            ∙ sym (ap (λ (y : ℕ). getD (set qs q l) y []) d ∙ getD-set-same qs q l [] (let k = h .four in omega (arith, k, small))))
             (λ d. f p d ∙ h .same p i ∙ sym (getD-set-other qs q p l [] d))
             (equal? p q);
       }
 
-  -- a push, and a pop
-  pub lists-pushed : (q v : ℕ) → q < 4 → Lists (set qs q (queue qs q ++ v ∷ [])) (vs ++ value q v ∷ [])
+  -- a push, and a pop from the line or of a value put back
+  pub lists-pushed : (q v : ℕ) → q < 4 → Lists r (set qs q (queue qs q ++ v ∷ [])) (vs ++ value q v ∷ [])
   unfolding valuesOf
   lists-pushed q v small =
-      lists-changed q (queue qs q ++ v ∷ []) (vs ++ value q v ∷ []) small
-      (values-append q vs (value q v ∷ []) ∙ ap (λ (l : List ℕ). l ++ valuesOf {S = S} q (value q v ∷ [])) (h .same q small)
-      ∙ ap (λ (l : List ℕ). queue qs q ++ l) (halt _ _ (eq-eqb q q refl)))
-      (λ p n. values-append p vs (value q v ∷ []) ∙ ap (λ (l : List ℕ). valuesOf p vs ++ l) (pass _ (ne-eqb q p (λ e. n (sym e))) refl)
-      ∙ append-nil (valuesOf p vs))
+      lists-changed r q (queue qs q ++ v ∷ []) (vs ++ value q v ∷ []) small
+      (ap (λ (l : List ℕ). r q ++ l) (values-append q vs (value q v ∷ [])) ∙ sym (append-assoc (r q) (valuesOf q vs) (valuesOf {S = S} q (value q v ∷ [])))
+      ∙ ap (λ (l : List ℕ). l ++ valuesOf {S = S} q (value q v ∷ [])) (h .same q small) ∙ ap (λ (l : List ℕ). queue qs q ++ l) (halt _ _ (eq-eqb q q refl)))
+      (λ p n. ap (λ (l : List ℕ). r p ++ l) (values-append p vs (value q v ∷ []) ∙ ap (λ (l : List ℕ). valuesOf p vs ++ l) (pass _ (ne-eqb q p (λ e. n (sym e))) refl)
+      ∙ append-nil (valuesOf p vs)))
 
-  pub lists-popped : (q : ℕ) → q < 4 → Lists (set qs q (drop 1 (queue qs q))) (without q vs)
-  lists-popped q small =
-      lists-changed q (drop 1 (queue qs q)) (without q vs) small (values-without q vs ∙ ap (drop 1) (h .same q small)) (λ p n. values-other p q vs n)
+  pub lists-popped : (q : ℕ) → q < 4 → r q ≡ [] → Lists r (set qs q (drop 1 (queue qs q))) (without q vs)
+  lists-popped q small e =
+      lists-changed r q (drop 1 (queue qs q)) (without q vs) small
+      (ap (λ (l : List ℕ). l ++ valuesOf q (without q vs)) e ∙ values-without q vs
+      ∙ ap (drop 1) (ap (λ (l : List ℕ). l ++ valuesOf q vs) (sym e) ∙ h .same q small))
+      (λ p n. ap (λ (l : List ℕ). r p ++ l) (values-other p q vs n))
+
+  pub lists-taken : (q v : ℕ) (c : List ℕ) → q < 4 → r q ≡ v ∷ c → Lists (put r q (drop 1 (r q))) (set qs q (drop 1 (queue qs q))) vs
+  lists-taken q v c small e =
+      lists-changed (put r q (drop 1 (r q))) q (drop 1 (queue qs q)) vs small
+      (ap (λ (l : List ℕ). l ++ valuesOf q vs) (put-same r q (drop 1 (r q)) ∙ ap (drop 1) e)
+      ∙ ap (drop 1) (ap (λ (l : List ℕ). l ++ valuesOf q vs) (sym e) ∙ h .same q small))
+      (λ p n. ap (λ (l : List ℕ). l ++ valuesOf p vs) (put-other r q (drop 1 (r q)) p n))
 
   -- what is put has no values
-  pub lists-kept : (ws : List (Item S)) → ((q : ℕ) → valuesOf q ws ≡ []) → Lists qs (vs ++ ws)
+  pub lists-kept : (ws : List (Item S)) → ((q : ℕ) → valuesOf q ws ≡ []) → Lists r qs (vs ++ ws)
   lists-kept ws e =
       record {
         four = h .four;
-        same = λ q i. values-append q vs ws ∙ ap (λ (l : List ℕ). valuesOf q vs ++ l) (e q) ∙ append-nil (valuesOf q vs) ∙ h .same q i;
+        same = λ q i. ap (λ (l : List ℕ). r q ++ l) (values-append q vs ws ∙ ap (λ (l : List ℕ). valuesOf q vs ++ l) (e q) ∙ append-nil (valuesOf q vs)) ∙ h .same q i;
       }

@@ -9,18 +9,21 @@ use Rattle.gaps.specs.Maps.{All}
 use Rattle.order.specs.Steps.{Name}
 use Rattle.order_laws.specs.Names.{same?, same-yes, same-no}
 use Rattle.job.specs.Accepted.{Accepted}
-use Rattle.plain.specs.Machine.{Event, advanced, parent, child}
+use Rattle.plain.specs.Machine.{Event, eventOf, advanced, parent, child}
 use Rattle.plain.specs.Run.{answersOf}
 use Rattle.plain.specs.Laws.{answers-join}
-use Rattle.exchange.specs.Line.{Item, value, spot, finished}
-use Rattle.exchange.specs.Agreement.{Moves}
-use Rattle.exchange.specs.Answers.{On, unfinished, over, behind}
+use Rattle.line.specs.Line.{Item, value, spot, finished, gave}
+use Rattle.line.specs.Fronts.{Fronts}
+use Rattle.timed_line.specs.Times.{Timed, untimed}
+use Rattle.timed_line.specs.Walks.{Waits}
+use Rattle.timed_line.specs.Agreement.{Moves}
+use Rattle.timed_line.specs.Answers.{On, unfinished, over, behind}
 use Rattle.job_line.specs.Tasks.{Runner}
 use Rattle.job_line.specs.Within.{jobTasks}
-use Rattle.job_line.specs.Agree.{start}
-use Rattle.job_line.specs.Events.{walkEvent, log}
+use Rattle.job_line.specs.Agree.{start, none-back}
+use Rattle.job_line.specs.Events.{moveEvent, log}
 use Rattle.job_line.specs.Put.{Put, goes, pushes, finishes, spawns}
-use Rattle.job_line.specs.Stood.{Standing, Replaces, here, past, takes, walk-moved, stand-kept, start-stands}
+use Rattle.job_line.specs.Stood.{Standing, Replaces, here, past, takes, replaced, stand-kept, start-stands}
 use Rattle.job_line.specs.Named.{Unnamed, nextName, Apart, turned, Pairs, not-own, of-mover, pairs-kept, next-new, unnamed-before}
 
 -- the answers of a task, by the events es
@@ -28,6 +31,7 @@ abbrev pub Own : List Event → Item Runner → Type 0
 Own es (value q v) = Unit {0}
 Own es (spot u) = u .answers ≡ answersOf (u .task .name) es
 Own es (finished u) = u .answers ≡ answersOf (u .task .name) es
+Own es (gave q) = Unit {0}
 
 -- The line l and the events es: each task's answers are its events, no event is of a name that no task has, and names are
 -- used once.
@@ -51,6 +55,7 @@ module _ (j : List ℕ) (es : List Event) (u : Runner) (a : Event) (made : a .na
   other-own : (x : Item Runner) → Apart (spot u) x → Own es x → Own (es ++ (a ∷ [])) x
   other-own (value q v) h o = tt
   other-own (spot w) h o = o ∙ sym (no-more es a (w .task .name) (λ e. h .differ (w .task .name) (sym made ∙ e) refl))
+  other-own (gave q) h o = tt
   other-own (finished w) h o = o ∙ sym (no-more es a (w .task .name) (λ e. h .differ (w .task .name) (sym made ∙ e) refl))
 
   others-own : (l : List (Item Runner)) → All (Apart (spot u)) l → All (Own es) l → All (Own (es ++ (a ∷ []))) l
@@ -90,19 +95,19 @@ module _ (j : List ℕ) (es : List Event) (u : Runner) (a : Event) (made : a .na
         apart = pairs-kept j r (h .apart);
       }
 
-module _ (j : List ℕ) (acc : Accepted j) where
-  all-logged : {n : ℕ} {l k : List (Item Runner)} (es : List Event) → All (Standing j) l → Logged l es → (ms : Moves (jobTasks j) n l k)
-      → Logged k (es ++ log j ms)
-  all-logged {l = l} es st h Moves.no-move = subst (Logged l) (sym (append-nil es)) h
+module _ (j : List ℕ) (W : Waits (jobTasks j)) (acc : Accepted j) where
+  all-logged : {n : ℕ} {r x : Fronts} {l k : List (Timed Runner)} (es : List Event) → All (Standing j) (untimed l) → Logged (untimed l) es
+      → (ms : Moves (jobTasks j) W n r l x k) → Logged (untimed k) (es ++ log j W ms)
+  all-logged {l = l} es st h Moves.no-move = subst (Logged (untimed l)) (sym (append-nil es)) h
   all-logged {k = k} es st h (Moves.moves m ms) =
-      let a = walkEvent j (m .walk) in
-      let c = walk-moved j acc st (m .walk) in
-      subst (Logged k) (append-assoc es (a ∷ []) (log j ms))
-      (all-logged (es ++ (a ∷ [])) (stand-kept j (c .replaces) st) (logged-kept j es (c .mover) a (c .name) (c .replaces) h) ms)
+      let a = moveEvent j W m in
+      let c = replaced j W acc st m in
+      subst (Logged (untimed k)) (append-assoc es (a ∷ []) (log j W ms))
+      (all-logged (es ++ (a ∷ [])) (stand-kept j c st) (logged-kept j es (m .task) a (unfold eventOf in refl) c h) ms)
 
-  pub moves-logged : {n : ℕ} {l : List (Item Runner)} (ms : Moves (jobTasks j) n start l) → Logged l (log j ms)
+  pub moves-logged : {n : ℕ} {x : Fronts} {l : List (Timed Runner)} (ms : Moves (jobTasks j) W n none-back start x l) → Logged (untimed l) (log j W ms)
   unfolding answersOf
-  moves-logged ms = all-logged [] (start-stands j acc) (record { own = (refl, tt); heard = λ p n. refl; apart = (tt, tt) }) ms
+  moves-logged ms = all-logged [] (start-stands j W acc) (record { own = (refl, tt); heard = λ p n. refl; apart = (tt, tt) }) ms
 
 -- the answers of one task of the line
 pub own-answers : (w : Runner) (es : List Event) {l : List (Item Runner)} → On w l → All (Own es) l → w .answers ≡ answersOf (w .task .name) es
@@ -124,6 +129,7 @@ has? p (x ∷ l) = ⊎-elim (λ h. inl (record { task = h .task; on = behind (h 
     first : (y : Item Runner) → All (Unnamed p) l → Has p (y ∷ l) ⊎ All (Unnamed p) (y ∷ l)
     first (value q v) n = inr (λ e. e, n)
     first (spot u) n = ⊎-elim (λ e. inl (record { task = u; on = unfinished; name = e })) (λ d. inr (d, n)) (same? (u .task .name) p)
+    first (gave q) n = inr (λ e. e, n)
     first (finished u) n = ⊎-elim (λ e. inl (record { task = u; on = over; name = e })) (λ d. inr (d, n)) (same? (u .task .name) p)
 
 -- the answers of name p are those of the task that has it

@@ -8,7 +8,7 @@ use Rattle.order.specs.Steps.{Name}
 use Rattle.order_laws.specs.Names.{Under, under-self, under-parent, not-under-child, one-branch}
 use Rattle.job.specs.Effects.{Effect}
 use Rattle.plain.specs.Machine.{Event, advanced, parent, child}
-use Rattle.exchange.specs.Line.{Item, value, spot, finished}
+use Rattle.line.specs.Line.{Item, value, spot, finished, gave}
 use Rattle.job_line.specs.Tasks.{Runner}
 use Rattle.job_line.specs.Put.{Put, goes, pushes, finishes, spawns, answered}
 use Rattle.job_line.specs.Stood.{Replaces, here, past, takes}
@@ -17,6 +17,7 @@ abbrev pub Named : Name → Item Runner → Type 0
 Named p (value q v) = ⊥
 Named p (spot u) = u .task .name ≡ p
 Named p (finished u) = u .task .name ≡ p
+Named p (gave q) = ⊥
 
 abbrev pub Unnamed : Name → Item Runner → Type 0
 Unnamed p x = Named p x → ⊥
@@ -26,11 +27,13 @@ abbrev Open : Name → ℕ → Item Runner → Type 0
 Open p n (value q v) = ⊥
 Open p n (spot u) = (u .task .name ≡ p) × (u .task .children ≡ n)
 Open p n (finished u) = ⊥
+Open p n (gave q) = ⊥
 
 open-named : (p : Name) (n : ℕ) (x : Item Runner) → Open p n x → Named p x
 open-named p n (value q v) o = absurd o
 open-named p n (spot u) o = o .0
 open-named p n (finished u) o = absurd o
+open-named p n (gave q) o = absurd o
 
 -- the name of its next child
 abbrev pub nextName : Runner → Name

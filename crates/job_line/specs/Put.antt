@@ -14,9 +14,10 @@ use Rattle.job.specs.Accepted.{Accepted}
 use Rattle.plain.specs.Machine.{Task, Event, eventOf, advanced, parent, child}
 use Rattle.plain.specs.Stack.{rightsOf, Stands}
 use Rattle.plain.specs.Onward.{StandsAfter, stands-after}
-use Rattle.exchange.specs.Line.{Item, value, spot, finished, Action, puts, looks, Search, free, seeking, found, Acts}
+use Rattle.line.specs.Line.{Item, value, spot, finished, Action, puts, looks, Search, free, seeking, found, Acts}
 use Rattle.job_line.specs.Tasks.{canPush, canPop, Runner, does, goesOn, instruction, actionBy, action, instructionOf}
-use Rattle.job_line.specs.Events.{foundBy, eventWith}
+use Rattle.job_line.specs.Front.{foundBy}
+use Rattle.job_line.specs.Events.{eventWith}
 
 -- the task t, which has had the answers of u and then a
 abbrev pub answered : Runner → Event → Task → Runner
@@ -39,12 +40,14 @@ module _ (j : List ℕ) (u : Runner) where
   putting s ys p free xs d = rw d p
   putting s ys p (seeking b q) xs d = absurd d
   putting s ys p (found b q v) xs d = absurd d
+  putting s ys p (Search.putting q v) xs d = absurd d
 
   looking : (s : Instruction) (b : Bool) (q : ℕ) (f : Option ℕ → List (Item Runner)) → ((o : Option ℕ) → Put j u (eventOf (u .task) s (does u s o)) (f o))
       → Putting s (looks b q f)
   looking s b q f p free xs d = absurd d
   looking s b q f p (seeking c r) xs d = rw (d .2) (p none)
   looking s b q f p (found c r v) xs d = rw (d .2) (p (some v))
+  looking s b q f p (Search.putting r v) xs d = absurd d
 
   -- by the operation's number
   abbrev Case : ℕ → Type 0

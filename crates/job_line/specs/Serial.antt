@@ -10,40 +10,48 @@ use Rattle.plain.specs.Run.{queuesOf, stackOf, stepsOf, eventIn, runFrom, event
 use Rattle.plain.specs.Laws.{ended-stays, ended-silent}
 use Rattle.plain.specs.Stack.{Stack, first-stands}
 use Rattle.plain.specs.Kept.{next-kept}
-use Rattle.exchange.specs.Line.{Item, NoSpot}
-use Rattle.exchange.specs.Agreement.{Serial, ends, steps, serial-moves}
+use Rattle.line.specs.Line.{NoSpot}
+use Rattle.line.specs.Fronts.{Fronts}
+use Rattle.timed_line.specs.Times.{Timed, untimed}
+use Rattle.timed_line.specs.Walks.{Waits}
+use Rattle.timed_line.specs.Agreement.{Moves, no-move, moves as more, Bare}
+use Rattle.timed_line.specs.First.{bare-timed}
 use Rattle.job_line.specs.Tasks.{Runner}
 use Rattle.job_line.specs.Within.{jobTasks}
-use Rattle.job_line.specs.Events.{log}
-use Rattle.job_line.specs.Leads.{leadEvent}
+use Rattle.job_line.specs.Events.{log, moveEvent}
 use Rattle.job_line.specs.Plain.{tasksOf, Serially, plain-step}
 
--- a run to its end, from the line l: the state s is that of the plain machine then, which has made k steps before; es are the
--- events of the run
-pub record Ran (j : List ℕ) (l : List (Item Runner)) (k : ℕ) (s : State) (es : List Event) : Type 0 where
+-- a run to its end, from the line l with r in front: the state s is that of the plain machine then, which has made k steps before; es
+-- are the events of the run
+pub record Ran (j : List ℕ) (W : Waits (jobTasks j)) (r : Fronts) (l : List (Timed Runner)) (k : ℕ) (s : State) (es : List Event) : Type 0 where
   pub moves : ℕ
-  pub last : List (Item Runner)
-  pub serial : Serial (jobTasks j) moves l last
-  pub serially : Serially (queuesOf s) [] last
+  pub fronts : Fronts
+  pub last : List (Timed Runner)
+  pub run : Moves (jobTasks j) W moves r l fronts last
+  pub bare : Bare (jobTasks j) W last
+  pub serially : Serially fronts (queuesOf s) [] last
   pub count : stepsOf s ≡ k + moves
-  pub events : log j (serial-moves (jobTasks j) serial) ≡ es
+  pub events : log j W run ≡ es
 
-module _ (j : List ℕ) (acc : Accepted j) where
+module _ (j : List ℕ) (W : Waits (jobTasks j)) (acc : Accepted j) where
   -- what is to be shown of m steps
   abbrev Runs : ℕ → Type 0
   Runs m =
-      (k : ℕ) (qs : List (List ℕ)) (us : List Runner) (l : List (Item Runner)) → Serially qs us l → Stack j (tasksOf us)
-      → stackOf (runFrom m j (state qs (tasksOf us) k)) ≡ [] → Ran j l k (runFrom m j (state qs (tasksOf us) k)) (eventsFrom m j (state qs (tasksOf us) k))
+      (k : ℕ) (r : Fronts) (qs : List (List ℕ)) (us : List Runner) (l : List (Timed Runner)) → Serially r qs us l → Stack j (tasksOf us)
+      → stackOf (runFrom m j (state qs (tasksOf us) k)) ≡ [] → Ran j W r l k (runFrom m j (state qs (tasksOf us) k)) (eventsFrom m j (state qs (tasksOf us) k))
 
   -- no task is left
-  at-end : (m k : ℕ) (qs : List (List ℕ)) (l : List (Item Runner)) → Serially qs [] l → Ran j l k (runFrom m j (state qs [] k)) (eventsFrom m j (state qs [] k))
-  unfolding queuesOf stepsOf serial-moves
-  at-end m k qs l h =
-      subst (λ (s : State). Ran j l k s (eventsFrom m j (state qs [] k))) (sym (ended-stays j qs k m))
+  at-end : (m k : ℕ) (r : Fronts) (qs : List (List ℕ)) (l : List (Timed Runner)) → Serially r qs [] l
+      → Ran j W r l k (runFrom m j (state qs [] k)) (eventsFrom m j (state qs [] k))
+  unfolding queuesOf stepsOf
+  at-end m k r qs l h =
+      subst (λ (s : State). Ran j W r l k s (eventsFrom m j (state qs [] k))) (sym (ended-stays j qs k m))
       (record {
         moves = 0;
+        fronts = r;
         last = l;
-        serial = ends (subst (All NoSpot) (sym (append-nil (h .before)) ∙ sym (h .line)) (h .bare));
+        run = no-move;
+        bare = bare-timed (jobTasks j) W l (subst (All NoSpot) (sym (append-nil (h .before)) ∙ sym (h .line)) (h .bare));
         serially = h;
         count = omega arith;
         events = sym (ended-silent j qs k m);
@@ -51,25 +59,27 @@ module _ (j : List ℕ) (acc : Accepted j) where
 
   none-made : Runs zero
   unfolding stackOf runFrom
-  none-made k qs [] l h st e = at-end 0 k qs l h
-  none-made k qs (u ∷ us) l h st e = let z : _≡_ {A = ℕ} 0 1 = cc in absurd (omega (arith, z))
+  none-made k r qs [] l h st e = at-end 0 k r qs l h
+  none-made k r qs (u ∷ us) l h st e = let z : _≡_ {A = ℕ} 0 1 = cc in absurd (omega (arith, z))
 
   one-more : (m : ℕ) → Runs m → Runs (suc m)
-  unfolding stackOf runFrom eventsFrom serial-moves
-  one-more m rest k qs [] l h st e = at-end (suc m) k qs l h
-  one-more m rest k qs (u ∷ us) l h st e =
-      let p = plain-step j qs u us k l h acc (first-stands j (u .task) (tasksOf us) st) in
-      let r = rest (k + 1) (p .queues) (p .tasks) (p .then) (p .serially)
+  unfolding stackOf runFrom eventsFrom
+  one-more m rest k r qs [] l h st e = at-end (suc m) k r qs l h
+  one-more m rest k r qs (u ∷ us) l h st e =
+      let p = plain-step j W r qs u us k l h acc (first-stands j (u .task) (tasksOf us) st) in
+      let o = rest (k + 1) (p .fronts) (p .queues) (p .tasks) (p .then) (p .serially)
       (subst (λ (s : State). Stack j (stackOf s)) (p .is) (next-kept j acc (state qs (tasksOf (u ∷ us)) k) st))
       (ap (λ (s : State). stackOf (runFrom m j s)) (sym (p .is)) ∙ e) in
-      subst (λ (s : State). Ran j l k (runFrom m j s) (eventIn (step j (state qs (tasksOf (u ∷ us)) k)) ++ eventsFrom m j s)) (sym (p .is))
+      subst (λ (s : State). Ran j W r l k (runFrom m j s) (eventIn (step j (state qs (tasksOf (u ∷ us)) k)) ++ eventsFrom m j s)) (sym (p .is))
       (record {
-        moves = suc (r .moves);
-        last = r .last;
-        serial = steps (p .first) (r .serial);
-        serially = r .serially;
-        count = let c = r .count in omega (arith, c);
-        events = ap (λ (es : List Event). leadEvent j (p .first .lead) ∷ es) (r .events)
+        moves = suc (o .moves);
+        fronts = o .fronts;
+        last = o .last;
+        run = more (p .move) (o .run);
+        bare = o .bare;
+        serially = o .serially;
+        count = let c = o .count in omega (arith, c);
+        events = ap (λ (es : List Event). moveEvent j W (p .move) ∷ es) (o .events)
             ∙ ap (λ (es : List Event). es ++ eventsFrom m j (state (p .queues) (tasksOf (p .tasks)) (k + 1))) (sym (p .event));
       })
 

@@ -1,6 +1,6 @@
 -- WHERE UNFINISHED TASKS STAND: after any moves of an accepted job's tasks, each at an instruction that exists. So every move
 -- puts what Put says.
-use mathlib.Core.Path.{_≡_, refl}
+use mathlib.Core.Path.{_≡_, refl, sym, subst}
 use mathlib.Core.Bool.{Bool, true, false}
 use mathlib.Core.List.{List, _∷_, _++_}
 use Prim.Native.Nat.{ℕ}
@@ -10,19 +10,24 @@ use Rattle.plain.specs.Machine.{Event, begin, eventOf}
 use Rattle.plain.specs.Run.{stackOf}
 use Rattle.plain.specs.Stack.{Stands}
 use Rattle.plain.specs.Kept.{begin-stands}
-use Rattle.exchange.specs.Line.{Item, value, spot, finished, Search, leave}
-use Rattle.exchange.specs.Exchange.{Walk}
-use Rattle.exchange.specs.Agreement.{Moves}
+use Rattle.line.specs.Line.{Item, value, spot, finished, gave, Search, found}
+use Rattle.line.specs.Fronts.{Fronts}
+use Rattle.timed_line.specs.Times.{Timed, at, untimed, leaveAt}
+use Rattle.timed_line.specs.Walks.{Waits, Walk}
+use Rattle.timed_line.specs.Agreement.{Move, Moves}
+use Rattle.timed_line.specs.Lift.{untimed-put}
 use Rattle.job_line.specs.Tasks.{Runner}
 use Rattle.job_line.specs.Within.{jobTasks}
-use Rattle.job_line.specs.Agree.{start}
-use Rattle.job_line.specs.Events.{walkEvent}
+use Rattle.job_line.specs.Agree.{start, none-back}
+use Rattle.job_line.specs.Events.{eventWith, moveEvent}
+use Rattle.job_line.specs.Front.{foundBy}
 use Rattle.job_line.specs.Put.{Put, goes, pushes, finishes, spawns, puts-so}
 
 abbrev pub Standing : List ℕ → Item Runner → Type 0
 Standing j (value q v) = Unit {0}
 Standing j (spot u) = Stands j (u .task)
 Standing j (finished u) = Unit {0}
+Standing j (gave q) = Unit {0}
 
 -- an unfinished task on the line
 pub data Unfinished (u : Runner) : List (Item Runner) → Type 0 where
@@ -35,16 +40,7 @@ pub data Replaces (j : List ℕ) (u : Runner) (a : Event) : List (Item Runner) �
   past : {x : Item Runner} {l k : List (Item Runner)} → Replaces j u a l k → Replaces j u a (x ∷ l) (x ∷ k)
   takes : {q v : ℕ} {l k : List (Item Runner)} → Replaces j u a l k → Replaces j u a (value q v ∷ l) k
 
-pub record Moved (j : List ℕ) (l k : List (Item Runner)) (a : Event) : Type 0 where
-  pub mover : Runner
-  pub name : a .name ≡ mover .task .name
-  pub replaces : Replaces j mover a l k
-
 module _ (j : List ℕ) where
-  left-or-taken : (b : Bool) (q v : ℕ) {l k : List (Item Runner)} (a : Event) → Moved j l k a → Moved j (value q v ∷ l) (leave b (value q v) k) a
-  left-or-taken true q v a c = record { mover = c .mover; name = c .name; replaces = past (c .replaces) }
-  left-or-taken false q v a c = record { mover = c .mover; name = c .name; replaces = takes (c .replaces) }
-
   put-stands : {u : Runner} {a : Event} {xs : List (Item Runner)} → Put j u a xs → All (Standing j) xs
   put-stands (goes e st) = (st, tt)
   put-stands (pushes q v e st) = (tt, (st, tt))
@@ -60,20 +56,33 @@ module _ (j : List ℕ) where
   one-stands h first = h .0
   one-stands h (behind i) = one-stands (h .1) i
 
-module _ (j : List ℕ) (acc : Accepted j) where
-  pub walk-moved : {m : Search} {l k : List (Item Runner)} → All (Standing j) l → (w : Walk (jobTasks j) m l k) → Moved j l k (walkEvent j w)
-  unfolding eventOf
-  walk-moved h (Walk.here {m = m} {s = u} xs d) = record { mover = u; name = refl; replaces = here (puts-so j u acc (h .0) m xs d) }
-  walk-moved h (Walk.past p w) = let c = walk-moved (h .1) w in record { mover = c .mover; name = c .name; replaces = past (c .replaces) }
-  walk-moved h (Walk.finds {b = b} {q = q} {v = v} w) = left-or-taken j b q v (walkEvent j w) (walk-moved (h .1) w)
+module _ (j : List ℕ) (W : Waits (jobTasks j)) (acc : Accepted j) where
+  left-or-taken : (b : Bool) (t q v : ℕ) (u : Runner) (c : Event) (l : List (Item Runner)) (k : List (Timed Runner)) → Replaces j u c l (untimed k)
+      → Replaces j u c (value q v ∷ l) (untimed (leaveAt b (at t (value q v)) k))
+  left-or-taken true t q v u c l k r = past r
+  left-or-taken false t q v u c l k r = takes r
 
-  pub start-stands : All (Standing j) start
+  walk-moved : (u : Runner) (m e : Search) (a d : ℕ) {l k : List (Timed Runner)} → All (Standing j) (untimed l) → Walk (jobTasks j) W u m e a d l k
+      → Replaces j u (eventWith j u (foundBy e)) (untimed l) (untimed k)
+  walk-moved u m e a d h (Walk.here {l = l} xs acts i) =
+      subst (Replaces j u (eventWith j u (foundBy m)) (spot u ∷ untimed l)) (sym (untimed-put d xs l)) (here (puts-so j u acc (h .0) m xs acts))
+  walk-moved u m e a d h (Walk.past g w) = past (walk-moved u m e _ d (h .1) w)
+  walk-moved u m e a d h (Walk.finds {b = b} {q = q} {v = v} {t = t} {l = l} {k = k} w) =
+      left-or-taken b t q v u (eventWith j u (foundBy e)) (untimed l) k (walk-moved u (found b q v) e _ d (h .1) w)
+
+  -- the task that moved has replaced its spot
+  pub replaced : {r x : Fronts} {l k : List (Timed Runner)} → All (Standing j) (untimed l) → (m : Move (jobTasks j) W r l x k)
+      → Replaces j (m .task) (moveEvent j W m) (untimed l) (untimed k)
+  replaced h m = walk-moved (m .task) _ (m .end) 0 (m .done) h (m .move .walk)
+
+  pub start-stands : All (Standing j) (untimed start)
   unfolding stackOf begin
   start-stands = (begin-stands j acc .0, tt)
 
-  all-stand : {n : ℕ} {l k : List (Item Runner)} → All (Standing j) l → Moves (jobTasks j) n l k → All (Standing j) k
+  all-stand : {n : ℕ} {r x : Fronts} {l k : List (Timed Runner)} → All (Standing j) (untimed l) → Moves (jobTasks j) W n r l x k → All (Standing j) (untimed k)
   all-stand h Moves.no-move = h
-  all-stand h (Moves.moves m ms) = all-stand (stand-kept j (walk-moved h (m .walk) .replaces) h) ms
+  all-stand h (Moves.moves m ms) = all-stand (stand-kept j (replaced h m) h) ms
 
-  pub moves-stand : {n : ℕ} {l : List (Item Runner)} (ms : Moves (jobTasks j) n start l) (u : Runner) → Unfinished u l → Stands j (u .task)
+  pub moves-stand : {n : ℕ} {x : Fronts} {l : List (Timed Runner)} (ms : Moves (jobTasks j) W n none-back start x l) (u : Runner) → Unfinished u (untimed l)
+      → Stands j (u .task)
   moves-stand ms u i = one-stands j (all-stand start-stands ms) i

@@ -3,18 +3,33 @@ use mathlib.Core.Path.{_≡_}
 use mathlib.Core.Option.{Option}
 use mathlib.Core.List.{List, _∷_, _++_}
 use Prim.Native.Nat.{ℕ}
+use Rattle.gaps.specs.Maps.{All}
 use Rattle.order.specs.Steps.{Item as Mark}
-use Rattle.exchange.specs.Line.{Item, spot}
-use Rattle.exchange.specs.Agreement.{Move}
+use Rattle.line.specs.Line.{Item, spot, Search}
+use Rattle.timed_line.specs.Times.{Timed, untimed}
+use Rattle.timed_line.specs.Walks.{Clear, Waits}
+use Rattle.timed_line.specs.Agreement.{MoveOf}
+use Rattle.job_line.specs.Tasks.{Runner}
 use Rattle.job_line.specs.Within.{jobTasks}
-use Rattle.job_line.specs.Events.{eventWith, walkEvent}
+use Rattle.job_line.specs.Front.{foundBy}
+use Rattle.job_line.specs.Agree.{none-back}
+use Rattle.job_times.specs.Times.{jobWaits}
 use Rattle.job_order.specs.Beside.{Numbered, unnumbered, standing, Beside}
 
+-- a move of u on the timed line t, which found f, to the items k
+pub record Moved (j : List ℕ) (W : Waits (jobTasks j)) (u : Runner) (f : Option ℕ) (t : List (Timed Runner)) (k : List (Item Runner)) : Type 0 where
+  pub end : Search
+  pub finds : foundBy end ≡ f
+  pub done : ℕ
+  pub times : List (Timed Runner)
+  pub move : MoveOf (jobTasks j) W u end done none-back t none-back times
+  pub same : untimed times ≡ k
+
 -- Task n, which stands between a and b on the line, has moved: the steps and spots are then xs, the tasks ns stand in its
--- place, and f is what it found in its queue.
+-- place, and f is what it found in its queue. Where nobody before it halts it, that is a move, whatever the times.
 pub record After (j : List ℕ) (xs : List Mark) (a b : List (Item Numbered)) (n : Numbered) (ns : List Numbered) (f : Option ℕ) : Type 0 where
   pub line : List (Item Numbered)
   pub beside : Beside j xs line
   pub stand : standing line ≡ standing a ++ (ns ++ standing b)
-  pub move : Move (jobTasks j) (unnumbered (a ++ spot n ∷ b)) (unnumbered line)
-  pub event : walkEvent j (move .walk) ≡ eventWith j (n .runner) f
+  pub move : (ticks : ℕ → ℕ) → All (Clear (jobWaits j ticks .Halts) (jobWaits j ticks .Above) (n .runner)) (unnumbered a)
+      → (t : List (Timed Runner)) → untimed t ≡ unnumbered (a ++ spot n ∷ b) → Moved j (jobWaits j ticks) (n .runner) f t (unnumbered line)

@@ -9,7 +9,7 @@ use Rattle.tree.specs.Rights.{uses}
 use Rattle.order.specs.Steps.{Task, task, Item as Mark, step, spot as place}
 use Rattle.order_queue.specs.Points.{Point, value as present, user, Timeline}
 use Rattle.plain.specs.Stack.{rightsOf}
-use Rattle.exchange.specs.Line.{Item, value, spot, finished}
+use Rattle.line.specs.Line.{Item, value, spot, finished, gave, gave}
 use Rattle.job_line.specs.Tasks.{Runner}
 
 -- a task of a job and the number of its record in the core
@@ -23,6 +23,7 @@ unnumbered [] = []
 unnumbered (value q v ∷ l) = value q v ∷ unnumbered l
 unnumbered (spot n ∷ l) = spot (n .runner) ∷ unnumbered l
 unnumbered (finished n ∷ l) = finished (n .runner) ∷ unnumbered l
+unnumbered (gave q ∷ l) = gave q ∷ unnumbered l
 
 -- the unfinished tasks of a line, in order
 unfoldable pub standing : List (Item Numbered) → List Numbered
@@ -30,6 +31,7 @@ standing [] = []
 standing (value q v ∷ l) = standing l
 standing (spot n ∷ l) = n ∷ standing l
 standing (finished n ∷ l) = standing l
+standing (gave q ∷ l) = standing l
 
 -- the unfinished tasks of program order, in order
 unfoldable pub places : List Mark → List Task
@@ -47,6 +49,7 @@ pointsOf j q [] = []
 pointsOf j q (value p v ∷ l) = let rest = pointsOf j q l in pick (eqb p q) (present v ∷ rest) rest
 pointsOf j q (spot n ∷ l) = let rest = pointsOf j q l in pick (uses (rightsOf j (n .runner .task)) q) (user (n .number) ∷ rest) rest
 pointsOf j q (finished n ∷ l) = pointsOf j q l
+pointsOf j q (gave p ∷ l) = pointsOf j q l
 
 pub record Beside (j : List ℕ) (xs : List Mark) (l : List (Item Numbered)) : Type 0 where
   pub tasks : places xs ≡ map (taskOf j) (standing l)

@@ -12,7 +12,7 @@ use Rattle.order.specs.Finding.{leftOver}
 use Rattle.order_queue.specs.Points.{value as present, user}
 use Rattle.order_queue.specs.Finds.{nthValue, leaves}
 use Rattle.plain.specs.Stack.{rightsOf}
-use Rattle.exchange.specs.Line.{Item, value, spot, finished}
+use Rattle.line.specs.Line.{Item, value, spot, finished, gave, gave}
 use Rattle.job_line.specs.Front.{valuesOf}
 use Rattle.job_order.specs.Beside.{Numbered, unnumbered, pointsOf, Beside}
 
@@ -33,6 +33,7 @@ nth-along j q i (spot n ∷ l) = go (uses (rightsOf j (n .runner .task)) q) (nth
     go true h = h
     go false h = h
 nth-along j q i (finished n ∷ l) = nth-along j q i l
+nth-along j q i (gave p ∷ l) = nth-along j q i l
 
 pub left-along : (j : List ℕ) {xs : List Mark} {l : List (Item Numbered)} → Beside j xs l → (q i : ℕ) → q < 4
     → leftOver q i xs ≡ getElem? (valuesOf q (unnumbered l)) i

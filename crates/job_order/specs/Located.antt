@@ -17,7 +17,7 @@ use Rattle.order_queue.specs.Points.{Timeline}
 use Rattle.order_queue.specs.Laws.{begins as timeline-begins}
 use Rattle.job.specs.Accepted.{Accepted}
 use Rattle.plain.specs.Stack.{rightsOf}
-use Rattle.exchange.specs.Line.{Item, value, spot, finished}
+use Rattle.line.specs.Line.{Item, value, spot, finished, gave, gave}
 use Rattle.job_line.specs.Agree.{top}
 use Rattle.job_order.specs.Beside.{Numbered, standing, places, taskOf, pointsOf, Beside}
 use Rattle.job_order.specs.Points.{places-append, standing-append}
@@ -84,6 +84,7 @@ unfolding standing taskOf numberOf
 one-stands j s [] ts us e = absurd (no-end ts us s e)
 one-stands j s (value q v ∷ l) ts us e = on-past (value q v) (one-stands j s l ts us e)
 one-stands j s (finished n ∷ l) ts us e = on-past (finished n) (one-stands j s l ts us e)
+one-stands j s (gave q ∷ l) ts us e = on-past (gave q) (one-stands j s l ts us e)
 one-stands j s (spot n ∷ l) [] us e = record { before = []; behind = l; who = n; here = refl; number = ap numberOf (head-eq-of-cons-eq e) }
 one-stands j s (spot n ∷ l) (t ∷ ts) us e = on-past (spot n) (one-stands j s l ts us (tail-eq-of-cons-eq e))
 

@@ -1,5 +1,5 @@
 -- A MOVE THAT LOOKS in a queue, where nothing of the queue stands before the task, and where a value does.
-use mathlib.Core.Path.{_≡_, ap, sym, _∙_, subst}
+use mathlib.Core.Path.{_≡_, refl, ap, sym, _∙_, subst}
 use mathlib.Core.Bool.{Bool, true, false, false≢true}
 use mathlib.Core.Option.{Option, none, some}
 use mathlib.Core.List.{List, [], _∷_, _++_}
@@ -9,9 +9,8 @@ use Rattle.tree.specs.Rights.{pushes as mayPush, pops as mayPop}
 use Rattle.order.specs.Steps.{Item as Mark, rightsOf}
 use Rattle.gaps.specs.Maps.{All}
 use Rattle.plain.specs.Stack.{rightsOf as jobRights}
-use Rattle.exchange.specs.Line.{Item, value, spot, finished, looks, seeking, found, leave}
+use Rattle.line.specs.Line.{Item, value, spot, finished, gave, looks, seeking, found, leave}
 use Rattle.job_line.specs.Tasks.{canPush, canPop, Runner, action}
-use Rattle.job_line.specs.Events.{eventWith}
 use Rattle.tree.specs.Users.{useless-pops, useless-pushes}
 use Rattle.job_order.specs.Beside.{Numbered, unnumbered, standing, taskOf, Beside}
 use Rattle.job_order.specs.After.{After}
@@ -32,7 +31,7 @@ module _ (j : List ℕ) where
   no-pop r q e d = false≢true (sym e ∙ both-true _ _ d .1)
 
   -- a search that looks goes past what is not of its queue
-  past-bare : (c : Bool) (q : ℕ) (a : List (Item Numbered)) → All (NoPoint j q) a → All (Past j (seeking c q)) (unnumbered a)
+  pub past-bare : (c : Bool) (q : ℕ) (a : List (Item Numbered)) → All (NoPoint j q) a → All (Past j (seeking c q)) (unnumbered a)
   unfolding unnumbered taskOf rightsOf
   past-bare c q [] h = tt
   past-bare c q (value p v ∷ a) h = (h .0, past-bare c q a (h .1))
@@ -40,14 +39,16 @@ module _ (j : List ℕ) where
       let r = jobRights j (m .runner .task) in
       ((no-pop r q (useless-pops r q (h .0)), no-push r q (useless-pushes r q (h .0))), past-bare c q a (h .1))
   past-bare c q (finished m ∷ a) h = (tt, past-bare c q a (h .1))
+  past-bare c q (gave p ∷ a) h = (tt, past-bare c q a (h .1))
 
   -- one that has found its value goes past all but poppers
-  past-quiet : (c : Bool) (q v : ℕ) (a : List (Item Numbered)) → All (NoPop j q) a → All (Past j (found c q v)) (unnumbered a)
+  pub past-quiet : (c : Bool) (q v : ℕ) (a : List (Item Numbered)) → All (NoPop j q) a → All (Past j (found c q v)) (unnumbered a)
   unfolding unnumbered taskOf rightsOf
   past-quiet c q v [] h = tt
   past-quiet c q v (value p w ∷ a) h = (tt, past-quiet c q v a (h .1))
   past-quiet c q v (spot m ∷ a) h = (no-pop (jobRights j (m .runner .task)) q (h .0), past-quiet c q v a (h .1))
   past-quiet c q v (finished m ∷ a) h = (tt, past-quiet c q v a (h .1))
+  past-quiet c q v (gave p ∷ a) h = (tt, past-quiet c q v a (h .1))
 
 module _ (j : List ℕ) (a b : List (Item Numbered)) (n : Numbered) (k : Bool) (q : ℕ) (f : Option ℕ → Runner)
     (does : action j (n .runner) ≡ looks k q (λ o. spot (f o) ∷ [])) where
@@ -55,8 +56,8 @@ module _ (j : List ℕ) (a b : List (Item Numbered)) (n : Numbered) (k : Bool) (
   pub nothing-after : {xs : List Mark} → All (NoPoint j q) a → Beside j xs (a ++ spot (on n (f none)) ∷ b) → After j xs a b n (on n (f none) ∷ []) none
   unfolding unnumbered standing
   nothing-after bare h =
-      walk-after j a b n (on n (f none) ∷ []) none (a ++ spot (on n (f none)) ∷ b) h (standing-append a (spot (on n (f none)) ∷ b)) (seeking k q) tt
-      (subst (λ (l : List (Item Runner)). Walked j (seeking k q) (unnumbered a ++ spot (n .runner) ∷ unnumbered b) l (eventWith j (n .runner) none))
+      walk-after j a b n (on n (f none) ∷ []) none (a ++ spot (on n (f none)) ∷ b) h (standing-append a (spot (on n (f none)) ∷ b)) (looks k q (λ o. spot (f o) ∷ [])) does refl
+      (subst (λ (l : List (Item Runner)). Walked j (n .runner) (seeking k q) (unnumbered a) (unnumbered a ++ spot (n .runner) ∷ unnumbered b) l none)
       (sym (unnumbered-append a (spot (on n (f none)) ∷ b)))
       (walk-nothing j (n .runner) k q (λ o. spot (f o) ∷ []) does (unnumbered b) (unnumbered a) (past-bare j k q a bare)))
 
@@ -66,17 +67,18 @@ module _ (j : List ℕ) (a b : List (Item Numbered)) (n : Numbered) (k : Bool) (
   unfolding unnumbered standing
   value-after v w h =
       let m = on n (f (some v)) in
-      let event = eventWith j (n .runner) (some v) in
       let here = unnumbered a ++ spot (n .runner) ∷ unnumbered b in
       let there = unnumbered (w .front) ++ leave k (value q v) (unnumbered (w .back) ++ spot (m .runner) ∷ unnumbered b) in
       walk-after j a b n (m ∷ []) (some v) (kept q v (w .front) (w .back) k ++ spot m ∷ b) h
       (standing-append (kept q v (w .front) (w .back) k) (spot m ∷ b)
       ∙ ap (λ (l : List Numbered). l ++ m ∷ standing b) (standing-kept q v (w .front) (w .back) k ∙ ap standing (sym (w .parts))))
-      (seeking k q) tt
-      (subst (λ (l : List (Item Runner)). Walked j (seeking k q) here l event) (sym (unnumbered-kept q v (w .front) (w .back) k (spot m ∷ b)))
-      (subst (λ (l : List (Item Runner)). Walked j (seeking k q) l there event)
+      (looks k q (λ o. spot (f o) ∷ [])) does refl
+      (subst (λ (l : List (Item Runner)). Walked j (n .runner) (seeking k q) (unnumbered a) here l (some v)) (sym (unnumbered-kept q v (w .front) (w .back) k (spot m ∷ b)))
+      (subst (λ (g : List (Item Runner)). Walked j (n .runner) (seeking k q) g here there (some v))
+      (sym (unnumbered-append (w .front) (value q v ∷ w .back)) ∙ ap unnumbered (sym (w .parts)))
+      (subst (λ (l : List (Item Runner)). Walked j (n .runner) (seeking k q) (unnumbered (w .front) ++ value q v ∷ unnumbered (w .back)) l there (some v))
       (sym (unnumbered-kept q v (w .front) (w .back) true (spot n ∷ b))
       ∙ ap (λ (l : List (Item Numbered)). unnumbered (l ++ spot n ∷ b)) (sym (w .parts))
       ∙ unnumbered-append a (spot n ∷ b))
       (walk-finds j (n .runner) k q (λ o. spot (f o) ∷ []) does (unnumbered b) v (unnumbered (w .front)) (unnumbered (w .back))
-      (past-bare j k q (w .front) (w .bare)) (past-quiet j k q v (w .back) (w .quiet)))))
+      (past-bare j k q (w .front) (w .bare)) (past-quiet j k q v (w .back) (w .quiet))))))

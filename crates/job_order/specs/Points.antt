@@ -10,7 +10,7 @@ use Rattle.tree.specs.Rights.{uses}
 use Rattle.order.specs.Steps.{Task, Item as Mark, step, spot as place, numberOf, rightsOf}
 use Rattle.order_queue.specs.Points.{Point, value as present, user}
 use Rattle.plain.specs.Stack.{rightsOf as jobRights}
-use Rattle.exchange.specs.Line.{Item, value, spot, finished}
+use Rattle.line.specs.Line.{Item, value, spot, finished, gave, gave}
 use Rattle.job_line.specs.Tasks.{Runner}
 use Rattle.job_order.specs.Beside.{Numbered, unnumbered, standing, places, taskOf, pointsOf}
 
@@ -26,6 +26,7 @@ standing-append [] b = refl
 standing-append (value q v ∷ a) b = standing-append a b
 standing-append (spot n ∷ a) b = ap (λ (l : List Numbered). n ∷ l) (standing-append a b)
 standing-append (finished n ∷ a) b = standing-append a b
+standing-append (gave q ∷ a) b = standing-append a b
 
 pub unnumbered-append : (a b : List (Item Numbered)) → unnumbered (a ++ b) ≡ unnumbered a ++ unnumbered b
 unfolding unnumbered
@@ -33,6 +34,7 @@ unnumbered-append [] b = refl
 unnumbered-append (value q v ∷ a) b = ap (λ (l : List (Item Runner)). value q v ∷ l) (unnumbered-append a b)
 unnumbered-append (spot n ∷ a) b = ap (λ (l : List (Item Runner)). spot (n .runner) ∷ l) (unnumbered-append a b)
 unnumbered-append (finished n ∷ a) b = ap (λ (l : List (Item Runner)). finished (n .runner) ∷ l) (unnumbered-append a b)
+unnumbered-append (gave q ∷ a) b = ap (λ (l : List (Item Runner)). gave q ∷ l) (unnumbered-append a b)
 
 -- what the head of a line adds, where a test says so
 chosen-append : (c : Bool) (p : Point) (k l r : List Point) → k ≡ l ++ r → pick c (p ∷ k) k ≡ pick c (p ∷ l) l ++ r
@@ -47,6 +49,7 @@ module _ (j : List ℕ) (q : ℕ) where
   points-append (value p v ∷ a) b = chosen-append (eqb p q) (present v) _ _ _ (points-append a b)
   points-append (spot n ∷ a) b = chosen-append (uses (jobRights j (n .runner .task)) q) (user (n .number)) _ _ _ (points-append a b)
   points-append (finished n ∷ a) b = points-append a b
+  points-append (gave p ∷ a) b = points-append a b
 
   -- the point of a spot hangs on its task only
   pub point-is : (n : Numbered) (l : List (Item Numbered))
@@ -66,6 +69,10 @@ module _ (j : List ℕ) (q : ℕ) where
   pub finished-past : (n : Numbered) (l : List (Item Numbered)) → pointsOf j q (finished n ∷ l) ≡ pointsOf j q l
   unfolding pointsOf
   finished-past n l = refl
+
+  pub gave-past : (p : ℕ) (l : List (Item Numbered)) → pointsOf j q (gave p ∷ l) ≡ pointsOf j q l
+  unfolding pointsOf
+  gave-past p l = refl
 
   -- the points of a line, where some items of it are put in place of others
   pub points-swap : (a b c : List (Item Numbered)) → pointsOf j q b ≡ pointsOf j q c → pointsOf j q (a ++ b) ≡ pointsOf j q (a ++ c)

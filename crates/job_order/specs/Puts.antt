@@ -16,9 +16,8 @@ use Rattle.job.specs.Test.{whichHolds}
 use Rattle.job.specs.Accepted.{Accepted}
 use Rattle.plain.specs.Machine.{advanced, parent, child}
 use Rattle.plain.specs.Stack.{Stands, rightsOf as jobRights}
-use Rattle.exchange.specs.Line.{Item, value, spot, finished, puts, free}
+use Rattle.line.specs.Line.{Item, value, spot, finished, puts, free}
 use Rattle.job_line.specs.Tasks.{canPush, Runner, does, answering, goesOn, afterSpawn, newTask, action, instructionOf}
-use Rattle.job_line.specs.Events.{eventWith}
 use Rattle.tree.specs.Users.{pushes-uses}
 use Rattle.job_order.specs.Beside.{Numbered, unnumbered, standing, taskOf, Beside}
 use Rattle.job_order.specs.After.{After}
@@ -42,8 +41,8 @@ module _ (j : List ℕ) (a b : List (Item Numbered)) (n : Numbered) where
       → After j xs a b n (standing ms) none
   puts-after ms e h =
       walk-after j a b n (standing ms) none (a ++ (ms ++ b)) h
-      (standing-append a (ms ++ b) ∙ ap (λ (l : List Numbered). standing a ++ l) (standing-append ms b)) free tt
-      (subst (λ (k : List (Item Runner)). Walked j free (unnumbered a ++ spot (n .runner) ∷ unnumbered b) k (eventWith j (n .runner) none))
+      (standing-append a (ms ++ b) ∙ ap (λ (l : List Numbered). standing a ++ l) (standing-append ms b)) (puts (unnumbered ms)) e refl
+      (subst (λ (k : List (Item Runner)). Walked j (n .runner) free (unnumbered a) (unnumbered a ++ spot (n .runner) ∷ unnumbered b) k none)
       (sym (unnumbered-append a (ms ++ b) ∙ ap (λ (l : List (Item Runner)). unnumbered a ++ l) (unnumbered-append ms b)))
       (walk-puts j (n .runner) (unnumbered ms) e (unnumbered a) (unnumbered b)))
 

@@ -17,9 +17,9 @@ use Rattle.order_laws.specs.Items.{In}
 use Rattle.order_queue.specs.Points.{Point, user}
 use Rattle.order_queue.specs.Found.{firstOf}
 use Rattle.gaps.specs.Maps.{All}
-use Rattle.exchange.specs.Line.{Item, value, spot, finished}
+use Rattle.line.specs.Line.{Item, value, spot, finished, gave, gave}
 use Rattle.job_order.specs.Beside.{Numbered, standing, places, taskOf, pointsOf}
-use Rattle.job_order.specs.Points.{point-is, value-here, value-past, finished-past}
+use Rattle.job_order.specs.Points.{point-is, value-here, value-past, finished-past, gave-past}
 
 value-empty : {v : ℕ} {A : Type 0} → Value v ≡ Empty → A
 value-empty e = let z : _≡_ {A = ℕ} 0 1 = cc in absurd (omega (arith, z))
@@ -56,6 +56,7 @@ module _ (j : List ℕ) where
   Spots P (value q v) = Unit {0}
   Spots P (spot n) = P (taskOf j n)
   Spots P (finished n) = Unit {0}
+  Spots P (gave q) = Unit {0}
 
   all-places : (P : Task → Type 0) (ys : List Mark) → ((o : Task) → In (place o) ys → P o) → All P (places ys)
   unfolding places
@@ -69,6 +70,7 @@ module _ (j : List ℕ) where
   all-standing P (value q v ∷ a) h = (tt, all-standing P a h)
   all-standing P (spot n ∷ a) h = (h .0, all-standing P a (h .1))
   all-standing P (finished n ∷ a) h = (tt, all-standing P a h)
+  all-standing P (gave q ∷ a) h = (tt, all-standing P a h)
 
   -- from the spots to the line
   pub on-line : (P : Task → Type 0) (ys : List Mark) (a : List (Item Numbered)) → places ys ≡ map (taskOf j) (standing a)
@@ -83,6 +85,7 @@ module _ (j : List ℕ) where
   NoPoint q (value p v) = p ≡ q → ⊥
   NoPoint q (spot n) = uses (rightsOf (taskOf j n)) q ≡ false
   NoPoint q (finished n) = Unit {0}
+  NoPoint q (gave p) = Unit {0}
 
   pub no-points : (q : ℕ) (a : List (Item Numbered)) → All (NoPoint q) a → pointsOf j q a ≡ []
   unfolding pointsOf
@@ -90,6 +93,7 @@ module _ (j : List ℕ) where
   no-points q (value p v ∷ a) h = value-past j q p v a (h .0) ∙ no-points q a (h .1)
   no-points q (spot n ∷ a) h = point-is j q n a ∙ pass _ (h .0) (no-points q a (h .1))
   no-points q (finished n ∷ a) h = no-points q a (h .1)
+  no-points q (gave p ∷ a) h = no-points q a (h .1)
 
   -- the first value of queue q on the line a is v: what stands before it and what stands behind it
   pub record FirstValue (q v : ℕ) (a : List (Item Numbered)) : Type 0 where
@@ -143,6 +147,7 @@ module _ (j : List ℕ) where
             value-later q v (spot m) a d (rest (sym (later (spot m) a (point-is j q m (a ++ spot n ∷ b) ∙ pass _ d refl)) ∙ e))
     first-value v (finished m ∷ a) p e =
         value-later q v (finished m) a tt (first-value v a (p .1) (sym (later (finished m) a (finished-past j q m (a ++ spot n ∷ b))) ∙ e))
+    first-value v (gave r ∷ a) p e = value-later q v (gave r) a tt (first-value v a (p .1) (sym (later (gave r) a (gave-past j q r (a ++ spot n ∷ b))) ∙ e))
 
     -- nothing is there
     pub first-nothing : (a : List (Item Numbered)) → All (Spots (λ s. numberOf s ≡ t → ⊥)) a → First a ≡ Empty → All (NoPoint q) a
@@ -160,6 +165,7 @@ module _ (j : List ℕ) where
         go true d rest = absurd (p .0 (user-empty t (numberOf (taskOf j m)) _ (sym (spot-first m (a ++ spot n ∷ b) d) ∙ e)))
         go false d rest = (d, rest (sym (later (spot m) a (point-is j q m (a ++ spot n ∷ b) ∙ pass _ d refl)) ∙ e))
     first-nothing (finished m ∷ a) p e = (tt, first-nothing a (p .1) (sym (later (finished m) a (finished-past j q m (a ++ spot n ∷ b))) ∙ e))
+    first-nothing (gave r ∷ a) p e = (tt, first-nothing a (p .1) (sym (later (gave r) a (gave-past j q r (a ++ spot n ∷ b))) ∙ e))
 
     -- where no task stands before it, it does not wait
     pub first-moves : (a : List (Item Numbered)) → standing a ≡ [] → First a ≡ Waits → ⊥
@@ -174,3 +180,4 @@ module _ (j : List ℕ) where
         past rest d = rest (sym (later (value r w) a (value-past j q r w (a ++ spot n ∷ b) d)) ∙ e)
     first-moves (spot m ∷ a) p e = cons≢nil p
     first-moves (finished m ∷ a) p e = first-moves a p (sym (later (finished m) a (finished-past j q m (a ++ spot n ∷ b))) ∙ e)
+    first-moves (gave r ∷ a) p e = first-moves a p (sym (later (gave r) a (gave-past j q r (a ++ spot n ∷ b))) ∙ e)

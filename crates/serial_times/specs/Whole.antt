@@ -1,0 +1,102 @@
+-- THE WHOLE SERIAL RUN: every step's time is its ticks after the latest thing it waits for by document 02's words.
+use mathlib.Core.Path.{_≡_, refl, ap, sym, _∙_, subst}
+use mathlib.Core.List.{List, [], _∷_, _++_, head-eq-of-cons-eq, tail-eq-of-cons-eq}
+use Prim.Native.Nat.{ℕ, zero, suc, _+_}
+use native.Mathlib.Omega.{arith}
+use Rattle.gaps.specs.Maps.{All}
+use Rattle.job.specs.Accepted.{Accepted}
+use Rattle.plain.specs.Machine.{begin}
+use Rattle.plain.specs.Run.{stackOf, run}
+use Rattle.plain.specs.Kept.{begin-stands}
+use Rattle.line.specs.Line.{Action, puts, looks, returns, spot, Search, NoSpot}
+use Rattle.line.specs.Fronts.{Fronts, frontsAfter}
+use Rattle.timed_line.specs.Times.{Timed, at, untimed}
+use Rattle.timed_line.specs.Walks.{Waits}
+use Rattle.timed_line.specs.Starts.{startOf}
+use Rattle.timed_line.specs.Agreement.{MoveOf, Move, Moves, no-move, moves, Bare, after-move, all-finished}
+use Rattle.timed_line.specs.First.{first-moves}
+use Rattle.job_line.specs.Tasks.{Runner, action, instructionOf}
+use Rattle.job_line.specs.Within.{jobTasks}
+use Rattle.job_line.specs.Agree.{top, start, none-back, ran}
+use Rattle.job_times.specs.Times.{jobWaits}
+use Rattle.job_moves.specs.Able.{NoReturn, no-return}
+use Rattle.serial_times.specs.Hearing.{ended}
+use Rattle.serial_times.specs.Dominated.{Frame, frame, Dom, Nobody}
+use Rattle.serial_times.specs.Literal.{ready}
+use Rattle.serial_times.specs.Run.{spotsOf, Nesting, Standing, Stacked, timed, next-stacked}
+
+-- a step that puts nothing back leaves no value in front
+none-stays : (i : Action Runner) → NoReturn i → frontsAfter (startOf i none-back) none-back ≡ none-back
+none-stays (puts xs) n = refl
+none-stays (looks b q f) n = refl
+none-stays (returns q v xs) n = absurd n
+
+module _ (j : List ℕ) (acc : Accepted j) (ticks : ℕ → ℕ) where
+  abbrev W : Waits (jobTasks j)
+  W = jobWaits j ticks
+
+  -- A RUN OF FIRST TASKS, each step timed by what is named
+  pub data Timely : ℕ → List (Timed Runner) → List (Timed Runner) → Type 0 where
+    over : {l : List (Timed Runner)} → Bare (jobTasks j) W l → Timely zero l l
+    step : {n : ℕ} {k z : List (Timed Runner)} (f : List (Timed Runner)) (t : ℕ) (u : Runner) (r : List (Timed Runner)) (e : Search) (d : ℕ) → Bare (jobTasks j) W f
+        → MoveOf (jobTasks j) W u e d none-back (f ++ at t (spot u) ∷ r) none-back k → d ≡ ready j ticks u t f + ticks (instructionOf j u .operation) → Timely n k z
+        → Timely (suc n) (f ++ at t (spot u) ∷ r) z
+
+  bare-items : (f : List (Timed Runner)) → Bare (jobTasks j) W f → All NoSpot (untimed f)
+  bare-items [] b = tt
+  bare-items (at t x ∷ f) b = (b .0, bare-items f (b .1))
+
+  bare-end : (f : List (Timed Runner)) → Bare (jobTasks j) W f → Bare (jobTasks j) W (f ++ [])
+  bare-end [] b = tt
+  bare-end (at t x ∷ f) b = (b .0, bare-end f (b .1))
+
+  -- ANY RUN TO THE END IS THAT LONG, and its last line is that of the run of first tasks
+  abbrev To : ℕ → List (Timed Runner) → Type 0
+  To n z = (l : List (Timed Runner)) → Stacked j acc ticks l → (x : Fronts) → Moves (jobTasks j) W n none-back l x z → Timely n l z
+
+  stack-timely : (n : ℕ) (z : List (Timed Runner)) → Bare (jobTasks j) W z → ((m : ℕ) → n ≡ suc m → To m z) → (l f : List (Timed Runner)) (st : List Frame)
+      → l ≡ f ++ spotsOf st → Bare (jobTasks j) W f → Dom j (ended f) (Nobody j) st → Nesting j acc ticks st → All (Standing j acc ticks) st
+      → (x : Fronts) → Moves (jobTasks j) W n none-back l x z → Timely n l z
+  stack-timely n z end rest l f [] is b dom nest stands x ms =
+      let bare : Bare (jobTasks j) W l = subst (Bare (jobTasks j) W) (sym is) (bare-end f b) in
+      let h = all-finished (jobTasks j) W end ms bare no-move in
+      subst (λ (k : ℕ). Timely k l z) (sym (h .0)) (subst (Timely zero l) (sym (h .2)) (over bare))
+  stack-timely n z end rest l f (frame t u ∷ st) is b dom nest stands x ms =
+      let c = first-moves (jobTasks j) W u (action j u) refl none-back t f (spotsOf st) (bare-items f b) in
+      let v : MoveOf (jobTasks j) W u (c .end) (c .done) none-back (f ++ at t (spot u) ∷ spotsOf st) none-back (c .line) =
+      subst (λ (y : Fronts). MoveOf (jobTasks j) W u (c .end) (c .done) none-back (f ++ at t (spot u) ∷ spotsOf st) y (c .line)) (none-stays (action j u) (no-return j u)) (c .move) in
+      let o : Move (jobTasks j) W none-back l none-back (c .line) =
+      record { task = u; end = c .end; done = c .done; move = subst (λ (y : List (Timed Runner)). MoveOf (jobTasks j) W u (c .end) (c .done) none-back y none-back (c .line)) (sym is) v } in
+      let a = after-move (jobTasks j) W end ms o in
+      let s = next-stacked j acc ticks f t u st b dom nest (stands .0) (stands .1) (c .end) (c .done) v in
+      let e = timed j acc ticks f t u st b dom nest (stands .0) (stands .1) (c .end) (c .done) v in
+      subst (λ (k : ℕ). Timely k l z) (sym (a .less)) (subst (λ (y : List (Timed Runner)). Timely (suc (a .left)) y z) (sym is)
+      (step f t u (spotsOf st) (c .end) (c .done) b v e (rest (a .left) (a .less) (c .line) s x (a .run))))
+
+  pub serial-timely : (n : ℕ) (z : List (Timed Runner)) → Bare (jobTasks j) W z → To n z
+  serial-timely zero z end l s x ms =
+      stack-timely zero z end (λ m e. let y : _≡_ {A = ℕ} 0 1 = absurd (none e) in absurd (none e)) l (s .front) (s .stack) (s .line) (s .bare) (s .dom) (s .nested) (s .stands) x ms
+    where
+      none : {m : ℕ} → zero ≡ suc m → ⊥
+      none e = omega (arith, e)
+  serial-timely (suc n) z end l s x ms =
+      stack-timely (suc n) z end (λ m e. subst (λ (k : ℕ). To k z) (let i : n ≡ m = omega (arith, e) in i) (serial-timely n z end)) l
+      (s .front) (s .stack) (s .line) (s .bare) (s .dom) (s .nested) (s .stands) x ms
+
+  -- AT THE BEGINNING the top is alone
+  begins : Stacked j acc ticks start
+  unfolding ended stackOf begin
+  begins =
+      record {
+        front = [];
+        stack = frame 0 top ∷ [];
+        line = refl;
+        bare = tt;
+        dom = (record { below = λ q p. tt; rights = tt; kids = tt; none = tt }, tt);
+        nested = tt;
+        stands = (begin-stands j acc .0, tt);
+      }
+
+  -- THE PLAIN MACHINE'S RUN, where it ends
+  pub plain-timely : (m : ℕ) (end : stackOf (run m j) ≡ []) → Timely (ran j W acc m end .moves) start (ran j W acc m end .last)
+  plain-timely m end = let p = ran j W acc m end in serial-timely (p .moves) (p .last) (p .bare) start begins (p .fronts) (p .run)

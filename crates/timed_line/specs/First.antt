@@ -1,0 +1,151 @@
+-- THE FIRST TASK: nobody stands before it, so it need not wait; and PROGRESS: while a task is unfinished, the first one can move.
+use mathlib.Core.Path.{_≡_, refl, ap, sym, _∙_, subst, subst₂}
+use mathlib.Core.Logic.{_⊎_, inl, inr, ⊎-elim}
+use mathlib.Core.Bool.{Bool}
+use mathlib.Core.Option.{Option, none, some}
+use mathlib.Core.List.{List, [], _∷_, _++_}
+use Prim.Native.Nat.{ℕ}
+use Rattle.lists.specs.Counting.{equal?}
+use Rattle.gaps.specs.Maps.{All}
+use Rattle.line.specs.Line.{Item, value, spot, finished, gave, Action, puts, looks, returns, Search, free, seeking, found, putting, NoSpot, Acts, leave}
+use Rattle.line.specs.Rights.{Tasks}
+use Rattle.line.specs.Fronts.{Fronts}
+use Rattle.timed_line.specs.Times.{Timed, at, untimed}
+use Rattle.timed_line.specs.Walks.{Waits, Goes, heard}
+use Rattle.timed_line.specs.Starts.{startAt, startOf, opening, frontsOf}
+use Rattle.timed_line.specs.Agreement.{MoveOf, Bare}
+use Rattle.timed_line.specs.Parts.{parted}
+use Rattle.timed_line.specs.Lift.{Lifted, lift-past, lift-finds, lift-here}
+
+-- a search that no longer looks for a value
+abbrev pub Settled : Search → Type 0
+Settled free = Unit {0}
+Settled (seeking b q) = ⊥
+Settled (found b q v) = Unit {0}
+Settled (putting q v) = Unit {0}
+
+module _ {S : Type 0} (T : Tasks S) (W : Waits T) where
+  bare-goes : (u : S) (m : Search) (x : Item S) → Settled m → NoSpot x → Goes T W m u x
+  bare-goes u free (value q v) s n = (tt, tt)
+  bare-goes u free (spot t) s n = absurd n
+  bare-goes u free (finished t) s n = (tt, tt)
+  bare-goes u free (gave q) s n = (tt, tt)
+  bare-goes u (seeking b p) x s n = absurd s
+  bare-goes u (found b p w) (value q v) s n = (tt, tt)
+  bare-goes u (found b p w) (spot t) s n = absurd n
+  bare-goes u (found b p w) (finished t) s n = (tt, tt)
+  bare-goes u (found b p w) (gave q) s n = (tt, tt)
+  bare-goes u (putting p w) (value q v) s n = (tt, tt)
+  bare-goes u (putting p w) (spot t) s n = absurd n
+  bare-goes u (putting p w) (finished t) s n = (tt, tt)
+  bare-goes u (putting p w) (gave q) s n = (tt, tt)
+
+  -- past values, finished tasks and give-ups to the first spot
+  pub lead-settled : (u : S) (m : Search) (t : ℕ) (xs : List (Item S)) (r : List (Timed S)) → Settled m → Acts m (T .next u) xs
+      → (vs : List (Timed S)) → All NoSpot (untimed vs) → (a : ℕ) → Lifted T W u m m a (vs ++ at t (spot u) ∷ r) (untimed vs ++ (xs ++ untimed r))
+  lead-settled u m t xs r s acts [] h a = lift-here T W u m a t xs r (untimed r) acts refl
+  lead-settled u m t xs r s acts (at c x ∷ vs) h a =
+      lift-past T W u m m a c x _ _ (bare-goes u m x s (h .0)) (lead-settled u m t xs r s acts vs (h .1) (heard T W m u x c a))
+
+  -- the same on a line by its items
+  pub lead-at : (u : S) (m : Search) (xs : List (Item S)) → Settled m → Acts m (T .next u) xs → (l : List (Timed S)) (vs rest : List (Item S))
+      → untimed l ≡ vs ++ spot u ∷ rest → All NoSpot vs → (a : ℕ) → Lifted T W u m m a l (vs ++ (xs ++ rest))
+  lead-at u m xs s acts l vs rest e h a =
+      let p = parted l vs (spot u) rest e in
+      subst (λ (k : List (Timed S)). Lifted T W u m m a k (vs ++ (xs ++ rest))) (sym (p .line))
+      (subst₂ (λ (f g : List (Item S)). Lifted T W u m m a (p .before ++ at (p .time) (spot u) ∷ p .behind) (f ++ (xs ++ g))) (p .front) (p .rest)
+      (lead-settled u m (p .time) xs (p .behind) s acts (p .before) (subst (All NoSpot) (sym (p .front)) h) a))
+
+  -- a search along the items before the first spot ends, whatever it finds
+  pub record Seen (u : S) (b : Bool) (q a : ℕ) (l : List (Timed S)) : Type 0 where
+    pub end : Search
+    pub items : List (Item S)
+    pub lead : Lifted T W u (seeking b q) end a l items
+
+  pub lead-seeking : (u : S) (b : Bool) (q t : ℕ) (f : Option ℕ → List (Item S)) (r : List (Timed S)) → T .next u ≡ looks b q f
+      → (vs : List (Timed S)) → All NoSpot (untimed vs) → (a : ℕ) → Seen u b q a (vs ++ at t (spot u) ∷ r)
+  lead-seeking u b q t f r e [] h a =
+      record { end = seeking b q; items = _; lead = lift-here T W u (seeking b q) a t (f none) r (untimed r) (rw e (refl, refl, refl)) refl }
+  lead-seeking u b q t f r e (at c (value p v) ∷ vs) h a = ⊎-elim is (other (lead-seeking u b q t f r e vs (h .1) a)) (equal? p q)
+    where
+      is : p ≡ q → Seen u b q a (at c (value p v) ∷ (vs ++ at t (spot u) ∷ r))
+      is i =
+          rw i (record {
+            end = found b q v;
+            items = _;
+            lead = lift-finds T W u (found b q v) a c b q v _ _
+                (lead-settled u (found b q v) t (f (some v)) r tt (rw e (refl, refl, refl)) vs (h .1) _);
+          })
+
+      other : Seen u b q a (vs ++ at t (spot u) ∷ r) → (p ≡ q → ⊥) → Seen u b q a (at c (value p v) ∷ (vs ++ at t (spot u) ∷ r))
+      other w n =
+          record { end = w .end; items = _; lead = lift-past T W u (seeking b q) (w .end) a c (value p v) _ _ (n, tt) (w .lead) }
+  lead-seeking u b q t f r e (at c (spot s) ∷ vs) h a = absurd (h .0)
+  lead-seeking u b q t f r e (at c (finished s) ∷ vs) h a =
+      let w = lead-seeking u b q t f r e vs (h .1) (heard T W (seeking b q) u (finished s) c a) in
+      record { end = w .end; items = _; lead = lift-past T W u (seeking b q) (w .end) a c (finished s) _ _ (tt, tt) (w .lead) }
+  lead-seeking u b q t f r e (at c (gave p) ∷ vs) h a =
+      let w = lead-seeking u b q t f r e vs (h .1) (heard T W (seeking b q) u (gave p) c a) in
+      record { end = w .end; items = _; lead = lift-past T W u (seeking b q) (w .end) a c (gave p) _ _ (tt, tt) (w .lead) }
+
+  -- a walk of u from its start is a move
+  pub record Can (u : S) (r : Fronts) (l : List (Timed S)) : Type 0 where
+    pub end : Search
+    pub done : ℕ
+    pub line : List (Timed S)
+    pub move : MoveOf T W u end done r l (frontsOf T u r) line
+
+  pub can-move : (u : S) (r : Fronts) (e : Search) (l : List (Timed S)) (k : List (Item S)) → Lifted T W u (startAt T u r) e 0 l k → Can u r l
+  can-move u r e l k h =
+      record { end = e; done = h .done; line = h .line; move = record { fronts = refl; walk = h .walk } }
+
+  pub first-moves : (u : S) (i : Action S) → T .next u ≡ i → (r : Fronts) (t : ℕ) (vs l : List (Timed S)) → All NoSpot (untimed vs)
+      → Can u r (vs ++ at t (spot u) ∷ l)
+  first-moves u (puts xs) e r t vs l h =
+      can-move u r free _ _
+      (subst (λ (m : Search). Lifted T W u m free 0 (vs ++ at t (spot u) ∷ l) (untimed vs ++ (xs ++ untimed l))) (ap (λ (i : Action S). startOf i r) (sym e))
+      (lead-settled u free t xs l tt (rw e refl) vs h 0))
+  first-moves u (returns q v xs) e r t vs l h =
+      can-move u r (putting q v) _ _
+      (subst (λ (m : Search). Lifted T W u m (putting q v) 0 (vs ++ at t (spot u) ∷ l) (untimed vs ++ (xs ++ untimed l))) (ap (λ (i : Action S). startOf i r) (sym e))
+      (lead-settled u (putting q v) t xs l tt (rw e (refl, refl, refl)) vs h 0))
+  first-moves u (looks b q f) e r t vs l h = go (r q) refl
+    where
+      start : (c : List ℕ) → r q ≡ c → opening b q c ≡ startAt T u r
+      start c d = ap (opening b q) (sym d) ∙ ap (λ (i : Action S). startOf i r) (sym e)
+
+      go : (c : List ℕ) → r q ≡ c → Can u r (vs ++ at t (spot u) ∷ l)
+      go [] d =
+          let w = lead-seeking u b q t f l e vs h 0 in
+          can-move u r (w .end) _ _ (subst (λ (m : Search). Lifted T W u m (w .end) 0 (vs ++ at t (spot u) ∷ l) (w .items)) (start [] d) (w .lead))
+      go (v ∷ c) d =
+          can-move u r (found b q v) _ _
+          (subst (λ (m : Search). Lifted T W u m (found b q v) 0 (vs ++ at t (spot u) ∷ l) (untimed vs ++ (f (some v) ++ untimed l))) (start (v ∷ c) d)
+          (lead-settled u (found b q v) t (f (some v)) l tt (rw e (refl, refl, refl)) vs h 0))
+
+  pub bare-timed : (l : List (Timed S)) → All NoSpot (untimed l) → Bare T W l
+  bare-timed [] b = tt
+  bare-timed (at t x ∷ l) b = (b .0, bare-timed l (b .1))
+
+  -- a line has no spot, or a first one
+  pub data Front : List (Timed S) → Type 0 where
+    bare : {l : List (Timed S)} → Bare T W l → Front l
+    front : (vs : List (Timed S)) (t : ℕ) (u : S) (l : List (Timed S)) → All NoSpot (untimed vs) → Front (vs ++ at t (spot u) ∷ l)
+
+  front-past : (t : ℕ) (x : Item S) {l : List (Timed S)} → NoSpot x → Front l → Front (at t x ∷ l)
+  front-past t x n (bare {l = l} h) = bare {l = at t x ∷ l} (n, h)
+  front-past t x n (front vs c u l h) = front (at t x ∷ vs) c u l (n, h)
+
+  pub front-of : (l : List (Timed S)) → Front l
+  front-of [] = bare tt
+  front-of (at t (value q v) ∷ l) = front-past t (value q v) tt (front-of l)
+  front-of (at t (spot u) ∷ l) = front [] t u l tt
+  front-of (at t (finished s) ∷ l) = front-past t (finished s) tt (front-of l)
+  front-of (at t (gave q) ∷ l) = front-past t (gave q) tt (front-of l)
+
+  pub progress : (r : Fronts) (l : List (Timed S)) → Bare T W l ⊎ ((u : S) × Can u r l)
+  progress r l = go (front-of l)
+    where
+      go : {k : List (Timed S)} → Front k → Bare T W k ⊎ ((u : S) × Can u r k)
+      go (bare h) = inl h
+      go (front vs t u k h) = inr (u, first-moves u (T .next u) refl r t vs k h)

@@ -1,0 +1,56 @@
+-- THE TIMED LINE: the line of crate `exchange`, each item with a time: when the step that put it there was done.
+use mathlib.Core.Path.{_≡_, refl}
+use mathlib.Core.Bool.{Bool, true, false}
+use mathlib.Core.List.{List, [], _∷_}
+use mathlib.Core.Logic.{_⊎_}
+use Prim.Native.Nat.{ℕ, _<_, _≤_}
+use native.Mathlib.Omega.{arith}
+use lib.Dec.{ltb}
+use borrow.Author.Tests.{ltb-true, ltb-false}
+use Rattle.words.specs.Words.{pick, pass, halt}
+use Rattle.line.specs.Line.{Item}
+
+pub data Timed (S : Type 0) : Type 0 where
+  at : ℕ → Item S → Timed S
+
+-- the later of two times
+unfoldable pub later : ℕ → ℕ → ℕ
+later a b = pick (ltb a b) b a
+
+module _ (a b : ℕ) where
+  pub later-bounds : (a ≤ later a b) × (b ≤ later a b)
+  unfolding later
+  later-bounds = go (ltb a b) refl
+    where
+      go : (c : Bool) → ltb a b ≡ c → (a ≤ pick c b a) × (b ≤ pick c b a)
+      go true e = let h = ltb-true a b e in unfold pick in (omega (arith, h), omega arith)
+      go false e = let h = ltb-false a b e in unfold pick in (omega arith, omega (arith, h))
+
+  pub later-least : (c : ℕ) → a ≤ c → b ≤ c → later a b ≤ c
+  unfolding later
+  later-least c h k = go (ltb a b)
+    where
+      go : (x : Bool) → pick x b a ≤ c
+      go true = unfold pick in k
+      go false = unfold pick in h
+
+-- some member of a list
+abbrev pub Some : {A : Type 0} → (A → Type 0) → List A → Type 0
+Some P [] = ⊥
+Some P (x ∷ xs) = P x ⊎ Some P xs
+
+module _ {S : Type 0} where
+  -- items that one step puts, done at time d
+  abbrev pub stamp : ℕ → List (Item S) → List (Timed S)
+  stamp d [] = []
+  stamp d (x ∷ xs) = at d x ∷ stamp d xs
+
+  -- the line without times
+  abbrev pub untimed : List (Timed S) → List (Item S)
+  untimed [] = []
+  untimed (at t x ∷ l) = x ∷ untimed l
+
+  -- a value that is left, or taken
+  abbrev pub leaveAt : Bool → Timed S → List (Timed S) → List (Timed S)
+  leaveAt true x l = x ∷ l
+  leaveAt false x l = l
