@@ -1,8 +1,8 @@
 -- AND WHERE THE TASK IS ABLE the step is not answered "waits": it moves, or is refused.
 use mathlib.Core.Path.{_≡_, refl, ap, sym, _∙_, subst}
 use mathlib.Core.Bool.{Bool, true, false, false≢true}
-use mathlib.Core.List.{List, [], _∷_, _++_}
-use mathlib.Core.Logic.{_⊎_, inl, inr, ⊎-elim}
+use mathlib.Core.List.{List}
+use mathlib.Core.Logic.{_⊎_, ⊎-elim}
 use mathlib.Core.Option.{Option, none, some}
 use Prim.Native.Nat.{ℕ, _≤_, _<_}
 use native.Mathlib.Omega.{arith}
@@ -30,14 +30,13 @@ use Rattle.job.specs.Rows.{from, row-past}
 use Rattle.job.specs.Test.{whichHolds}
 use Rattle.job.specs.Accepted.{accepted}
 use Rattle.plain.specs.Stack.{rightsOf}
-use Rattle.line.specs.Line.{Item, Action}
-use Rattle.job_line.specs.Tasks.{Runner, canPop, actionBy, action, instructionOf}
+use Rattle.line.specs.Line.{Item}
+use Rattle.job_line.specs.Tasks.{Runner, canPop, actionBy, instructionOf}
 use Rattle.job_order.specs.Beside.{Numbered}
 use Rattle.job_order.specs.Instructions.{instruction, action-by, which-holds}
-use Rattle.runner.specs.declared.StepAnswer.{StepAnswer}
 use Rattle.runner.specs.declared.StepAnswer.the-variants.{Waits as Held, Refused as TurnedDown}
 use Rattle.runner.specs.Words.{positionOf, registerOf}
-use Rattle.runner.specs.Answers.{hasMoved, Outcome, answerOf}
+use Rattle.runner.specs.Answers.{hasMoved, answerOf}
 use Rattle.runner.specs.Step.{callOf, replyOf, done, replied, makes, stepOutcome}
 use Rattle.runner.specs.Laws.{has-moved}
 use Rattle.any_order.specs.Answered.{push-answer, spawn-answer, pop-answer, test-answer}

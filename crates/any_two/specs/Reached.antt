@@ -15,12 +15,12 @@ use Rattle.in_order.specs.State.{state-rules, state-size}
 use Rattle.job.specs.Test.{jobAnswer}
 use Rattle.line.specs.Line.{Item, spot}
 use Rattle.job_order.specs.Beside.{Numbered, standing}
-use Rattle.job_order.specs.Located.{topNumbered, On, unfinished-stands}
+use Rattle.job_order.specs.Located.{topNumbered, unfinished-stands}
 use Rattle.plain.specs.Stack.{Stands}
 use Rattle.job.specs.Accepted.{accepted}
 use Rattle.runner.specs.declared.StepAnswer.{StepAnswer}
 use Rattle.runner.specs.Words.{RUNNER, positionOf}
-use Rattle.runner.specs.Answers.{Outcome, outcome, coreOf, runnerOf}
+use Rattle.runner.specs.Answers.{outcome, coreOf, runnerOf}
 use Rattle.runner.specs.Open.{openOutcome}
 use Rattle.runner.specs.Step.{stepTested, stepOutcome}
 use Rattle.any_order.specs.Statement.{Stand, standAfter, stepped, afterCalls, fresh}

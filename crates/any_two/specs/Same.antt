@@ -1,19 +1,16 @@
 -- THE SAME ANSWER: where a task's step would move, and moves after another task's step, it is answered the same.
-use mathlib.Core.Path.{_≡_, refl, ap, ap₂, sym, _∙_, subst}
-use mathlib.Core.List.{List, [], _∷_, _++_}
-use mathlib.Core.Option.{Option}
+use mathlib.Core.Path.{_≡_, ap, sym, _∙_, subst}
+use mathlib.Core.List.{List, _∷_, _++_}
 use Prim.Native.Nat.{ℕ}
 use Rattle.answers.specs.declared.Answer.the-variants.{Moved}
 use Rattle.job.specs.Test.{jobAnswer}
-use Rattle.plain.specs.Machine.{Event}
-use Rattle.job_line.specs.Tasks.{Runner, action}
 use Rattle.job_line.specs.Within.{jobTasks}
 use Rattle.job_order.specs.Beside.{Numbered, unnumbered}
 use Rattle.job_times.specs.Times.{jobWaits}
 use Rattle.any_order.specs.Statement.{Stand, stepped}
 use Rattle.any_order.specs.Goes.{Goes}
 use Rattle.any_order.specs.Running.{Running}
-use Rattle.line.specs.Line.{Item, spot, Search}
+use Rattle.line.specs.Line.{Item, spot}
 use Rattle.timed_line.specs.Agreement.{stable}
 use Rattle.timed_line.specs.Once.{once}
 use Rattle.job_line.specs.Front.{foundBy}

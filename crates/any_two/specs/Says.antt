@@ -1,13 +1,13 @@
 -- A STEP WAITS OR NEED NOT: where the task is not able by program order the step is answered "waits".
 use mathlib.Core.Path.{_≡_, refl, ap, sym, _∙_, subst}
 use mathlib.Core.Bool.{Bool, true, false, not, false≢true}
-use mathlib.Core.List.{List, [], _∷_, _++_}
-use mathlib.Core.Logic.{_⊎_, inl, inr, ⊎-elim}
+use mathlib.Core.List.{List, _∷_, _++_}
+use mathlib.Core.Logic.{_⊎_, inl, inr}
 use mathlib.Core.Option.{some}
 use Prim.Native.Nat.{ℕ, _≤_, _<_}
 use native.Mathlib.Omega.{arith}
 use borrow.Author.Tests.{ltb-true}
-use Rattle.words.specs.Words.{pick, pass, halt, both-true, either, neither, true-right}
+use Rattle.words.specs.Words.{pick, pass, halt, both-true, either, true-right}
 use Rattle.tree.specs.Rights.{pops as mayPop}
 use Rattle.answers.specs.declared.Answer.{Answer}
 use Rattle.answers.specs.declared.Answer.the-variants.{Moved, Waits}
@@ -16,20 +16,20 @@ use Rattle.answers.specs.declared.Finding.the-variants.{Value as Found, Empty a
 use Rattle.answers.specs.Calls.{Call, pop-call, test-call, sync-call, finish-call}
 use Rattle.calls.specs.Waits.{blocked as blockedIn}
 use Rattle.order.specs.Steps.{Item as Mark, numberOf}
-use Rattle.order.specs.Waits.{unfinished, blocked, hasChild}
+use Rattle.order.specs.Waits.{blocked, hasChild}
 use Rattle.order.specs.Finding.{finding}
 use Rattle.order.specs.Ordered.{rightsAt, forTask, popAnswer, testAnswer, ordered}
 use Rattle.represents.specs.Represents.{Represents}
 use Rattle.in_order.specs.Answered.{answered}
 use Rattle.in_order.specs.Ladder.{blocked-same}
 use Rattle.job.specs.declared.Instruction.{Instruction}
-use Rattle.job.specs.Operations.{Row, Operation, return, push, pushSum, pop, goIfEmpty, go, goIfZero, add, spawn, sync, rowOf, operationOf, operationAt}
+use Rattle.job.specs.Operations.{Row, go, rowOf, operationOf, operationAt}
 use Rattle.job.specs.Rows.{from, row-past}
 use Rattle.job.specs.Test.{whichHolds}
 use Rattle.job.specs.Accepted.{accepted}
 use Rattle.plain.specs.Stack.{rightsOf}
-use Rattle.line.specs.Line.{Item, spot, Action, puts, looks}
-use Rattle.job_line.specs.Tasks.{Runner, actionBy, action, instructionOf, by-test}
+use Rattle.line.specs.Line.{Item, spot, Action}
+use Rattle.job_line.specs.Tasks.{Runner, actionBy, instructionOf, by-test}
 use Rattle.job_order.specs.Beside.{Numbered, taskOf}
 use Rattle.job_order.specs.Located.{located}
 use Rattle.job_order.specs.Instructions.{instruction, action-by, which-holds}
@@ -42,7 +42,6 @@ use Rattle.any_order.specs.Goes as common
 use Rattle.any_order.specs.States.{state-unfinished}
 use Rattle.any_order.specs.Tested.{tests-pass}
 use Rattle.job_times.specs.Kin.{awaits}
-use Rattle.job_waits.specs.Halted.{Awaits}
 use Rattle.job_moves.specs.Able.{LooksIn, Able}
 
 -- an action that looks in no queue but q

@@ -1,25 +1,20 @@
 -- STABILITY OF STEPS: where a task's step need not wait, and another task's step moves, the first still need not wait; the moves are
 -- those of the timed line, whatever its times.
-use mathlib.Core.Path.{_≡_, refl, ap, sym, _∙_, subst}
-use mathlib.Core.Bool.{true, false, false≢true}
-use mathlib.Core.List.{List, [], _∷_, _++_}
-use mathlib.Core.Logic.{_⊎_, inl, inr, ⊎-elim}
+use mathlib.Core.Path.{_≡_, ap, sym, _∙_, subst}
+use mathlib.Core.Bool.{false≢true}
+use mathlib.Core.List.{List, _∷_, _++_}
+use mathlib.Core.Logic.{_⊎_, ⊎-elim}
 use Prim.Native.Nat.{ℕ}
-use Rattle.gaps.specs.Maps.{All}
 use Rattle.answers.specs.declared.Answer.the-variants.{Moved}
 use Rattle.order.specs.Steps.{Item as Mark}
-use Rattle.order_waits.specs.Played.{Played}
 use Rattle.job.specs.Test.{jobAnswer}
-use Rattle.job.specs.Accepted.{accepted}
-use Rattle.plain.specs.Machine.{Event, eventOf}
-use Rattle.line.specs.Line.{Item, spot, Search}
-use Rattle.job_line.specs.Tasks.{Runner, does, action, instructionOf}
+use Rattle.line.specs.Line.{Item, spot}
+use Rattle.job_line.specs.Tasks.{Runner, does}
 use Rattle.job_line.specs.Within.{jobTasks}
 use Rattle.job_order.specs.Beside.{Numbered, unnumbered, Beside}
 use Rattle.job_order.specs.Located.{stands-unfinished}
-use Rattle.job_order.specs.Points.{unnumbered-append}
 use Rattle.runner.specs.declared.StepAnswer.the-variants.{Waits as Held}
-use Rattle.runner.specs.Answers.{hasMoved, Outcome, outcome, answerOf, answerWith}
+use Rattle.runner.specs.Answers.{hasMoved, Outcome, outcome, answerOf}
 use Rattle.runner.specs.Step.{stepOutcome}
 use Rattle.runner.specs.Laws.{has-moved}
 use Rattle.any_order.specs.Statement.{Stand}
@@ -29,7 +24,6 @@ use Rattle.any_order.specs.Goes as common
 use Rattle.any_order.specs.Running.{Running}
 use Rattle.any_order.specs.Called.{place}
 use Rattle.any_two.specs.Says.{says}
-use Rattle.any_two.specs.Answers.{able-answers}
 use Rattle.timed_line.specs.Times.{Timed, untimed}
 use Rattle.timed_line.specs.Walks.{Waits}
 use Rattle.timed_line.specs.Agreement.{stable}

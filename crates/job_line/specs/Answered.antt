@@ -10,7 +10,7 @@ use Rattle.order.specs.Steps.{Name}
 use Rattle.job.specs.Accepted.{Accepted}
 use Rattle.plain.specs.Machine.{Event}
 use Rattle.plain.specs.Run.{stackOf, run, events, answersOf}
-use Rattle.line.specs.Line.{Item, NoSpot}
+use Rattle.line.specs.Line.{NoSpot}
 use Rattle.line.specs.Fronts.{Fronts}
 use Rattle.timed_line.specs.Times.{Timed, untimed}
 use Rattle.timed_line.specs.Walks.{Waits}

@@ -11,10 +11,9 @@ use lib.Seq.{getD-set-same, getD-set-other}
 use borrow.Author.Tests.{eq-eqb, ne-eqb}
 use Rattle.words.specs.Words.{pick, halt, pass}
 use Rattle.lists.specs.Counting.{equal?}
-use Rattle.gaps.specs.Maps.{All}
+use Rattle.gaps.specs.Maps.{All, put, put-same, put-other}
 use Rattle.plain.specs.Machine.{queue}
 use Rattle.line.specs.Line.{Item, value, spot, finished, gave, NoSpot}
-use Rattle.gaps.specs.Maps.{put, put-same, put-other}
 use Rattle.line.specs.Fronts.{Fronts}
 use Rattle.job_line.specs.Front.{valuesOf, without}
 

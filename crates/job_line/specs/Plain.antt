@@ -10,12 +10,12 @@ use borrow.Author.Tests.{ltb-true}
 use Rattle.words.specs.Words.{halt, both-true}
 use Rattle.gaps.specs.Maps.{All}
 use Rattle.job.specs.declared.Instruction.{Instruction}
-use Rattle.job.specs.Operations.{Row, pop, goIfEmpty, rowOf, operationOf, operationAt}
+use Rattle.job.specs.Operations.{Row, rowOf, operationOf, operationAt}
 use Rattle.job.specs.Effects.{Effect, effect, sum}
 use Rattle.job.specs.Rows.{from, row-past}
 use Rattle.job.specs.Test.{whichHolds, fitting, instructionHolds}
 use Rattle.job.specs.Accepted.{Accepted}
-use Rattle.plain.specs.Machine.{Task, State, state, Event, eventOf, queue, front, queuesAfter, stackAfter, effectOn, advanced, does, step}
+use Rattle.plain.specs.Machine.{Task, State, state, Event, eventOf, queue, front, queuesAfter, stackAfter, effectOn, does, step}
 use Rattle.plain.specs.Run.{after, eventIn, next}
 use Rattle.plain.specs.Stack.{rightsOf, Stands}
 use Rattle.line.specs.Line.{Item, value, spot, finished, Action, puts, looks, Search, free, seeking, found, NoSpot}
@@ -26,8 +26,7 @@ use Rattle.timed_line.specs.Starts.{opening, startOf}
 use Rattle.timed_line.specs.Agreement.{Move}
 use Rattle.timed_line.specs.Lift.{Lifted}
 use Rattle.timed_line.specs.First.{lead-at}
-use Rattle.job_line.specs.Tasks.{canPush, canPop, Runner, does as doesNext, answering, goesOn, afterSpawn, newTask, instruction, actionBy, action}
-use Rattle.job_line.specs.Tasks.{instructionOf}
+use Rattle.job_line.specs.Tasks.{canPush, canPop, Runner, does as doesNext, answering, goesOn, afterSpawn, newTask, instruction, actionBy, action, instructionOf}
 use Rattle.job_line.specs.Within.{jobTasks}
 use Rattle.job_line.specs.Front.{valuesOf, remaining, looked}
 use Rattle.job_line.specs.Events.{eventWith, moveEvent}

@@ -12,7 +12,7 @@ use Rattle.plain.specs.Stack.{Stack, first-stands}
 use Rattle.plain.specs.Kept.{next-kept}
 use Rattle.line.specs.Line.{NoSpot}
 use Rattle.line.specs.Fronts.{Fronts}
-use Rattle.timed_line.specs.Times.{Timed, untimed}
+use Rattle.timed_line.specs.Times.{Timed}
 use Rattle.timed_line.specs.Walks.{Waits}
 use Rattle.timed_line.specs.Agreement.{Moves, no-move, moves as more, Bare}
 use Rattle.timed_line.specs.First.{bare-timed}

@@ -1,12 +1,12 @@
 -- WHERE UNFINISHED TASKS STAND: after any moves of an accepted job's tasks, each at an instruction that exists. So every move
 -- puts what Put says.
-use mathlib.Core.Path.{_≡_, refl, sym, subst}
+use mathlib.Core.Path.{sym, subst}
 use mathlib.Core.Bool.{Bool, true, false}
 use mathlib.Core.List.{List, _∷_, _++_}
 use Prim.Native.Nat.{ℕ}
 use Rattle.gaps.specs.Maps.{All, all-append}
 use Rattle.job.specs.Accepted.{Accepted}
-use Rattle.plain.specs.Machine.{Event, begin, eventOf}
+use Rattle.plain.specs.Machine.{Event, begin}
 use Rattle.plain.specs.Run.{stackOf}
 use Rattle.plain.specs.Stack.{Stands}
 use Rattle.plain.specs.Kept.{begin-stands}

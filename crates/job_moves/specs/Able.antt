@@ -1,38 +1,29 @@
 -- A TASK NEED NOT WAIT by program order exactly where it can move on the timed line, 8 and 9 aside.
-use mathlib.Core.Path.{_≡_, refl, ap, ap₂, sym, _∙_, subst}
-use mathlib.Core.Bool.{Bool, true, false, false≢true}
-use mathlib.Core.List.{List, [], _∷_, _++_, append-assoc, nil≢cons, head-eq-of-cons-eq, tail-eq-of-cons-eq}
-use mathlib.Core.Logic.{_⊎_, inl, inr, ⊎-elim}
+use mathlib.Core.Path.{_≡_, refl, ap, sym, _∙_, subst}
+use mathlib.Core.Bool.{Bool, true, false}
+use mathlib.Core.List.{List, _∷_, _++_, append-assoc}
 use mathlib.Core.Option.{Option, none, some}
 use Prim.Native.Nat.{ℕ, _<_}
 use native.Mathlib.Omega.{arith}
-use borrow.Author.Tests.{ltb-true, lt-ltb, eq-eqb}
-use Rattle.words.specs.Words.{pick, halt, pass, both-true, true-both, refuted, either, neither, neither-true}
-use Rattle.lists.specs.Counting.{equal?}
-use Rattle.tree.specs.Rights.{pushes as mayPush, pops as mayPop, uses}
-use Rattle.tree.specs.Users.{pops-uses, uses-pushes, useless-pops, useless-pushes}
+use borrow.Author.Tests.{ltb-true}
+use Rattle.words.specs.Words.{both-true}
+use Rattle.tree.specs.Rights.{pops as mayPop, uses}
+use Rattle.tree.specs.Users.{pops-uses}
 use Rattle.answers.specs.declared.Finding.{Finding}
 use Rattle.answers.specs.declared.Finding.the-variants.{Value, Empty, Waits as Later}
-use Rattle.order.specs.Steps.{Name, Task, Item as Mark, spot as place, nameOf, numberOf, rightsOf}
-use Rattle.order.specs.Waits.{isChild, blocked, hasChild, childPops}
+use Rattle.order.specs.Steps.{Item as Mark, numberOf, rightsOf}
+use Rattle.order.specs.Waits.{blocked, hasChild}
 use Rattle.order.specs.Finding.{finding}
-use Rattle.order_laws.specs.Items.{In}
-use Rattle.order_laws.specs.Reached.{Reached}
-use Rattle.order_waits.specs.Spots.{some-says, pair-is}
-use Rattle.order_waits.specs.Played.{Played, played-reached}
-use Rattle.order_waits.specs.Changes.{in-right}
-use Rattle.order_queue.specs.Points.{Point, user, NoPopper}
-use Rattle.order_queue.specs.Found.{firstOf}
+use Rattle.order_waits.specs.Played.{Played}
 use Rattle.order_queue.specs.Finds.{finds}
-use Rattle.gaps.specs.Maps.{All, all-map}
-use Rattle.job.specs.Operations.{operationAt}
+use Rattle.gaps.specs.Maps.{All}
+use Rattle.job.specs.Operations.{operationAt, Operation, return, push, pushSum, pop, goIfEmpty, go, goIfZero, add, spawn, sync}
 use Rattle.plain.specs.Stack.{rightsOf as jobRights}
-use Rattle.line.specs.Line.{Item, value, spot, Action, puts, looks, returns, leave}
+use Rattle.line.specs.Line.{Item, value, spot, Action, puts, looks, returns}
 use Rattle.line.specs.Rights.{Within}
 use Rattle.timed_line.specs.Times.{Timed, untimed}
 use Rattle.timed_line.specs.Walks.{Clear}
 use Rattle.job.specs.declared.Instruction.{Instruction}
-use Rattle.job.specs.Operations.{Operation, return, push, pushSum, pop, goIfEmpty, go, goIfZero, add, spawn, sync}
 use Rattle.job_line.specs.Tasks.{canPop, Runner, actionBy, action, instructionOf, by-test, Pushing, Popping}
 use Rattle.job_line.specs.Within.{action-within}
 use Rattle.job_times.specs.Times.{jobWaits}
@@ -41,7 +32,7 @@ use Rattle.job_order.specs.Points.{unnumbered-append}
 use Rattle.job_order.specs.Searches.{FirstValue, first-value, first-nothing}
 use Rattle.job_order.specs.Found.{others, meets}
 use Rattle.job_order.specs.After.{Moved}
-use Rattle.job_order.specs.Walks.{Walked, walk-puts, walk-nothing, walk-finds, walked-move}
+use Rattle.job_order.specs.Walks.{walk-puts, walk-nothing, walk-finds, walked-move}
 use Rattle.job_order.specs.Looks.{past-bare, past-quiet}
 use Rattle.job_waits.specs.Halted.{Awaits, free-front}
 
@@ -121,12 +112,14 @@ module _ (j : List ℕ) (ticks : ℕ → ℕ) {xs : List Mark} (played : Played 
         let before = unnumbered (f .front) in
         let behind = unnumbered (f .back) in
         let front : before ++ value q v ∷ behind ≡ unnumbered a =
-        sym (unnumbered-append (f .front) (value q v ∷ f .back)) ∙ ap unnumbered (sym (f .parts)) in
-        (some v, _,
-        walked-move j u (looks k q g) (before ++ value q v ∷ behind) (before ++ value q v ∷ (behind ++ spot u ∷ unnumbered b)) _ (some v) is refl
-        (walk-finds j u k q g is (unnumbered b) v before behind (past-bare j k q (f .front) (f .bare)) (past-quiet j k q v (f .back) (f .quiet)))
-        ticks (subst (All (Clear (jobWaits j ticks .Halts) (jobWaits j ticks .Above) u)) (sym front) c) l
-        (e ∙ at-task ∙ ap (λ (i : List (Item Runner)). i ++ spot u ∷ unnumbered b) (sym front) ∙ append-assoc before (value q v ∷ behind) (spot u ∷ unnumbered b)))
+        sym (unnumbered-append (f .front) (value q v ∷ f .back)) ∙ ap unnumbered (sym (f .parts)) in (
+          some v,
+          _,
+          walked-move j u (looks k q g) (before ++ value q v ∷ behind) (before ++ value q v ∷ (behind ++ spot u ∷ unnumbered b)) _ (some v) is refl
+              (walk-finds j u k q g is (unnumbered b) v before behind (past-bare j k q (f .front) (f .bare)) (past-quiet j k q v (f .back) (f .quiet)))
+              ticks (subst (All (Clear (jobWaits j ticks .Halts) (jobWaits j ticks .Above) u)) (sym front) c) l
+              (e ∙ at-task ∙ ap (λ (i : List (Item Runner)). i ++ spot u ∷ unnumbered b) (sym front) ∙ append-assoc before (value q v ∷ behind) (spot u ∷ unnumbered b)),
+        )
 
     -- by the action
     moves-by : (i : Action Runner) → action j u ≡ i → NoReturn i → ((q : ℕ) → LooksIn q i → finding (n .number) q xs ≡ Later → ⊥) → Moving l
@@ -148,11 +141,13 @@ module _ (j : List ℕ) (ticks : ℕ → ℕ) {xs : List Mark} (played : Played 
             finding-it k q v g is (first-value j q b n used v a (m .quiet) (m .first))
         go Empty d =
             unfold taskOf numberOf rightsOf in
-            let m = meets j played a b n h q Empty (right .0) (right .1) (λ z. empty-later z) d in
-            (none, _,
-            walked-move j u (looks k q g) (unnumbered a) At _ none is refl
-            (walk-nothing j u k q g is (unnumbered b) (unnumbered a) (past-bare j k q a (first-nothing j q b n used a (others j played a b n h) (m .first))))
-            ticks c l (e ∙ at-task))
+            let m = meets j played a b n h q Empty (right .0) (right .1) (λ z. empty-later z) d in (
+              none,
+              _,
+              walked-move j u (looks k q g) (unnumbered a) At _ none is refl
+                  (walk-nothing j u k q g is (unnumbered b) (unnumbered a) (past-bare j k q a (first-nothing j q b n used a (others j played a b n h) (m .first))))
+                  ticks c l (e ∙ at-task),
+            )
         go Later d = absurd (f q refl d)
 
   pub able-moves : Able j xs n → (l : List (Timed Runner)) → untimed l ≡ Whole → Moving l

@@ -1,26 +1,23 @@
 -- THE OTHER WAY ROUND: a task that can move on the timed line need not wait by program order.
 use mathlib.Core.Path.{_≡_, refl, ap, ap₂, sym, _∙_, subst}
-use mathlib.Core.Bool.{Bool, true, false, false≢true}
+use mathlib.Core.Bool.{true, false, false≢true}
 use mathlib.Core.List.{List, [], _∷_, _++_, head-eq-of-cons-eq, tail-eq-of-cons-eq}
-use mathlib.Core.Logic.{_⊎_, inl, inr, ⊎-elim}
-use mathlib.Core.Option.{Option}
+use mathlib.Core.Logic.{inl, inr}
 use Prim.Native.Nat.{ℕ, _<_}
 use native.Mathlib.Omega.{arith}
 use borrow.Author.Tests.{lt-ltb, eq-eqb}
-use Rattle.words.specs.Words.{pick, halt, pass, both-true, true-both, refuted, either, neither}
+use Rattle.words.specs.Words.{halt, pass, both-true, true-both, refuted, neither}
 use Rattle.tree.specs.Rights.{pushes as mayPush, pops as mayPop, uses}
 use Rattle.tree.specs.Users.{pops-uses, uses-pushes}
-use Rattle.answers.specs.declared.Finding.{Finding}
-use Rattle.answers.specs.declared.Finding.the-variants.{Value, Empty, Waits as Later}
+use Rattle.answers.specs.declared.Finding.the-variants.{Empty, Waits as Later}
 use Rattle.order.specs.Steps.{Task, Item as Mark, spot as place, nameOf, numberOf, rightsOf}
-use Rattle.order.specs.Waits.{isChild, blocked, hasChild, childPops}
+use Rattle.order.specs.Waits.{blocked, childPops}
 use Rattle.order.specs.Finding.{finding}
 use Rattle.order_laws.specs.Items.{In}
 use Rattle.order_laws.specs.Reached.{Reached}
 use Rattle.order_waits.specs.Spots.{some-says, pair-is}
 use Rattle.order_waits.specs.Played.{Played, played-reached}
 use Rattle.order_waits.specs.Changes.{in-right}
-use Rattle.order_queue.specs.Points.{user}
 use Rattle.order_queue.specs.Found.{firstOf}
 use Rattle.order_queue.specs.Finds.{finds}
 use Rattle.gaps.specs.Maps.{All}
@@ -29,7 +26,7 @@ use Rattle.line.specs.Line.{Item, value, spot, finished, gave, Action, puts, lo
 use Rattle.line.specs.Rights.{Passes}
 use Rattle.job_line.specs.Tasks.{canPush, canPop, Runner, action, Pushing, Popping}
 use Rattle.job_line.specs.Within.{jobTasks}
-use Rattle.job_order.specs.Beside.{Numbered, unnumbered, standing, taskOf, pointsOf, Beside}
+use Rattle.job_order.specs.Beside.{Numbered, unnumbered, taskOf, pointsOf, Beside}
 use Rattle.job_order.specs.Located.{Located, located}
 use Rattle.job_order.specs.Points.{unnumbered-append, point-is, value-here, value-past, finished-past, gave-past}
 use Rattle.job_order.specs.Steps.{Old, single, time}

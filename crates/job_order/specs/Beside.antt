@@ -9,7 +9,7 @@ use Rattle.tree.specs.Rights.{uses}
 use Rattle.order.specs.Steps.{Task, task, Item as Mark, step, spot as place}
 use Rattle.order_queue.specs.Points.{Point, value as present, user, Timeline}
 use Rattle.plain.specs.Stack.{rightsOf}
-use Rattle.line.specs.Line.{Item, value, spot, finished, gave, gave}
+use Rattle.line.specs.Line.{Item, value, spot, finished, gave}
 use Rattle.job_line.specs.Tasks.{Runner}
 
 -- a task of a job and the number of its record in the core

@@ -12,7 +12,7 @@ use Rattle.order.specs.Finding.{leftOver}
 use Rattle.order_queue.specs.Points.{value as present, user}
 use Rattle.order_queue.specs.Finds.{nthValue, leaves}
 use Rattle.plain.specs.Stack.{rightsOf}
-use Rattle.line.specs.Line.{Item, value, spot, finished, gave, gave}
+use Rattle.line.specs.Line.{Item, value, spot, finished, gave}
 use Rattle.job_line.specs.Front.{valuesOf}
 use Rattle.job_order.specs.Beside.{Numbered, unnumbered, pointsOf, Beside}
 

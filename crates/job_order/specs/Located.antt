@@ -17,7 +17,7 @@ use Rattle.order_queue.specs.Points.{Timeline}
 use Rattle.order_queue.specs.Laws.{begins as timeline-begins}
 use Rattle.job.specs.Accepted.{Accepted}
 use Rattle.plain.specs.Stack.{rightsOf}
-use Rattle.line.specs.Line.{Item, value, spot, finished, gave, gave}
+use Rattle.line.specs.Line.{Item, value, spot, finished, gave}
 use Rattle.job_line.specs.Agree.{top}
 use Rattle.job_order.specs.Beside.{Numbered, standing, places, taskOf, pointsOf, Beside}
 use Rattle.job_order.specs.Points.{places-append, standing-append}

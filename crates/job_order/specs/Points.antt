@@ -10,7 +10,7 @@ use Rattle.tree.specs.Rights.{uses}
 use Rattle.order.specs.Steps.{Task, Item as Mark, step, spot as place, numberOf, rightsOf}
 use Rattle.order_queue.specs.Points.{Point, value as present, user}
 use Rattle.plain.specs.Stack.{rightsOf as jobRights}
-use Rattle.line.specs.Line.{Item, value, spot, finished, gave, gave}
+use Rattle.line.specs.Line.{Item, value, spot, finished, gave}
 use Rattle.job_line.specs.Tasks.{Runner}
 use Rattle.job_order.specs.Beside.{Numbered, unnumbered, standing, places, taskOf, pointsOf}
 

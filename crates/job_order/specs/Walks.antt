@@ -8,7 +8,7 @@ use Rattle.gaps.specs.Maps.{All}
 use Rattle.order.specs.Steps.{Item as Mark}
 use Rattle.line.specs.Line.{Item, value, spot, Action, puts, looks, Search, free, seeking, found, Acts, leave}
 use Rattle.line.specs.Rights.{Passes}
-use Rattle.line.specs.Fronts.{Fronts, frontsAfter}
+use Rattle.line.specs.Fronts.{frontsAfter}
 use Rattle.timed_line.specs.Times.{Timed, at, untimed, later}
 use Rattle.timed_line.specs.Walks.{Clear, Walk, heard}
 use Rattle.timed_line.specs.Starts.{startOf}
@@ -35,27 +35,33 @@ module _ (j : List ℕ) where
   module _ (u : Runner) where
     here-one : (m : Search) (xs r : List (Item Runner)) → Acts m (action j u) xs → Walked u m [] (spot u ∷ r) (xs ++ r) (foundBy m)
     here-one m xs r acts ticks c [] e a = absurd (nil≢cons e)
-    here-one m xs r acts ticks c (at t y ∷ l) e a =
-        (m, refl,
-        subst (λ (z : Item Runner). Lifted (jobTasks j) (jobWaits j ticks) u m m a (at t z ∷ l) (xs ++ r)) (sym (head-eq-of-cons-eq e))
-        (lift-here (jobTasks j) (jobWaits j ticks) u m a t xs l r acts (tail-eq-of-cons-eq e)))
+    here-one m xs r acts ticks c (at t y ∷ l) e a = (
+      m,
+      refl,
+      subst (λ (z : Item Runner). Lifted (jobTasks j) (jobWaits j ticks) u m m a (at t z ∷ l) (xs ++ r)) (sym (head-eq-of-cons-eq e))
+          (lift-here (jobTasks j) (jobWaits j ticks) u m a t xs l r acts (tail-eq-of-cons-eq e)),
+    )
 
     past-one : (m : Search) (x : Item Runner) (f l k : List (Item Runner)) (o : Option ℕ) → Past m x → Walked u m f l k o → Walked u m (x ∷ f) (x ∷ l) (x ∷ k) o
     past-one m x f l k o p w ticks c [] e a = absurd (nil≢cons e)
     past-one m x f r k o p w ticks c (at t y ∷ l) e a =
-        let v = w ticks (c .1) l (tail-eq-of-cons-eq e) (heard (jobTasks j) (jobWaits j ticks) m u x t a) in
-        (v .0, v .1,
-        subst (λ (z : Item Runner). Lifted (jobTasks j) (jobWaits j ticks) u m (v .0) a (at t z ∷ l) (x ∷ k)) (sym (head-eq-of-cons-eq e))
-        (lift-past (jobTasks j) (jobWaits j ticks) u m (v .0) a t x l k (p, c .0) (v .2)))
+        let v = w ticks (c .1) l (tail-eq-of-cons-eq e) (heard (jobTasks j) (jobWaits j ticks) m u x t a) in (
+          v .0,
+          v .1,
+          subst (λ (z : Item Runner). Lifted (jobTasks j) (jobWaits j ticks) u m (v .0) a (at t z ∷ l) (x ∷ k)) (sym (head-eq-of-cons-eq e))
+              (lift-past (jobTasks j) (jobWaits j ticks) u m (v .0) a t x l k (p, c .0) (v .2)),
+        )
 
     finds-one : (b : Bool) (q v : ℕ) (f l k : List (Item Runner)) (o : Option ℕ) → Walked u (found b q v) f l k o
         → Walked u (seeking b q) (value q v ∷ f) (value q v ∷ l) (leave b (value q v) k) o
     finds-one b q v f l k o w ticks c [] e a = absurd (nil≢cons e)
     finds-one b q v f r k o w ticks c (at t y ∷ l) e a =
-        let i = w ticks (c .1) l (tail-eq-of-cons-eq e) (later a t) in
-        (i .0, i .1,
-        subst (λ (z : Item Runner). Lifted (jobTasks j) (jobWaits j ticks) u (seeking b q) (i .0) a (at t z ∷ l) (leave b (value q v) k)) (sym (head-eq-of-cons-eq e))
-        (lift-finds (jobTasks j) (jobWaits j ticks) u (i .0) a t b q v l k (i .2)))
+        let i = w ticks (c .1) l (tail-eq-of-cons-eq e) (later a t) in (
+          i .0,
+          i .1,
+          subst (λ (z : Item Runner). Lifted (jobTasks j) (jobWaits j ticks) u (seeking b q) (i .0) a (at t z ∷ l) (leave b (value q v) k)) (sym (head-eq-of-cons-eq e))
+              (lift-finds (jobTasks j) (jobWaits j ticks) u (i .0) a t b q v l k (i .2)),
+        )
 
     past-all : (m : Search) (a f l k : List (Item Runner)) (o : Option ℕ) → All (Past m) a → Walked u m f l k o
         → Walked u m (a ++ f) (a ++ l) (a ++ k) o

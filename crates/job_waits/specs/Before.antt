@@ -1,13 +1,13 @@
 -- WHO STANDS BEFORE A TASK: nobody above it; its unfinished older siblings and children do.
 use mathlib.Core.Path.{_≡_, refl, ap, sym, _∙_, subst}
-use mathlib.Core.Bool.{Bool, true, false, false≢true}
+use mathlib.Core.Bool.{true}
 use mathlib.Core.List.{List, [], _∷_, _++_, append-assoc, head-eq-of-cons-eq, tail-eq-of-cons-eq, map}
 use mathlib.Core.Logic.{_⊎_, inl, inr, ⊎-elim}
 use Prim.Native.Nat.{ℕ, _<_}
 use native.Mathlib.Omega.{arith}
 use Rattle.words.specs.Words.{either-true}
 use Rattle.order.specs.Steps.{Name, Task, Item as Mark, step, spot as place, nameOf}
-use Rattle.order.specs.Waits.{sameName, isChild, isOlder}
+use Rattle.order.specs.Waits.{isChild, isOlder}
 use Rattle.order_laws.specs.Names.{Under, under-self, under-trans, under-parent, not-under-child, one-branch, same-true}
 use Rattle.order_laws.specs.Items.{In, in-parts, in-split}
 use Rattle.order_laws.specs.Reached.{Reached}

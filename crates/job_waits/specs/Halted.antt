@@ -3,11 +3,11 @@
 use mathlib.Core.Path.{_≡_, refl, ap, sym, _∙_, subst}
 use mathlib.Core.Bool.{Bool, true, false, false≢true}
 use mathlib.Core.List.{List, [], _∷_, _++_}
-use mathlib.Core.Logic.{inl, inr, ⊎-elim}
+use mathlib.Core.Logic.{inl, ⊎-elim}
 use Prim.Native.Nat.{ℕ}
 use Rattle.words.specs.Words.{both, either, both-true, true-both, either-true, true-left, true-right, refuted}
 use Rattle.tree.specs.Rights.{sharesPop}
-use Rattle.order.specs.Steps.{Name, Task, Item as Mark, spot as place, nameOf, numberOf, rightsOf}
+use Rattle.order.specs.Steps.{Task, Item as Mark, spot as place, nameOf, numberOf, rightsOf}
 use Rattle.order.specs.Waits.{isChild, isOlder, blocked, hasChild}
 use Rattle.order_laws.specs.Items.{In}
 use Rattle.order_laws.specs.Reached.{Reached}
@@ -20,7 +20,7 @@ use Rattle.job.specs.Operations.{operationAt}
 use Rattle.plain.specs.Stack.{rightsOf as jobRights}
 use Rattle.line.specs.Line.{Item, value, spot, finished, gave}
 use Rattle.job_line.specs.Tasks.{Runner, instructionOf}
-use Rattle.job_order.specs.Beside.{Numbered, unnumbered, standing, places, taskOf, Beside}
+use Rattle.job_order.specs.Beside.{Numbered, unnumbered, taskOf, Beside}
 use Rattle.job_order.specs.Located.{Located, located}
 use Rattle.job_order.specs.Steps.{Old}
 use Rattle.job_order.specs.Searches.{Spots, on-line}

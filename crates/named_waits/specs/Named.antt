@@ -1,5 +1,5 @@
 -- TASKS WITH NAMES AND RIGHTS that may fall: a task that gives up push on a queue leaves the mark `gave`. They wait as the timed line asks.
-use mathlib.Core.Path.{_≡_, refl, ap, ap₂, sym, _∙_, subst}
+use mathlib.Core.Path.{_≡_, refl, ap, sym, _∙_}
 use mathlib.Core.Bool.{Bool, true, false, false≢true}
 use mathlib.Core.List.{List, [], _∷_}
 use mathlib.Core.Logic.{_⊎_, inl, inr, ⊎-elim}
@@ -150,7 +150,7 @@ module _ {S : Type 0} (name : S → Name) (pushes pops : S → ℕ → Bool) (sh
       let c = child-apart (name s) (name u) i n in (
         λ a. n (above-parent i (name s) (name u) (ap (λ (p : Name). above p (name u)) (sym e) ∙ a)),
         λ h. ⊎-elim (λ d. c .0 (ap (λ (p : Name). isOlder p (name u)) (sym e) ∙ both-true _ _ d .0))
-        (λ d. c .1 (ap (λ (p : Name). isChild p (name u)) (sym e) ∙ both-true _ _ d .0)) (either-true _ _ h),
+            (λ d. c .1 (ap (λ (p : Name). isChild p (name u)) (sym e) ∙ both-true _ _ d .0)) (either-true _ _ h),
       )
 
   abbrev pub Still : Search → S → Item S → Type 0

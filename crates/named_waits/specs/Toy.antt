@@ -1,5 +1,5 @@
 -- AN EXAMPLE: tasks that look in queue 0, put back what they found, give up their right, and finish. They meet the laws.
-use mathlib.Core.Path.{_≡_, refl, ap, sym, _∙_}
+use mathlib.Core.Path.{_≡_, refl}
 use mathlib.Core.Bool.{Bool, true, false, false≢true}
 use mathlib.Core.List.{List, [], _∷_}
 use mathlib.Core.Logic.{inl, inr}
@@ -8,11 +8,9 @@ use Prim.Native.Nat.{ℕ, zero, suc}
 use lib.Dec.{eqb}
 use borrow.Author.Tests.{eqb-true}
 use Rattle.words.specs.Words.{both, both-true, true-both}
-use Rattle.gaps.specs.Maps.{All}
 use Rattle.order.specs.Steps.{Name}
 use Rattle.line.specs.Line.{Item, spot, finished, gave, Action, puts, looks, returns, Search, free, seeking, found, putting, Acts}
-use Rattle.line.specs.Rights.{Under, Within}
-use Rattle.timed_line.specs.Walks.{Waits}
+use Rattle.line.specs.Rights.{Within}
 use Rattle.named_waits.specs.Named as named
 
 pub record Toy : Type 0 where

@@ -1,9 +1,9 @@
 -- THE TIME OF THE FIRST TASK'S STEP: nobody unfinished stands before it, so its search goes along the front, and notes the finishes that
 -- count and the push of the value it finds.
-use mathlib.Core.Path.{_≡_, refl, ap, sym, _∙_, subst}
-use mathlib.Core.Bool.{Bool, true, false, false≢true}
+use mathlib.Core.Path.{_≡_, refl, ap, sym, _∙_}
+use mathlib.Core.Bool.{Bool, true, false}
 use mathlib.Core.List.{List, [], _∷_, _++_}
-use mathlib.Core.Logic.{_⊎_, inl, inr}
+use mathlib.Core.Logic.{inl, inr}
 use Prim.Native.Nat.{ℕ, _+_, _≤_}
 use native.Mathlib.Omega.{arith}
 use lib.Dec.{eqb}
@@ -13,7 +13,7 @@ use Rattle.gaps.specs.Maps.{All}
 use Rattle.line.specs.Line.{Item, value, spot, finished, gave, Search, free, seeking, found, putting, NoSpot, Acts}
 use Rattle.line.specs.Rights.{Passes, Tasks}
 use Rattle.timed_line.specs.Times.{Timed, at, later, later-bounds, later-least, Some, stamp, leaveAt}
-use Rattle.timed_line.specs.Walks.{given, Waits, heard, Walk}
+use Rattle.timed_line.specs.Walks.{given, Waits, Walk}
 use Rattle.timed_line.specs.Back.{given-more}
 use Rattle.timed_line.specs.Agreement.{Bare}
 

@@ -1,20 +1,19 @@
 -- THE TIMES OF THE SERIAL RUN: each step is done its ticks after the latest of its task's last step, the push of the value it finds, and the
 -- finishes that document 02 names.
-use mathlib.Core.Path.{_≡_, refl, ap, ap₂, sym, _∙_, subst}
-use mathlib.Core.Bool.{Bool, true, false, false≢true}
-use mathlib.Core.List.{List, [], _∷_, _++_, append-assoc, append-nil}
+use mathlib.Core.Path.{_≡_, refl, ap, sym, _∙_, subst}
+use mathlib.Core.Bool.{Bool, true, false≢true}
+use mathlib.Core.List.{List, [], _∷_, _++_}
 use mathlib.Core.Logic.{_⊎_, inl, inr, ⊎-elim}
-use mathlib.Core.Option.{Option}
-use Prim.Native.Nat.{ℕ, zero, suc, _+_, _<_, _≤_}
+use Prim.Native.Nat.{ℕ, _+_, _≤_}
 use native.Mathlib.Nat.{le-antisymm}
 use native.Mathlib.Omega.{arith}
-use Rattle.words.specs.Words.{both, both-true, true-both, true-left, true-right}
+use Rattle.words.specs.Words.{both, true-both, true-left, true-right}
 use Rattle.tree.specs.Rights.{sharesPop}
 use Rattle.order.specs.Waits.{isChild, isOlder}
-use Rattle.gaps.specs.Maps.{All, all-append}
+use Rattle.gaps.specs.Maps.{All}
 use Rattle.job.specs.Operations.{operationAt}
 use Rattle.plain.specs.Stack.{rightsOf}
-use Rattle.line.specs.Line.{Item, value, spot, finished, Action, puts, looks, returns, Search, free, seeking, found, putting, NoSpot}
+use Rattle.line.specs.Line.{spot, Action, puts, looks, returns, Search, free, seeking, found, putting}
 use Rattle.line.specs.Rights.{Within}
 use Rattle.job_line.specs.Tasks.{canPop, Runner, action, instructionOf, Pushing, Popping}
 use Rattle.job_line.specs.Within.{jobTasks, action-within}
@@ -31,7 +30,7 @@ use Rattle.job_times.specs.Kin.{awaits, halts as haltsOf}
 use Rattle.job_times.specs.Times.{jobWaits}
 use Rattle.serial_times.specs.Hearing.{first, Over, over, hear, ended, Noted, hear-has, Fine, hear-below, counting, time-is}
 use Rattle.serial_times.specs.Named.{names, names-counts, In, far, near, near-names, in-first}
-use Rattle.serial_times.specs.Dominated.{For, some-map, all-with, Frame, frame, Pop, Below, Framed, Dom, Nobody, Earlier, Childless}
+use Rattle.serial_times.specs.Dominated.{For, some-map, all-with, Frame, frame, Pop, Below, Dom, Nobody, Earlier, Childless}
 
 -- every member of a list is some member of it
 module _ {A : Type 0} where

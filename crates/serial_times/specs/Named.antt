@@ -5,7 +5,7 @@ use mathlib.Core.List.{List}
 use mathlib.Core.Logic.{_⊎_, inl, inr, ⊎-elim}
 use Prim.Native.Nat.{ℕ}
 use native.Mathlib.Omega.{arith}
-use Rattle.words.specs.Words.{both, either, both-true, true-both, either-true, neither-true, true-left, true-right}
+use Rattle.words.specs.Words.{both, either, both-true, either-true, neither-true, true-left, true-right}
 use Rattle.tree.specs.Rights.{sharesPop}
 use Rattle.order.specs.Waits.{isChild, isOlder}
 use Rattle.plain.specs.Stack.{rightsOf}
@@ -19,7 +19,6 @@ use Rattle.serial_times.specs.Hearing.{first}
 -- t has the name and the procedure of u
 abbrev pub Like : Runner → Runner → Type 0
 Like u t = (t .task .name ≡ u .task .name) × (t .task .procedure ≡ u .task .procedure)
-
 
 module _ (j : List ℕ) where
   -- for what a queue holds: a child that pops there; before the value is found, a task that pushes there

@@ -1,20 +1,19 @@
 -- THE SERIAL RUN, timed by what is named: every step of the run that always moves the first task.
-use mathlib.Core.Path.{_≡_, refl, ap, ap₂, sym, _∙_, subst}
-use mathlib.Core.Bool.{Bool, true, false}
-use mathlib.Core.List.{List, [], _∷_, _++_, append-assoc, append-nil, nil≢cons, head-eq-of-cons-eq, tail-eq-of-cons-eq}
+use mathlib.Core.Path.{_≡_, refl, ap, sym, _∙_, subst}
+use mathlib.Core.Bool.{true}
+use mathlib.Core.List.{List, [], _∷_, _++_, append-assoc, append-nil}
 use mathlib.Core.Logic.{_⊎_, inl, inr, ⊎-elim}
 use mathlib.Core.Option.{Option, none, some}
-use Prim.Native.Nat.{ℕ, zero, suc, _+_, _≤_}
+use Prim.Native.Nat.{ℕ, _+_, _≤_}
 use native.Mathlib.Omega.{arith}
-use Rattle.words.specs.Words.{pick}
 use Rattle.gaps.specs.Maps.{All}
 use Rattle.job.specs.declared.Instruction.{Instruction}
 use Rattle.job.specs.Operations.{Operation, return, push, pushSum, pop, goIfEmpty, go, goIfZero, add, spawn, sync, operationAt}
 use Rattle.job.specs.Accepted.{Accepted}
-use Rattle.plain.specs.Machine.{Event, advanced, parent, child}
+use Rattle.plain.specs.Machine.{advanced, parent, child}
 use Rattle.plain.specs.Stack.{Stands, rightsOf}
-use Rattle.line.specs.Line.{Item, value, spot, finished, Action, puts, looks, returns, Search, free, seeking, found, putting, NoSpot, Acts}
-use Rattle.line.specs.Rights.{Under, put-under}
+use Rattle.line.specs.Line.{Item, value, spot, finished, Action, puts, looks, returns, Search, free, seeking, found, putting, Acts}
+use Rattle.line.specs.Rights.{put-under}
 use Rattle.line.specs.Fronts.{Fronts}
 use Rattle.job_line.specs.Tasks.{Runner, actionBy, action, instructionOf, Pushing, Popping, by-test}
 use Rattle.job_line.specs.Within.{jobTasks, action-within}
@@ -22,15 +21,15 @@ use Rattle.job_line.specs.Front.{foundBy}
 use Rattle.job_line.specs.Agree.{none-back}
 use Rattle.job_line.specs.Events.{eventWith}
 use Rattle.job_line.specs.Put.{answered, Put, goes, pushes, finishes, spawns, puts-so}
-use Rattle.timed_line.specs.Times.{Timed, at, later, later-bounds, stamp, untimed}
+use Rattle.timed_line.specs.Times.{Timed, at, later-bounds, stamp}
 use Rattle.timed_line.specs.Walks.{Waits}
 use Rattle.timed_line.specs.Agreement.{MoveOf, Bare}
 use Rattle.job_times.specs.Kin.{awaits}
 use Rattle.job_times.specs.Times.{jobWaits}
 use Rattle.serial_times.specs.Hearing.{Over, over, hear, ended, ended-append, Left, leaves}
 use Rattle.serial_times.specs.Named.{Like, names}
-use Rattle.serial_times.specs.Dominated.{Frame, frame, Pop, Dom, Nobody, goes-dom, spawn-dom, pop-like}
-use Rattle.serial_times.specs.Returned.{Child, Nested, return-dom}
+use Rattle.serial_times.specs.Dominated.{Frame, frame, Dom, Nobody, goes-dom, spawn-dom, pop-like}
+use Rattle.serial_times.specs.Returned.{Nested, return-dom}
 use Rattle.serial_times.specs.Literal.{begun, ready, named-time, early-by, alone-by}
 
 -- the spots of a stack

@@ -1,10 +1,9 @@
 -- AGREEMENT: any two runs of all tasks to their end have as many moves and end in the same timed line, with the same values put back.
 use mathlib.Core.Path.{_≡_, refl, ap, sym, _∙_, subst, subst₂}
 use mathlib.Core.List.{List, [], _∷_}
-use mathlib.Core.Logic.{_⊎_, inl, inr}
 use Prim.Native.Nat.{ℕ, zero, suc, _+_}
 use native.Mathlib.Omega.{arith}
-use Rattle.line.specs.Line.{Item, Search, Apart, NoSpot}
+use Rattle.line.specs.Line.{Search, Apart, NoSpot}
 use Rattle.line.specs.Rights.{Tasks}
 use Rattle.line.specs.Fronts.{Fronts, frontsAfter}
 use Rattle.timed_line.specs.Times.{Timed, at}
@@ -55,9 +54,11 @@ module _ {S : Type 0} (T : Tasks S) (W : Waits T) where
   both-ways : (u w : S) (e f : Search) (c d : ℕ) (r x y : Fronts) {k j i : List (Timed S)} → frontsOf T u r ≡ x → frontsOf T w r ≡ y
       → Apart (startAt T u r) (startAt T w r) → Walk T W w (startAt T w r) f 0 d k i → Walk T W u (startAt T u r) e 0 c j i
       → (z : Fronts) × MoveOf w f d x k z i × MoveOf u e c y j z i
-  both-ways u w e f c d r x y {k} {j} {i} p q a v v′ =
-      (frontsAfter (startAt T w r) (frontsAfter (startAt T u r) r), then-walk u w f d r x p a v,
-      subst (λ (z : Fronts). MoveOf u e c y j z i) (sym (fronts-both T u w r a)) (then-walk w u e c r y q (apart-flip (startAt T u r) (startAt T w r) a) v′))
+  both-ways u w e f c d r x y {k} {j} {i} p q a v v′ = (
+    frontsAfter (startAt T w r) (frontsAfter (startAt T u r) r),
+    then-walk u w f d r x p a v,
+    subst (λ (z : Fronts). MoveOf u e c y j z i) (sym (fronts-both T u w r a)) (then-walk w u e c r y q (apart-flip (startAt T u r) (startAt T w r) a) v′),
+  )
 
   pub meet : {r x y : Fronts} {l k j : List (Timed S)} (m : Move r l x k) (n : Move r l y j) → Meet r l x k m y j n
   meet {r} {x} {y} {l} {k} {j} m n =

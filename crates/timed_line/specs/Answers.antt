@@ -1,5 +1,5 @@
 -- ANSWERS: whatever the order of the moves, what a task has been answered so far is what it is answered first in any run to the end.
-use mathlib.Core.Path.{_≡_, sym, subst}
+use mathlib.Core.Path.{sym, subst}
 use mathlib.Core.Bool.{Bool, true, false}
 use mathlib.Core.List.{List, [], _∷_, _++_}
 use Prim.Native.Nat.{ℕ}

@@ -49,7 +49,6 @@ module _ {S : Type 0} (T : Tasks S) (W : Waits T) where
       go : (b : Bool) → a ≤ pick b (later a t) a
       go true = unfold pick in later-bounds a t .0
       go false = unfold pick in omega arith
-
   heard-more m u (gave q) t a = given-more m q t a
 
   -- a step is done its ticks after the latest time noted on the way
@@ -74,7 +73,6 @@ module _ {S : Type 0} (T : Tasks S) (W : Waits T) where
   stripped u m e a d c (spot t ∷ xs) p q (Walk.past g v) = stripped u m e a d c xs (p .1) (q .1) v
   stripped u m e a d c (finished t ∷ xs) {l} p q (Walk.past {k = k} g v) =
       stripped u m e a d c xs (p .1) (q .1) (subst (λ (x : ℕ). Walk T W u m e x d (stamp c xs ++ l) k) (pass _ (q .0) refl) v)
-
   stripped u m e a d c (gave r ∷ xs) {l} p q (Walk.past {k = k} g v) =
       stripped u m e a d c xs (p .1) (q .1) (subst (λ (x : ℕ). Walk T W u m e x d (stamp c xs ++ l) k) (given-not m r c a (q .0)) v)
 
@@ -98,7 +96,6 @@ module _ {S : Type 0} (T : Tasks S) (W : Waits T) where
       omega (arith, h, i, k)
   after-put u m e a d c (finished t ∷ xs) l (inr r) (Walk.past g v) =
       after-put u m e (pick (W .counts m u t) (later a c) a) d c xs l r v
-
   after-put u m e a d c (gave q ∷ xs) l (inl r) (Walk.past g v) =
       let h = noted u m e (given m q c a) d v in
       let i = given-is m q c a r in

@@ -1,17 +1,17 @@
 -- THE BOUND on the ticks of W workers that never idle while a step could be taken: W times the ticks is at most the work plus W - 1
 -- times the time when the last step is done. For any ticks of the steps.
-use mathlib.Core.Path.{_≡_, refl, ap, sym, _∙_, subst}
+use mathlib.Core.Path.{_≡_, refl, ap, sym, subst}
 use mathlib.Core.List.{List, [], _∷_}
 use mathlib.Core.Logic.{_⊎_, inl, inr, ⊎-elim}
-use Prim.Native.Nat.{ℕ, zero, suc, _+_, _*_, _≤_}
+use Prim.Native.Nat.{ℕ, suc, _+_, _*_, _≤_}
 use native.Mathlib.Nat.{mul-add, suc-mul, mul-le-mul-left, mul-le-mul-right, one-mul, mul-zero}
 use native.Mathlib.Omega.{arith}
 use lib.ListN.{length}
-use Rattle.line.specs.Line.{Item, Search}
+use Rattle.line.specs.Line.{Search}
 use Rattle.line.specs.Rights.{Tasks}
 use Rattle.timed_line.specs.Times.{Timed}
 use Rattle.line.specs.Fronts.{Fronts}
-use Rattle.timed_line.specs.Walks.{Waits, Walk}
+use Rattle.timed_line.specs.Walks.{Waits}
 use Rattle.timed_line.specs.Agreement.{MoveOf}
 use Rattle.timed_line.specs.Back.{noted, BackMove, after, earlier, back-move}
 

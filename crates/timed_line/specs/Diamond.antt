@@ -1,15 +1,14 @@
 -- THE DIAMOND: the moves of any two tasks may be made in either order, each with the same answer and the same time, and lead to the
 -- same timed line. So a task that can move still can, with the same answer, after any other task's move.
-use mathlib.Core.Path.{_≡_, refl, sym, _∙_, subst}
+use mathlib.Core.Path.{_≡_, refl, sym, subst}
 use mathlib.Core.Bool.{Bool, true, false}
 use mathlib.Core.List.{List, [], _∷_, _++_}
 use Prim.Native.Nat.{ℕ}
-use Rattle.words.specs.Words.{pick, pass}
+use Rattle.words.specs.Words.{pass}
 use Rattle.gaps.specs.Maps.{All}
 use Rattle.line.specs.Line.{Item, value, spot, finished, gave, Search, free, seeking, found, putting, Apart, Fit, Acts}
 use Rattle.line.specs.Rights.{Passes, passes-all, put-under, looks-alone, Tasks}
 use Rattle.timed_line.specs.Times.{Timed, at, later, stamp, leaveAt}
-use lib.Dec.{eqb}
 use borrow.Author.Tests.{ne-eqb}
 use Rattle.timed_line.specs.Walks.{Awaits, given, Quiet, Waits, Goes, heard, Walk}
 
@@ -42,7 +41,6 @@ module _ {S : Type 0} (T : Tasks S) (W : Waits T) where
   through w n f a d c (finished t ∷ xs) {l} {k} p q v =
       Walk.past (p .0, tt)
       (subst (λ (x : ℕ). Walk T W w n f x d (stamp c xs ++ l) (stamp c xs ++ k)) (sym (pass _ (q .0) refl)) (through w n f a d c xs (p .1) (q .1) v))
-
   through w n f a d c (gave q ∷ xs) {l} {k} p h v =
       Walk.past (p .0, tt)
       (subst (λ (x : ℕ). Walk T W w n f x d (stamp c xs ++ l) (stamp c xs ++ k)) (sym (given-not n q c a (h .0))) (through w n f a d c xs (p .1) (h .1) v))

@@ -7,7 +7,7 @@ use mathlib.Core.List.{List, [], _∷_, _++_}
 use Prim.Native.Nat.{ℕ}
 use Rattle.lists.specs.Counting.{equal?}
 use Rattle.gaps.specs.Maps.{All}
-use Rattle.line.specs.Line.{Item, value, spot, finished, gave, Action, puts, looks, returns, Search, free, seeking, found, putting, NoSpot, Acts, leave}
+use Rattle.line.specs.Line.{Item, value, spot, finished, gave, Action, puts, looks, returns, Search, free, seeking, found, putting, NoSpot, Acts}
 use Rattle.line.specs.Rights.{Tasks}
 use Rattle.line.specs.Fronts.{Fronts}
 use Rattle.timed_line.specs.Times.{Timed, at, untimed}

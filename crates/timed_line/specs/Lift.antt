@@ -1,13 +1,12 @@
 -- MOVES WHATEVER THE TIMES: a move on a timed line that leads to given items, built item by item.
-use mathlib.Core.Path.{_≡_, refl, ap, ap₂, sym, _∙_, subst}
+use mathlib.Core.Path.{_≡_, refl, ap, _∙_}
 use mathlib.Core.Bool.{Bool, true, false}
-use mathlib.Core.List.{List, [], _∷_, _++_, nil≢cons, head-eq-of-cons-eq, tail-eq-of-cons-eq}
+use mathlib.Core.List.{List, [], _∷_, _++_}
 use Prim.Native.Nat.{ℕ, _+_}
-use Rattle.gaps.specs.Maps.{All}
-use Rattle.line.specs.Line.{Item, value, spot, Action, puts, looks, returns, Search, free, seeking, found, putting, Acts, leave}
-use Rattle.line.specs.Rights.{Passes, Tasks}
+use Rattle.line.specs.Line.{Item, value, spot, Search, seeking, found, Acts, leave}
+use Rattle.line.specs.Rights.{Tasks}
 use Rattle.timed_line.specs.Times.{Timed, at, later, stamp, untimed, leaveAt}
-use Rattle.timed_line.specs.Walks.{Clear, Waits, Goes, heard, Walk}
+use Rattle.timed_line.specs.Walks.{Waits, Goes, heard, Walk}
 
 module _ {S : Type 0} where
   pub untimed-append : (l k : List (Timed S)) → untimed (l ++ k) ≡ untimed l ++ untimed k

@@ -3,7 +3,7 @@ use mathlib.Core.Path.{_≡_, refl, ap, ap₂, sym, _∙_}
 use mathlib.Core.Bool.{Bool}
 use mathlib.Core.List.{List, _∷_, _++_}
 use Prim.Native.Nat.{ℕ}
-use Rattle.line.specs.Line.{Item, value, spot, Search, seeking, found, Fit, acts-once}
+use Rattle.line.specs.Line.{Item, value, Search, seeking, found, Fit, acts-once}
 use Rattle.line.specs.Rights.{Tasks}
 use Rattle.timed_line.specs.Times.{Timed, at, later, stamp, leaveAt}
 use Rattle.timed_line.specs.Walks.{Waits, heard, Walk}

@@ -7,7 +7,7 @@ use Prim.Native.Nat.{ℕ}
 use Rattle.gaps.specs.Maps.{All}
 use Rattle.line.specs.Line.{Item, value, spot, finished, gave, Search, free, seeking, found, putting}
 use Rattle.line.specs.Rights.{Passes, Tasks}
-use Rattle.timed_line.specs.Times.{Timed, at, untimed}
+use Rattle.timed_line.specs.Times.{Timed, untimed}
 use Rattle.timed_line.specs.Walks.{Clear, Waits, Walk}
 
 module _ {S : Type 0} (T : Tasks S) where

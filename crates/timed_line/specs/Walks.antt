@@ -3,15 +3,14 @@
 -- would have stopped it gave up its right. The step is done its ticks after that time, the push of the value it found on the line and
 -- the task's own last step, whichever is the latest. A value put back has no time: who finds it waits for its putter (`same-queue`).
 use mathlib.Core.Path.{_≡_}
-use mathlib.Core.Logic.{_≢_}
 use mathlib.Core.Bool.{Bool, true, false}
-use mathlib.Core.List.{List, [], _∷_, _++_}
+use mathlib.Core.List.{List, _∷_, _++_}
 use mathlib.Core.Logic.{_⊎_}
 use Prim.Native.Nat.{ℕ, _+_}
 use lib.Dec.{eqb}
 use Rattle.words.specs.Words.{pick}
 use Rattle.gaps.specs.Maps.{All}
-use Rattle.line.specs.Line.{Item, value, spot, finished, gave, Action, puts, looks, returns, Search, free, seeking, found, putting, Acts}
+use Rattle.line.specs.Line.{Item, value, spot, finished, gave, Search, free, seeking, found, putting, Acts}
 use Rattle.line.specs.Rights.{Passes, Tasks}
 use Rattle.timed_line.specs.Times.{Timed, at, later, Some, stamp, leaveAt}
 
