@@ -24,26 +24,29 @@ use Rattle.job.specs.Accepted.{accepted}
 use Rattle.plain.specs.Machine.{Event}
 use Rattle.plain.specs.Run.{stackOf, run as plain-run, answersOf}
 use Rattle.line.specs.Line.{Item, value, spot, finished, gave, NoSpot}
-use Rattle.job_line.specs.Tasks.{does}
+use Rattle.job_line.specs.Tasks.{action, does}
 use Rattle.job_line.specs.Within.{jobTasks}
 use Rattle.timed_line.specs.Times.{untimed}
 use Rattle.timed_line.specs.Walks.{Waits as Waiters}
 use Rattle.job_times.specs.Times.{jobWaits}
-use Rattle.job_line.specs.Agree.{moves-agree}
+use Rattle.job_line.specs.Agree.{none-back, moves-agree}
 use Rattle.job_line.specs.Answered.{log-length, answers-first, answers-all}
 use Rattle.job_line.specs.Front.{valuesOf}
 use Rattle.job_order.specs.Beside.{Numbered, unnumbered, standing}
 use Rattle.job_order.specs.Located.{topNumbered, On, stands-unfinished, unfinished-stands}
-use Rattle.job_order.specs.Points.{standing-append}
-use Rattle.job_order.specs.First.{never-blocked, never-parent, never-waits}
+use Rattle.job_order.specs.Points.{standing-append, unnumbered-append}
 use Rattle.job_order.specs.Left.{left-along}
+use Rattle.job_waits.specs.Able.{Able}
+use Rattle.job_moves.specs.MovesAble.{moves-able}
+use Rattle.timed_line.specs.Parts.{Parted, parted}
+use Rattle.timed_line.specs.First.{Can, first-moves}
 use Rattle.runner.specs.declared.StepAnswer.{StepAnswer}
 use Rattle.runner.specs.declared.StepAnswer.the-variants.{Waits, Refused}
 use Rattle.runner.specs.Answers.{hasMoved, Outcome, answerOf}
 use Rattle.runner.specs.Laws.{has-moved}
 use Rattle.any_order.specs.Statement.{Stand, stepped, afterCalls, fresh, stepAnswer, AllFinished, Agreed, Promise}
 use Rattle.any_order.specs.States.{state-unfinished, still}
-use Rattle.any_order.specs.Goes.{Waiting, for-sibling, for-child, for-queue, Stays, waits, eight, nine, Does, stays, goes}
+use Rattle.any_order.specs.Goes.{represents, Stays, waits, eight, nine, Does, stays, goes}
 use Rattle.any_order.specs.Looking.{step-does}
 use Rattle.any_order.specs.Running.{Running}
 use Rattle.any_order.specs.Called.{place, Called, absent, held, went, refused-four, called-by}
@@ -104,6 +107,9 @@ module _ (j : List ℕ) (ticks : ℕ → ℕ) (e : jobAnswer j ≡ Moved 0) wher
 
   -- WHAT HOLDS OF A RUN UNDER WAY
   module _ (s : Stand) (l : List (Item Numbered)) (run : Running j ticks s l) where
+    abbrev W : Waiters (jobTasks j)
+    W = jobWaits j ticks
+
     -- a call that does not move
     only : (t : ℕ) → hasMoved (stepAnswer j s t) ≡ false
         → (stepAnswer j s t ≡ Waits) ⊎ ((stepAnswer j s t ≡ Refused 4) ⊎ ((stepAnswer j s t ≡ Refused 8) ⊎ (stepAnswer j s t ≡ Refused 9)))
@@ -129,19 +135,19 @@ module _ (j : List ℕ) (ticks : ℕ → ℕ) (e : jobAnswer j ≡ Moved 0) wher
     unfolding stepAnswer answerOf
     first-ready a b n none r = go (step-does (place j ticks e s a b n r))
       where
-        there : unfinished (n .number) (s .order) ≡ true
-        there = stands-unfinished j a b n (r .beside)
+        at-task : Parted (r .times) (unnumbered a) (spot (n .runner)) (unnumbered b)
+        at-task = parted (r .times) (unnumbered a) (spot (n .runner)) (unnumbered b) (r .same ∙ (unfold unnumbered in unnumbered-append a (spot n ∷ b)))
 
-        never : Waiting j (s .order) n → ⊥
-        never w = waiting (still (s .core) (s .order) (r .state) (n .number) there .played) w
-          where
-            waiting : Played (s .order) → Waiting j (s .order) n → ⊥
-            waiting p (for-sibling d) = false≢true (sym (never-blocked j p a b n none (r .beside)) ∙ d)
-            waiting p (for-child d) = false≢true (sym (never-parent j p a b n none (r .beside)) ∙ d)
-            waiting p (for-queue q small may d) = never-waits j p a b n none (r .beside) q small may d
+        -- on the line it can move, so by program order it need not wait
+        able : Able j (s .order) n
+        able =
+            let c = first-moves (jobTasks j) W (n .runner) (action j (n .runner)) refl none-back (at-task .time) (at-task .before) (at-task .behind)
+            (subst (All NoSpot) (sym (at-task .front)) (bare a none)) in
+            let m = subst (Can (jobTasks j) W (n .runner) none-back) (sym (at-task .line)) c in
+            moves-able j ticks (represents (place j ticks e s a b n r) .played) a b n (r .beside) (r .times) (r .same) (m .end) (m .done) _ (m .line) (m .move)
 
         by : (x : StepAnswer) → Stays j (s .order) n x → stepAnswer j s (n .number) ≡ x → Ready (n .number)
-        by x (waits w) i = absurd (never w)
+        by x (waits unable) i = absurd (unable able)
         by x eight i = inr (inl i)
         by x nine i = inr (inr i)
 
@@ -181,9 +187,6 @@ module _ (j : List ℕ) (ticks : ℕ → ℕ) (e : jobAnswer j ≡ Moved 0) wher
         call-does (left-call q i) (s .core) (s .order) (run .state) .answer
         ∙ pass _ (lt-leb 4 q small)
         (pass _ (sym (state-unfinished (s .core) (s .order) (run .state) 0) ∙ f 0) (ap leftAnswer (left-along j (run .beside) q i small)))
-
-    abbrev W : Waiters (jobTasks j)
-    W = jobWaits j ticks
 
     gone : AllFinished s → All NoSpot (untimed (run .times))
     gone f = subst (All NoSpot) (sym (run .same)) (all-gone f)

@@ -19,7 +19,7 @@ use Rattle.job_line.specs.Within.{jobTasks}
 use Rattle.job_line.specs.Agree.{none-back}
 use Rattle.timed_line.specs.Agreement.{Move, one-more}
 use Rattle.job_times.specs.Times.{jobWaits}
-use Rattle.job_waits.specs.Halted.{free-front}
+use Rattle.job_waits.specs.Halted.{nobody-halts}
 use Rattle.job_line.specs.Stood.{Unfinished, first, behind, moves-stand}
 use Rattle.job_order.specs.Beside.{Numbered, unnumbered, standing}
 use Rattle.runner.specs.declared.StepAnswer.{StepAnswer}
@@ -89,7 +89,7 @@ module _ (j : List ℕ) (ticks : ℕ → ℕ) (e : jobAnswer j ≡ Moved 0) wher
         let yes : hasMoved (answerWith (d .word) (d .value) (g .new)) ≡ true = unfold does in has-moved _ _ _ _ f _ (g .new) in
         let p = common.represents place .played in
         let v = event-is j s n f (g .new) (name-is j (s .order) a b n p (run .beside)) (common.instruction-is place) in
-        let o = g .after .move ticks (free-front j ticks p a b n (run .beside) (g .free) (g .childless)) (run .times) (run .same) in
+        let o = g .after .move ticks (nobody-halts j p a b n (run .beside) (g .able)) (run .times) (run .same) in
         let k : Move (jobTasks j) (jobWaits j ticks) none-back (run .times) none-back (o .times) =
         record { task = n .runner; end = o .end; done = o .done; move = o .move } in
         subst (λ (k : Stand). Running j ticks k (g .after .line)) (sym (next-stand j s t _ (g .core) (g .runner) (g .order) _ yes (g .outcome-is) (g .noted-is) v))

@@ -1,23 +1,20 @@
--- WHAT A STEP OF A TASK DOES that stands on the line: it goes on, or waits, or is refused with 8 or 9. Here what the step of every
--- operation has in common.
+-- WHAT A STEP OF A TASK DOES that stands on the line: it waits, exactly where the task is not able; or it goes on, or is refused with 8
+-- or 9. Here what the step of every operation has in common.
 use mathlib.Core.Path.{_≡_, refl, ap, ap₂, sym, _∙_, subst}
-use mathlib.Core.Bool.{true, false, not}
+use mathlib.Core.Bool.{true, false, not, false≢true}
 use mathlib.Core.List.{List, _∷_, _++_}
 use mathlib.Core.Option.{Option, some}
-use Prim.Native.Nat.{ℕ, _<_}
+use Prim.Native.Nat.{ℕ}
 use Rattle.words.specs.Words.{pass, halt}
 use Rattle.gaps.specs.Maps.{All, all-behind}
-use Rattle.tree.specs.Rights.{pops as mayPop}
 use Rattle.answers.specs.declared.Answer.{Answer}
 use Rattle.answers.specs.declared.Answer.the-variants.{Moved}
-use Rattle.answers.specs.declared.Finding.the-variants.{Waits as Later}
 use Rattle.answers.specs.Answers.{Outcome as CoreOutcome, outcome as core-outcome, wordsOf, answerOf as coreAnswer}
 use Rattle.answers.specs.Calls.{Call}
 use Rattle.calls.specs.Waits.{blocked as blockedIn}
 use Rattle.calls.specs.Outcomes.{outcomeOf}
 use Rattle.order.specs.Steps.{Item as Mark, numberOf, rightsOf as rightsWith, noted}
-use Rattle.order.specs.Waits.{unfinished, blocked, hasChild}
-use Rattle.order.specs.Finding.{finding}
+use Rattle.order.specs.Waits.{unfinished, blocked}
 use Rattle.order.specs.Ordered.{rightsAt}
 use Rattle.represents.specs.Represents.{Represents}
 use Rattle.in_order.specs.Answered.{answered}
@@ -34,8 +31,8 @@ use Rattle.line.specs.Line.{Item, spot}
 use Rattle.job_line.specs.Tasks.{Runner, does, instructionOf}
 use Rattle.job_order.specs.Beside.{Numbered, standing, taskOf, Beside}
 use Rattle.job_order.specs.Located.{located, stands-unfinished}
-use Rattle.job_times.specs.Kin.{awaits}
 use Rattle.job_order.specs.After.{After}
+use Rattle.job_waits.specs.Able.{Able}
 use Rattle.runner.specs.declared.StepAnswer.{StepAnswer}
 use Rattle.runner.specs.declared.StepAnswer.the-variants.{Waits, Refused}
 use Rattle.runner.specs.Words.{registerOf, instructionFor}
@@ -46,15 +43,9 @@ use Rattle.any_order.specs.States.{state-unfinished, still, behind-test}
 use Rattle.any_order.specs.Written.{Words, Holds, Written}
 use Rattle.any_order.specs.Tested.{stands-at, tests-pass}
 
--- why a task waits: for an older sibling, for a child, or for what a queue will hold
-pub data Waiting (j : List ℕ) (xs : List Mark) (n : Numbered) : Type 0 where
-  for-sibling : blocked (n .number) xs ≡ true → Waiting j xs n
-  for-child : hasChild (n .number) xs ≡ true → Waiting j xs n
-  for-queue : (q : ℕ) → q < 4 → mayPop (rightsOf j (n .runner .task)) q ≡ true → finding (n .number) q xs ≡ Later → Waiting j xs n
-
 -- the answers of a step that does not move
 pub data Stays (j : List ℕ) (xs : List Mark) (n : Numbered) : StepAnswer → Type 0 where
-  waits : Waiting j xs n → Stays j xs n Waits
+  waits : ¬ Able j xs n → Stays j xs n Waits
   eight : Stays j xs n (Refused 8)
   nine : Stays j xs n (Refused 9)
 
@@ -66,8 +57,7 @@ pub record Goes (j m r : List ℕ) (xs : List Mark) (a b : List (Item Numbered))
   pub runner : List ℕ
   pub order : List Mark
   pub tasks : List Numbered
-  pub free : blocked (n .number) xs ≡ false
-  pub childless : awaits (operationAt (instructionOf j (n .runner) .operation)) ≡ true → hasChild (n .number) xs ≡ false
+  pub able : Able j xs n
   pub outcome-is : let e = does (n .runner) (instructionOf j (n .runner)) found in
       stepOutcome j m r (n .number) ≡ outcome (answerWith (e .word) (e .value) new) core runner
   pub noted-is : let i = instructionFor j r (n .number) in
@@ -133,7 +123,7 @@ module _ {j m r : List ℕ} {xs : List Mark} {a b : List (Item Numbered)} {n : N
   pub blocked-waits : blocked t xs ≡ true → Does j m r xs a b n
   unfolding stepTested
   blocked-waits d =
-      stays Waits (waits (for-sibling d))
+      stays Waits (waits (λ able. false≢true (sym (able .free) ∙ d)))
       (tested-is ∙ pass _ (ap not (state-unfinished m xs (p .state) t ∙ is-unfinished)) (halt _ _ (blocked-is ∙ d)))
 
   -- an instruction of the task, which nobody blocks

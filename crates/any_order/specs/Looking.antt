@@ -2,12 +2,12 @@
 use mathlib.Core.Path.{_≡_, refl, ap, sym, _∙_, subst}
 use mathlib.Core.Bool.{Bool, true, false, false≢true}
 use mathlib.Core.List.{List}
-use mathlib.Core.Option.{none, some}
+use mathlib.Core.Option.{Option, none, some}
 use Prim.Native.Nat.{ℕ, _≤_, _<_}
 use native.Mathlib.Omega.{arith}
 use lib.Dec.{ltb}
-use borrow.Author.Tests.{ltb-true}
-use Rattle.words.specs.Words.{pick, both-true, both}
+use borrow.Author.Tests.{ltb-true, lt-ltb}
+use Rattle.words.specs.Words.{pick, halt, both-true, true-both, both}
 use Rattle.tree.specs.Rights.{pops as mayPop}
 use Rattle.answers.specs.declared.Answer.the-variants.{Moved, Empty, NotEmpty, Waits, Refused}
 use Rattle.answers.specs.declared.Finding.{Finding}
@@ -24,17 +24,20 @@ use Rattle.job.specs.Rows.{from, row-past}
 use Rattle.job.specs.Test.{whichHolds}
 use Rattle.job.specs.Accepted.{Accepted, accepted}
 use Rattle.plain.specs.Stack.{Stands, rightsOf}
-use Rattle.line.specs.Line.{Item}
-use Rattle.job_line.specs.Tasks.{Runner, instructionOf}
+use Rattle.in_order.specs.Answered.{answered}
+use Rattle.line.specs.Line.{Item, Action, looks}
+use Rattle.job_line.specs.Tasks.{canPop, Runner, actionBy, instructionOf}
 use Rattle.job_order.specs.Beside.{Numbered}
 use Rattle.job_times.specs.Kin.{awaits}
-use Rattle.job_order.specs.Instructions.{instruction, which-holds}
+use Rattle.job_order.specs.Searches.{value-waits, empty-waits}
+use Rattle.job_order.specs.Instructions.{instruction, action-by, which-holds}
+use Rattle.job_waits.specs.Able.{LooksIn, Able}
 use Rattle.job_order.specs.Finds.{pop-after, pop-empty-after, test-after, test-empty-after}
 use Rattle.runner.specs.declared.StepAnswer.the-variants.{Waits as Held}
 use Rattle.runner.specs.Step.{callOf, replyOf, runnerAfter, done, replied}
 use Rattle.job.specs.declared.Instruction.{Instruction}
 use Rattle.any_order.specs.Answered.{pop-answer, test-answer}
-use Rattle.any_order.specs.Goes.{Place, waits, for-queue, Does}
+use Rattle.any_order.specs.Goes.{Place, waits, Does}
 use Rattle.any_order.specs.Goes as common
 use Rattle.any_order.specs.Operations as other
 
@@ -67,53 +70,66 @@ module _ {j m r : List ℕ} {xs : List Mark} {a b : List (Item Numbered)} {n : N
       → (i .which < 4) × (mayPop (rightsOf j (u .task)) (i .which) ≡ true)
   may-look i is e = let w = both-true _ _ (sym e ∙ which-holds j u i is acc stands) in (ltb-true (i .which) 4 (w .0), w .1)
 
+  -- AN INSTRUCTION that looks in its queue: it need not wait where something is found there, or nothing
+  module _ (i : Instruction) (is : instructionOf j u ≡ i) where
+    found-able : awaits (operationAt (i .operation)) ≡ false → (f : Finding) → finding t (i .which) xs ≡ f → ¬ (f ≡ Later) → Able j xs n
+    found-able e f d known = other.able-with p free i is (λ w. absurd (false≢true (sym e ∙ w))) (λ w o. known (sym d ∙ o))
+
+    -- and waits where that is not known yet
+    for-queue : (b : Bool) (f : Option ℕ → List (Item Runner)) (x : Action Runner) → i .which < 4 → mayPop (rightsOf j (u .task)) (i .which) ≡ true
+        → actionBy (operationAt (i .operation)) j u i ≡ pick (canPop (rightsOf j (u .task)) (i .which)) (looks b (i .which) f) x
+        → finding t (i .which) xs ≡ Later → ¬ Able j xs n
+    unfolding canPop
+    for-queue b f x small may e d able =
+        able .finds (i .which) (subst (LooksIn (i .which)) (sym (action-by j u i is ∙ e ∙ halt _ _ (true-both (lt-ltb (i .which) 4 small) may))) refl) d
+
   pop-case : (q x : ℕ) → instructionOf j u ≡ instruction 3 q x → Result
   unfolding rowOf operationOf operationAt callOf runnerAfter replyOf replied noted counted whichHolds pick popAnswer awaits
   pop-case q x is = go (finding t q xs) refl
     where
-      small : q < 4
-      small = may-look (instruction 3 q x) is (unfold whichHolds rowOf in refl) .0
+      i : Instruction
+      i = instruction 3 q x
 
-      may : mayPop (rightsOf j (u .task)) q ≡ true
-      may = may-look (instruction 3 q x) is (unfold whichHolds rowOf in refl) .1
+      right : (q < 4) × (mayPop (rightsOf j (u .task)) q ≡ true)
+      right = may-look i is (unfold whichHolds rowOf in refl)
+
+      answer : (f : Finding) → finding t q xs ≡ f → answered (pop-call t q) m xs ≡ popAnswer f
+      answer f d = pop-answer m xs t (common.is-unfinished p) free q (right .0) (held-right q (right .1)) ∙ ap popAnswer d
 
       go : (f : Finding) → finding t q xs ≡ f → Result
       go (Found v) d =
-          other.called p free (instruction 3 q x) is (λ e. absurd (false≢true e)) (pop-call t q) refl (Moved v)
-          (pop-answer m xs t (common.is-unfinished p) free q small (held-right q may) ∙ ap popAnswer d)
-          (some v) v _ refl (pop-after j acc played a b n stands (p .beside) q x v is d) (other.on-written p free (instruction 3 q x) is (some v))
+          other.called p free i is (found-able i is refl (Found v) d value-waits) (pop-call t q) refl (Moved v) (answer (Found v) d)
+          (some v) v _ refl (pop-after j acc played a b n stands (p .beside) q x v is d) (other.on-written p free i is (some v))
       go Nothing d =
-          other.called p free (instruction 3 q x) is (λ e. absurd (false≢true e)) (pop-call t q) refl (Refused 7)
-          (pop-answer m xs t (common.is-unfinished p) free q small (held-right q may) ∙ ap popAnswer d)
-          none 0 _ refl (pop-empty-after j acc played a b n stands (p .beside) q x is d) (other.on-written p free (instruction 3 q x) is none)
+          other.called p free i is (found-able i is refl Nothing d empty-waits) (pop-call t q) refl (Refused 7) (answer Nothing d)
+          none 0 _ refl (pop-empty-after j acc played a b n stands (p .beside) q x is d) (other.on-written p free i is none)
       go Later d =
-          other.held p free (instruction 3 q x) is (pop-call t q) refl Waits
-          (pop-answer m xs t (common.is-unfinished p) free q small (held-right q may) ∙ ap popAnswer d)
-          Held (waits (for-queue q small may d)) refl
+          other.held p free i is (pop-call t q) refl Waits (answer Later d)
+          Held (waits (for-queue i is _ _ _ (right .0) (right .1) refl d)) refl
 
   test-case : (q x : ℕ) → instructionOf j u ≡ instruction 4 q x → Result
   unfolding rowOf operationOf operationAt callOf runnerAfter replyOf replied noted counted whichHolds testAnswer done effect awaits
   test-case q x is = go (finding t q xs) refl
     where
-      small : q < 4
-      small = may-look (instruction 4 q x) is (unfold whichHolds rowOf in refl) .0
+      i : Instruction
+      i = instruction 4 q x
 
-      may : mayPop (rightsOf j (u .task)) q ≡ true
-      may = may-look (instruction 4 q x) is (unfold whichHolds rowOf in refl) .1
+      right : (q < 4) × (mayPop (rightsOf j (u .task)) q ≡ true)
+      right = may-look i is (unfold whichHolds rowOf in refl)
+
+      answer : (f : Finding) → finding t q xs ≡ f → answered (test-call t q) m xs ≡ testAnswer f
+      answer f d = test-answer m xs t (common.is-unfinished p) free q (right .0) (held-right q (right .1)) ∙ ap testAnswer d
 
       go : (f : Finding) → finding t q xs ≡ f → Result
       go (Found v) d =
-          other.called p free (instruction 4 q x) is (λ e. absurd (false≢true e)) (test-call t q) refl NotEmpty
-          (test-answer m xs t (common.is-unfinished p) free q small (held-right q may) ∙ ap testAnswer d)
-          (some v) 0 _ refl (test-after j acc played a b n stands (p .beside) q x v is d) (other.on-written p free (instruction 4 q x) is (some v))
+          other.called p free i is (found-able i is refl (Found v) d value-waits) (test-call t q) refl NotEmpty (answer (Found v) d)
+          (some v) 0 _ refl (test-after j acc played a b n stands (p .beside) q x v is d) (other.on-written p free i is (some v))
       go Nothing d =
-          other.called p free (instruction 4 q x) is (λ e. absurd (false≢true e)) (test-call t q) refl Empty
-          (test-answer m xs t (common.is-unfinished p) free q small (held-right q may) ∙ ap testAnswer d)
-          none 0 _ refl (test-empty-after j acc played a b n stands (p .beside) q x is d) (other.on-written p free (instruction 4 q x) is none)
+          other.called p free i is (found-able i is refl Nothing d empty-waits) (test-call t q) refl Empty (answer Nothing d)
+          none 0 _ refl (test-empty-after j acc played a b n stands (p .beside) q x is d) (other.on-written p free i is none)
       go Later d =
-          other.held p free (instruction 4 q x) is (test-call t q) refl Waits
-          (test-answer m xs t (common.is-unfinished p) free q small (held-right q may) ∙ ap testAnswer d)
-          Held (waits (for-queue q small may d)) refl
+          other.held p free i is (test-call t q) refl Waits (answer Later d)
+          Held (waits (for-queue i is _ _ _ (right .0) (right .1) refl d)) refl
 
   -- THE STEP OF ANY OPERATION, where no older sibling blocks it
   abbrev Case : ℕ → Type 0

@@ -16,14 +16,17 @@ use Rattle.answers.specs.Calls.{Call, spawn-call, push-call, sync-call, finish-
 use Rattle.calls.specs.Outcomes.{outcomeOf}
 use Rattle.order.specs.Steps.{Item as Mark, noted, counted, advance, spawns, pushes, finishes}
 use Rattle.order.specs.Waits.{blocked, hasChild}
+use Rattle.order.specs.Finding.{finding}
+use Rattle.answers.specs.declared.Finding.the-variants.{Waits as Unknown}
 use Rattle.job_times.specs.Kin.{awaits}
+use Rattle.job_waits.specs.Able.{Able, searches, looks-only}
 use Rattle.order_waits.specs.Played.{Played}
 use Rattle.in_order.specs.Answered.{nextTask, answered}
 use Rattle.in_order.specs.State.{State}
 use Rattle.in_order.specs.InOrder.{fresh}
 use Rattle.job.specs.declared.Instruction.{Instruction}
 use Rattle.job.specs.Fields.{rights}
-use Rattle.job.specs.Operations.{rowOf, operationOf, operationAt}
+use Rattle.job.specs.Operations.{Operation, rowOf, operationOf, operationAt}
 use Rattle.job.specs.Effects.{sum, effect}
 use Rattle.job.specs.Test.{whichHolds}
 use Rattle.job.specs.Accepted.{Accepted, accepted}
@@ -48,7 +51,7 @@ use Rattle.any_order.specs.Written.{Written, Other}
 use Rattle.any_order.specs.Rewritten as words
 use Rattle.any_order.specs.Tested.{nobody}
 use Rattle.any_order.specs.Answered.{push-answer, spawn-answer, sync-answer, finish-answer}
-use Rattle.any_order.specs.Goes.{Place, Stays, waits, eight, nine, for-child, Does, stays, goes}
+use Rattle.any_order.specs.Goes.{Place, Stays, waits, eight, nine, Does, stays, goes}
 use Rattle.any_order.specs.Goes as common
 
 module _ {j m r : List ℕ} {xs : List Mark} {a b : List (Item Numbered)} {n : Numbered} (p : Place j m r xs a b n) (free : blocked (n .number) xs ≡ false) where
@@ -79,6 +82,26 @@ module _ {j m r : List ℕ} {xs : List Mark} {a b : List (Item Numbered)} {n : N
 
   -- AN INSTRUCTION of the task
   module _ (i : Instruction) (is : instructionOf j u ≡ i) where
+    abbrev o : Operation
+    o = operationAt (i .operation)
+
+    -- the task need not wait
+    pub able-with : (awaits o ≡ true → hasChild t xs ≡ false) → (searches o ≡ true → finding t (i .which) xs ≡ Unknown → ⊥) → Able j xs n
+    able-with lone f =
+        record {
+          free = free;
+          childless = λ w. lone (ap (λ (s : Instruction). awaits (operationAt (s .operation))) (sym is) ∙ w);
+          finds = λ q l d. let w = looks-only j u i q is l in f (w .0) (ap (λ (k : ℕ). finding t k xs) (w .1) ∙ d);
+        }
+
+    -- an operation that waits for older siblings only
+    pub able-plainly : awaits o ≡ false → searches o ≡ false → Able j xs n
+    able-plainly d e = able-with (λ w. absurd (false≢true (sym d ∙ w))) (λ w. absurd (false≢true (sym e ∙ w)))
+
+    -- a child makes it wait
+    for-child : awaits o ≡ true → hasChild t xs ≡ true → ¬ Able j xs n
+    for-child w d able = false≢true (sym (able .childless (ap (λ (s : Instruction). awaits (operationAt (s .operation))) is ∙ w)) ∙ d)
+
     -- the runner's words of a task that goes on
     pub on-written : (f : Option ℕ)
         → Written (put r t (procedureOf r t) (does u i f .next) (does u i f .register)) (standing a ++ on n (goesOn u i f) ∷ standing b)
@@ -89,11 +112,11 @@ module _ {j m r : List ℕ} {xs : List Mark} {a b : List (Item Numbered)} {n : N
         (words.goes-on r (standing a) (standing b) n written (apart .0) (apart .1) (on n (goesOn u i f)) refl)
 
     -- the step goes on
-    pub goes-with : (awaits (operationAt (i .operation)) ≡ true → hasChild t xs ≡ false) → (f : Option ℕ) (c : ℕ) (core : List ℕ) (order : List Mark) (ns : List Numbered) → stepOutcome j m r t ≡ done t i f c core r
+    goes-with : Able j xs n → (f : Option ℕ) (c : ℕ) (core : List ℕ) (order : List Mark) (ns : List Numbered) → stepOutcome j m r t ≡ done t i f c core r
         → notedBy (callOf (operationAt (instructionFor j r t .operation)) j t (registerOf r t) (instructionFor j r t)) m xs ≡ order
         → State core order → After j order a b n ns f
         → Written (runnerAfter (operationAt (i .operation)) t c i (does u i f) r) (standing a ++ (ns ++ standing b)) → Result
-    goes-with lone f c core order ns o d s x y =
+    goes-with able f c core order ns z d s x y =
         goes
         (record {
           found = f;
@@ -102,10 +125,9 @@ module _ {j m r : List ℕ} {xs : List Mark} {a b : List (Item Numbered)} {n : N
           runner = runnerAfter (operationAt (i .operation)) t c i (does u i f) r;
           order = order;
           tasks = ns;
-          free = free;
-          childless = subst (λ (s : Instruction). awaits (operationAt (s .operation)) ≡ true → hasChild t xs ≡ false) (sym is) lone;
+          able = able;
           outcome-is =
-              o
+              z
               ∙ common.done-is p free i is f c core
               ∙ ap (λ (s : Instruction). outcome (answerWith (does u s f .word) (does u s f .value) c) core
               (runnerAfter (operationAt (i .operation)) t c i (does u i f) r))
@@ -117,11 +139,11 @@ module _ {j m r : List ℕ} {xs : List Mark} {a b : List (Item Numbered)} {n : N
         })
 
     -- without a core call
-    pub alone : (awaits (operationAt (i .operation)) ≡ true → hasChild t xs ≡ false) → callOf (operationAt (i .operation)) j t (u .task .register) i ≡ none → (ns : List Numbered) → After j xs a b n ns none
+    alone : Able j xs n → callOf (operationAt (i .operation)) j t (u .task .register) i ≡ none → (ns : List Numbered) → After j xs a b n ns none
         → Written (runnerAfter (operationAt (i .operation)) t 0 i (does u i none) r) (standing a ++ (ns ++ standing b)) → Result
     unfolding makes notedBy
-    alone lone which ns x y =
-        goes-with lone none 0 m xs ns
+    alone able which ns x y =
+        goes-with able none 0 m xs ns
         (common.makes-it p free i is ∙ ap (λ (o : Option Call). makes t i o m r) which)
         (ap (λ (o : Option Call). notedBy o m xs) (common.call-is p free i is ∙ which))
         (p .state) x y
@@ -132,13 +154,13 @@ module _ {j m r : List ℕ} {xs : List Mark} {a b : List (Item Numbered)} {n : N
     held c which x answer y why o = stays y why (common.call-replied p free i is c which x answer ∙ o)
 
     -- with a core call that moves
-    pub called : (awaits (operationAt (i .operation)) ≡ true → hasChild t xs ≡ false) → (c : Call) → callOf (operationAt (i .operation)) j t (u .task .register) i ≡ some c → (x : Answer) → answered c m xs ≡ x
+    pub called : Able j xs n → (c : Call) → callOf (operationAt (i .operation)) j t (u .task .register) i ≡ some c → (x : Answer) → answered c m xs ≡ x
         → (f : Option ℕ) (v : ℕ) (ns : List Numbered) → replied t i (replyOf x) (wordsOf (outcomeOf c m)) m r ≡ done t i f v (wordsOf (outcomeOf c m)) r
         → After j (noted c x xs) a b n ns f → Written (runnerAfter (operationAt (i .operation)) t v i (does u i f) r) (standing a ++ (ns ++ standing b))
         → Result
-    called lone c which x answer f v ns o after y =
-        goes-with lone f v (wordsOf (outcomeOf c m)) (noted c x xs) ns
-        (common.call-replied p free i is c which x answer ∙ o)
+    called able c which x answer f v ns z after y =
+        goes-with able f v (wordsOf (outcomeOf c m)) (noted c x xs) ns
+        (common.call-replied p free i is c which x answer ∙ z)
         (common.call-noted p free i is c which x answer)
         (common.call-state p free i is c which x answer)
         after y
@@ -148,63 +170,73 @@ module _ {j m r : List ℕ} {xs : List Mark} {a b : List (Item Numbered)} {n : N
   Case k = (q x : ℕ) → instructionOf j u ≡ instruction k q x → Result
 
   pub go-case : Case 5
-  unfolding rowOf operationOf operationAt callOf runnerAfter awaits
-  go-case q x is = alone (instruction 5 q x) is (λ e. absurd (false≢true e)) refl _ (go-after j acc played a b n stands (p .beside) q x is) (on-written (instruction 5 q x) is none)
+  unfolding rowOf operationOf operationAt callOf runnerAfter awaits searches
+  go-case q x is =
+      let i = instruction 5 q x in
+      alone i is (able-plainly i is refl refl) refl _ (go-after j acc played a b n stands (p .beside) q x is) (on-written i is none)
 
   pub zero-case : Case 6
-  unfolding rowOf operationOf operationAt callOf runnerAfter awaits
-  zero-case q x is = alone (instruction 6 q x) is (λ e. absurd (false≢true e)) refl _ (zero-after j acc played a b n stands (p .beside) q x is) (on-written (instruction 6 q x) is none)
+  unfolding rowOf operationOf operationAt callOf runnerAfter awaits searches
+  zero-case q x is =
+      let i = instruction 6 q x in
+      alone i is (able-plainly i is refl refl) refl _ (zero-after j acc played a b n stands (p .beside) q x is) (on-written i is none)
 
   pub add-case : Case 7
-  unfolding rowOf operationOf operationAt callOf runnerAfter awaits
-  add-case q x is = alone (instruction 7 q x) is (λ e. absurd (false≢true e)) refl _ (add-after j acc played a b n stands (p .beside) q x is) (on-written (instruction 7 q x) is none)
+  unfolding rowOf operationOf operationAt callOf runnerAfter awaits searches
+  add-case q x is =
+      let i = instruction 7 q x in
+      alone i is (able-plainly i is refl refl) refl _ (add-after j acc played a b n stands (p .beside) q x is) (on-written i is none)
 
   -- a push moves, or is refused with 9
-  push-with : (i : Instruction) → instructionOf j u ≡ i → (awaits (operationAt (i .operation)) ≡ true → hasChild t xs ≡ false) → (v : ℕ)
+  push-with : (i : Instruction) → instructionOf j u ≡ i → Able j xs n → (v : ℕ)
       → callOf (operationAt (i .operation)) j t (u .task .register) i ≡ some (push-call t (i .which) v)
       → i .which < 4 → mayPush (rightsOf j (u .task)) (i .which) ≡ true
       → done t i (some v) v (wordsOf (outcomeOf (push-call t (i .which) v) m)) r ≡ done t i none v (wordsOf (outcomeOf (push-call t (i .which) v) m)) r
       → After j (advance t (pushes (i .which) v) xs) a b n (on n (goesOn u i none) ∷ []) none
       → runnerAfter (operationAt (i .operation)) t v i (does u i none) r ≡ put r t (procedureOf r t) (does u i none .next) (does u i none .register) → Result
   unfolding replyOf replied noted counted pick
-  push-with i is lone v which small may same after words =
+  push-with i is able v which small may same after words =
       ⊎-elim
-      (λ d. called i is lone (push-call t (i .which) v) which (Moved v) d none v _ same after
+      (λ d. called i is able (push-call t (i .which) v) which (Moved v) d none v _ same after
       (subst (λ (k : List ℕ). Written k (standing a ++ on n (goesOn u i none) ∷ standing b)) (sym words) (on-written i is none)))
       (λ d. held i is (push-call t (i .which) v) which (Refused 9) d (TurnedDown 9) nine refl)
       (push-answer m xs t (common.is-unfinished p) free (i .which) v small
       (subst (λ (k : ℕ). mayPush k (i .which) ≡ true) (sym (common.rights-is p)) may))
 
   pub push-case : Case 1
-  unfolding rowOf operationOf operationAt callOf runnerAfter whichHolds done effect does awaits
+  unfolding rowOf operationOf operationAt callOf runnerAfter whichHolds done effect does awaits searches
   push-case q x is =
-      let holds = both-true _ _ (which-holds j u (instruction 1 q x) is acc stands) in
-      push-with (instruction 1 q x) is (λ e. absurd (false≢true e)) x refl (ltb-true q 4 (holds .0)) (holds .1) refl (push-after j acc played a b n stands (p .beside) q x is) refl
+      let i = instruction 1 q x in
+      let holds = both-true _ _ (which-holds j u i is acc stands) in
+      push-with i is (able-plainly i is refl refl) x refl (ltb-true q 4 (holds .0)) (holds .1) refl
+      (push-after j acc played a b n stands (p .beside) q x is) refl
 
   pub sum-case : Case 2
-  unfolding rowOf operationOf operationAt callOf runnerAfter whichHolds done effect does awaits
+  unfolding rowOf operationOf operationAt callOf runnerAfter whichHolds done effect does awaits searches
   sum-case q x is =
-      let holds = both-true _ _ (which-holds j u (instruction 2 q x) is acc stands) in
-      push-with (instruction 2 q x) is (λ e. absurd (false≢true e)) (sum (u .task .register) x) refl (ltb-true q 4 (holds .0)) (holds .1) refl
+      let i = instruction 2 q x in
+      let holds = both-true _ _ (which-holds j u i is acc stands) in
+      push-with i is (able-plainly i is refl refl) (sum (u .task .register) x) refl (ltb-true q 4 (holds .0)) (holds .1) refl
       (sum-after j acc played a b n stands (p .beside) q x is) refl
 
   pub sync-case : Case 9
-  unfolding rowOf operationOf operationAt callOf runnerAfter replyOf replied noted counted done effect
+  unfolding rowOf operationOf operationAt callOf runnerAfter replyOf replied noted counted done effect awaits searches
   sync-case q x is =
       let i = instruction 9 q x in
       ⊎-elim
-      (λ d. called i is (λ e. d .0) (sync-call t) refl (Moved 0) (d .1) none 0 _ refl (sync-after j acc played a b n stands (p .beside) q x is) (on-written i is none))
-      (λ d. held i is (sync-call t) refl Waits (d .1) Later (waits (for-child (d .0))) refl)
+      (λ d. called i is (able-with i is (λ e. d .0) (λ e. absurd (false≢true e))) (sync-call t) refl (Moved 0) (d .1) none 0 _ refl
+      (sync-after j acc played a b n stands (p .beside) q x is) (on-written i is none))
+      (λ d. held i is (sync-call t) refl Waits (d .1) Later (waits (for-child i is refl (d .0))) refl)
       (sync-answer m xs t (common.is-unfinished p) free)
 
   pub finish-case : Case 0
-  unfolding rowOf operationOf operationAt callOf runnerAfter replyOf replied noted counted done effect
+  unfolding rowOf operationOf operationAt callOf runnerAfter replyOf replied noted counted done effect awaits searches
   finish-case q x is =
       let i = instruction 0 q x in
       ⊎-elim
-      (λ d. called i is (λ e. d .0) (finish-call t) refl (Moved 0) (d .1) none 0 [] refl (finish-after j acc played a b n stands (p .beside) q x is)
-      (words.finishes r (standing a) (standing b) n written (apart .0) (apart .1)))
-      (λ d. held i is (finish-call t) refl Waits (d .1) Later (waits (for-child (d .0))) refl)
+      (λ d. called i is (able-with i is (λ e. d .0) (λ e. absurd (false≢true e))) (finish-call t) refl (Moved 0) (d .1) none 0 [] refl
+      (finish-after j acc played a b n stands (p .beside) q x is) (words.finishes r (standing a) (standing b) n written (apart .0) (apart .1)))
+      (λ d. held i is (finish-call t) refl Waits (d .1) Later (waits (for-child i is refl (d .0))) refl)
       (finish-answer m xs t (common.is-unfinished p) free)
 
   -- A SPAWN moves, or is refused with 8.
@@ -241,12 +273,12 @@ module _ {j m r : List ℕ} {xs : List Mark} {a b : List (Item Numbered)} {n : N
         (subst (All (Other c)) (standing-append a (spot n ∷ b)) (nobody j xs (a ++ spot n ∷ b) c (p .beside) (fresh m xs (p .state) t (rights j q) c d)))))
 
     pub spawn-does : Result
-    unfolding rowOf operationOf operationAt callOf runnerAfter replyOf replied noted counted done effect whichHolds pick awaits
+    unfolding rowOf operationOf operationAt callOf runnerAfter replyOf replied noted counted done effect whichHolds pick awaits searches
     spawn-does =
         let holds = both-true _ _ (which-holds j u i is acc stands) in
         ⊎-elim
         (λ d.
-        called i is (λ e. absurd (false≢true e)) call refl (Moved c) d none c _ refl (spawn-after j acc played a b n stands (p .beside) q x c is)
+        called i is (able-plainly i is refl refl) call refl (Moved c) d none c _ refl (spawn-after j acc played a b n stands (p .beside) q x c is)
         (spawn-written d (common.call-state p free i is call refl (Moved c) d)))
         (λ d. held i is call refl (Refused 8) d (TurnedDown 8) eight refl)
         (spawn-answer m xs t (common.is-unfinished p) free (rights j q)

@@ -3,16 +3,16 @@ use mathlib.Core.Path.{_≡_}
 use mathlib.Core.Option.{Option}
 use mathlib.Core.List.{List, _∷_, _++_}
 use Prim.Native.Nat.{ℕ}
-use Rattle.gaps.specs.Maps.{All}
 use Rattle.order.specs.Steps.{Item as Mark}
 use Rattle.line.specs.Line.{Item, spot, Search}
 use Rattle.timed_line.specs.Times.{Timed, untimed}
-use Rattle.timed_line.specs.Walks.{Clear, Waits}
+use Rattle.timed_line.specs.Walks.{Waits}
 use Rattle.timed_line.specs.Agreement.{MoveOf}
 use Rattle.job_line.specs.Tasks.{Runner}
 use Rattle.job_line.specs.Within.{jobTasks}
 use Rattle.job_line.specs.Front.{foundBy}
 use Rattle.job_line.specs.Agree.{none-back}
+use Rattle.job_times.specs.Kin.{Unhalted}
 use Rattle.job_times.specs.Times.{jobWaits}
 use Rattle.job_order.specs.Beside.{Numbered, unnumbered, standing, Beside}
 
@@ -31,5 +31,5 @@ pub record After (j : List ℕ) (xs : List Mark) (a b : List (Item Numbered)) (n
   pub line : List (Item Numbered)
   pub beside : Beside j xs line
   pub stand : standing line ≡ standing a ++ (ns ++ standing b)
-  pub move : (ticks : ℕ → ℕ) → All (Clear (jobWaits j ticks .Halts) (jobWaits j ticks .Above) (n .runner)) (unnumbered a)
-      → (t : List (Timed Runner)) → untimed t ≡ unnumbered (a ++ spot n ∷ b) → Moved j (jobWaits j ticks) (n .runner) f t (unnumbered line)
+  pub move : (ticks : ℕ → ℕ) → Unhalted j (n .runner) (unnumbered a) → (t : List (Timed Runner)) → untimed t ≡ unnumbered (a ++ spot n ∷ b)
+      → Moved j (jobWaits j ticks) (n .runner) f t (unnumbered line)

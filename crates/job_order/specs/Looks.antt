@@ -56,7 +56,7 @@ module _ (j : List ℕ) (a b : List (Item Numbered)) (n : Numbered) (k : Bool) (
   pub nothing-after : {xs : List Mark} → All (NoPoint j q) a → Beside j xs (a ++ spot (on n (f none)) ∷ b) → After j xs a b n (on n (f none) ∷ []) none
   unfolding unnumbered standing
   nothing-after bare h =
-      walk-after j a b n (on n (f none) ∷ []) none (a ++ spot (on n (f none)) ∷ b) h (standing-append a (spot (on n (f none)) ∷ b)) (looks k q (λ o. spot (f o) ∷ [])) does refl
+      walk-after j a b n (on n (f none) ∷ []) none (a ++ spot (on n (f none)) ∷ b) h (standing-append a (spot (on n (f none)) ∷ b)) _ does refl
       (subst (λ (l : List (Item Runner)). Walked j (n .runner) (seeking k q) (unnumbered a) (unnumbered a ++ spot (n .runner) ∷ unnumbered b) l none)
       (sym (unnumbered-append a (spot (on n (f none)) ∷ b)))
       (walk-nothing j (n .runner) k q (λ o. spot (f o) ∷ []) does (unnumbered b) (unnumbered a) (past-bare j k q a bare)))
@@ -72,8 +72,9 @@ module _ (j : List ℕ) (a b : List (Item Numbered)) (n : Numbered) (k : Bool) (
       walk-after j a b n (m ∷ []) (some v) (kept q v (w .front) (w .back) k ++ spot m ∷ b) h
       (standing-append (kept q v (w .front) (w .back) k) (spot m ∷ b)
       ∙ ap (λ (l : List Numbered). l ++ m ∷ standing b) (standing-kept q v (w .front) (w .back) k ∙ ap standing (sym (w .parts))))
-      (looks k q (λ o. spot (f o) ∷ [])) does refl
-      (subst (λ (l : List (Item Runner)). Walked j (n .runner) (seeking k q) (unnumbered a) here l (some v)) (sym (unnumbered-kept q v (w .front) (w .back) k (spot m ∷ b)))
+      _ does refl
+      (subst (λ (l : List (Item Runner)). Walked j (n .runner) (seeking k q) (unnumbered a) here l (some v))
+      (sym (unnumbered-kept q v (w .front) (w .back) k (spot m ∷ b)))
       (subst (λ (g : List (Item Runner)). Walked j (n .runner) (seeking k q) g here there (some v))
       (sym (unnumbered-append (w .front) (value q v ∷ w .back)) ∙ ap unnumbered (sym (w .parts)))
       (subst (λ (l : List (Item Runner)). Walked j (n .runner) (seeking k q) (unnumbered (w .front) ++ value q v ∷ unnumbered (w .back)) l there (some v))

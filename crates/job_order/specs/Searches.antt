@@ -24,11 +24,11 @@ use Rattle.job_order.specs.Points.{point-is, value-here, value-past, fin
 value-empty : {v : ℕ} {A : Type 0} → Value v ≡ Empty → A
 value-empty e = let z : _≡_ {A = ℕ} 0 1 = cc in absurd (omega (arith, z))
 
-value-waits : {v : ℕ} {A : Type 0} → Value v ≡ Waits → A
+pub value-waits : {v : ℕ} {A : Type 0} → Value v ≡ Waits → A
 value-waits e = let z : _≡_ {A = ℕ} 0 1 = cc in absurd (omega (arith, z))
 
-waits-empty : {A : Type 0} → Waits ≡ Empty → A
-waits-empty e = let z : _≡_ {A = ℕ} 0 1 = cc in absurd (omega (arith, z))
+pub empty-waits : {A : Type 0} → Empty ≡ Waits → A
+empty-waits e = let z : _≡_ {A = ℕ} 0 1 = cc in absurd (omega (arith, z))
 
 same-value : {v w : ℕ} → Value v ≡ Value w → v ≡ w
 same-value e = cc
@@ -48,7 +48,7 @@ user-empty t u ps e = go (eqb u t) refl
   where
     go : (c : Bool) → eqb u t ≡ c → u ≡ t
     go true d = eqb-true u t d
-    go false d = waits-empty (sym (pass _ d refl) ∙ e)
+    go false d = empty-waits (sym (sym (pass _ d refl) ∙ e))
 
 module _ (j : List ℕ) where
   -- a property of the tasks that stand on a line
@@ -166,18 +166,3 @@ module _ (j : List ℕ) where
         go false d rest = (d, rest (sym (later (spot m) a (point-is j q m (a ++ spot n ∷ b) ∙ pass _ d refl)) ∙ e))
     first-nothing (finished m ∷ a) p e = (tt, first-nothing a (p .1) (sym (later (finished m) a (finished-past j q m (a ++ spot n ∷ b))) ∙ e))
     first-nothing (gave r ∷ a) p e = (tt, first-nothing a (p .1) (sym (later (gave r) a (gave-past j q r (a ++ spot n ∷ b))) ∙ e))
-
-    -- where no task stands before it, it does not wait
-    pub first-moves : (a : List (Item Numbered)) → standing a ≡ [] → First a ≡ Waits → ⊥
-    unfolding standing firstOf
-    first-moves [] p e = waits-empty (sym e ∙ spot-first n b u ∙ halt _ _ (eq-eqb t t refl))
-    first-moves (value r w ∷ a) p e = ⊎-elim here (past (first-moves a p)) (equal? r q)
-      where
-        here : r ≡ q → ⊥
-        here d = value-waits (sym (value-at r w (a ++ spot n ∷ b) d) ∙ e)
-
-        past : (First a ≡ Waits → ⊥) → (r ≡ q → ⊥) → ⊥
-        past rest d = rest (sym (later (value r w) a (value-past j q r w (a ++ spot n ∷ b) d)) ∙ e)
-    first-moves (spot m ∷ a) p e = cons≢nil p
-    first-moves (finished m ∷ a) p e = first-moves a p (sym (later (finished m) a (finished-past j q m (a ++ spot n ∷ b))) ∙ e)
-    first-moves (gave r ∷ a) p e = first-moves a p (sym (later (gave r) a (gave-past j q r (a ++ spot n ∷ b))) ∙ e)

@@ -10,13 +10,14 @@ use Rattle.line.specs.Line.{Item, value, spot, Action, puts, looks, Search, fre
 use Rattle.line.specs.Rights.{Passes}
 use Rattle.line.specs.Fronts.{frontsAfter}
 use Rattle.timed_line.specs.Times.{Timed, at, untimed, later}
-use Rattle.timed_line.specs.Walks.{Clear, Walk, heard}
+use Rattle.timed_line.specs.Walks.{Walk, heard}
 use Rattle.timed_line.specs.Starts.{startOf}
 use Rattle.timed_line.specs.Lift.{Lifted, lift-past, lift-finds, lift-here}
 use Rattle.job_line.specs.Tasks.{Runner, action, Pushing, Popping}
 use Rattle.job_line.specs.Within.{jobTasks}
 use Rattle.job_line.specs.Front.{foundBy}
 use Rattle.job_line.specs.Agree.{none-back}
+use Rattle.job_times.specs.Kin.{Unhalted}
 use Rattle.job_times.specs.Times.{jobWaits}
 use Rattle.job_order.specs.Beside.{Numbered, unnumbered, standing, Beside}
 use Rattle.job_order.specs.Points.{unnumbered-append}
@@ -29,8 +30,9 @@ module _ (j : List ℕ) where
 
   -- a walk of u from the items l to k with search m, where nobody of the items f halts u; it finds o
   abbrev pub Walked : Runner → Search → List (Item Runner) → List (Item Runner) → List (Item Runner) → Option ℕ → Type 0
-  Walked u m f l k o = (c : ℕ → ℕ) → All (Clear (jobWaits j c .Halts) (jobWaits j c .Above) u) f → (t : List (Timed Runner)) → untimed t ≡ l → (a : ℕ)
-      → (e : Search) × (foundBy e ≡ o) × Lifted (jobTasks j) (jobWaits j c) u m e a t k
+  Walked u m f l k o =
+      (ticks : ℕ → ℕ) → Unhalted j u f → (t : List (Timed Runner)) → untimed t ≡ l → (a : ℕ)
+      → (e : Search) × (foundBy e ≡ o) × Lifted (jobTasks j) (jobWaits j ticks) u m e a t k
 
   module _ (u : Runner) where
     here-one : (m : Search) (xs r : List (Item Runner)) → Acts m (action j u) xs → Walked u m [] (spot u ∷ r) (xs ++ r) (foundBy m)
@@ -42,7 +44,8 @@ module _ (j : List ℕ) where
           (lift-here (jobTasks j) (jobWaits j ticks) u m a t xs l r acts (tail-eq-of-cons-eq e)),
     )
 
-    past-one : (m : Search) (x : Item Runner) (f l k : List (Item Runner)) (o : Option ℕ) → Past m x → Walked u m f l k o → Walked u m (x ∷ f) (x ∷ l) (x ∷ k) o
+    past-one : (m : Search) (x : Item Runner) (f l k : List (Item Runner)) (o : Option ℕ) → Past m x → Walked u m f l k o
+        → Walked u m (x ∷ f) (x ∷ l) (x ∷ k) o
     past-one m x f l k o p w ticks c [] e a = absurd (nil≢cons e)
     past-one m x f r k o p w ticks c (at t y ∷ l) e a =
         let v = w ticks (c .1) l (tail-eq-of-cons-eq e) (heard (jobTasks j) (jobWaits j ticks) m u x t a) in (
@@ -59,7 +62,8 @@ module _ (j : List ℕ) where
         let i = w ticks (c .1) l (tail-eq-of-cons-eq e) (later a t) in (
           i .0,
           i .1,
-          subst (λ (z : Item Runner). Lifted (jobTasks j) (jobWaits j ticks) u (seeking b q) (i .0) a (at t z ∷ l) (leave b (value q v) k)) (sym (head-eq-of-cons-eq e))
+          subst (λ (z : Item Runner). Lifted (jobTasks j) (jobWaits j ticks) u (seeking b q) (i .0) a (at t z ∷ l) (leave b (value q v) k))
+              (sym (head-eq-of-cons-eq e))
               (lift-finds (jobTasks j) (jobWaits j ticks) u (i .0) a t b q v l k (i .2)),
         )
 
@@ -73,9 +77,10 @@ module _ (j : List ℕ) where
     all-free (x ∷ a) = (tt, all-free a)
 
     -- up to the task
-    to-task : (m : Search) (a r xs : List (Item Runner)) → Acts m (action j u) xs → All (Past m) a → Walked u m a (a ++ spot u ∷ r) (a ++ (xs ++ r)) (foundBy m)
+    to-task : (m : Search) (a r xs : List (Item Runner)) → Acts m (action j u) xs → All (Past m) a
+        → Walked u m a (a ++ spot u ∷ r) (a ++ (xs ++ r)) (foundBy m)
     to-task m a r xs acts p ticks c =
-        past-all m a [] (spot u ∷ r) (xs ++ r) (foundBy m) p (here-one m xs r acts) ticks (subst (All (Clear (jobWaits j ticks .Halts) (jobWaits j ticks .Above) u)) (sym (append-nil a)) c)
+        past-all m a [] (spot u ∷ r) (xs ++ r) (foundBy m) p (here-one m xs r acts) ticks (subst (Unhalted j u) (sym (append-nil a)) c)
 
     -- a task that only puts goes past everything
     pub walk-puts : (xs : List (Item Runner)) → action j u ≡ puts xs → (a r : List (Item Runner)) → Walked u free a (a ++ spot u ∷ r) (a ++ (xs ++ r)) none
@@ -96,8 +101,7 @@ module _ (j : List ℕ) where
   -- a walk from where the action of u starts is a move
   pub walked-move : (u : Runner) (i : Action Runner) (f l k : List (Item Runner)) (o : Option ℕ) → action j u ≡ i
       → frontsAfter (startOf i none-back) none-back ≡ none-back → Walked u (startOf i none-back) f l k o
-      → (ticks : ℕ → ℕ) → All (Clear (jobWaits j ticks .Halts) (jobWaits j ticks .Above) u) f → (t : List (Timed Runner)) → untimed t ≡ l
-      → Moved j (jobWaits j ticks) u o t k
+      → (ticks : ℕ → ℕ) → Unhalted j u f → (t : List (Timed Runner)) → untimed t ≡ l → Moved j (jobWaits j ticks) u o t k
   walked-move u i f l k o is none-put w ticks c t d =
       let v = w ticks c t d 0 in
       record {
@@ -107,7 +111,8 @@ module _ (j : List ℕ) where
         times = v .2 .line;
         move = record {
           fronts = ap (λ (x : Action Runner). frontsAfter (startOf x none-back) none-back) is ∙ none-put;
-          walk = subst (λ (x : Action Runner). Walk (jobTasks j) (jobWaits j ticks) u (startOf x none-back) (v .0) 0 (v .2 .done) t (v .2 .line)) (sym is) (v .2 .walk);
+          walk = subst (λ (x : Action Runner). Walk (jobTasks j) (jobWaits j ticks) u (startOf x none-back) (v .0) 0 (v .2 .done) t (v .2 .line))
+              (sym is) (v .2 .walk);
         };
         same = v .2 .same;
       }
@@ -123,6 +128,5 @@ module _ (j : List ℕ) where
         line = line;
         beside = h;
         stand = e;
-        move = λ ticks c t d. walked-move (n .runner) i (unnumbered a) (unnumbered a ++ spot (n .runner) ∷ unnumbered b) (unnumbered line) f is none-put w ticks c t
-            (d ∙ unnumbered-append a (spot n ∷ b));
+        move = λ ticks c t d. walked-move (n .runner) i (unnumbered a) _ (unnumbered line) f is none-put w ticks c t (d ∙ unnumbered-append a (spot n ∷ b));
       }

@@ -5,6 +5,7 @@ use mathlib.Core.List.{List, [], _∷_}
 use mathlib.Core.Logic.{inl, inr}
 use mathlib.Core.Option.{Option, none, some}
 use Prim.Native.Nat.{ℕ}
+use Rattle.gaps.specs.Maps.{All}
 use Rattle.tree.specs.Rights.{sharesPop}
 use Rattle.order.specs.Steps.{Name}
 use Rattle.job.specs.declared.Instruction.{Instruction}
@@ -12,6 +13,7 @@ use Rattle.job.specs.Operations.{Operation, return, push, pushSum, pop, goIfEmp
 use Rattle.plain.specs.Machine.{advanced, parent, child}
 use Rattle.plain.specs.Stack.{rightsOf}
 use Rattle.line.specs.Line.{Item, value, spot, finished, Action, puts, looks, returns, Search, free, seeking, found, putting, Acts}
+use Rattle.timed_line.specs.Walks.{Clear}
 use Rattle.job_line.specs.Tasks.{canPush, canPop, Runner, actionBy, action, instructionOf, by-test}
 use Rattle.named_waits.specs.Named as named
 
@@ -56,6 +58,11 @@ module _ (j : List ℕ) where
 
   abbrev pub counts : Search → Runner → Runner → Bool
   counts = named.counts nameOf pushesOf popsOf sharesOf awaitsOf
+
+  -- nobody of these items is above u or halts it
+  abbrev pub Unhalted : Runner → List (Item Runner) → Type 0
+  Unhalted u =
+      All (Clear (named.Halts nameOf pushesOf popsOf sharesOf awaitsOf) (named.Above nameOf pushesOf popsOf sharesOf awaitsOf) u)
 
   abbrev pub Like : Runner → Runner → Type 0
   Like = named.Like nameOf pushesOf popsOf sharesOf awaitsOf

@@ -24,11 +24,10 @@ use Rattle.job_order.specs.Beside.{Numbered, unnumbered, taskOf, Beside}
 use Rattle.job_order.specs.Located.{Located, located}
 use Rattle.job_order.specs.Steps.{Old}
 use Rattle.job_order.specs.Searches.{Spots, on-line}
-use Rattle.timed_line.specs.Walks.{Clear}
 use Rattle.named_waits.specs.Names.{above}
 use Rattle.named_waits.specs.Named.{halts}
-use Rattle.job_times.specs.Kin.{awaits}
-use Rattle.job_times.specs.Times.{jobWaits}
+use Rattle.job_times.specs.Kin.{awaits, Unhalted}
+use Rattle.job_waits.specs.Able.{Awaits, Able}
 use Rattle.job_waits.specs.Before.{not-above, older-before, child-before, off-line}
 
 -- task o, by its name and rights, halts u
@@ -40,12 +39,8 @@ haltsBy j u o =
 abbrev Open : List ℕ → Runner → Task → Type 0
 Open j u o = (above (nameOf o) (u .task .name) ≡ true → ⊥) × (haltsBy j u o ≡ true → ⊥)
 
--- the next step of u waits for its children
-abbrev pub Awaits : List ℕ → Runner → Type 0
-Awaits j u = awaits (operationAt (instructionOf j u .operation)) ≡ true
-
-module _ (j : List ℕ) (ticks : ℕ → ℕ) (u : Runner) where
-  open-clear : (a : List (Item Numbered)) → All (Spots j (Open j u)) a → All (Clear (jobWaits j ticks .Halts) (jobWaits j ticks .Above) u) (unnumbered a)
+module _ (j : List ℕ) (u : Runner) where
+  open-clear : (a : List (Item Numbered)) → All (Spots j (Open j u)) a → Unhalted j u (unnumbered a)
   unfolding unnumbered taskOf nameOf rightsOf halts
   open-clear [] h = tt
   open-clear (value q v ∷ a) h = (tt, open-clear a (h .1))
@@ -53,7 +48,7 @@ module _ (j : List ℕ) (ticks : ℕ → ℕ) (u : Runner) where
   open-clear (finished n ∷ a) h = (tt, open-clear a (h .1))
   open-clear (gave q ∷ a) h = (tt, open-clear a (h .1))
 
-  clear-open : (a : List (Item Numbered)) → All (Clear (jobWaits j ticks .Halts) (jobWaits j ticks .Above) u) (unnumbered a) → All (Spots j (Open j u)) a
+  clear-open : (a : List (Item Numbered)) → Unhalted j u (unnumbered a) → All (Spots j (Open j u)) a
   unfolding unnumbered taskOf nameOf rightsOf halts
   clear-open [] h = tt
   clear-open (value q v ∷ a) h = (tt, clear-open a (h .1))
@@ -61,7 +56,7 @@ module _ (j : List ℕ) (ticks : ℕ → ℕ) (u : Runner) where
   clear-open (finished n ∷ a) h = (tt, clear-open a (h .1))
   clear-open (gave q ∷ a) h = (tt, clear-open a (h .1))
 
-module _ (j : List ℕ) (ticks : ℕ → ℕ) {xs : List Mark} (played : Played xs) (a b : List (Item Numbered)) (n : Numbered) (h : Beside j xs (a ++ spot n ∷ b)) where
+module _ (j : List ℕ) {xs : List Mark} (played : Played xs) (a b : List (Item Numbered)) (n : Numbered) (h : Beside j xs (a ++ spot n ∷ b)) where
   abbrev u : Runner
   u = n .runner
 
@@ -87,16 +82,16 @@ module _ (j : List ℕ) (ticks : ℕ → ℕ) {xs : List Mark} (played : Played 
   unfolding hasChild
   says-child o i e = pair-is Steps reached _ s mine ∙ says-some _ Steps o (ahead o i) e
 
-  -- NOBODY HALTS IT
-  pub free-front : blocked (n .number) xs ≡ false → (Awaits j u → hasChild (n .number) xs ≡ false) → All (Clear (jobWaits j ticks .Halts) (jobWaits j ticks .Above) u) (unnumbered a)
+  -- a task that need not wait: nobody before it halts it
+  pub nobody-halts : Able j xs n → Unhalted j u (unnumbered a)
   unfolding taskOf nameOf numberOf rightsOf
-  free-front f g = open-clear j ticks u a (on-line j (Open j u) (here .before) a (here .first) each)
+  nobody-halts able = open-clear j u a (on-line j (Open j u) (here .before) a (here .first) each)
     where
       free : blocked (numberOf s) Steps ≡ false
-      free = ap (blocked (numberOf s)) (sym (here .here)) ∙ f
+      free = ap (blocked (numberOf s)) (sym (here .here)) ∙ able .free
 
       childless : Awaits j u → hasChild (numberOf s) Steps ≡ false
-      childless w = ap (hasChild (numberOf s)) (sym (here .here)) ∙ g w
+      childless w = ap (hasChild (numberOf s)) (sym (here .here)) ∙ able .childless w
 
       each : (o : Task) → In (place o) (here .before) → Open j u o
       each o i = (
@@ -107,10 +102,10 @@ module _ (j : List ℕ) (ticks : ℕ → ℕ) {xs : List Mark} (played : Played 
             (either-true _ _ e),
       )
 
-  -- and where nobody does, it waits for none
-  module _ (c : All (Clear (jobWaits j ticks .Halts) (jobWaits j ticks .Above) u) (unnumbered a)) where
+  -- and where nobody halts it, it waits for no sibling and no child
+  module _ (c : Unhalted j u (unnumbered a)) where
     each-open : (o : Task) → In (place o) (here .before) → Open j u o
-    each-open = off-line j (Open j u) (here .before) a (here .first) (clear-open j ticks u a c)
+    each-open = off-line j (Open j u) (here .before) a (here .first) (clear-open j u a c)
 
     pub never-blocked : blocked (n .number) xs ≡ false
     unfolding taskOf nameOf numberOf rightsOf

@@ -1,4 +1,5 @@
--- THE OTHER WAY ROUND: a task that can move on the timed line need not wait by program order.
+-- THE OTHER WAY ROUND: a task that can move on the timed line need not wait by program order. So a move of another task, which leaves
+-- it able to move on the line, leaves it able by program order.
 use mathlib.Core.Path.{_≡_, refl, ap, ap₂, sym, _∙_, subst}
 use mathlib.Core.Bool.{true, false, false≢true}
 use mathlib.Core.List.{List, [], _∷_, _++_, head-eq-of-cons-eq, tail-eq-of-cons-eq}
@@ -30,10 +31,10 @@ use Rattle.job_order.specs.Beside.{Numbered, unnumbered, taskOf, pointsOf, Besi
 use Rattle.job_order.specs.Located.{Located, located}
 use Rattle.job_order.specs.Points.{unnumbered-append, point-is, value-here, value-past, finished-past, gave-past}
 use Rattle.job_order.specs.Steps.{Old, single, time}
-use Rattle.job_order.specs.Searches.{Spots, on-line, NoPop}
+use Rattle.job_order.specs.Searches.{value-waits, empty-waits, Spots, on-line, NoPop}
 use Rattle.job_order.specs.Found.{no-popper}
 use Rattle.timed_line.specs.Times.{Timed, untimed}
-use Rattle.timed_line.specs.Walks.{Clear, Waits}
+use Rattle.timed_line.specs.Walks.{Waits}
 use Rattle.timed_line.specs.Starts.{startOf}
 use Rattle.timed_line.specs.Agreement.{MoveOf}
 use Rattle.timed_line.specs.Reach.{Searched, Went, went}
@@ -43,7 +44,9 @@ use Rattle.job_line.specs.Agree.{none-back}
 use Rattle.job_times.specs.Times.{jobWaits}
 use Rattle.job_waits.specs.Before.{not-above, child-before, off-line}
 use Rattle.job_waits.specs.Halted.{never-blocked, never-awaited}
-use Rattle.job_moves.specs.Able.{LooksIn, Able, looks-right, value-later, empty-later, Whole}
+use Rattle.job_times.specs.Kin.{Unhalted}
+use Rattle.job_waits.specs.Able.{LooksIn, Able, looks-right}
+use Rattle.job_moves.specs.AbleMoves.{Whole}
 
 -- WHERE A TASK STANDS on a line: before it is no other spot of its own
 abbrev Differs : Runner → Item Runner → Type 0
@@ -65,11 +68,15 @@ same-front u (x ∷ f) [] r t p q e = absurd (no-own u x (p .0) (sym (head-eq-of
 same-front u (x ∷ f) (y ∷ g) r t p q e =
     ap₂ (λ (z : Item Runner) (l : List (Item Runner)). z ∷ l) (head-eq-of-cons-eq e) (same-front u f g r t (p .1) (q .1) (tail-eq-of-cons-eq e))
 
-module _ (j : List ℕ) (ticks : ℕ → ℕ) (u : Runner) where
-  clear-differs : (l : List (Item Runner)) → All (Clear (jobWaits j ticks .Halts) (jobWaits j ticks .Above) u) l → All (Differs u) l
+module _ (j : List ℕ) (u : Runner) where
+  -- a task with another name
+  other-name : (s : Runner) → (above (s .task .name) (u .task .name) ≡ true → ⊥) → s ≡ u → ⊥
+  other-name s n e = n (subst (λ (x : Runner). above (x .task .name) (u .task .name) ≡ true) (sym e) (above-self (u .task .name)))
+
+  clear-differs : (l : List (Item Runner)) → Unhalted j u l → All (Differs u) l
   clear-differs [] h = tt
   clear-differs (value q v ∷ l) h = (tt, clear-differs l (h .1))
-  clear-differs (spot s ∷ l) h = (λ e. h .0 .0 (subst (λ (x : Runner). above (x .task .name) (u .task .name) ≡ true) (sym e) (above-self (u .task .name))), clear-differs l (h .1))
+  clear-differs (spot s ∷ l) h = (other-name s (h .0 .0), clear-differs l (h .1))
   clear-differs (finished s ∷ l) h = (tt, clear-differs l (h .1))
   clear-differs (gave q ∷ l) h = (tt, clear-differs l (h .1))
 
@@ -77,7 +84,7 @@ module _ (j : List ℕ) (ticks : ℕ → ℕ) (u : Runner) where
   unfolding unnumbered taskOf nameOf
   spots-differ [] h = tt
   spots-differ (value q v ∷ a) h = (tt, spots-differ a (h .1))
-  spots-differ (spot m ∷ a) h = (λ e. h .0 (subst (λ (x : Runner). above (x .task .name) (u .task .name) ≡ true) (sym e) (above-self (u .task .name))), spots-differ a (h .1))
+  spots-differ (spot m ∷ a) h = (other-name (m .runner) (h .0), spots-differ a (h .1))
   spots-differ (finished m ∷ a) h = (tt, spots-differ a (h .1))
   spots-differ (gave q ∷ a) h = (tt, spots-differ a (h .1))
 
@@ -120,14 +127,14 @@ module _ (j : List ℕ) (q : ℕ) (small : q < 4) where
       → Searched (jobTasks j) q (unnumbered a) → firstOf (numberOf (taskOf j n)) (pointsOf j q (a ++ spot n ∷ b)) ≡ Later → ⊥
   unfolding unnumbered taskOf rightsOf firstOf numberOf
   search-first b n used [] h e =
-      empty-later
+      empty-waits
       (sym (halt Empty Later (eq-eqb (n .number) (n .number) refl))
       ∙ sym (unfold taskOf rightsOf numberOf in ap (firstOf (n .number)) (point-is j q n b ∙ halt _ _ used))
       ∙ e)
   search-first b n used (value p v ∷ a) (inl h) e =
       search-first b n used a (h .1) (sym (ap (firstOf (n .number)) (value-past j q p v (a ++ spot n ∷ b) (h .0))) ∙ e)
   search-first b n used (value p v ∷ a) (inr h) e =
-      value-later {v = v}
+      value-waits {v = v}
       (sym (ap (λ (x : ℕ). firstOf (n .number) (pointsOf j q (value x v ∷ (a ++ spot n ∷ b)))) (h .0) ∙ ap (firstOf (n .number)) (value-here j q v (a ++ spot n ∷ b))) ∙ e)
   search-first b n used (spot m ∷ a) (inl h) e =
       search-first b n used a (h .1)
@@ -165,14 +172,14 @@ module _ (j : List ℕ) (ticks : ℕ → ℕ) {xs : List Mark} (played : Played 
   apart : All (Differs u) (unnumbered a)
   unfolding taskOf nameOf
   apart =
-      spots-differ j ticks u a
+      spots-differ j u a
       (on-line j (λ o. above (nameOf o) (u .task .name) ≡ true → ⊥) (here .before) a (here .first) (λ o i. not-above (here .before) (here .behind) s reached o i))
 
   -- what its search went past is what stands before it
   front-is : (m : Search) (l : List (Item Runner)) → l ≡ Whole j ticks played a b n h → (c : Went (jobTasks j) W u m l) → c .before ≡ unnumbered a
   unfolding unnumbered
   front-is m l i c =
-      same-front u (c .before) (unnumbered a) (c .behind) (unnumbered b) (clear-differs j ticks u (c .before) (c .clear)) apart
+      same-front u (c .before) (unnumbered a) (c .behind) (unnumbered b) (clear-differs j u (c .before) (c .clear)) apart
       (sym (c .line) ∙ i ∙ unnumbered-append a (spot n ∷ b))
 
   -- it waits for no queue
@@ -207,19 +214,19 @@ module _ (j : List ℕ) (ticks : ℕ → ℕ) {xs : List Mark} (played : Played 
   moves-able l e f d x k m = go (action j u) refl (went (jobTasks j) W u _ f 0 d (m .walk))
     where
       go : (i : Action Runner) → action j u ≡ i → Went (jobTasks j) W u (startOf i none-back) (untimed l) → Able j xs n
-      go i is c = record { free = unblocked; childless = never-awaited j ticks played a b n h clear; finds = λ q k. waits i is c q (subst (LooksIn q) is k) }
+      go i is c = record { free = unblocked; childless = never-awaited j played a b n h clear; finds = λ q k. waits i is c q (subst (LooksIn q) is k) }
         where
-          clear : All (Clear (W .Halts) (W .Above) u) (unnumbered a)
-          clear = subst (All (Clear (W .Halts) (W .Above) u)) (front-is _ (untimed l) e c) (c .clear)
+          clear : Unhalted j u (unnumbered a)
+          clear = subst (Unhalted j u) (front-is _ (untimed l) e c) (c .clear)
 
           unblocked : blocked (n .number) xs ≡ false
-          unblocked = never-blocked j ticks played a b n h clear
+          unblocked = never-blocked j played a b n h clear
 
           waits : (i : Action Runner) → action j u ≡ i → Went (jobTasks j) W u (startOf i none-back) (untimed l) → (q : ℕ) → LooksIn q i
               → finding (n .number) q xs ≡ Later → ⊥
           waits (puts ys) is c q k d = k
           waits (returns p v ys) is c q k d = k
           waits (looks b p g) is c q k d =
-              let r = looks-right j u b p g is in
+              let r = looks-right j u p (subst (LooksIn p) (sym is) refl) in
               no-wait p (r .0) (r .1) unblocked (subst (Searched (jobTasks j) p) (front-is (seeking b p) (untimed l) e c) (c .along))
               (ap (λ (y : ℕ). finding (n .number) y xs) k ∙ d)

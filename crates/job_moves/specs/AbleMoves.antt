@@ -1,52 +1,34 @@
--- A TASK NEED NOT WAIT by program order exactly where it can move on the timed line, 8 and 9 aside.
+-- A TASK THAT NEED NOT WAIT by program order can move on the timed line; the line knows no 8 and 9.
 use mathlib.Core.Path.{_≡_, refl, ap, sym, _∙_, subst}
-use mathlib.Core.Bool.{Bool, true, false}
+use mathlib.Core.Bool.{Bool, true}
 use mathlib.Core.List.{List, _∷_, _++_, append-assoc}
 use mathlib.Core.Option.{Option, none, some}
 use Prim.Native.Nat.{ℕ, _<_}
-use native.Mathlib.Omega.{arith}
-use borrow.Author.Tests.{ltb-true}
-use Rattle.words.specs.Words.{both-true}
 use Rattle.tree.specs.Rights.{pops as mayPop, uses}
 use Rattle.tree.specs.Users.{pops-uses}
 use Rattle.answers.specs.declared.Finding.{Finding}
 use Rattle.answers.specs.declared.Finding.the-variants.{Value, Empty, Waits as Later}
 use Rattle.order.specs.Steps.{Item as Mark, numberOf, rightsOf}
-use Rattle.order.specs.Waits.{blocked, hasChild}
 use Rattle.order.specs.Finding.{finding}
 use Rattle.order_waits.specs.Played.{Played}
 use Rattle.order_queue.specs.Finds.{finds}
-use Rattle.gaps.specs.Maps.{All}
 use Rattle.job.specs.Operations.{operationAt, Operation, return, push, pushSum, pop, goIfEmpty, go, goIfZero, add, spawn, sync}
 use Rattle.plain.specs.Stack.{rightsOf as jobRights}
 use Rattle.line.specs.Line.{Item, value, spot, Action, puts, looks, returns}
-use Rattle.line.specs.Rights.{Within}
 use Rattle.timed_line.specs.Times.{Timed, untimed}
-use Rattle.timed_line.specs.Walks.{Clear}
 use Rattle.job.specs.declared.Instruction.{Instruction}
-use Rattle.job_line.specs.Tasks.{canPop, Runner, actionBy, action, instructionOf, by-test, Pushing, Popping}
-use Rattle.job_line.specs.Within.{action-within}
+use Rattle.job_line.specs.Tasks.{Runner, actionBy, action, instructionOf, by-test}
 use Rattle.job_times.specs.Times.{jobWaits}
 use Rattle.job_order.specs.Beside.{Numbered, unnumbered, taskOf, Beside}
 use Rattle.job_order.specs.Points.{unnumbered-append}
-use Rattle.job_order.specs.Searches.{FirstValue, first-value, first-nothing}
+use Rattle.job_order.specs.Searches.{value-waits, empty-waits, FirstValue, first-value, first-nothing}
 use Rattle.job_order.specs.Found.{others, meets}
 use Rattle.job_order.specs.After.{Moved}
 use Rattle.job_order.specs.Walks.{walk-puts, walk-nothing, walk-finds, walked-move}
 use Rattle.job_order.specs.Looks.{past-bare, past-quiet}
-use Rattle.job_waits.specs.Halted.{Awaits, free-front}
-
--- the queue that an action looks in
-abbrev pub LooksIn : ℕ → Action Runner → Type 0
-LooksIn q (puts xs) = ⊥
-LooksIn q (looks b p f) = p ≡ q
-LooksIn q (returns p v xs) = ⊥
-
--- The next step of task n need not wait: for an older sibling, for a child, for what a queue will hold.
-pub record Able (j : List ℕ) (xs : List Mark) (n : Numbered) : Type 0 where
-  pub free : blocked (n .number) xs ≡ false
-  pub childless : Awaits j (n .runner) → hasChild (n .number) xs ≡ false
-  pub finds : (q : ℕ) → LooksIn q (action j (n .runner)) → finding (n .number) q xs ≡ Later → ⊥
+use Rattle.job_times.specs.Kin.{Unhalted}
+use Rattle.job_waits.specs.Able.{LooksIn, Able, looks-right}
+use Rattle.job_waits.specs.Halted.{nobody-halts}
 
 -- no operation of a job puts back yet
 abbrev pub NoReturn : Action Runner → Type 0
@@ -70,21 +52,6 @@ pub no-return : (j : List ℕ) (u : Runner) → NoReturn (action j u)
 unfolding action
 no-return j u = none-returns (operationAt (instructionOf j u .operation)) j u (instructionOf j u)
 
-module _ (j : List ℕ) (u : Runner) where
-  -- a task that looks in a queue may pop there
-  pub looks-right : (b : Bool) (q : ℕ) (f : Option ℕ → List (Item Runner)) → action j u ≡ looks b q f → (q < 4) × (mayPop (jobRights j (u .task)) q ≡ true)
-  unfolding canPop
-  looks-right b q f e =
-      let w : Within (Pushing j) (Popping j) u (looks b q f) = subst (Within (Pushing j) (Popping j) u) e (action-within j u) in
-      let d = both-true _ _ (w .0) in
-      (ltb-true q 4 (d .0), d .1)
-
-pub value-later : {v : ℕ} → Value v ≡ Later → ⊥
-value-later e = let z : _≡_ {A = ℕ} 0 1 = cc in omega (arith, z)
-
-pub empty-later : Empty ≡ Later → ⊥
-empty-later e = let z : _≡_ {A = ℕ} 0 1 = cc in omega (arith, z)
-
 module _ (j : List ℕ) (ticks : ℕ → ℕ) {xs : List Mark} (played : Played xs) (a b : List (Item Numbered)) (n : Numbered) (h : Beside j xs (a ++ spot n ∷ b)) where
   abbrev u : Runner
   u = n .runner
@@ -105,7 +72,7 @@ module _ (j : List ℕ) (ticks : ℕ → ℕ) {xs : List Mark} (played : Played 
   Moving l = (o : Option ℕ) × (k : List (Item Runner)) × Moved j (jobWaits j ticks) u o l k
 
   -- IT NEED NOT WAIT: SO IT MOVES
-  module _ (l : List (Timed Runner)) (e : untimed l ≡ Whole) (c : All (Clear (jobWaits j ticks .Halts) (jobWaits j ticks .Above) u) (unnumbered a)) where
+  module _ (l : List (Timed Runner)) (e : untimed l ≡ Whole) (c : Unhalted j u (unnumbered a)) where
     finding-it : (k : Bool) (q v : ℕ) (g : Option ℕ → List (Item Runner)) → action j u ≡ looks k q g → FirstValue j q v a → Moving l
     unfolding unnumbered
     finding-it k q v g is f =
@@ -117,7 +84,7 @@ module _ (j : List ℕ) (ticks : ℕ → ℕ) {xs : List Mark} (played : Played 
           _,
           walked-move j u (looks k q g) (before ++ value q v ∷ behind) (before ++ value q v ∷ (behind ++ spot u ∷ unnumbered b)) _ (some v) is refl
               (walk-finds j u k q g is (unnumbered b) v before behind (past-bare j k q (f .front) (f .bare)) (past-quiet j k q v (f .back) (f .quiet)))
-              ticks (subst (All (Clear (jobWaits j ticks .Halts) (jobWaits j ticks .Above) u)) (sym front) c) l
+              ticks (subst (Unhalted j u) (sym front) c) l
               (e ∙ at-task ∙ ap (λ (i : List (Item Runner)). i ++ spot u ∷ unnumbered b) (sym front) ∙ append-assoc before (value q v ∷ behind) (spot u ∷ unnumbered b)),
         )
 
@@ -129,7 +96,7 @@ module _ (j : List ℕ) (ticks : ℕ → ℕ) {xs : List Mark} (played : Played 
     moves-by (looks k q g) is p f = go (finding (n .number) q xs) refl
       where
         right : (q < 4) × (mayPop (jobRights j (u .task)) q ≡ true)
-        right = looks-right j u k q g is
+        right = looks-right j u q (subst (LooksIn q) (sym is) refl)
 
         used : uses (jobRights j (u .task)) q ≡ true
         used = pops-uses (jobRights j (u .task)) q (right .1)
@@ -137,11 +104,11 @@ module _ (j : List ℕ) (ticks : ℕ → ℕ) {xs : List Mark} (played : Played 
         go : (o : Finding) → finding (n .number) q xs ≡ o → Moving l
         go (Value v) d =
             unfold taskOf numberOf rightsOf in
-            let m = meets j played a b n h q (Value v) (right .0) (right .1) (λ z. value-later z) d in
+            let m = meets j played a b n h q (Value v) (right .0) (right .1) value-waits d in
             finding-it k q v g is (first-value j q b n used v a (m .quiet) (m .first))
         go Empty d =
             unfold taskOf numberOf rightsOf in
-            let m = meets j played a b n h q Empty (right .0) (right .1) (λ z. empty-later z) d in (
+            let m = meets j played a b n h q Empty (right .0) (right .1) empty-waits d in (
               none,
               _,
               walked-move j u (looks k q g) (unnumbered a) At _ none is refl
@@ -151,4 +118,4 @@ module _ (j : List ℕ) (ticks : ℕ → ℕ) {xs : List Mark} (played : Played 
         go Later d = absurd (f q refl d)
 
   pub able-moves : Able j xs n → (l : List (Timed Runner)) → untimed l ≡ Whole → Moving l
-  able-moves able l e = moves-by l e (free-front j ticks played a b n h (able .free) (able .childless)) (action j u) refl (no-return j u) (able .finds)
+  able-moves able l e = moves-by l e (nobody-halts j played a b n h able) (action j u) refl (no-return j u) (able .finds)
