@@ -16,7 +16,6 @@ use Rattle.calls.specs.Left.{leftOutcome}
 use Rattle.calls.specs.Outcomes.{outcomeOf}
 use Rattle.order.specs.Waits.{unfinished}
 use Rattle.order.specs.Ordered.{leftAnswer, ordered}
-use Rattle.order_waits.specs.Played.{Played}
 use Rattle.in_order.specs.Answered.{answered}
 use Rattle.in_order.specs.InOrder.{call-does}
 use Rattle.job.specs.Test.{jobAnswer}
@@ -24,7 +23,7 @@ use Rattle.job.specs.Accepted.{accepted}
 use Rattle.plain.specs.Machine.{Event}
 use Rattle.plain.specs.Run.{stackOf, run as plain-run, answersOf}
 use Rattle.line.specs.Line.{Item, value, spot, finished, gave, NoSpot}
-use Rattle.job_line.specs.Tasks.{action, does}
+use Rattle.job_line.specs.Tasks.{action}
 use Rattle.job_line.specs.Within.{jobTasks}
 use Rattle.timed_line.specs.Times.{untimed}
 use Rattle.timed_line.specs.Walks.{Waits as Waiters}
@@ -42,14 +41,13 @@ use Rattle.timed_line.specs.Parts.{Parted, parted}
 use Rattle.timed_line.specs.First.{Can, first-moves}
 use Rattle.runner.specs.declared.StepAnswer.{StepAnswer}
 use Rattle.runner.specs.declared.StepAnswer.the-variants.{Waits, Refused}
-use Rattle.runner.specs.Answers.{hasMoved, Outcome, answerOf}
-use Rattle.runner.specs.Laws.{has-moved}
+use Rattle.runner.specs.Answers.{hasMoved, answerOf}
 use Rattle.any_order.specs.Statement.{Stand, stepped, afterCalls, fresh, stepAnswer, AllFinished, Agreed, Promise}
-use Rattle.any_order.specs.States.{state-unfinished, still}
+use Rattle.any_order.specs.States.{state-unfinished}
 use Rattle.any_order.specs.Goes.{represents, Stays, waits, eight, nine, Does, stays, goes}
 use Rattle.any_order.specs.Looking.{step-does}
 use Rattle.any_order.specs.Running.{Running}
-use Rattle.any_order.specs.Called.{place, Called, absent, held, went, refused-four, called-by}
+use Rattle.any_order.specs.Called.{place, Called, absent, held, went, refused-four, has-gone, called-by}
 use Rattle.any_order.specs.Fresh.{fresh-runs}
 
 -- a line on which nobody stands, or its first task
@@ -79,7 +77,7 @@ bare (gave q ∷ l) h = (tt, bare l h)
 
 module _ (j : List ℕ) (ticks : ℕ → ℕ) (e : jobAnswer j ≡ Moved 0) where
   -- ONE CALL
-  call : (s : Stand) (l : List (Item Numbered)) → Running j ticks s l → (t : ℕ) → Called j ticks e s l t
+  pub call : (s : Stand) (l : List (Item Numbered)) → Running j ticks s l → (t : ℕ) → Called j ticks e s l t
   call s l run t = go (unfinished t (s .order)) refl
     where
       stands : (a b : List (Item Numbered)) (n : Numbered) → Running j ticks s (a ++ spot n ∷ b) → Called j ticks e s (a ++ spot n ∷ b) (n .number)
@@ -103,7 +101,7 @@ module _ (j : List ℕ) (ticks : ℕ → ℕ) (e : jobAnswer j ≡ Moved 0) wher
           → Called j ticks e s l t → (i : List (Item Numbered)) × Running j ticks (afterCalls j ts (stepped j t s)) i
       go rest (absent f a same) = rest l (subst (λ (x : Stand). Running j ticks x l) (sym same) run)
       go rest (held a b n x f g y z same) = rest l (subst (λ (x : Stand). Running j ticks x l) (sym same) run)
-      go rest (went k m r) = rest k r
+      go rest (went w m k r) = rest k r
 
   -- WHAT HOLDS OF A RUN UNDER WAY
   module _ (s : Stand) (l : List (Item Numbered)) (run : Running j ticks s l) where
@@ -125,7 +123,7 @@ module _ (j : List ℕ) (ticks : ℕ → ℕ) (e : jobAnswer j ≡ Moved 0) wher
             → (stepAnswer j s t ≡ Waits) ⊎ ((stepAnswer j s t ≡ Refused 4) ⊎ ((stepAnswer j s t ≡ Refused 8) ⊎ (stepAnswer j s t ≡ Refused 9)))
         go (absent f a same) = inr (inl a)
         go (held a b n x f g y z same) = by n x y z
-        go (went k m r) = absurd (false≢true (sym no-move ∙ m))
+        go (went w m k r) = absurd (false≢true (sym no-move ∙ m))
 
     -- the first task on the line
     abbrev Ready : ℕ → Type 0
@@ -153,8 +151,7 @@ module _ (j : List ℕ) (ticks : ℕ → ℕ) (e : jobAnswer j ≡ Moved 0) wher
 
         go : Does j (s .core) (s .runner) (s .order) a b n → Ready (n .number)
         go (stays x y o) = by x y (unfold stepAnswer answerOf in ap answerOf o)
-        go (goes g) =
-            inl (unfold stepAnswer answerOf does in ap (λ (o : Outcome). hasMoved (answerOf o)) (g .outcome-is) ∙ has-moved _ _ _ _ (g .found) _ (g .new))
+        go (goes g) = inl (has-gone j ticks e s a b n r g)
 
     -- while a task is unfinished, the first on the line can move, or wants a record or a segment
     some-ready : (t : ℕ) → unfinishedIn (s .core) t ≡ true → (u : ℕ) × (unfinishedIn (s .core) u ≡ true) × Ready u

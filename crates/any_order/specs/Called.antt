@@ -8,6 +8,7 @@ use Rattle.gaps.specs.Maps.{All}
 use Rattle.answers.specs.declared.Answer.the-variants.{Moved}
 use Rattle.order.specs.Steps.{Item as Mark}
 use Rattle.order.specs.Waits.{unfinished}
+use Rattle.job.specs.Effects.{Effect}
 use Rattle.job.specs.Test.{jobAnswer}
 use Rattle.job.specs.Accepted.{accepted}
 use Rattle.plain.specs.Stack.{Stands}
@@ -17,7 +18,9 @@ use Rattle.job_line.specs.Tasks.{Runner, does, instructionOf}
 use Rattle.job_line.specs.Events.{more-log, eventWith}
 use Rattle.job_line.specs.Within.{jobTasks}
 use Rattle.job_line.specs.Agree.{none-back}
-use Rattle.timed_line.specs.Agreement.{Move, one-more}
+use Rattle.timed_line.specs.Times.{Timed, untimed}
+use Rattle.timed_line.specs.Agreement.{Move as LineMove, one-more}
+use Rattle.job_order.specs.After.{Moved as Move}
 use Rattle.job_times.specs.Times.{jobWaits}
 use Rattle.job_waits.specs.Halted.{nobody-halts}
 use Rattle.job_line.specs.Stood.{Unfinished, first, behind, moves-stand}
@@ -27,7 +30,7 @@ use Rattle.runner.specs.declared.StepAnswer.the-variants.{Refused}
 use Rattle.runner.specs.Answers.{answerWith, outcome, hasMoved, answerOf}
 use Rattle.runner.specs.Step.{stepTested, stepOutcome}
 use Rattle.runner.specs.Laws.{has-moved}
-use Rattle.any_order.specs.Statement.{Stand, stepped, stepAnswer}
+use Rattle.any_order.specs.Statement.{Stand, eventFor, stepped, stepAnswer}
 use Rattle.any_order.specs.States.{state-unfinished}
 use Rattle.any_order.specs.Written.{Written}
 use Rattle.any_order.specs.Tested.{tests-pass}
@@ -57,12 +60,21 @@ module _ (j : List ℕ) (ticks : ℕ → ℕ) (e : jobAnswer j ≡ Moved 0) wher
   pub stood : {s : Stand} {l : List (Item Numbered)} → Running j ticks s l → All (λ n. Stands j (n .runner .task)) (standing l)
   stood {l = l} run = all-stood l (λ u i. moves-stand j (jobWaits j ticks) (accepted j e) (run .moves) u (subst (Unfinished u) (sym (run .same)) i))
 
+  -- the task with number t stands on the line l, and its step goes on
+  pub record Mover (s : Stand) (l : List (Item Numbered)) (t : ℕ) : Type 0 where
+    pub before : List (Item Numbered)
+    pub behind : List (Item Numbered)
+    pub who : Numbered
+    pub here : l ≡ before ++ spot who ∷ behind
+    pub number : who .number ≡ t
+    pub goes : Goes j (s .core) (s .runner) (s .order) before behind who
+
   -- What a call of task number t does.
   pub data Called (s : Stand) (l : List (Item Numbered)) (t : ℕ) : Type 0 where
     absent : unfinished t (s .order) ≡ false → stepAnswer j s t ≡ Refused 4 → stepped j t s ≡ s → Called s l t
     held : (a b : List (Item Numbered)) (n : Numbered) (x : StepAnswer) → l ≡ a ++ spot n ∷ b → n .number ≡ t → Stays j (s .order) n x → stepAnswer j s t ≡ x
         → stepped j t s ≡ s → Called s l t
-    went : (k : List (Item Numbered)) → hasMoved (stepAnswer j s t) ≡ true → Running j ticks (stepped j t s) k → Called s l t
+    went : Mover s l t → hasMoved (stepAnswer j s t) ≡ true → (k : List (Item Numbered)) → Running j ticks (stepped j t s) k → Called s l t
 
   -- 4: nobody unfinished has the number
   pub refused-four : (s : Stand) (l : List (Item Numbered)) (t : ℕ) → Running j ticks s l → unfinished t (s .order) ≡ false → Called s l t
@@ -80,39 +92,54 @@ module _ (j : List ℕ) (ticks : ℕ → ℕ) (e : jobAnswer j ≡ Moved 0) wher
     pub place : Place j (s .core) (s .runner) (s .order) a b n
     place = record { accepted = e; state = run .state; beside = run .beside; written = run .written; stood = stood run }
 
-    -- the run after a step that goes on
-    pub after-goes : (g : Goes j (s .core) (s .runner) (s .order) a b n) → Running j ticks (stepped j t s) (g .after .line)
-    unfolding answerOf
-    after-goes g =
-        let f = g .found in
-        let d = does (n .runner) (instructionOf j (n .runner)) f in
-        let yes : hasMoved (answerWith (d .word) (d .value) (g .new)) ≡ true = unfold does in has-moved _ _ _ _ f _ (g .new) in
-        let p = common.represents place .played in
-        let v = event-is j s n f (g .new) (name-is j (s .order) a b n p (run .beside)) (common.instruction-is place) in
-        let o = g .after .move ticks (nobody-halts j p a b n (run .beside) (g .able)) (run .times) (run .same) in
-        let k : Move (jobTasks j) (jobWaits j ticks) none-back (run .times) none-back (o .times) =
-        record { task = n .runner; end = o .end; done = o .done; move = o .move } in
-        subst (λ (k : Stand). Running j ticks k (g .after .line)) (sym (next-stand j s t _ (g .core) (g .runner) (g .order) _ yes (g .outcome-is) (g .noted-is) v))
-        (record {
-          state = g .state;
-          beside = g .after .beside;
-          written = subst (Written (g .runner)) (sym (g .after .stand)) (g .written);
-          count = suc (run .count);
-          times = o .times;
-          same = o .same;
-          moves = one-more (jobTasks j) (jobWaits j ticks) (run .moves) k;
-          log =
-              more-log j (jobWaits j ticks) (run .moves) k
-              ∙ ap₂ (λ (es : List Event) (x : Event). es ++ x ∷ []) (run .log) (ap (eventWith j (n .runner)) (o .finds));
-        })
+    -- A STEP THAT GOES ON is a move along the line, on whatever times
+    module _ (g : Goes j (s .core) (s .runner) (s .order) a b n) where
+      pub its-move : (l : List (Timed Runner)) → untimed l ≡ unnumbered (a ++ spot n ∷ b)
+          → Move j (jobWaits j ticks) (n .runner) (g .found) l (unnumbered (g .after .line))
+      its-move = g .after .move ticks (nobody-halts j (common.represents place .played) a b n (run .beside) (g .able))
 
-    moves-on : Goes j (s .core) (s .runner) (s .order) a b n → Called s (a ++ spot n ∷ b) t
-    unfolding stepAnswer answerOf
-    moves-on g =
-        went (g .after .line)
-        (ap (λ o. hasMoved (answerOf o)) (g .outcome-is) ∙ (unfold does in has-moved _ _ _ _ (g .found) _ (g .new))) (after-goes g)
+      abbrev answer : Effect
+      answer = does (n .runner) (instructionOf j (n .runner)) (g .found)
+
+      moves : hasMoved (answerWith (answer .word) (answer .value) (g .new)) ≡ true
+      unfolding does
+      moves = has-moved _ _ _ _ (g .found) _ (g .new)
+
+      event : eventFor j s t (answerWith (answer .word) (answer .value) (g .new)) ≡ eventWith j (n .runner) (g .found)
+      event = event-is j s n (g .found) (g .new) (name-is j (s .order) a b n (common.represents place .played) (run .beside)) (common.instruction-is place)
+
+      -- its answer, and the event of that
+      pub has-gone : hasMoved (stepAnswer j s t) ≡ true
+      unfolding stepAnswer answerOf
+      has-gone = ap (λ o. hasMoved (answerOf o)) (g .outcome-is) ∙ moves
+
+      pub goes-event : eventFor j s t (stepAnswer j s t) ≡ eventWith j (n .runner) (g .found)
+      unfolding stepAnswer answerOf
+      goes-event = ap (λ o. eventFor j s t (answerOf o)) (g .outcome-is) ∙ event
+
+      -- the run after it
+      pub after-goes : Running j ticks (stepped j t s) (g .after .line)
+      after-goes =
+          let o = its-move (run .times) (run .same) in
+          let k : LineMove (jobTasks j) (jobWaits j ticks) none-back (run .times) none-back (o .times) =
+          record { task = n .runner; end = o .end; done = o .done; move = o .move } in
+          subst (λ (k : Stand). Running j ticks k (g .after .line))
+          (sym (next-stand j s t _ (g .core) (g .runner) (g .order) _ moves (g .outcome-is) (g .noted-is) event))
+          (record {
+            state = g .state;
+            beside = g .after .beside;
+            written = subst (Written (g .runner)) (sym (g .after .stand)) (g .written);
+            count = suc (run .count);
+            times = o .times;
+            same = o .same;
+            moves = one-more (jobTasks j) (jobWaits j ticks) (run .moves) k;
+            log =
+                more-log j (jobWaits j ticks) (run .moves) k
+                ∙ ap₂ (λ (es : List Event) (x : Event). es ++ x ∷ []) (run .log) (ap (eventWith j (n .runner)) (o .finds));
+          })
 
     pub called-by : Does j (s .core) (s .runner) (s .order) a b n → Called s (a ++ spot n ∷ b) t
     unfolding stepAnswer answerOf
     called-by (stays x y o) = held a b n x refl refl y (ap answerOf o) (same-stand j s t x (stays-still x y) o)
-    called-by (goes g) = moves-on g
+    called-by (goes g) =
+        went (record { before = a; behind = b; who = n; here = refl; number = refl; goes = g }) (has-gone g) (g .after .line) (after-goes g)

@@ -35,7 +35,7 @@ none-back q = []
 no-value : (q : ℕ) → q < 4 → [] ≡ getD {A = List ℕ} ([] ∷ [] ∷ [] ∷ [] ∷ []) q []
 no-value = by-four (λ q. [] ≡ getD {A = List ℕ} ([] ∷ [] ∷ [] ∷ [] ∷ []) q []) refl refl refl refl
 
-begins : Serially none-back ([] ∷ [] ∷ [] ∷ [] ∷ []) (top ∷ []) start
+pub begins : Serially none-back ([] ∷ [] ∷ [] ∷ [] ∷ []) (top ∷ []) start
 unfolding valuesOf queue
 begins = record { before = []; line = refl; bare = tt; lists = record { four = refl; same = no-value } }
 
