@@ -3,12 +3,14 @@ use mathlib.Core.Path.{_≡_, refl, ap, sym, _∙_, subst}
 use mathlib.Core.Bool.{Bool, true, false, false≢true}
 use mathlib.Core.List.{List, [], _∷_, _++_, nil≢cons}
 use mathlib.Core.Logic.{_⊎_, inl, inr}
-use Prim.Native.Nat.{ℕ, _<_}
+use Prim.Native.Nat.{ℕ, _<_, _≤_}
 use lib.ListN.{length, getElem?}
-use borrow.Author.Tests.{lt-leb}
-use Rattle.words.specs.Words.{pass}
+use borrow.Author.Tests.{lt-leb, le-leb}
+use Rattle.words.specs.Words.{size, pass, halt}
+use Rattle.layout.specs.Layout.{WORDS}
+use Rattle.runner.specs.Words.{RUNNER}
 use Rattle.gaps.specs.Maps.{All}
-use Rattle.answers.specs.declared.Answer.the-variants.{Moved}
+use Rattle.answers.specs.declared.Answer.the-variants.{Moved, Refused as NoSuch}
 use Rattle.answers.specs.Answers.{answerOf as coreAnswer}
 use Rattle.answers.specs.Calls.{left-call}
 use Rattle.calls.specs.Waits.{unfinished as unfinishedIn}
@@ -47,7 +49,7 @@ use Rattle.any_order.specs.States.{state-unfinished}
 use Rattle.any_order.specs.Goes.{represents, Stays, waits, eight, nine, Does, stays, goes}
 use Rattle.any_order.specs.Looking.{step-does}
 use Rattle.any_order.specs.Running.{Running}
-use Rattle.any_order.specs.Called.{place, Called, absent, held, went, refused-four, has-gone, called-by}
+use Rattle.any_order.specs.Called.{stays-still, place, Mover, Called, absent, held, went, refused-four, has-gone, called-by}
 use Rattle.any_order.specs.Fresh.{fresh-runs}
 
 -- a line on which nobody stands, or its first task
@@ -77,7 +79,7 @@ bare (gave q ∷ l) h = (tt, bare l h)
 
 module _ (j : List ℕ) (ticks : ℕ → ℕ) (e : jobAnswer j ≡ Moved 0) where
   -- ONE CALL
-  pub call : (s : Stand) (l : List (Item Numbered)) → Running j ticks s l → (t : ℕ) → Called j ticks e s l t
+  call : (s : Stand) (l : List (Item Numbered)) → Running j ticks s l → (t : ℕ) → Called j ticks e s l t
   call s l run t = go (unfinished t (s .order)) refl
     where
       stands : (a b : List (Item Numbered)) (n : Numbered) → Running j ticks s (a ++ spot n ∷ b) → Called j ticks e s (a ++ spot n ∷ b) (n .number)
@@ -102,6 +104,16 @@ module _ (j : List ℕ) (ticks : ℕ → ℕ) (e : jobAnswer j ≡ Moved 0) wher
       go rest (absent f a same) = rest l (subst (λ (x : Stand). Running j ticks x l) (sym same) run)
       go rest (held a b n x f g y z same) = rest l (subst (λ (x : Stand). Running j ticks x l) (sym same) run)
       go rest (went w m k r) = rest k r
+
+  -- a call that moves is that of a task on the line whose step goes on
+  pub mover : (s : Stand) (l : List (Item Numbered)) → Running j ticks s l → (t : ℕ) → hasMoved (stepAnswer j s t) ≡ true → Mover j ticks e s l t
+  unfolding hasMoved
+  mover s l run t moves = go (call s l run t)
+    where
+      go : Called j ticks e s l t → Mover j ticks e s l t
+      go (absent f a same) = absurd (false≢true (sym (ap hasMoved a) ∙ moves))
+      go (held a b n x f g y z same) = absurd (false≢true (sym (ap hasMoved z ∙ stays-still x y) ∙ moves))
+      go (went w m k r) = w
 
   -- WHAT HOLDS OF A RUN UNDER WAY
   module _ (s : Stand) (l : List (Item Numbered)) (run : Running j ticks s l) where
@@ -185,7 +197,11 @@ module _ (j : List ℕ) (ticks : ℕ → ℕ) (e : jobAnswer j ≡ Moved 0) wher
         ∙ pass _ (lt-leb 4 q small)
         (pass _ (sym (state-unfinished (s .core) (s .order) (run .state) 0) ∙ f 0) (ap leftAnswer (left-along j (run .beside) q i small)))
 
-    gone : AllFinished s → All NoSpot (untimed (run .times))
+    pub no-queue : (q i : ℕ) → 4 ≤ q → coreAnswer (leftOutcome (s .core) q i) ≡ NoSuch 5
+    unfolding outcomeOf answered ordered
+    no-queue q i large = call-does (left-call q i) (s .core) (s .order) (run .state) .answer ∙ halt _ _ (le-leb 4 q large)
+
+    pub gone : AllFinished s → All NoSpot (untimed (run .times))
     gone f = subst (All NoSpot) (sym (run .same)) (all-gone f)
 
     -- with the plain machine, which ends after n steps
@@ -204,8 +220,17 @@ module _ (j : List ℕ) (ticks : ℕ → ℕ) (e : jobAnswer j ≡ Moved 0) wher
           moves = λ f. ap length (sym (run .log)) ∙ log-length j W (run .moves) ∙ plain .all-moved (gone f);
         }
 
+-- Any list of calls from a fresh opening is a run under way, with times by any ticks.
+pub under-way : (j : List ℕ) → jobAnswer j ≡ Moved 0 → (ticks : ℕ → ℕ) (w v : List ℕ) → size w ≡ WORDS → size v ≡ RUNNER → (ts : List ℕ)
+    → (l : List (Item Numbered)) × Running j ticks (afterCalls j ts (fresh j w v)) l
+under-way j e ticks w v sw sv ts = calls j ticks e ts (fresh j w v) (spot topNumbered ∷ []) (fresh-runs j e w v sw sv ticks)
+
+-- where no times are asked for
+abbrev pub noTicks : ℕ → ℕ
+noTicks k = 0
+
 -- THE PROMISE HOLDS.
 pub any-order : Promise
 any-order j e n end w v sw sv ts =
-    let r = calls j (λ k. 0) e ts (fresh j w v) (spot topNumbered ∷ []) (fresh-runs j e w v sw sv (λ k. 0)) in
-    agreed j (λ k. 0) e (afterCalls j ts (fresh j w v)) (r .0) (r .1) n end
+    let r = under-way j e noTicks w v sw sv ts in
+    agreed j noTicks e (afterCalls j ts (fresh j w v)) (r .0) (r .1) n end

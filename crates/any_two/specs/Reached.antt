@@ -29,10 +29,7 @@ use Rattle.any_order.specs.Tested.{stands-at, nobody, tests-pass}
 use Rattle.any_order.specs.Running.{Running}
 use Rattle.any_order.specs.Called.{stood}
 use Rattle.any_order.specs.Fresh.{fresh-runs}
-use Rattle.any_order.specs.AnyOrder.{calls}
-
-abbrev pub noTicks : ℕ → ℕ
-noTicks k = 0
+use Rattle.any_order.specs.AnyOrder.{calls, noTicks}
 
 pub record Reached (j m r : List ℕ) : Type 0 where
   pub accept : jobAnswer j ≡ Moved 0
