@@ -216,7 +216,8 @@ module _ (j : List ℕ) (ticks : ℕ → ℕ) (e : jobAnswer j ≡ Moved 0) wher
           progress = some-ready;
           others = only;
           all = λ f p. ap (answersOf p) (sym (run .log)) ∙ answers-all j W acc n end (run .moves) (gone f) p;
-          left = λ f q i small. left-is f q i small ∙ ap (λ (vs : List ℕ). leftAnswer (getElem? vs i)) (sym (ap (valuesOf q) (run .same)) ∙ plain .left (gone f) q small);
+          left = λ f q i small.
+              left-is f q i small ∙ ap (λ (vs : List ℕ). leftAnswer (getElem? vs i)) (sym (ap (valuesOf q) (run .same)) ∙ plain .left (gone f) q small);
           moves = λ f. ap length (sym (run .log)) ∙ log-length j W (run .moves) ∙ plain .all-moved (gone f);
         }
 

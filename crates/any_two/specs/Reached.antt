@@ -1,6 +1,6 @@
 -- MEMORIES THAT A RUN HAS REACHED: all tests of a step pass there, so a step behind its tests gives the outcome of the step. Loops over
 -- steps keep this instead of testing again.
-use mathlib.Core.Path.{_≡_, refl, ap, ap₂, sym, _∙_, subst}
+use mathlib.Core.Path.{_≡_, refl, ap, ap₂, sym, _∙_, subst, subst₂}
 use mathlib.Core.Bool.{Bool, true, false}
 use mathlib.Core.List.{List, [], _∷_}
 use Prim.Native.Nat.{ℕ, _<_}
@@ -58,9 +58,8 @@ module _ {j m r : List ℕ} (h : Reached j m r) where
   unfolding stepOutcome
   reached-tested t =
       let q = h .run in
-      subst (λ (x : List ℕ). stepOutcome j x r t ≡ stepTested j x r t) (h .core)
-      (subst (λ (y : List ℕ). stepOutcome j (h .stand .core) y t ≡ stepTested j (h .stand .core) y t) (h .runner)
-      (tests-pass j (h .stand .core) (h .stand .runner) (h .stand .order) (h .line) (q .state) (q .beside) (q .written) (stood j noTicks (h .accept) q) (h .accept) _))
+      subst₂ (λ (x y : List ℕ). stepOutcome j x y t ≡ stepTested j x y t) (h .core) (h .runner)
+      (tests-pass j _ _ (h .stand .order) (h .line) (q .state) (q .beside) (q .written) (stood j noTicks (h .accept) q) (h .accept) _)
 
   -- no task stands far along a body
   pub reached-position : (t : ℕ) → positionOf r t < 2147483648

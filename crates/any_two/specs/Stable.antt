@@ -29,7 +29,7 @@ use Rattle.job_moves.specs.MovesAble.{moves-able}
 use Rattle.runner.specs.declared.StepAnswer.{StepAnswer}
 use Rattle.runner.specs.Answers.{answerOf}
 use Rattle.any_order.specs.Statement.{Stand, stepped, stepAnswer, afterCalls, fresh}
-use Rattle.any_order.specs.Goes.{Stays, waits, eight, nine, Goes, Does, stays, goes, represents}
+use Rattle.any_order.specs.Goes.{Place, Stays, waits, eight, nine, Goes, Does, stays, goes, represents}
 use Rattle.any_order.specs.Looking.{step-does}
 use Rattle.any_order.specs.Running.{Running}
 use Rattle.any_order.specs.Called.{place, Mover, its-move, has-gone, goes-event, after-goes}
@@ -83,12 +83,15 @@ module _ (j : List ℕ) (ticks : ℕ → ℕ) (accept : jobAnswer j ≡ Moved 0)
   line-then : untimed (moved .times) ≡ unnumbered (stood .before ++ spot n ∷ stood .behind)
   line-then = moved .same ∙ ap unnumbered (stood .here)
 
+  here : Place j (then .core) (then .runner) (then .order) (stood .before) (stood .behind) n
+  here = place j ticks accept then (stood .before) (stood .behind) n after
+
   still-able : Able j (s .order) n → Able j (then .order) n
   still-able able =
       let v = able-moves j ticks played a b n (run .beside) able (run .times) (run .same) .2 in
       let x = stable (jobTasks j) W (n .runner) (o .runner) (v .end) (moved .end) (v .done) (moved .done) differ (v .move) (moved .move) in
-      moves-able j ticks (represents (place j ticks accept then (stood .before) (stood .behind) n after) .played) (stood .before) (stood .behind) n (after .beside)
-      (moved .times) line-then (v .end) (v .done) (x .0) (x .1) (x .2)
+      moves-able j ticks (represents here .played) (stood .before) (stood .behind) n (after .beside) (moved .times) line-then (v .end) (v .done) (x .0) (x .1)
+      (x .2)
 
   module _ (now : Goes j (s .core) (s .runner) (s .order) a b n) where
     same-found : (later : Goes j (then .core) (then .runner) (then .order) (stood .before) (stood .behind) n) → later .found ≡ now .found
@@ -102,7 +105,7 @@ module _ (j : List ℕ) (ticks : ℕ → ℕ) (accept : jobAnswer j ≡ Moved 0)
 
     pub still-moves : Still j s then (n .number)
     unfolding stepAnswer
-    still-moves = go (step-does (place j ticks accept then (stood .before) (stood .behind) n after))
+    still-moves = go (step-does here)
       where
         by : (x : StepAnswer) → Stays j (then .order) n x → stepAnswer j then (n .number) ≡ x → Still j s then (n .number)
         by x (waits unable) i = absurd (unable (still-able (now .able)))
@@ -123,7 +126,8 @@ stability j accept w v sw sv ts t u other first second =
     let s = afterCalls j ts (fresh j w v) in
     go s (r .0) (r .1) (mover j noTicks accept s (r .0) (r .1) t first) (mover j noTicks accept s (r .0) (r .1) u second)
   where
-    go : (s : Stand) (l : List (Item Numbered)) → Running j noTicks s l → Mover j noTicks accept s l t → Mover j noTicks accept s l u → Still j s (stepped j u s) t
+    go : (s : Stand) (l : List (Item Numbered)) → Running j noTicks s l → Mover j noTicks accept s l t → Mover j noTicks accept s l u
+        → Still j s (stepped j u s) t
     go s l run x y =
         subst (λ (i : ℕ). Still j s (stepped j i s) t) (y .number)
         (subst (Still j s (stepped j (y .who .number) s)) (x .number)

@@ -52,7 +52,8 @@ pub no-return : (j : List ℕ) (u : Runner) → NoReturn (action j u)
 unfolding action
 no-return j u = none-returns (operationAt (instructionOf j u .operation)) j u (instructionOf j u)
 
-module _ (j : List ℕ) (ticks : ℕ → ℕ) {xs : List Mark} (played : Played xs) (a b : List (Item Numbered)) (n : Numbered) (h : Beside j xs (a ++ spot n ∷ b)) where
+module _ (j : List ℕ) (ticks : ℕ → ℕ) {xs : List Mark} (played : Played xs) (a b : List (Item Numbered)) (n : Numbered)
+    (h : Beside j xs (a ++ spot n ∷ b)) where
   abbrev u : Runner
   u = n .runner
 
@@ -85,7 +86,8 @@ module _ (j : List ℕ) (ticks : ℕ → ℕ) {xs : List Mark} (played : Played 
           walked-move j u (looks k q g) (before ++ value q v ∷ behind) (before ++ value q v ∷ (behind ++ spot u ∷ unnumbered b)) _ (some v) is refl
               (walk-finds j u k q g is (unnumbered b) v before behind (past-bare j k q (f .front) (f .bare)) (past-quiet j k q v (f .back) (f .quiet)))
               ticks (subst (Unhalted j u) (sym front) c) l
-              (e ∙ at-task ∙ ap (λ (i : List (Item Runner)). i ++ spot u ∷ unnumbered b) (sym front) ∙ append-assoc before (value q v ∷ behind) (spot u ∷ unnumbered b)),
+              (e ∙ at-task ∙ ap (λ (i : List (Item Runner)). i ++ spot u ∷ unnumbered b) (sym front)
+              ∙ append-assoc before (value q v ∷ behind) (spot u ∷ unnumbered b)),
         )
 
     -- by the action
@@ -112,7 +114,8 @@ module _ (j : List ℕ) (ticks : ℕ → ℕ) {xs : List Mark} (played : Played 
               none,
               _,
               walked-move j u (looks k q g) (unnumbered a) At _ none is refl
-                  (walk-nothing j u k q g is (unnumbered b) (unnumbered a) (past-bare j k q a (first-nothing j q b n used a (others j played a b n h) (m .first))))
+                  (walk-nothing j u k q g is (unnumbered b) (unnumbered a)
+                  (past-bare j k q a (first-nothing j q b n used a (others j played a b n h) (m .first))))
                   ticks c l (e ∙ at-task),
             )
         go Later d = absurd (f q refl d)

@@ -135,7 +135,8 @@ module _ (j : List ℕ) (q : ℕ) (small : q < 4) where
       search-first b n used a (h .1) (sym (ap (firstOf (n .number)) (value-past j q p v (a ++ spot n ∷ b) (h .0))) ∙ e)
   search-first b n used (value p v ∷ a) (inr h) e =
       value-waits {v = v}
-      (sym (ap (λ (x : ℕ). firstOf (n .number) (pointsOf j q (value x v ∷ (a ++ spot n ∷ b)))) (h .0) ∙ ap (firstOf (n .number)) (value-here j q v (a ++ spot n ∷ b))) ∙ e)
+      (sym (ap (λ (x : ℕ). firstOf (n .number) (pointsOf j q (value x v ∷ (a ++ spot n ∷ b)))) (h .0)
+      ∙ ap (firstOf (n .number)) (value-here j q v (a ++ spot n ∷ b))) ∙ e)
   search-first b n used (spot m ∷ a) (inl h) e =
       search-first b n used a (h .1)
       (sym (unfold taskOf rightsOf numberOf in ap (firstOf (n .number)) (point-is j q m (a ++ spot n ∷ b) ∙ pass _ (unused _ (h .0 .0) (h .0 .1)) refl)) ∙ e)
@@ -147,7 +148,8 @@ module _ (j : List ℕ) (q : ℕ) (small : q < 4) where
       search-first b n used a (h .1) (sym (ap (firstOf (n .number)) (gave-past j q p (a ++ spot n ∷ b))) ∙ e)
   search-first b n used (gave p ∷ a) (inr h) e = h .0
 
-module _ (j : List ℕ) (ticks : ℕ → ℕ) {xs : List Mark} (played : Played xs) (a b : List (Item Numbered)) (n : Numbered) (h : Beside j xs (a ++ spot n ∷ b)) where
+module _ (j : List ℕ) (ticks : ℕ → ℕ) {xs : List Mark} (played : Played xs) (a b : List (Item Numbered)) (n : Numbered)
+    (h : Beside j xs (a ++ spot n ∷ b)) where
   abbrev u : Runner
   u = n .runner
 
@@ -173,7 +175,8 @@ module _ (j : List ℕ) (ticks : ℕ → ℕ) {xs : List Mark} (played : Played 
   unfolding taskOf nameOf
   apart =
       spots-differ j u a
-      (on-line j (λ o. above (nameOf o) (u .task .name) ≡ true → ⊥) (here .before) a (here .first) (λ o i. not-above (here .before) (here .behind) s reached o i))
+      (on-line j (λ o. above (nameOf o) (u .task .name) ≡ true → ⊥) (here .before) a (here .first)
+      (λ o i. not-above (here .before) (here .behind) s reached o i))
 
   -- what its search went past is what stands before it
   front-is : (m : Search) (l : List (Item Runner)) → l ≡ Whole j ticks played a b n h → (c : Went (jobTasks j) W u m l) → c .before ≡ unnumbered a
