@@ -1,47 +1,37 @@
--- THE TIMES OF THE SERIAL RUN: each step is done its ticks after the latest of its task's last step, the push of the value it finds, and the
--- finishes that document 02 names.
-use mathlib.Core.Path.{_≡_, refl, ap, sym, _∙_, subst}
+-- THE TIME OF A SERIAL STEP BY DOCUMENT 02'S WORDS: it is done its ticks after the latest of its task's last step, the push of the value
+-- it finds, the give-ups it waits for, and the finishes that document 02 names. What the line counts besides is dominated.
+use mathlib.Core.Path.{_≡_, refl, ap, sym, _∙_}
 use mathlib.Core.Bool.{Bool, true, false≢true}
-use mathlib.Core.List.{List, [], _∷_, _++_}
+use mathlib.Core.List.{List, _∷_, _++_}
 use mathlib.Core.Logic.{_⊎_, inl, inr, ⊎-elim}
 use Prim.Native.Nat.{ℕ, _+_, _≤_}
 use native.Mathlib.Nat.{le-antisymm}
 use native.Mathlib.Omega.{arith}
-use Rattle.words.specs.Words.{both, true-both, true-left, true-right}
-use Rattle.tree.specs.Rights.{sharesPop}
-use Rattle.order.specs.Waits.{isChild, isOlder}
-use Rattle.gaps.specs.Maps.{All}
-use Rattle.job.specs.Operations.{operationAt}
-use Rattle.plain.specs.Stack.{rightsOf}
-use Rattle.line.specs.Line.{spot, Action, puts, looks, returns, Search, free, seeking, found, putting}
+use Rattle.words.specs.Words.{true-both, true-left, true-right}
+use Rattle.line.specs.Line.{spot, Action, puts, looks, returns, Search, About}
 use Rattle.line.specs.Rights.{Within}
-use Rattle.job_line.specs.Tasks.{canPop, Runner, action, instructionOf, Pushing, Popping}
-use Rattle.job_line.specs.Within.{jobTasks, action-within}
-use Rattle.timed_line.specs.Times.{Timed, at, later, later-bounds, later-least, Some}
 use Rattle.line.specs.Fronts.{Fronts}
+use Rattle.timed_line.specs.Times.{Timed, at, later, later-bounds, later-least}
 use Rattle.timed_line.specs.Walks.{Waits}
 use Rattle.timed_line.specs.Starts.{startOf}
-use Rattle.job_line.specs.Agree.{none-back}
-use Rattle.job_moves.specs.Able.{NoReturn, no-return}
 use Rattle.timed_line.specs.Agreement.{MoveOf, Bare}
-use Rattle.named_waits.specs.Names.{above}
+use Rattle.job_line.specs.Tasks.{Runner, action, Pushing, Popping}
+use Rattle.job_line.specs.Within.{jobTasks, action-within}
+use Rattle.job_line.specs.Agree.{none-back}
 use Rattle.named_waits.specs.Named.{halts}
-use Rattle.job_times.specs.Kin.{awaits, halts as haltsOf}
+use Rattle.job_times.specs.Kin.{awaitsOf, ticksOf, halts as haltsOf}
 use Rattle.job_times.specs.Times.{jobWaits}
-use Rattle.serial_times.specs.Hearing.{first, Over, over, hear, ended, Noted, hear-has, Fine, hear-below, counting, time-is}
-use Rattle.serial_times.specs.Named.{names, names-counts, In, far, near, near-names, in-first}
-use Rattle.serial_times.specs.Dominated.{For, some-map, all-with, Frame, frame, Pop, Below, Dom, Nobody, Earlier, Childless}
-
--- every member of a list is some member of it
-module _ {A : Type 0} where
-  pub each : (l : List A) (P : A → Type 0) → ((x : A) → ((R : A → Type 0) → R x → Some R l) → P x) → All P l
-  each [] P f = tt
-  each (x ∷ l) P f = (f x (λ R r. inl r), each l P (λ y g. f y (λ R r. inr (g R r))))
+use Rattle.job_waits.specs.Before.{above-under}
+use Rattle.serial_times.specs.Ended.{Among, Every, ended}
+use Rattle.serial_times.specs.Hearing.{first, same-first, hear, hear-has, Fine, hear-below, counting, time-is}
+use Rattle.serial_times.specs.Named.{names, names-counts, far, near-names}
+use Rattle.serial_times.specs.Dominated.{Frame, frame, Pop, Below, Dom, Nobody, Earlier, Childless}
 
 module _ (j : List ℕ) (ticks : ℕ → ℕ) where
   abbrev W : Waits (jobTasks j)
   W = jobWaits j ticks
 
+  -- the search that u's step begins with
   abbrev pub begun : Runner → Search
   begun u = startOf (action j u) none-back
 
@@ -50,110 +40,60 @@ module _ (j : List ℕ) (ticks : ℕ → ℕ) where
   ready u t f = later (hear (names j u) (begun u) 0 f) t
 
   module _ (u : Runner) (t : ℕ) (f : List (Timed Runner)) (st : List Frame) (dom : Dom j (ended f) (Nobody j) (frame t u ∷ st)) where
-    abbrev c : ℕ
-    c = ready u t f
+    abbrev counted : Search → Runner → Bool
+    counted = counting (jobTasks j) W u
 
-    heard-by : hear (names j u) (begun u) 0 f ≤ c
-    heard-by = later-bounds (hear (names j u) (begun u) 0 f) t .0
+    pub ready-bounds : (hear (names j u) (begun u) 0 f ≤ ready u t f) × (t ≤ ready u t f)
+    ready-bounds = later-bounds (hear (names j u) (begun u) 0 f) t
 
-    own-by : t ≤ c
-    own-by = later-bounds (hear (names j u) (begun u) 0 f) t .1
+    -- a finish that is named whatever the search has found
+    named-by : (z : ℕ) (s : Runner) → Among (ended f) z s → ((n : Search) → first n ≡ first (begun u) → names j u n s ≡ true) → z ≤ ready u t f
+    named-by z s m g = omega (arith, hear-has (names j u) (first (begun u)) (begun u) 0 f z s refl m g, ready-bounds .0)
 
-    -- a finish that a look in q waits for
-    near-by : (b : Bool) (q y : ℕ) → first (begun u) ≡ seeking b q → Some (For (λ z s. (y ≤ z) × (near j u q s ≡ true))) (ended f) → y ≤ c
-    near-by b q y e h =
-        let k = hear-has (names j u) (first (begun u)) (begun u) 0 f y refl (some-map _ _ (ended f) (λ o. go o) h) in
-        let g = heard-by in
-        omega (arith, k, g)
-      where
-        go : (o : Over Runner) → For (λ z s. (y ≤ z) × (near j u q s ≡ true)) o → Noted (names j u) (first (begun u)) y o
-        go (over z s) i = (i .0, λ n d. near-names j n q u s (in-first j n q b (d ∙ e)) (i .1))
+    -- a step about queue q is one of a task that may pop there
+    pops : (i : Action Runner) (q : ℕ) → Within (Pushing j) (Popping j) u i → About q (startOf i none-back) → Pop j u q
+    pops (puts xs) q w a = absurd a
+    pops (looks b p g) q w a = rw a (w .0)
+    pops (returns p v xs) q w a = rw a (w .0)
+
+    below-by : (q y : ℕ) → About q (begun u) → Below j (ended f) u t q y → y ≤ ready u t f
+    below-by q y a (inl i) = omega (arith, ready-bounds .1)
+    below-by q y a (inr (z, s, m, i, n)) = omega (arith, named-by z s m (λ k e. near-names j k q u s (same-first (begun u) k q (sym e) a) n))
 
     -- what counts and is not named is no later
-    fine-by : (i : Action Runner) → action j u ≡ i → NoReturn i → first (begun u) ≡ startOf i none-back → All (Fine (counting (jobTasks j) W u) (names j u) (first (begun u)) c) (ended f)
-    fine-by (returns q v xs) is p e = absurd p
-    fine-by (puts xs) is p e = all-with _ (λ o. Unit {0}) _ (ended f) (λ o. go o) (dom .0 .none) (trivial (ended f))
-      where
-        trivial : (l : List (Over Runner)) → All (λ o. Unit {0}) l
-        trivial [] = tt
-        trivial (x ∷ l) = (tt, trivial l)
-
-        no-queue : (n : Search) (q : ℕ) → first n ≡ free → In j q n → ⊥
-        no-queue free q d i = i
-        no-queue (seeking b p) q d i = let z : _≡_ {A = ℕ} 0 1 = cc in omega (arith, z)
-        no-queue (found b p v) q d i = let z : _≡_ {A = ℕ} 0 1 = cc in omega (arith, z)
-        no-queue (putting p v) q d i = let z : _≡_ {A = ℕ} 0 1 = cc in omega (arith, z)
-
-        go : (o : Over Runner) → For (λ y s. above (s .task .name) (u .task .name) ≡ true → ⊥) o → Unit {0} → Fine (counting (jobTasks j) W u) (names j u) (first (begun u)) c o
-        go (over y s) n z = λ m d k l. ⊎-elim (λ a. absurd (n a)) (λ p. absurd (no-queue m (p .0) (d ∙ e) (p .1))) (far j m u s k l)
-    fine-by (looks b q g) is p e =
-        all-with _ _ _ (ended f) (λ o. go o) (dom .0 .none) (dom .0 .below q pops)
-      where
-        pops : Pop j u q
-        pops = let w : Within (Pushing j) (Popping j) u (looks b q g) = subst (Within (Pushing j) (Popping j) u) is (action-within j u) in w .0
-
-        same-queue : (n : Search) (p : ℕ) → first n ≡ seeking b q → In j p n → q ≡ p
-        same-queue free p d i = absurd i
-        same-queue (seeking x y) p d i = let z : y ≡ q = cc in sym z ∙ i
-        same-queue (found x y v) p d i = let z : y ≡ q = cc in sym z ∙ i
-        same-queue (putting y v) p d i = let z : _≡_ {A = ℕ} 0 1 = cc in absurd (omega (arith, z))
-
-        go : (o : Over Runner) → For (λ y s. above (s .task .name) (u .task .name) ≡ true → ⊥) o
-            → For (λ y s. Pop j s q → Nobody j s ⊎ Below j (ended f) u t q y) o → Fine (counting (jobTasks j) W u) (names j u) (first (begun u)) c o
-        go (over y s) n h = λ m d k l.
-            ⊎-elim (λ a. absurd (n a))
-            (λ p.
-            let i = same-queue m (p .0) (d ∙ e) (p .1) in
-            ⊎-elim (λ z. absurd z)
-            (λ w. ⊎-elim (λ z. let r = own-by in omega (arith, z, r)) (near-by b q y e) w)
-            (h (subst (λ (x : ℕ). canPop (rightsOf j (s .task)) x ≡ true) (sym i) (p .2))))
-            (far j m u s k l)
-
-    first-begun : (i : Action Runner) → first (startOf i none-back) ≡ startOf i none-back
-    first-begun (puts xs) = refl
-    first-begun (looks b q g) = refl
-    first-begun (returns q v xs) = refl
-
-    fine : All (Fine (counting (jobTasks j) W u) (names j u) (first (begun u)) c) (ended f)
-    fine = fine-by (action j u) refl (no-return j u) (first-begun (action j u))
+    fine : Every (ended f) (Fine counted (names j u) (first (begun u)) (ready u t f))
+    fine y s m n e k l =
+        ⊎-elim (λ a. absurd (dom .0 .none y s m (above-under _ _ a)))
+        (λ (q, i, p).
+        let a = same-first n (begun u) q e i in
+        ⊎-elim (λ z. absurd z) (below-by q y a) (dom .0 .below q (pops (action j u) q (action-within j u) a) y s m p))
+        (far j n u s k l)
 
     -- THE TIME OF A STEP by what is named
     pub named-time : (e : Search) (d : ℕ) (r : List (Timed Runner)) {x : Fronts} {k : List (Timed Runner)} → Bare (jobTasks j) W f
-        → MoveOf (jobTasks j) W u e d none-back (f ++ at t (spot u) ∷ r) x k → d ≡ ready u t f + ticks (instructionOf j u .operation)
+        → MoveOf (jobTasks j) W u e d none-back (f ++ at t (spot u) ∷ r) x k → d ≡ ready u t f + ticksOf j ticks u
     named-time e d r bare v =
         time-is (jobTasks j) W u (begun u) e 0 d f t r bare (v .walk)
-        ∙ ap (λ (x : ℕ). x + ticks (instructionOf j u .operation)) (le-antisymm (later-least all t c most own-by) (later-least _ t _ least (later-bounds all t .1)))
+        ∙ ap (λ (x : ℕ). x + ticksOf j ticks u) (le-antisymm (later-least all t _ most (ready-bounds .1)) (later-least _ t _ least (later-bounds all t .1)))
       where
         all : ℕ
-        all = hear (counting (jobTasks j) W u) (begun u) 0 f
+        all = hear counted (begun u) 0 f
 
-        most : hear (counting (jobTasks j) W u) (begun u) 0 f ≤ ready u t f
-        most = hear-below (counting (jobTasks j) W u) (names j u) (first (begun u)) (begun u) 0 0 f c refl (omega arith) heard-by fine
+        most : all ≤ ready u t f
+        most = hear-below counted (names j u) (first (begun u)) (begun u) 0 0 f (ready u t f) refl (omega arith) (ready-bounds .0) fine
 
-        named-fine : All (Fine (names j u) (counting (jobTasks j) W u) (first (begun u)) (hear (counting (jobTasks j) W u) (begun u) 0 f)) (ended f)
-        named-fine = each (ended f) _ (λ o g. go o)
-          where
-            go : (o : Over Runner) → Fine (names j u) (counting (jobTasks j) W u) (first (begun u)) (hear (counting (jobTasks j) W u) (begun u) 0 f) o
-            go (over y s) = λ n d k l. absurd (false≢true (sym l ∙ names-counts j u n s k))
-
-        least : hear (names j u) (begun u) 0 f ≤ later (hear (counting (jobTasks j) W u) (begun u) 0 f) t
+        least : hear (names j u) (begun u) 0 f ≤ later all t
         least =
-            let a = hear-below (names j u) (counting (jobTasks j) W u) (first (begun u)) (begun u) 0 0 f all refl (omega arith) (omega arith) named-fine in
-            let b = later-bounds all t .0 in
-            omega (arith, a, b)
+            hear-below (names j u) counted (first (begun u)) (begun u) 0 0 f (later all t) refl (omega arith) (later-bounds all t .0)
+            (λ y s m n i k l. absurd (false≢true (sym l ∙ names-counts j u n s k)))
 
-    -- what a step waited for is earlier
-    halt-by : (d : ℕ) → c ≤ d → (P : Runner → Bool) → ((s : Runner) → P s ≡ true → haltsOf j s u ≡ true) → All (For (λ z s. P s ≡ true → z ≤ d)) (ended f)
-    halt-by d h P g = each (ended f) _ (λ o m. go o m)
-      where
-        go : (o : Over Runner) → ((R : Over Runner → Type 0) → R o → Some R (ended f)) → For (λ z s. P s ≡ true → z ≤ d) o
-        go (over z s) m = λ e.
-            let k = hear-has (names j u) (first (begun u)) (begun u) 0 f z refl (m (Noted (names j u) (first (begun u)) z) (omega arith, λ n i. unfold names in true-left _ (g s e))) in
-            let y = heard-by in
-            omega (arith, k, y, h)
+    -- what halts a step has finished before it is done
+    module _ (d : ℕ) (late : ready u t f ≤ d) where
+      halt-by : (s : Runner) → haltsOf j s u ≡ true → (z : ℕ) → Among (ended f) z s → z ≤ d
+      halt-by s h z m = omega (arith, named-by z s m (λ n i. unfold names in true-left _ h))
 
-    pub early-by : (d : ℕ) → c ≤ d → Earlier j (ended f) u d
-    early-by d h = halt-by d h (λ s. both (isOlder (s .task .name) (u .task .name)) (sharesPop (rightsOf j (s .task)) (rightsOf j (u .task)))) (λ s e. unfold halts in true-left _ e)
+      pub early-by : Earlier j (ended f) u d
+      early-by z s m e = halt-by s (unfold halts in true-left _ e) z m
 
-    pub alone-by : (d : ℕ) → c ≤ d → awaits (operationAt (instructionOf j u .operation)) ≡ true → Childless j (ended f) u d
-    alone-by d h w = halt-by d h (λ s. isChild (s .task .name) (u .task .name)) (λ s e. unfold halts in true-right _ (true-both e w))
+      pub alone-by : awaitsOf j u ≡ true → Childless j (ended f) u d
+      alone-by w z s m e = halt-by s (unfold halts in true-right _ (true-both e w)) z m

@@ -1,86 +1,40 @@
--- THE SERIAL RUN, timed by what is named: every step of the run that always moves the first task.
-use mathlib.Core.Path.{_≡_, refl, ap, sym, _∙_, subst}
-use mathlib.Core.Bool.{true}
+-- A STEP OF THE SERIAL RUN, which always moves the first task: it is done at the time that document 02 names, and leaves a line of the
+-- same kind. So all steps of the run are timed so.
+use mathlib.Core.Path.{_≡_, refl, ap, sym, _∙_}
 use mathlib.Core.List.{List, [], _∷_, _++_, append-assoc, append-nil}
-use mathlib.Core.Logic.{_⊎_, inl, inr, ⊎-elim}
-use mathlib.Core.Option.{Option, none, some}
 use Prim.Native.Nat.{ℕ, _+_, _≤_}
 use native.Mathlib.Omega.{arith}
 use Rattle.gaps.specs.Maps.{All}
-use Rattle.job.specs.declared.Instruction.{Instruction}
-use Rattle.job.specs.Operations.{Operation, return, push, pushSum, pop, goIfEmpty, go, goIfZero, add, spawn, sync, operationAt}
+use Rattle.job.specs.Effects.{Effect}
 use Rattle.job.specs.Accepted.{Accepted}
-use Rattle.plain.specs.Machine.{advanced, parent, child}
+use Rattle.plain.specs.Machine.{Task, advanced, parent, child}
 use Rattle.plain.specs.Stack.{Stands, rightsOf}
-use Rattle.line.specs.Line.{Item, value, spot, finished, Action, puts, looks, returns, Search, free, seeking, found, putting, Acts}
+use Rattle.line.specs.Line.{Item, value, spot, finished, Search, Acts}
 use Rattle.line.specs.Rights.{put-under}
 use Rattle.line.specs.Fronts.{Fronts}
-use Rattle.job_line.specs.Tasks.{Runner, actionBy, action, instructionOf, Pushing, Popping, by-test}
+use Rattle.job_line.specs.Tasks.{Runner, action, Pushing, Popping}
 use Rattle.job_line.specs.Within.{jobTasks, action-within}
 use Rattle.job_line.specs.Front.{foundBy}
 use Rattle.job_line.specs.Agree.{none-back}
 use Rattle.job_line.specs.Events.{eventWith}
 use Rattle.job_line.specs.Put.{answered, Put, goes, pushes, finishes, spawns, puts-so}
-use Rattle.timed_line.specs.Times.{Timed, at, later-bounds, stamp}
+use Rattle.timed_line.specs.Times.{Timed, at, stamp}
 use Rattle.timed_line.specs.Walks.{Waits}
 use Rattle.timed_line.specs.Agreement.{MoveOf, Bare}
-use Rattle.job_times.specs.Kin.{awaits}
+use Rattle.job_times.specs.Kin.{ticksOf}
 use Rattle.job_times.specs.Times.{jobWaits}
-use Rattle.serial_times.specs.Hearing.{Over, over, hear, ended, ended-append, Left, leaves}
-use Rattle.serial_times.specs.Named.{Like, names}
+use Rattle.serial_times.specs.Ended.{ended, ended-append}
+use Rattle.serial_times.specs.Left.{Left, leaves}
+use Rattle.serial_times.specs.Named.{Like}
 use Rattle.serial_times.specs.Dominated.{Frame, frame, Dom, Nobody, goes-dom, spawn-dom, pop-like}
 use Rattle.serial_times.specs.Returned.{Nested, return-dom}
-use Rattle.serial_times.specs.Literal.{begun, ready, named-time, early-by, alone-by}
+use Rattle.serial_times.specs.Finishing.{finish-awaits}
+use Rattle.serial_times.specs.Literal.{ready, ready-bounds, named-time, early-by, alone-by}
 
 -- the spots of a stack
 abbrev pub spotsOf : List Frame → List (Timed Runner)
 spotsOf [] = []
 spotsOf (frame t u ∷ st) = at t (spot u) ∷ spotsOf st
-
--- ONLY A RETURN finishes
-abbrev NoEnd : Action Runner → Type 0
-NoEnd (puts ys) = (v : Runner) → finished v ∷ [] ≡ ys → ⊥
-NoEnd (looks b q f) = (o : Option ℕ) (v : Runner) → finished v ∷ [] ≡ f o → ⊥
-NoEnd (returns q x ys) = (v : Runner) → finished v ∷ [] ≡ ys → ⊥
-
-no-spot : (v w : Runner) (l : List (Item Runner)) → finished v ∷ [] ≡ spot w ∷ l → ⊥
-no-spot v w l e = let z : _≡_ {A = ℕ} 0 1 = cc in omega (arith, z)
-
-no-value : (v : Runner) (q x : ℕ) (l : List (Item Runner)) → finished v ∷ [] ≡ value q x ∷ l → ⊥
-no-value v q x l e = let z : _≡_ {A = ℕ} 0 1 = cc in omega (arith, z)
-
-module _ (j : List ℕ) where
-  ends-await : (o : Operation) (u : Runner) (s : Instruction) → (awaits o ≡ true) ⊎ NoEnd (actionBy o j u s)
-  unfolding awaits
-  ends-await return u s = inl refl
-  ends-await sync u s = inl refl
-  ends-await push u s = inr (by-test NoEnd _ _ _ (λ e v. no-value v _ _ _) (λ v. no-spot v _ _))
-  ends-await pushSum u s = inr (by-test NoEnd _ _ _ (λ e v. no-value v _ _ _) (λ v. no-spot v _ _))
-  ends-await pop u s = inr (by-test NoEnd _ _ _ (λ e o v. no-spot v _ _) (λ v. no-spot v _ _))
-  ends-await goIfEmpty u s = inr (by-test NoEnd _ _ _ (λ e o v. no-spot v _ _) (λ v. no-spot v _ _))
-  ends-await go u s = inr (λ v. no-spot v _ _)
-  ends-await goIfZero u s = inr (λ v. no-spot v _ _)
-  ends-await add u s = inr (λ v. no-spot v _ _)
-  ends-await spawn u s = inr (by-test NoEnd _ _ _ (λ e v. no-spot v _ _) (λ v. no-spot v _ _))
-
-  no-end : (i : Action Runner) (e : Search) (v : Runner) → NoEnd i → Acts e i (finished v ∷ []) → ⊥
-  no-end (puts ys) free v n a = n v a
-  no-end (puts ys) (seeking b q) v n a = a
-  no-end (puts ys) (found b q x) v n a = a
-  no-end (looks c p f) free v n a = a
-  no-end (looks c p f) (seeking b q) v n a = n none v (a .2)
-  no-end (looks c p f) (found b q x) v n a = n (some x) v (a .2)
-  no-end (puts ys) (putting q x) v n a = a
-  no-end (looks c p f) (putting q x) v n a = a
-  no-end (returns p y ys) free v n a = a
-  no-end (returns p y ys) (seeking b q) v n a = a
-  no-end (returns p y ys) (found b q x) v n a = a
-  no-end (returns p y ys) (putting q x) v n a = n v (a .2)
-
-  finish-awaits : (u : Runner) (e : Search) (v : Runner) → Acts e (action j u) (finished v ∷ []) → awaits (operationAt (instructionOf j u .operation)) ≡ true
-  unfolding action
-  finish-awaits u e v a =
-      ⊎-elim (λ w. w) (λ n. absurd (no-end _ e v n a)) (ends-await (operationAt (instructionOf j u .operation)) u (instructionOf j u))
 
 module _ (j : List ℕ) (acc : Accepted j) (ticks : ℕ → ℕ) where
   abbrev W : Waits (jobTasks j)
@@ -114,78 +68,74 @@ module _ (j : List ℕ) (acc : Accepted j) (ticks : ℕ → ℕ) where
       (record { number = c .number; youngest = c .youngest; name = l .0 ∙ c .name; pops = λ q p. c .pops q (pop-like j u v q l p) }, n .1)
 
   -- ONE STEP of the task on top
-  module _ (f : List (Timed Runner)) (t : ℕ) (u : Runner) (st : List Frame) (bare : Bare (jobTasks j) W f) (dom : Dom j (ended f) (Nobody j) (frame t u ∷ st))
-      (nested : Nested j u st) (stand : Stands j (u .task)) (stands : All Standing st) (e : Search) (d : ℕ) {x : Fronts} {k : List (Timed Runner)}
+  module _ (f : List (Timed Runner)) (t : ℕ) (u : Runner) (st : List Frame) (bare : Bare (jobTasks j) W f)
+      (dom : Dom j (ended f) (Nobody j) (frame t u ∷ st)) (nested : Nested j u st) (stand : Stands j (u .task)) (stands : All Standing st)
+      (e : Search) (d : ℕ) {x : Fronts} {k : List (Timed Runner)}
       (v : MoveOf (jobTasks j) W u e d none-back (f ++ at t (spot u) ∷ spotsOf st) x k) where
-    pub timed : d ≡ ready j ticks u t f + ticks (instructionOf j u .operation)
+    pub timed : d ≡ ready j ticks u t f + ticksOf j ticks u
     timed = named-time j ticks u t f st dom e d (spotsOf st) bare v
 
     late : ready j ticks u t f ≤ d
-    late = let h = timed in omega (arith, h)
+    late = omega (arith, timed)
 
     after : t ≤ d
-    after = let h = late in let b = later-bounds (hear (names j u) (begun j ticks u) 0 f) t .1 in omega (arith, h, b)
+    after = omega (arith, late, ready-bounds j ticks u t f st dom .1)
 
     left : Left (jobTasks j) W u e d f (spotsOf st) k
     left = leaves (jobTasks j) W u _ e 0 d f t (spotsOf st) bare (v .walk)
 
-    -- what is put, behind the front
-    rejoin : (g xs r : List (Timed Runner)) → g ++ (xs ++ r) ≡ (g ++ xs) ++ r
-    rejoin g xs r = sym (append-assoc g xs r)
+    -- u after the step, where its task is then s
+    abbrev moved : Task → Runner
+    moved s = answered u (eventWith j u (foundBy e)) s
+
+    abbrev gone : Effect → Runner
+    gone ef = moved (advanced (u .task) ef)
+
+    -- the items xs, put by the step, and the rest of the stack
+    abbrev here : List (Item Runner) → List (Timed Runner)
+    here xs = stamp d xs ++ spotsOf st
+
+    -- where the items g of them are over, and s is the stack
+    joined : (g : List (Timed Runner)) (s : List Frame) → here (left .puts) ≡ g ++ spotsOf s → Bare (jobTasks j) W g
+        → Dom j (ended f ++ ended g) (Nobody j) s → Nesting s → All Standing s → Stacked k
+    joined g s i b h n a =
+        record {
+          front = left .front ++ g;
+          stack = s;
+          line = left .line ∙ ap (λ (l : List (Timed Runner)). left .front ++ l) i ∙ sym (append-assoc (left .front) g (spotsOf s));
+          bare = bare-append (left .front) g (left .bare) b;
+          dom = rw (ended-append (left .front) g, left .same) h;
+          nested = n;
+          stands = a;
+        }
+
+    -- the task goes on, behind the items g
+    goes-on : (g : List (Timed Runner)) (ef : Effect) → here (left .puts) ≡ g ++ at d (spot (gone ef)) ∷ spotsOf st → Bare (jobTasks j) W g
+        → ended g ≡ [] → Stands j (gone ef .task) → Stacked k
+    unfolding advanced
+    goes-on g ef i b z s =
+        joined g (frame d (gone ef) ∷ st) i b (rw (z, append-nil) (goes-dom j (ended f) t d u (gone ef) st (refl, refl) (omega arith) after dom))
+        (nested-like u (gone ef) st (refl, refl) nested) (s, stands)
 
     by-put : (xs : List (Item Runner)) → left .puts ≡ xs → Acts e (action j u) xs → Put j u (eventWith j u (foundBy e)) xs → Stacked k
     unfolding advanced parent child ended rightsOf
-    by-put xs i acts (goes ef s) =
-        record {
-          front = left .front;
-          stack = frame d (answered u (eventWith j u (foundBy e)) (advanced (u .task) ef)) ∷ st;
-          line = left .line ∙ ap (λ (y : List (Item Runner)). left .front ++ (stamp d y ++ spotsOf st)) i;
-          bare = left .bare;
-          dom = subst (λ (F : List (Over Runner)). Dom j F (Nobody j) (frame d (answered u (eventWith j u (foundBy e)) (advanced (u .task) ef)) ∷ st)) (sym (left .same)) (goes-dom j (ended f) t d u (answered u (eventWith j u (foundBy e)) (advanced (u .task) ef)) st (refl, refl) (omega arith) after dom);
-          nested = nested-like u (answered u (eventWith j u (foundBy e)) (advanced (u .task) ef)) st (refl, refl) nested;
-          stands = (s, stands);
-        }
-    by-put xs i acts (pushes q x ef s) =
-        record {
-          front = left .front ++ at d (value q x) ∷ [];
-          stack = frame d (answered u (eventWith j u (foundBy e)) (advanced (u .task) ef)) ∷ st;
-          line = left .line ∙ ap (λ (y : List (Item Runner)). left .front ++ (stamp d y ++ spotsOf st)) i ∙ rejoin (left .front) (at d (value q x) ∷ []) (at d (spot (answered u (eventWith j u (foundBy e)) (advanced (u .task) ef))) ∷ spotsOf st);
-          bare = bare-append (left .front) (at d (value q x) ∷ []) (left .bare) (tt, tt);
-          dom = subst (λ (F : List (Over Runner)). Dom j F (Nobody j) (frame d (answered u (eventWith j u (foundBy e)) (advanced (u .task) ef)) ∷ st))
-              (sym (ended-append (left .front) (at d (value q x) ∷ []) ∙ append-nil (ended (left .front)) ∙ left .same))
-              (goes-dom j (ended f) t d u (answered u (eventWith j u (foundBy e)) (advanced (u .task) ef)) st (refl, refl) (omega arith) after dom);
-          nested = nested-like u (answered u (eventWith j u (foundBy e)) (advanced (u .task) ef)) st (refl, refl) nested;
-          stands = (s, stands);
-        }
+    by-put xs i acts (goes ef s) = goes-on [] ef (ap here i) tt refl s
+    by-put xs i acts (pushes q x ef s) = goes-on (at d (value q x) ∷ []) ef (ap here i) (tt, tt) refl s
     by-put xs i acts finishes =
-        record {
-          front = left .front ++ at d (finished (answered u (eventWith j u (foundBy e)) (u .task))) ∷ [];
-          stack = st;
-          line = left .line ∙ ap (λ (y : List (Item Runner)). left .front ++ (stamp d y ++ spotsOf st)) i ∙ rejoin (left .front) (at d (finished (answered u (eventWith j u (foundBy e)) (u .task))) ∷ []) (spotsOf st);
-          bare = bare-append (left .front) (at d (finished (answered u (eventWith j u (foundBy e)) (u .task))) ∷ []) (left .bare) (tt, tt);
-          dom = subst (λ (F : List (Over Runner)). Dom j F (Nobody j) st)
-              (sym (ended-append (left .front) (at d (finished (answered u (eventWith j u (foundBy e)) (u .task))) ∷ []) ∙ ap (λ (F : List (Over Runner)). F ++ over d (answered u (eventWith j u (foundBy e)) (u .task)) ∷ []) (left .same)))
-              (return-dom j (ended f) t d u (answered u (eventWith j u (foundBy e)) (u .task)) (refl, refl) after (early-by j ticks u t f st dom d late)
-              (alone-by j ticks u t f st dom d late (finish-awaits j u e (answered u (eventWith j u (foundBy e)) (u .task)) acts)) (dom .0) st nested (dom .1));
-          nested = rest st nested;
-          stands = stands;
-        }
+        joined (at d (finished (moved (u .task))) ∷ []) st (ap here i) (tt, tt)
+        (return-dom j (ended f) t d u (moved (u .task)) (refl, refl) after (early-by j ticks u t f st dom d late)
+        (alone-by j ticks u t f st dom d late (finish-awaits j u e (moved (u .task)) acts)) (dom .0) st nested (dom .1)) (rest st nested) stands
       where
         rest : (s : List Frame) → Nested j u s → Nesting s
         rest [] n = tt
         rest (frame t w ∷ s) n = n .1
     by-put xs i acts (spawns w x ef s more) =
-        let under = put-under (Pushing j) (Popping j) u (action j u) e (spot (record { task = child (u .task) w x; answers = [] }) ∷ spot (answered u (eventWith j u (foundBy e)) (parent (advanced (u .task) ef))) ∷ []) (action-within j u) acts in
-        record {
-          front = left .front;
-          stack = frame d (record { task = child (u .task) w x; answers = [] }) ∷ frame d (answered u (eventWith j u (foundBy e)) (parent (advanced (u .task) ef))) ∷ st;
-          line = left .line ∙ ap (λ (y : List (Item Runner)). left .front ++ (stamp d y ++ spotsOf st)) i;
-          bare = left .bare;
-          dom = subst (λ (F : List (Over Runner)). Dom j F (Nobody j) (frame d (record { task = child (u .task) w x; answers = [] }) ∷ frame d (answered u (eventWith j u (foundBy e)) (parent (advanced (u .task) ef))) ∷ st)) (sym (left .same))
-              (spawn-dom j (ended f) t d u (answered u (eventWith j u (foundBy e)) (parent (advanced (u .task) ef))) (record { task = child (u .task) w x; answers = [] }) st (refl, refl) refl after refl (under .0 .1) (early-by j ticks u t f st dom d late) dom);
-          nested = (record { number = u .task .children; youngest = refl; name = refl; pops = under .0 .1 }, nested-like u (answered u (eventWith j u (foundBy e)) (parent (advanced (u .task) ef))) st (refl, refl) nested);
-          stands = (s, (more, stands));
-        }
+        let p = moved (parent (advanced (u .task) ef)) in
+        let c : Runner = record { task = child (u .task) w x; answers = [] } in
+        let under = put-under (Pushing j) (Popping j) u (action j u) e (spot c ∷ spot p ∷ []) (action-within j u) acts .0 .1 in
+        joined [] (frame d c ∷ frame d p ∷ st) (ap here i) tt
+        (rw append-nil (spawn-dom j (ended f) t d u p c st (refl, refl) refl after refl under (early-by j ticks u t f st dom d late) dom))
+        (record { number = u .task .children; youngest = refl; name = refl; pops = under }, nested-like u p st (refl, refl) nested) (s, (more, stands))
 
     pub next-stacked : Stacked k
     next-stacked = by-put (left .puts) refl (left .acts) (puts-so j u acc stand e (left .puts) (left .acts))

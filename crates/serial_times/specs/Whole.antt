@@ -1,6 +1,7 @@
--- THE WHOLE SERIAL RUN: every step's time is its ticks after the latest thing it waits for by document 02's words.
-use mathlib.Core.Path.{_≡_, refl, sym, subst}
-use mathlib.Core.List.{List, [], _∷_, _++_}
+-- THE WHOLE SERIAL RUN: every step's time is its ticks after the latest thing it waits for by document 02's words. This is the plain
+-- machine's run of a job, with times.
+use mathlib.Core.Path.{_≡_, refl, subst}
+use mathlib.Core.List.{List, [], _∷_, _++_, append-nil}
 use Prim.Native.Nat.{ℕ, zero, suc, _+_}
 use native.Mathlib.Omega.{arith}
 use Rattle.gaps.specs.Maps.{All}
@@ -13,14 +14,15 @@ use Rattle.line.specs.Fronts.{Fronts, frontsAfter}
 use Rattle.timed_line.specs.Times.{Timed, at, untimed}
 use Rattle.timed_line.specs.Walks.{Waits}
 use Rattle.timed_line.specs.Starts.{startOf}
-use Rattle.timed_line.specs.Agreement.{MoveOf, Move, Moves, no-move, moves, Bare, after-move, all-finished}
+use Rattle.timed_line.specs.Agreement.{MoveOf, Moves, no-move, Bare, after-move, all-finished}
 use Rattle.timed_line.specs.First.{first-moves}
-use Rattle.job_line.specs.Tasks.{Runner, action, instructionOf}
+use Rattle.job_line.specs.Tasks.{Runner, action}
 use Rattle.job_line.specs.Within.{jobTasks}
 use Rattle.job_line.specs.Agree.{top, start, none-back, ran}
+use Rattle.job_times.specs.Kin.{ticksOf}
 use Rattle.job_times.specs.Times.{jobWaits}
 use Rattle.job_moves.specs.Able.{NoReturn, no-return}
-use Rattle.serial_times.specs.Hearing.{ended}
+use Rattle.serial_times.specs.Ended.{ended}
 use Rattle.serial_times.specs.Dominated.{Frame, frame, Dom, Nobody}
 use Rattle.serial_times.specs.Literal.{ready}
 use Rattle.serial_times.specs.Run.{spotsOf, Nesting, Standing, Stacked, timed, next-stacked}
@@ -38,50 +40,41 @@ module _ (j : List ℕ) (acc : Accepted j) (ticks : ℕ → ℕ) where
   -- A RUN OF FIRST TASKS, each step timed by what is named
   pub data Timely : ℕ → List (Timed Runner) → List (Timed Runner) → Type 0 where
     over : {l : List (Timed Runner)} → Bare (jobTasks j) W l → Timely zero l l
-    step : {n : ℕ} {k z : List (Timed Runner)} (f : List (Timed Runner)) (t : ℕ) (u : Runner) (r : List (Timed Runner)) (e : Search) (d : ℕ) → Bare (jobTasks j) W f
-        → MoveOf (jobTasks j) W u e d none-back (f ++ at t (spot u) ∷ r) none-back k → d ≡ ready j ticks u t f + ticks (instructionOf j u .operation) → Timely n k z
-        → Timely (suc n) (f ++ at t (spot u) ∷ r) z
+    step : {n : ℕ} {k z : List (Timed Runner)} (f : List (Timed Runner)) (t : ℕ) (u : Runner) (r : List (Timed Runner)) (e : Search) (d : ℕ)
+        → Bare (jobTasks j) W f → MoveOf (jobTasks j) W u e d none-back (f ++ at t (spot u) ∷ r) none-back k
+        → d ≡ ready j ticks u t f + ticksOf j ticks u → Timely n k z → Timely (suc n) (f ++ at t (spot u) ∷ r) z
 
   bare-items : (f : List (Timed Runner)) → Bare (jobTasks j) W f → All NoSpot (untimed f)
   bare-items [] b = tt
   bare-items (at t x ∷ f) b = (b .0, bare-items f (b .1))
 
-  bare-end : (f : List (Timed Runner)) → Bare (jobTasks j) W f → Bare (jobTasks j) W (f ++ [])
-  bare-end [] b = tt
-  bare-end (at t x ∷ f) b = (b .0, bare-end f (b .1))
-
   -- ANY RUN TO THE END IS THAT LONG, and its last line is that of the run of first tasks
   abbrev To : ℕ → List (Timed Runner) → Type 0
   To n z = (l : List (Timed Runner)) → Stacked j acc ticks l → (x : Fronts) → Moves (jobTasks j) W n none-back l x z → Timely n l z
 
-  stack-timely : (n : ℕ) (z : List (Timed Runner)) → Bare (jobTasks j) W z → ((m : ℕ) → n ≡ suc m → To m z) → (l f : List (Timed Runner)) (st : List Frame)
-      → l ≡ f ++ spotsOf st → Bare (jobTasks j) W f → Dom j (ended f) (Nobody j) st → Nesting j acc ticks st → All (Standing j acc ticks) st
-      → (x : Fronts) → Moves (jobTasks j) W n none-back l x z → Timely n l z
-  stack-timely n z end rest l f [] is b dom nest stands x ms =
-      let bare : Bare (jobTasks j) W l = subst (Bare (jobTasks j) W) (sym is) (bare-end f b) in
-      let h = all-finished (jobTasks j) W end ms bare no-move in
-      subst (λ (k : ℕ). Timely k l z) (sym (h .0)) (subst (Timely zero l) (sym (h .2)) (over bare))
-  stack-timely n z end rest l f (frame t u ∷ st) is b dom nest stands x ms =
-      let c = first-moves (jobTasks j) W u (action j u) refl none-back t f (spotsOf st) (bare-items f b) in
-      let v : MoveOf (jobTasks j) W u (c .end) (c .done) none-back (f ++ at t (spot u) ∷ spotsOf st) none-back (c .line) =
-      subst (λ (y : Fronts). MoveOf (jobTasks j) W u (c .end) (c .done) none-back (f ++ at t (spot u) ∷ spotsOf st) y (c .line)) (none-stays (action j u) (no-return j u)) (c .move) in
-      let o : Move (jobTasks j) W none-back l none-back (c .line) =
-      record { task = u; end = c .end; done = c .done; move = subst (λ (y : List (Timed Runner)). MoveOf (jobTasks j) W u (c .end) (c .done) none-back y none-back (c .line)) (sym is) v } in
-      let a = after-move (jobTasks j) W end ms o in
-      let s = next-stacked j acc ticks f t u st b dom nest (stands .0) (stands .1) (c .end) (c .done) v in
-      let e = timed j acc ticks f t u st b dom nest (stands .0) (stands .1) (c .end) (c .done) v in
-      subst (λ (k : ℕ). Timely k l z) (sym (a .less)) (subst (λ (y : List (Timed Runner)). Timely (suc (a .left)) y z) (sym is)
-      (step f t u (spotsOf st) (c .end) (c .done) b v e (rest (a .left) (a .less) (c .line) s x (a .run))))
+  module _ (n : ℕ) (z : List (Timed Runner)) (end : Bare (jobTasks j) W z) (rest : (m : ℕ) → n ≡ suc m → To m z) where
+    stack-timely : (f : List (Timed Runner)) (st : List Frame) → Bare (jobTasks j) W f → Dom j (ended f) (Nobody j) st → Nesting j acc ticks st
+        → All (Standing j acc ticks) st → (x : Fronts) → Moves (jobTasks j) W n none-back (f ++ spotsOf st) x z → Timely n (f ++ spotsOf st) z
+    stack-timely f [] b dom nest stands x ms =
+        let bare : Bare (jobTasks j) W (f ++ []) = rw append-nil b in
+        let h = all-finished (jobTasks j) W end ms bare no-move in
+        rw (h .0, h .2) (over bare)
+    stack-timely f (frame t u ∷ st) b dom nest stands x ms =
+        let c = first-moves (jobTasks j) W u (action j u) refl none-back t f (spotsOf st) (bare-items f b) in
+        let v = rw (none-stays (action j u) (no-return j u)) at (c .move) in
+        let a = after-move (jobTasks j) W end ms (record { task = u; end = c .end; done = c .done; move = v }) in
+        let s = next-stacked j acc ticks f t u st b dom nest (stands .0) (stands .1) (c .end) (c .done) v in
+        let e = timed j acc ticks f t u st b dom nest (stands .0) (stands .1) (c .end) (c .done) v in
+        rw (a .less) (step f t u (spotsOf st) (c .end) (c .done) b v e (rest (a .left) (a .less) (c .line) s x (a .run)))
+
+    stacked-timely : To n z
+    stacked-timely l s x ms =
+        rw (s .line) (stack-timely (s .front) (s .stack) (s .bare) (s .dom) (s .nested) (s .stands) x (rw (s .line) at ms))
 
   pub serial-timely : (n : ℕ) (z : List (Timed Runner)) → Bare (jobTasks j) W z → To n z
-  serial-timely zero z end l s x ms =
-      stack-timely zero z end (λ m e. let y : _≡_ {A = ℕ} 0 1 = absurd (none e) in absurd (none e)) l (s .front) (s .stack) (s .line) (s .bare) (s .dom) (s .nested) (s .stands) x ms
-    where
-      none : {m : ℕ} → zero ≡ suc m → ⊥
-      none e = omega (arith, e)
-  serial-timely (suc n) z end l s x ms =
-      stack-timely (suc n) z end (λ m e. subst (λ (k : ℕ). To k z) (let i : n ≡ m = omega (arith, e) in i) (serial-timely n z end)) l
-      (s .front) (s .stack) (s .line) (s .bare) (s .dom) (s .nested) (s .stands) x ms
+  serial-timely zero z end = stacked-timely zero z end (λ m e. let none : ⊥ = omega (arith, e) in absurd none)
+  serial-timely (suc n) z end =
+      stacked-timely (suc n) z end (λ m e. let i : n ≡ m = omega (arith, e) in subst (λ (k : ℕ). To k z) i (serial-timely n z end))
 
   -- AT THE BEGINNING the top is alone
   begins : Stacked j acc ticks start
@@ -92,7 +85,7 @@ module _ (j : List ℕ) (acc : Accepted j) (ticks : ℕ → ℕ) where
         stack = frame 0 top ∷ [];
         line = refl;
         bare = tt;
-        dom = (record { below = λ q p. tt; rights = tt; kids = tt; none = tt }, tt);
+        dom = (record { below = λ q p y s m. absurd m; rights = λ y s m. absurd m; kids = λ y s m. absurd m; none = λ y s m. absurd m }, tt);
         nested = tt;
         stands = (begin-stands j acc .0, tt);
       }
