@@ -21,7 +21,7 @@ use Rattle.job_line.specs.Within.{jobTasks}
 use Rattle.job_line.specs.Agree.{top, start, none-back, ran}
 use Rattle.job_times.specs.Kin.{ticksOf}
 use Rattle.job_times.specs.Times.{jobWaits}
-use Rattle.job_moves.specs.Able.{NoReturn, no-return}
+use Rattle.job_moves.specs.AbleMoves.{NoReturn, no-return}
 use Rattle.serial_times.specs.Ended.{ended}
 use Rattle.serial_times.specs.Dominated.{Frame, frame, Dom, Nobody}
 use Rattle.serial_times.specs.Literal.{ready}
