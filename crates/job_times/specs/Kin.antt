@@ -3,7 +3,6 @@ use mathlib.Core.Path.{_≡_, refl}
 use mathlib.Core.Bool.{Bool}
 use mathlib.Core.List.{List, [], _∷_}
 use mathlib.Core.Logic.{inl, inr}
-use mathlib.Core.Option.{Option, none, some}
 use Prim.Native.Nat.{ℕ}
 use Rattle.gaps.specs.Maps.{All}
 use Rattle.tree.specs.Rights.{sharesPop}
@@ -12,7 +11,7 @@ use Rattle.job.specs.declared.Instruction.{Instruction}
 use Rattle.job.specs.Operations.{Operation, return, push, pushSum, pop, goIfEmpty, go, goIfZero, add, spawn, sync, operationAt}
 use Rattle.plain.specs.Machine.{advanced, parent, child}
 use Rattle.plain.specs.Stack.{rightsOf}
-use Rattle.line.specs.Line.{Item, value, spot, finished, Action, puts, looks, returns, Search, free, seeking, found, putting, Acts}
+use Rattle.line.specs.Line.{Item, value, spot, finished, Action, Search, Acts, Each, acts-each}
 use Rattle.timed_line.specs.Walks.{Clear}
 use Rattle.job_line.specs.Tasks.{canPush, canPop, Runner, actionBy, action, instructionOf, by-test}
 use Rattle.named_waits.specs.Named as named
@@ -76,9 +75,7 @@ module _ (j : List ℕ) where
   like u t e f = record { same = e; pop = λ q. rw f refl; share = λ w. rw f refl; less = λ q h. rw (← f) h }
 
   abbrev Keeps : Runner → Action Runner → Type 0
-  Keeps u (puts xs) = Kept u xs
-  Keeps u (looks b q f) = (o : Option ℕ) → Kept u (f o)
-  Keeps u (returns q v xs) = Kept u xs
+  Keeps u = Each (Kept u)
 
   module _ (u t : Runner) (e : t .task .name ≡ u .task .name) (f : t .task .procedure ≡ u .task .procedure) where
     holds : (q : ℕ) → named.Pushing nameOf pushesOf popsOf sharesOf awaitsOf u q
@@ -112,20 +109,6 @@ module _ (j : List ℕ) where
   keeps sync u s = goes u _ refl refl
   keeps spawn u s = by-test (Keeps u) _ _ _ (λ e. spawned u _ refl refl _ (u .task .children) refl) (goes u _ refl refl)
 
-  acting : (u : Runner) (i : Action Runner) (m : Search) (xs : List (Item Runner)) → Keeps u i → Acts m i xs → Kept u xs
-  acting u (puts ys) free xs k d = rw d k
-  acting u (puts ys) (seeking b q) xs k d = absurd d
-  acting u (puts ys) (found b q v) xs k d = absurd d
-  acting u (puts ys) (putting q v) xs k d = absurd d
-  acting u (looks c p f) free xs k d = absurd d
-  acting u (looks c p f) (seeking b q) xs k d = rw (d .2) (k none)
-  acting u (looks c p f) (found b q v) xs k d = rw (d .2) (k (some v))
-  acting u (looks c p f) (putting q v) xs k d = absurd d
-  acting u (returns p w ys) free xs k d = absurd d
-  acting u (returns p w ys) (seeking b q) xs k d = absurd d
-  acting u (returns p w ys) (found b q v) xs k d = absurd d
-  acting u (returns p w ys) (putting q v) xs k d = rw (d .2) k
-
   pub puts-kept : (u : Runner) (m : Search) (xs : List (Item Runner)) → Acts m (action j u) xs → Kept u xs
   unfolding action
-  puts-kept u m xs d = acting u _ m xs (keeps (operationAt (instructionOf j u .operation)) u (instructionOf j u)) d
+  puts-kept u m xs d = acts-each (Kept u) _ m xs (keeps (operationAt (instructionOf j u .operation)) u (instructionOf j u)) d

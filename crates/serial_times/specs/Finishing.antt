@@ -3,11 +3,10 @@ use mathlib.Core.Path.{_≡_, refl}
 use mathlib.Core.Bool.{true}
 use mathlib.Core.List.{List, [], _∷_}
 use mathlib.Core.Logic.{_⊎_, inl, inr, ⊎-elim}
-use mathlib.Core.Option.{Option, none, some}
 use Prim.Native.Nat.{ℕ}
 use Rattle.job.specs.declared.Instruction.{Instruction}
 use Rattle.job.specs.Operations.{Operation, return, push, pushSum, pop, goIfEmpty, go, goIfZero, add, spawn, sync, operationAt}
-use Rattle.line.specs.Line.{Item, value, spot, finished, gave, Action, puts, looks, returns, Search, free, seeking, found, putting, Acts}
+use Rattle.line.specs.Line.{Item, value, spot, finished, gave, Action, Search, Acts, Each, acts-each}
 use Rattle.job_line.specs.Tasks.{Runner, actionBy, action, instructionOf, by-test}
 use Rattle.job_times.specs.Kin.{awaits, awaitsOf}
 
@@ -20,9 +19,7 @@ Unended (finished s ∷ xs) = ⊥
 Unended (gave q ∷ xs) = Unit {0}
 
 abbrev NoEnd : Action Runner → Type 0
-NoEnd (puts ys) = Unended ys
-NoEnd (looks b q f) = (o : Option ℕ) → Unended (f o)
-NoEnd (returns q x ys) = Unended ys
+NoEnd = Each Unended
 
 module _ (j : List ℕ) where
   ends-await : (o : Operation) (u : Runner) (s : Instruction) → (awaits o ≡ true) ⊎ NoEnd (actionBy o j u s)
@@ -38,21 +35,7 @@ module _ (j : List ℕ) where
   ends-await add u s = inr tt
   ends-await spawn u s = inr (by-test NoEnd _ _ _ (λ e. tt) tt)
 
-  acts-no-end : (i : Action Runner) (e : Search) (xs : List (Item Runner)) → NoEnd i → Acts e i xs → Unended xs
-  acts-no-end (puts ys) free xs n a = rw a n
-  acts-no-end (puts ys) (seeking b q) xs n a = absurd a
-  acts-no-end (puts ys) (found b q x) xs n a = absurd a
-  acts-no-end (puts ys) (putting q x) xs n a = absurd a
-  acts-no-end (looks c p f) free xs n a = absurd a
-  acts-no-end (looks c p f) (seeking b q) xs n a = rw (a .2) (n none)
-  acts-no-end (looks c p f) (found b q x) xs n a = rw (a .2) (n (some x))
-  acts-no-end (looks c p f) (putting q x) xs n a = absurd a
-  acts-no-end (returns p y ys) free xs n a = absurd a
-  acts-no-end (returns p y ys) (seeking b q) xs n a = absurd a
-  acts-no-end (returns p y ys) (found b q x) xs n a = absurd a
-  acts-no-end (returns p y ys) (putting q x) xs n a = rw (a .2) n
-
   pub finish-awaits : (u : Runner) (e : Search) (v : Runner) → Acts e (action j u) (finished v ∷ []) → awaitsOf j u ≡ true
   unfolding action
   finish-awaits u e v a =
-      ⊎-elim (λ w. w) (λ n. absurd (acts-no-end _ e _ n a)) (ends-await (operationAt (instructionOf j u .operation)) u (instructionOf j u))
+      ⊎-elim (λ w. w) (λ n. absurd (acts-each Unended _ e _ n a)) (ends-await (operationAt (instructionOf j u .operation)) u (instructionOf j u))
