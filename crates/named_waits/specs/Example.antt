@@ -141,14 +141,11 @@ pop-at-nine = moves spawn (moves give-up (moves pop no-move))
     give-up : Move T W none-back (line 1) none-back (line 2)
     give-up = record { task = gives; end = free; done = 6; move = record { fronts = refl; walk = Walk.here _ refl refl } }
 
+    -- the search has noted 6, the time of the mark, and goes past the child, which may push no longer
+    noted : Walk T W reads (seeking false 0) (seeking false 0) 6 9 (at 6 (spot leaves) ∷ at 5 (spot reads) ∷ []) (at 6 (spot leaves) ∷ at 9 (spot ends) ∷ [])
+    noted =
+        Walk.past {m = seeking false 0} {x = spot leaves} ((false≢true, false≢true), (false≢true, false≢true))
+        (Walk.here {m = seeking false 0} _ (refl, refl, refl) refl)
+
     pop : Move T W none-back (line 2) none-back (line 3)
-    pop =
-        record {
-          task = reads;
-          end = seeking false 0;
-          done = 9;
-          move = record {
-            fronts = refl;
-            walk = Walk.past (tt, tt) (Walk.past ((false≢true, false≢true), (false≢true, false≢true)) (Walk.here _ (refl, refl, refl) refl));
-          };
-        }
+    pop = record { task = reads; end = seeking false 0; done = 9; move = record { fronts = refl; walk = Walk.past (tt, tt) noted } }
