@@ -1,4 +1,5 @@
--- ANY ORDER OF MOVES of an accepted job's tasks agrees with its plain run, where that ends.
+-- ANY ORDER OF MOVES of an accepted job's tasks agrees with its plain run, where that ends: it makes no more moves, and once all
+-- tasks have finished as many, with the same values left in the queues.
 use mathlib.Core.Path.{_≡_, refl, ap, ap₂, sym, _∙_}
 use mathlib.Core.List.{List, [], _∷_, _++_, append-nil}
 use Prim.Native.Nat.{ℕ, _+_, _<_}
@@ -15,7 +16,6 @@ use Rattle.line.specs.Fronts.{Fronts}
 use Rattle.timed_line.specs.Times.{Timed, at, untimed}
 use Rattle.timed_line.specs.Walks.{Waits}
 use Rattle.timed_line.specs.Agreement.{Moves, agree, all-finished}
-use Rattle.timed_line.specs.First.{bare-timed}
 use Rattle.job_line.specs.Tasks.{Runner}
 use Rattle.job_line.specs.Within.{jobTasks}
 use Rattle.job_line.specs.Front.{valuesOf}
@@ -56,13 +56,12 @@ module _ (j : List ℕ) (W : Waits (jobTasks j)) (acc : Accepted j) (m : ℕ) (e
       → Agrees k (stepsOf (run m j)) (queuesOf (run m j)) r (untimed l)
   moves-agree {k} {r} {l} ms =
       let a = agree (jobTasks j) W (ran .bare) (ran .run) ms in
-      let c = ran .count in
       record {
         rest = a .left;
-        count = let d = a .count in omega (arith, c, d);
-        all-moved = λ b. let d = all-finished (jobTasks j) W (ran .bare) (ran .run) (bare-timed (jobTasks j) W l b) ms .0 in omega (arith, c, d);
+        count = omega (arith, ran .count, a .count);
+        all-moved = λ b. omega (arith, ran .count, all-finished (jobTasks j) W (ran .bare) (ran .run) b ms .0);
         left = λ b q i.
-            let e = all-finished (jobTasks j) W (ran .bare) (ran .run) (bare-timed (jobTasks j) W l b) ms in
+            let e = all-finished (jobTasks j) W (ran .bare) (ran .run) b ms in
             ap₂ (λ (x : Fronts) (y : List (Item Runner)). x q ++ valuesOf q y) (sym (e .1))
             (ap untimed (sym (e .2)) ∙ ran .serially .line ∙ append-nil (ran .serially .before)) ∙ ran .serially .lists .same q i;
       }

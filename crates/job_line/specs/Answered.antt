@@ -16,7 +16,6 @@ use Rattle.timed_line.specs.Times.{Timed, untimed}
 use Rattle.timed_line.specs.Walks.{Waits}
 use Rattle.timed_line.specs.Agreement.{Moves, all-finished}
 use Rattle.timed_line.specs.Answers.{answers}
-use Rattle.timed_line.specs.First.{bare-timed}
 use Rattle.job_line.specs.Tasks.{Runner}
 use Rattle.job_line.specs.Within.{jobTasks}
 use Rattle.job_line.specs.Lasting.{jobLasting}
@@ -65,4 +64,4 @@ module _ (j : List ℕ) (W : Waits (jobTasks j)) (acc : Accepted j) (m : ℕ) (e
       same : Logged (untimed l) (events m j)
       same =
           subst (λ (x : List (Timed Runner)). Logged (untimed x) (events m j))
-          (all-finished (jobTasks j) W (ran j W acc m end .bare) (ran j W acc m end .run) (bare-timed (jobTasks j) W l a) ms .2) plain-logged
+          (all-finished (jobTasks j) W (ran j W acc m end .bare) (ran j W acc m end .run) a ms .2) plain-logged

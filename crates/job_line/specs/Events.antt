@@ -1,4 +1,5 @@
--- THE LOG of a list of moves: for each move the event of the task that made it, in the order made.
+-- THE LOG of a list of moves: for each move the event of the task that made it, in the order made. The answers of each task are read
+-- from it.
 use mathlib.Core.Path.{_≡_, refl, ap}
 use mathlib.Core.Option.{Option}
 use mathlib.Core.List.{List, [], _∷_, _++_}

@@ -110,7 +110,7 @@ module _ (j : List ℕ) (W : Waits (jobTasks j)) (acc : Accepted j) where
   moves-logged ms = all-logged [] (start-stands j W acc) (record { own = (refl, tt); heard = λ p n. refl; apart = (tt, tt) }) ms
 
 -- the answers of one task of the line
-pub own-answers : (w : Runner) (es : List Event) {l : List (Item Runner)} → On w l → All (Own es) l → w .answers ≡ answersOf (w .task .name) es
+own-answers : (w : Runner) (es : List Event) {l : List (Item Runner)} → On w l → All (Own es) l → w .answers ≡ answersOf (w .task .name) es
 own-answers w es unfinished h = h .0
 own-answers w es over h = h .0
 own-answers w es (behind i) h = own-answers w es i (h .1)

@@ -1,4 +1,5 @@
--- THE NAMES ON THE LINE: no two tasks have the same, and the next child of an unfinished task has a new one. Moves keep this.
+-- THE NAMES ON THE LINE: no two tasks have the same, and the next child of an unfinished task has a new one. Moves keep this. So the
+-- events of one name are those of one task.
 use mathlib.Core.Path.{_≡_, refl, sym, _∙_}
 use mathlib.Core.List.{List, [], _∷_, _++_, tail-eq-of-cons-eq}
 use Prim.Native.Nat.{ℕ, _<_}
@@ -58,15 +59,11 @@ turned h = record { differ = λ p a b. h .differ p b a; left = h .right; right =
 apart-value : (q v : ℕ) (x : Item Runner) → Apart (value q v) x
 apart-value q v x = record { differ = λ p a b. a; left = λ p r k n o. absurd o; right = λ p r k n o b. absurd b }
 
-apart-values : (q v : ℕ) (l : List (Item Runner)) → All (Apart (value q v)) l
-apart-values q v [] = tt
-apart-values q v (x ∷ l) = (apart-value q v x, apart-values q v l)
-
 -- WHAT THE TASK u PUTS is apart from what u was apart from
 module _ (u : Runner) where
   -- no name on the line is that of the next child, or descends from it
   next-unused : (y : Item Runner) → Apart (spot u) y → (q : Name) → Named q y → Under (nextName u) q → ⊥
-  next-unused y h q b d = let z = h .left (u .task .name) q (u .task .children) (u .task .children) (refl, refl) b d in omega (arith, z)
+  next-unused y h q b d = omega (arith, h .left (u .task .name) q (u .task .children) (u .task .children) (refl, refl) b d)
 
   next-unnamed : (y : Item Runner) → Apart (spot u) y → Unnamed (nextName u) y
   next-unnamed y h e = next-unused y h (nextName u) e (under-self _)
@@ -110,7 +107,7 @@ module _ (u : Runner) where
     spawner-apart y h =
         record {
           differ = h .differ;
-          left = λ p q k n o b d. let z = h .left p q k (u .task .children) (o .0, refl) b d in let m = o .1 in omega (arith, z, m);
+          left = λ p q k n o b d. omega (arith, h .left p q k (u .task .children) (o .0, refl) b d, o .1);
           right = h .right;
         }
 
@@ -120,10 +117,7 @@ module _ (u : Runner) where
         record {
           differ = λ p c d. not-own (d ∙ sym c);
           left = λ p q k n o d r. absurd (not-under-child (under-self (u .task .name)) (rw (← d) at (rw (← o .0) at (under-parent r))));
-          right = λ p q k n o d r.
-              let z = one-branch (rw (← o .0) at (rw (← d) at r)) (under-self (nextName u)) in
-              let m = o .1 in
-              omega (arith, z, m);
+          right = λ p q k n o d r. omega (arith, one-branch (rw (← o .0) at (rw (← d) at r)) (under-self (nextName u)), o .1);
         }
 
 module _ (j : List ℕ) where
@@ -135,7 +129,10 @@ module _ (j : List ℕ) where
 
   put-pairs : {u : Runner} {a : Event} {xs : List (Item Runner)} (l : List (Item Runner)) → Put j u a xs → Pairs (spot u ∷ l) → Pairs (xs ++ l)
   put-pairs {u} {a} l (goes e st) h = (all-map (Apart (spot u)) _ l (onward-apart u a e) (h .0), h .1)
-  put-pairs {u} {a} l (pushes q v e st) h = ((apart-value q v _, apart-values q v l), (all-map (Apart (spot u)) _ l (onward-apart u a e) (h .0), h .1))
+  put-pairs {u} {a} l (pushes q v e st) h = (
+    (apart-value q v _, all-map (Apart (spot u)) _ l (λ y k. apart-value q v y) (h .0)),
+    (all-map (Apart (spot u)) _ l (onward-apart u a e) (h .0), h .1),
+  )
   put-pairs {u} {a} l finishes h = (all-map (Apart (spot u)) _ l (over-apart u a) (h .0), h .1)
   put-pairs {u} {a} l (spawns w x e st more) h = (
     (both-apart u a e w x, all-map (Apart (spot u)) _ l (child-apart u w x) (h .0)),

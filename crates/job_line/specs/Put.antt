@@ -1,7 +1,8 @@
--- WHAT A MOVE PUTS in an accepted job: the task that moves with one answer more, and a value or a new task before it.
+-- WHAT A MOVE PUTS in an accepted job: the task that moves with one answer more, and a value or a new task before it. The proofs
+-- about places, names and answers go by these cases.
 use mathlib.Core.Path.{_≡_, sym, subst}
 use mathlib.Core.Bool.{Bool, true, false≢true}
-use mathlib.Core.Option.{Option, none, some}
+use mathlib.Core.Option.{Option, none}
 use mathlib.Core.List.{List, [], _∷_, _++_}
 use Prim.Native.Nat.{ℕ, _≤_, zero-le}
 use Rattle.words.specs.Words.{pick, halt, both-true}
@@ -14,9 +15,8 @@ use Rattle.job.specs.Accepted.{Accepted}
 use Rattle.plain.specs.Machine.{Task, Event, eventOf, advanced, parent, child}
 use Rattle.plain.specs.Stack.{rightsOf, Stands}
 use Rattle.plain.specs.Onward.{StandsAfter, stands-after}
-use Rattle.line.specs.Line.{Item, value, spot, finished, Action, puts, looks, Search, free, seeking, found, Acts}
-use Rattle.job_line.specs.Tasks.{canPush, canPop, Runner, does, goesOn, instruction, actionBy, action, instructionOf}
-use Rattle.job_line.specs.Front.{foundBy}
+use Rattle.line.specs.Line.{Item, value, spot, finished, Action, Search, Acts, foundBy, Every, acts-every}
+use Rattle.job_line.specs.Tasks.{canPush, canPop, Runner, does, instruction, actionBy, action, instructionOf}
 use Rattle.job_line.specs.Events.{eventWith}
 
 -- the task t, which has had the answers of u and then a
@@ -32,22 +32,9 @@ pub data Put (j : List ℕ) (u : Runner) (a : Event) : List (Item Runner) → Ty
       → Put j u a (spot (record { task = child (u .task) w x; answers = [] }) ∷ spot (answered u a (parent (advanced (u .task) e))) ∷ [])
 
 module _ (j : List ℕ) (u : Runner) where
-  -- an action that puts what a move may put, by what was found
+  -- whatever an action may put is one of these, by what was found
   abbrev Putting : Instruction → Action Runner → Type 0
-  Putting s i = (m : Search) (xs : List (Item Runner)) → Acts m i xs → Put j u (eventOf (u .task) s (does u s (foundBy m))) xs
-
-  putting : (s : Instruction) (ys : List (Item Runner)) → Put j u (eventOf (u .task) s (does u s none)) ys → Putting s (puts ys)
-  putting s ys p free xs d = rw d p
-  putting s ys p (seeking b q) xs d = absurd d
-  putting s ys p (found b q v) xs d = absurd d
-  putting s ys p (Search.putting q v) xs d = absurd d
-
-  looking : (s : Instruction) (b : Bool) (q : ℕ) (f : Option ℕ → List (Item Runner)) → ((o : Option ℕ) → Put j u (eventOf (u .task) s (does u s o)) (f o))
-      → Putting s (looks b q f)
-  looking s b q f p free xs d = absurd d
-  looking s b q f p (seeking c r) xs d = rw (d .2) (p none)
-  looking s b q f p (found c r v) xs d = rw (d .2) (p (some v))
-  looking s b q f p (Search.putting r v) xs d = absurd d
+  Putting s = Every (λ o. Put j u (eventOf (u .task) s (does u s o)))
 
   -- by the operation's number
   abbrev Case : ℕ → Type 0
@@ -59,32 +46,28 @@ module _ (j : List ℕ) (u : Runner) where
   with-right : (s : Instruction) {b : Bool} (i k : Action Runner) → b ≡ true → Putting s i → Putting s (pick b i k)
   with-right s i k e p = subst (Putting s) (sym (halt i k e)) p
 
-  on-case : (k w x : ℕ) → Stands j (advanced (u .task) (does u (instruction k w x) none))
-      → Putting (instruction k w x) (puts (spot (goesOn u (instruction k w x) none) ∷ []))
-  on-case k w x st = putting (instruction k w x) _ (goes _ st)
-
   by-number : (k : ℕ) → 0 ≤ k → Case k
   unfolding rowOf operationOf operationAt whichHolds canPush canPop does
   by-number =
-      from Case 0 (λ w x a st. putting (instruction 0 w x) _ finishes)
-      (from Case 1 (λ w x a st. with-right (instruction 1 w x) _ _ a (putting (instruction 1 w x) _ (pushes w _ _ (st none))))
-      (from Case 2 (λ w x a st. with-right (instruction 2 w x) _ _ a (putting (instruction 2 w x) _ (pushes w _ _ (st none))))
-      (from Case 3 (λ w x a st. with-right (instruction 3 w x) _ _ a (looking (instruction 3 w x) _ w _ (λ f. goes _ (st f))))
-      (from Case 4 (λ w x a st. with-right (instruction 4 w x) _ _ a (looking (instruction 4 w x) _ w _ (λ f. goes _ (st f))))
-      (from Case 5 (λ w x a st. on-case 5 w x (st none))
-      (from Case 6 (λ w x a st. on-case 6 w x (st none))
-      (from Case 7 (λ w x a st. on-case 7 w x (st none))
-      (from Case 8 (λ w x a st.
-      with-right (instruction 8 w x) _ _ (both-true _ _ a .1) (putting (instruction 8 w x) _ (spawns w x _ (st none .1) (st none .0))))
-      (from Case 9 (λ w x a st. on-case 9 w x (st none))
+      from Case 0 (λ w x a st. finishes)
+      (from Case 1 (λ w x a st. with-right (instruction 1 w x) _ _ a (pushes w _ _ (st none)))
+      (from Case 2 (λ w x a st. with-right (instruction 2 w x) _ _ a (pushes w _ _ (st none)))
+      (from Case 3 (λ w x a st. with-right (instruction 3 w x) _ _ a (λ f. goes _ (st f)))
+      (from Case 4 (λ w x a st. with-right (instruction 4 w x) _ _ a (λ f. goes _ (st f)))
+      (from Case 5 (λ w x a st. goes _ (st none))
+      (from Case 6 (λ w x a st. goes _ (st none))
+      (from Case 7 (λ w x a st. goes _ (st none))
+      (from Case 8 (λ w x a st. with-right (instruction 8 w x) _ _ (both-true _ _ a .1) (spawns w x _ (st none .1) (st none .0)))
+      (from Case 9 (λ w x a st. goes _ (st none))
       (λ k past w x a st. absurd (false≢true (rw (row-past k past) at a)))
       )))))))))
 
   -- A TASK THAT STANDS puts one of these.
   pub puts-so : Accepted j → Stands j (u .task) → (m : Search) (xs : List (Item Runner)) → Acts m (action j u) xs → Put j u (eventWith j u (foundBy m)) xs
   unfolding action instructionOf instructionHolds fitting rightsOf
-  puts-so acc st =
+  puts-so acc st m xs d =
       let s = instructionOf j u in
-      by-number (s .operation) zero-le (s .which) (s .operand)
+      acts-every (λ o. Put j u (eventWith j u o)) (action j u) m xs
+      (by-number (s .operation) zero-le (s .which) (s .operand)
       (both-true _ _ (acc .instructions (u .task .procedure) (u .task .position) (st .procedure) (st .position)) .0)
-      (stands-after j acc (u .task) st)
+      (stands-after j acc (u .task) st)) d

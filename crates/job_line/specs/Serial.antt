@@ -1,6 +1,7 @@
--- THE PLAIN RUN, where it ends, is the serial run along the line: as many steps, the same events, and the same lists in the end.
+-- THE PLAIN RUN, where it ends, is the serial run along the line: as many steps, the same events, and the same lists in the end. So
+-- what holds of any two runs along the line holds of any run and the plain one.
 use mathlib.Core.Path.{_≡_, ap, sym, _∙_, subst}
-use mathlib.Core.List.{List, [], _∷_, _++_, append-nil}
+use mathlib.Core.List.{List, [], _∷_, _++_, append-nil, nil≢cons}
 use Prim.Native.Nat.{ℕ, zero, suc, _+_}
 use native.Mathlib.Omega.{arith}
 use Rattle.gaps.specs.Maps.{All}
@@ -15,10 +16,9 @@ use Rattle.line.specs.Fronts.{Fronts}
 use Rattle.timed_line.specs.Times.{Timed}
 use Rattle.timed_line.specs.Walks.{Waits}
 use Rattle.timed_line.specs.Agreement.{Moves, no-move, moves as more, Bare}
-use Rattle.timed_line.specs.First.{bare-timed}
 use Rattle.job_line.specs.Tasks.{Runner}
 use Rattle.job_line.specs.Within.{jobTasks}
-use Rattle.job_line.specs.Events.{log, moveEvent}
+use Rattle.job_line.specs.Events.{log}
 use Rattle.job_line.specs.Plain.{tasksOf, Serially, plain-step}
 
 -- a run to its end, from the line l with r in front: the state s is that of the plain machine then, which has made k steps before; es
@@ -51,7 +51,7 @@ module _ (j : List ℕ) (W : Waits (jobTasks j)) (acc : Accepted j) where
         fronts = r;
         last = l;
         run = no-move;
-        bare = bare-timed (jobTasks j) W l (subst (All NoSpot) (sym (append-nil (h .before)) ∙ sym (h .line)) (h .bare));
+        bare = subst (All NoSpot) (sym (append-nil (h .before)) ∙ sym (h .line)) (h .bare);
         serially = h;
         count = omega arith;
         events = sym (ended-silent j qs k m);
@@ -60,7 +60,7 @@ module _ (j : List ℕ) (W : Waits (jobTasks j)) (acc : Accepted j) where
   none-made : Runs zero
   unfolding stackOf runFrom
   none-made k r qs [] l h st e = at-end 0 k r qs l h
-  none-made k r qs (u ∷ us) l h st e = let z : _≡_ {A = ℕ} 0 1 = cc in absurd (omega (arith, z))
+  none-made k r qs (u ∷ us) l h st e = absurd (nil≢cons (sym e))
 
   one-more : (m : ℕ) → Runs m → Runs (suc m)
   unfolding stackOf runFrom eventsFrom
@@ -78,9 +78,8 @@ module _ (j : List ℕ) (W : Waits (jobTasks j)) (acc : Accepted j) where
         run = more (p .move) (o .run);
         bare = o .bare;
         serially = o .serially;
-        count = let c = o .count in omega (arith, c);
-        events = ap (λ (es : List Event). moveEvent j W (p .move) ∷ es) (o .events)
-            ∙ ap (λ (es : List Event). es ++ eventsFrom m j (state (p .queues) (tasksOf (p .tasks)) (k + 1))) (sym (p .event));
+        count = omega (arith, o .count);
+        events = rw (p .event, o .events);
       })
 
   pub plain-runs : (m : ℕ) → Runs m

@@ -11,7 +11,7 @@ use Rattle.job.specs.declared.Instruction.{Instruction}
 use Rattle.job.specs.Operations.{Operation, return, push, pushSum, pop, goIfEmpty, go, goIfZero, add, spawn, sync, operationAt}
 use Rattle.plain.specs.Machine.{advanced, parent, child}
 use Rattle.plain.specs.Stack.{rightsOf}
-use Rattle.line.specs.Line.{Item, value, spot, finished, Action, Search, Acts, Each, acts-each}
+use Rattle.line.specs.Line.{Item, value, spot, finished, Action, Search, Acts, Every, acts-every}
 use Rattle.timed_line.specs.Walks.{Clear}
 use Rattle.job_line.specs.Tasks.{canPush, canPop, Runner, actionBy, action, instructionOf, by-test}
 use Rattle.named_waits.specs.Named as named
@@ -75,7 +75,7 @@ module _ (j : List ℕ) where
   like u t e f = record { same = e; pop = λ q. rw f refl; share = λ w. rw f refl; less = λ q h. rw (← f) h }
 
   abbrev Keeps : Runner → Action Runner → Type 0
-  Keeps u = Each (Kept u)
+  Keeps u = Every (λ o. Kept u)
 
   module _ (u t : Runner) (e : t .task .name ≡ u .task .name) (f : t .task .procedure ≡ u .task .procedure) where
     holds : (q : ℕ) → named.Pushing nameOf pushesOf popsOf sharesOf awaitsOf u q
@@ -111,4 +111,4 @@ module _ (j : List ℕ) where
 
   pub puts-kept : (u : Runner) (m : Search) (xs : List (Item Runner)) → Acts m (action j u) xs → Kept u xs
   unfolding action
-  puts-kept u m xs d = acts-each (Kept u) _ m xs (keeps (operationAt (instructionOf j u .operation)) u (instructionOf j u)) d
+  puts-kept u m xs d = acts-every (λ o. Kept u) _ m xs (keeps (operationAt (instructionOf j u .operation)) u (instructionOf j u)) d

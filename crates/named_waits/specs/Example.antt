@@ -11,7 +11,7 @@ use borrow.Author.Tests.{eqb-true}
 use Rattle.words.specs.Words.{both, either, pick}
 use Rattle.order.specs.Steps.{Name}
 use Rattle.order.specs.Waits.{sameName, isChild, isOlder}
-use Rattle.line.specs.Line.{Item, spot, finished, gave, Action, puts, looks, free, seeking, Each, acts-each}
+use Rattle.line.specs.Line.{Item, spot, finished, gave, Action, puts, looks, free, seeking, Every, acts-every}
 use Rattle.line.specs.Rights.{Within, Tasks}
 use Rattle.line.specs.Fronts.{Fronts}
 use Rattle.timed_line.specs.Times.{Timed, at, later}
@@ -93,7 +93,7 @@ itself s = record { same = refl; pop = λ q. refl; share = λ u. refl; less = λ
 fewer : Like gives leaves
 fewer = record { same = refl; pop = λ q. refl; share = λ u. refl; less = λ q h. absurd (false≢true h) }
 
-keeps : (s : Task) → Each (Kept s) (next s)
+keeps : (s : Task) → Every (λ o. Kept s) (next s)
 keeps spawns = record { kin = (inr (0, refl), (inl spawned, tt)); lasts = inr (inl spawned); holds = λ q h. inr (inl (spawned, h)) }
 keeps reads = λ o. record { kin = (inl read, tt); lasts = inl read; holds = λ q h. inl (read, h) }
 keeps ends = record { kin = (itself ends, tt); lasts = inl (itself ends); holds = λ q h. inl (itself ends, h) }
@@ -113,7 +113,7 @@ within leaves = (tt, tt)
 
 -- so the laws of the timed line hold of them
 abbrev steps : named.Steps nameOf pushing popping shares awaiting next ticks
-steps = record { within = within; kept = λ s m xs d. acts-each (Kept s) (next s) m xs (keeps s) d }
+steps = record { within = within; kept = λ s m xs d. acts-every (λ o. Kept s) (next s) m xs (keeps s) d }
 
 abbrev T : Tasks Task
 T = named.namedTasks nameOf pushing popping shares awaiting next ticks steps

@@ -6,7 +6,7 @@ use mathlib.Core.Logic.{_⊎_, inl, inr, ⊎-elim}
 use Prim.Native.Nat.{ℕ}
 use Rattle.job.specs.declared.Instruction.{Instruction}
 use Rattle.job.specs.Operations.{Operation, return, push, pushSum, pop, goIfEmpty, go, goIfZero, add, spawn, sync, operationAt}
-use Rattle.line.specs.Line.{Item, value, spot, finished, gave, Action, Search, Acts, Each, acts-each}
+use Rattle.line.specs.Line.{Item, value, spot, finished, gave, Action, Search, Acts, Every, acts-every}
 use Rattle.job_line.specs.Tasks.{Runner, actionBy, action, instructionOf, by-test}
 use Rattle.job_times.specs.Kin.{awaits, awaitsOf}
 
@@ -19,7 +19,7 @@ Unended (finished s ∷ xs) = ⊥
 Unended (gave q ∷ xs) = Unit {0}
 
 abbrev NoEnd : Action Runner → Type 0
-NoEnd = Each Unended
+NoEnd = Every (λ o. Unended)
 
 module _ (j : List ℕ) where
   ends-await : (o : Operation) (u : Runner) (s : Instruction) → (awaits o ≡ true) ⊎ NoEnd (actionBy o j u s)
@@ -38,4 +38,4 @@ module _ (j : List ℕ) where
   pub finish-awaits : (u : Runner) (e : Search) (v : Runner) → Acts e (action j u) (finished v ∷ []) → awaitsOf j u ≡ true
   unfolding action
   finish-awaits u e v a =
-      ⊎-elim (λ w. w) (λ n. absurd (acts-each Unended _ e _ n a)) (ends-await (operationAt (instructionOf j u .operation)) u (instructionOf j u))
+      ⊎-elim (λ w. w) (λ n. absurd (acts-every (λ o. Unended) _ e _ n a)) (ends-await (operationAt (instructionOf j u .operation)) u (instructionOf j u))

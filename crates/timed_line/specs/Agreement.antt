@@ -1,14 +1,16 @@
 -- AGREEMENT: any two runs of all tasks to their end have as many moves and end in the same timed line, with the same values put back.
+-- So the order in which tasks move does not matter.
 use mathlib.Core.Path.{_≡_, refl, ap, sym, _∙_, subst, subst₂}
-use mathlib.Core.List.{List, [], _∷_}
+use mathlib.Core.List.{List}
 use Prim.Native.Nat.{ℕ, zero, suc, _+_}
 use native.Mathlib.Omega.{arith}
+use Rattle.gaps.specs.Maps.{All}
 use Rattle.line.specs.Line.{Search, Apart, NoSpot}
 use Rattle.line.specs.Rights.{Tasks}
 use Rattle.line.specs.Fronts.{Fronts, frontsAfter}
-use Rattle.timed_line.specs.Times.{Timed, at}
+use Rattle.timed_line.specs.Times.{Timed, untimed}
 use Rattle.timed_line.specs.Walks.{Waits, Walk}
-use Rattle.timed_line.specs.Starts.{startAt, frontsOf, start-fit, start-after, fronts-after, fronts-both}
+use Rattle.timed_line.specs.Starts.{startAt, frontsOf, start-after, fronts-after, fronts-both}
 use Rattle.timed_line.specs.Once.{once}
 use Rattle.timed_line.specs.Diamond.{apart-flip, Both, same, either-way, diamond}
 
@@ -34,8 +36,7 @@ module _ {S : Type 0} (T : Tasks S) (W : Waits T) where
 
   -- no task is unfinished
   abbrev pub Bare : List (Timed S) → Type 0
-  Bare [] = Unit {0}
-  Bare (at t x ∷ l) = NoSpot x × Bare l
+  Bare l = All NoSpot (untimed l)
 
   -- a walk of w, made after a move of u about other queues
   then-walk : (u w : S) (f : Search) (d : ℕ) (r x : Fronts) {k i : List (Timed S)} → frontsOf T u r ≡ x → Apart (startAt T u r) (startAt T w r)
@@ -47,9 +48,9 @@ module _ {S : Type 0} (T : Tasks S) (W : Waits T) where
       }
 
   -- TWO MOVES: of one task they are the same; of two each can be made after the other
-  pub data Meet (r : Fronts) (l : List (Timed S)) (x : Fronts) (k : List (Timed S)) (m : Move r l x k) (y : Fronts) (j : List (Timed S)) (n : Move r l y j) : Type 0 where
-    equal : x ≡ y → k ≡ j → Meet r l x k m y j n
-    close : (z : Fronts) (i : List (Timed S)) → MoveOf (n .task) (n .end) (n .done) x k z i → MoveOf (m .task) (m .end) (m .done) y j z i → Meet r l x k m y j n
+  pub data Meet {r x y : Fronts} {l k j : List (Timed S)} (m : Move r l x k) (n : Move r l y j) : Type 0 where
+    equal : x ≡ y → k ≡ j → Meet m n
+    close : (z : Fronts) (i : List (Timed S)) → MoveOf (n .task) (n .end) (n .done) x k z i → MoveOf (m .task) (m .end) (m .done) y j z i → Meet m n
 
   both-ways : (u w : S) (e f : Search) (c d : ℕ) (r x y : Fronts) {k j i : List (Timed S)} → frontsOf T u r ≡ x → frontsOf T w r ≡ y
       → Apart (startAt T u r) (startAt T w r) → Walk T W w (startAt T w r) f 0 d k i → Walk T W u (startAt T u r) e 0 c j i
@@ -60,12 +61,12 @@ module _ {S : Type 0} (T : Tasks S) (W : Waits T) where
     subst (λ (z : Fronts). MoveOf u e c y j z i) (sym (fronts-both T u w r a)) (then-walk w u e c r y q (apart-flip (startAt T u r) (startAt T w r) a) v′),
   )
 
-  pub meet : {r x y : Fronts} {l k j : List (Timed S)} (m : Move r l x k) (n : Move r l y j) → Meet r l x k m y j n
+  pub meet : {r x y : Fronts} {l k j : List (Timed S)} (m : Move r l x k) (n : Move r l y j) → Meet m n
   meet {r} {x} {y} {l} {k} {j} m n =
-      go (diamond T W (m .task) (n .task) _ _ (m .end) (n .end) 0 0 (m .done) (n .done) (start-fit T (m .task) (n .task) r) (m .move .walk) (n .move .walk))
+      go (diamond T W (m .task) (n .task) _ _ (m .end) (n .end) 0 0 (m .done) (n .done) (m .move .walk) (n .move .walk))
     where
       go : Both T W (m .task) (n .task) (startAt T (m .task) r) (startAt T (n .task) r) (m .end) (n .end) 0 0 (m .done) (n .done) k j
-          → Meet r l x k m y j n
+          → Meet m n
       go (same e) =
           equal (sym (m .move .fronts) ∙ ap (λ (u : S). frontsOf T u r) e ∙ n .move .fronts)
           (once T W (m .task) _ (m .end) (n .end) 0 (m .done) (n .done) (m .move .walk)
@@ -77,7 +78,7 @@ module _ {S : Type 0} (T : Tasks S) (W : Waits T) where
   -- STABILITY: after a move of another task a task can still move, with the same answer and the same time
   pub stable : (u w : S) (e f : Search) (c d : ℕ) {r x y : Fronts} {l k j : List (Timed S)} → ¬ (u ≡ w) → MoveOf u e c r l x k → MoveOf w f d r l y j
       → (z : Fronts) × (i : List (Timed S)) × MoveOf u e c y j z i
-  stable u w e f c d {r} {x} {y} {l} {k} {j} n v v′ = go (diamond T W u w _ _ e f 0 0 c d (start-fit T u w r) (v .walk) (v′ .walk))
+  stable u w e f c d {r} {x} {y} {l} {k} {j} n v v′ = go (diamond T W u w _ _ e f 0 0 c d (v .walk) (v′ .walk))
     where
       go : Both T W u w (startAt T u r) (startAt T w r) e f 0 0 c d k j → (z : Fronts) × (i : List (Timed S)) × MoveOf u e c y j z i
       go (same h) = absurd (n h)
@@ -95,7 +96,7 @@ module _ {S : Type 0} (T : Tasks S) (W : Waits T) where
     pub run : Moves left x k y z
 
   join : {n : ℕ} {r x y o : Fronts} {l k j z : List (Timed S)} (m : Move r l x k) (p : Move r l y j) → Moves n x k o z
-      → ((h : Fronts) (i : List (Timed S)) → Move x k h i → Rest n h i o z) → Meet r l x k m y j p → Rest (suc n) y j o z
+      → ((h : Fronts) (i : List (Timed S)) → Move x k h i → Rest n h i o z) → Meet m p → Rest (suc n) y j o z
   join {n} {o = o} {z = z} m p s h (equal d e) =
       record { left = n; less = refl; run = subst₂ (λ (f : Fronts) (i : List (Timed S)). Moves n f i o z) d e s }
   join m p s h (close f i v w) =

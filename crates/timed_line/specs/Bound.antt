@@ -1,6 +1,6 @@
 -- THE BOUND on the ticks of W workers that never idle while a step could be taken: W times the ticks is at most the work plus W - 1
--- times the time when the last step is done. For any ticks of the steps.
-use mathlib.Core.Path.{_≡_, refl, ap, sym, subst}
+-- times the time when the last step is done. For any ticks of the steps. Used by the bound on the simulated time: request 6.
+use mathlib.Core.Path.{_≡_, refl, ap, sym}
 use mathlib.Core.List.{List, [], _∷_}
 use mathlib.Core.Logic.{_⊎_, inl, inr, ⊎-elim}
 use Prim.Native.Nat.{ℕ, suc, _+_, _*_, _≤_}
@@ -41,7 +41,7 @@ module _ {S : Type 0} where
 
   pub aged-total : (n : ℕ) (us : List (Slot S)) → total (aged n us) ≡ total us + length us * n
   aged-total n [] = omega arith
-  aged-total n (slot s y ∷ us) = let h = aged-total n us in let k = suc-mul (length us) n in omega (arith, h, k)
+  aged-total n (slot s y ∷ us) = omega (arith, aged-total n us, suc-mul (length us) n)
 
   aged-was : (n : ℕ) (u : S) (x : ℕ) (us : List (Slot S)) → Underway u x (aged n us) → (y : ℕ) × (x ≡ y + n) × Underway u y us
   aged-was n u x [] i = absurd i
@@ -70,23 +70,27 @@ module _ {S : Type 0} where
 
   left-total : (s : S) (x : ℕ) {us vs : List (Slot S)} → Leaves s x us vs → total us ≡ x + total vs
   left-total s x first = refl
-  left-total s x (behind-it {o = slot t z} h) = let k = left-total s x h in omega (arith, k)
+  left-total s x (behind-it {o = slot t z} h) = omega (arith, left-total s x h)
 
 module _ {S : Type 0} (T : Tasks S) (W : Waits T) where
+  -- P holds of each task that could move now, and of the time when its step would be done
+  abbrev pub OfReady : Fronts → List (Timed S) → (S → ℕ → Type 0) → Type 0
+  OfReady r l P = (u : S) (e : Search) (d : ℕ) (y : Fronts) (k : List (Timed S)) → MoveOf T W u e d r l y k → P u d
+
   -- WHAT HOLDS ALL ALONG of 1 + w workers: us are the tasks under way, idle the ticks in which some worker idled, work the ticks of the
   -- steps done.
   pub record Kept (w : ℕ) (r : Fronts) (l : List (Timed S)) (us : List (Slot S)) (clock idle work : ℕ) : Type 0 where
     pub counted : suc w * clock ≤ work + total us + w * idle
     -- a step under way that could be done now
-    pub under : (u : S) (e : Search) (d : ℕ) (y : Fronts) (k : List (Timed S)) → MoveOf T W u e d r l y k → (x : ℕ) → Underway u x us → idle + W .ticks u ≤ d + x
+    pub under : OfReady r l (λ u d. (x : ℕ) → Underway u x us → idle + W .ticks u ≤ d + x)
     -- a step that could be taken, or is under way
-    pub ready : (u : S) (e : Search) (d : ℕ) (y : Fronts) (k : List (Timed S)) → MoveOf T W u e d r l y k → (idle + W .ticks u ≤ d) ⊎ ((x : ℕ) × Underway u x us)
+    pub ready : OfReady r l (λ u d. (idle + W .ticks u ≤ d) ⊎ ((x : ℕ) × Underway u x us))
 
   -- AT FIRST
   pub begins : (w : ℕ) (r : Fronts) (l : List (Timed S)) → Kept w r l [] 0 0 0
   begins w r l =
       record {
-        counted = let h = mul-zero (suc w) in omega (arith, h);
+        counted = omega (arith, mul-zero (suc w));
         under = λ u e d y k m x i. absurd i;
         ready = λ u e d y k m. inl (noted T W u _ e 0 d (m .walk));
       }
@@ -96,52 +100,34 @@ module _ {S : Type 0} (T : Tasks S) (W : Waits T) where
     pub takes : (u : S) → ((x : ℕ) → ¬ Underway u x us) → Kept w r l (slot u 0 ∷ us) clock idle work
     takes u none =
         record {
-          counted = let a = kept .counted in omega (arith, a);
+          counted = omega (arith, kept .counted);
           under = λ v e d y k m x i. ⊎-elim (λ h. new v e d y k m x (h .0) (h .1)) (λ j. kept .under v e d y k m x j) i;
           ready = λ v e d y k m. ⊎-elim inl (λ i. inr (i .0, inr (i .1))) (kept .ready v e d y k m);
         }
       where
-        new : (v : S) (e : Search) (d : ℕ) (y : Fronts) (k : List (Timed S)) → MoveOf T W v e d r l y k → (x : ℕ) → u ≡ v → 0 ≡ x → idle + W .ticks v ≤ d + x
-        new v e d y k m x h z =
-            ⊎-elim (λ i. omega (arith, i, z)) (λ i. absurd (none (i .0) (subst (λ (o : S). Underway o (i .0) us) (sym h) (i .1)))) (kept .ready v e d y k m)
+        new : OfReady r l (λ v d. (x : ℕ) → u ≡ v → 0 ≡ x → idle + W .ticks v ≤ d + x)
+        new v e d y k m x h z = ⊎-elim (λ i. omega (arith, i, z)) (λ i. absurd (none (i .0) (rw h (i .1)))) (kept .ready v e d y k m)
+
+    older : (n : ℕ) → OfReady r l (λ u d. (x : ℕ) → Underway u x (aged n us) → idle + n + W .ticks u ≤ d + x)
+    older n u e d y k m x i = let o = aged-was n u x us i in omega (arith, kept .under u e d y k m (o .0) (o .2), o .1)
 
     -- n TICKS PASS, all workers at work
     pub works : (n : ℕ) → length us ≡ suc w → Kept w r l (aged n us) (clock + n) idle work
     works n full =
         record {
-          counted =
-              let a = kept .counted in
-              let b = mul-add (suc w) clock n in
-              let c = aged-total n us in
-              let d : length us * n ≡ suc w * n = ap (λ (x : ℕ). x * n) full in
-              omega (arith, a, b, c, d);
-          under = λ u e d y k m x i.
-              let o = aged-was n u x us i in
-              let h = kept .under u e d y k m (o .0) (o .2) in
-              let g = o .1 in
-              omega (arith, h, g);
+          counted = omega (arith, kept .counted, mul-add (suc w) clock n, aged-total n us, ap (λ (x : ℕ). x * n) full);
+          under = λ u e d y k m x i. omega (arith, older n u e d y k m x i);
           ready = λ u e d y k m. ⊎-elim inl (λ i. inr (i .0 + n, aged-is n u (i .0) us (i .1))) (kept .ready u e d y k m);
         }
 
     -- n TICKS PASS, a worker idles: some task is under way, and all that could move are
-    pub idles : (n : ℕ) → 1 ≤ length us → ((u : S) (e : Search) (d : ℕ) (y : Fronts) (k : List (Timed S)) → MoveOf T W u e d r l y k → (x : ℕ) × Underway u x us)
-        → Kept w r l (aged n us) (clock + n) (idle + n) work
+    pub idles : (n : ℕ) → 1 ≤ length us → OfReady r l (λ u d. (x : ℕ) × Underway u x us) → Kept w r l (aged n us) (clock + n) (idle + n) work
     idles n some greedy =
         record {
           counted =
-              let a = kept .counted in
-              let b = mul-add (suc w) clock n in
-              let c = aged-total n us in
-              let d = mul-add w idle n in
-              let f = suc-mul w n in
               let g : 1 * n ≤ length us * n = mul-le-mul-right n some in
-              let h = one-mul n in
-              omega (arith, a, b, c, d, f, g, h);
-          under = λ u e d y k m x i.
-              let o = aged-was n u x us i in
-              let h = kept .under u e d y k m (o .0) (o .2) in
-              let g = o .1 in
-              omega (arith, h, g);
+              omega (arith, kept .counted, mul-add (suc w) clock n, aged-total n us, mul-add w idle n, suc-mul w n, g, one-mul n);
+          under = older n;
           ready = λ u e d y k m. let i = greedy u e d y k m in inr (i .0 + n, aged-is n u (i .0) us (i .1));
         }
 
@@ -150,28 +136,24 @@ module _ {S : Type 0} (T : Tasks S) (W : Waits T) where
         (move : MoveOf T W s f c r l o j) where
       -- no more ticks were idle than its time
       pub idle-before : idle ≤ c
-      idle-before = let h = kept .under s f c o j move (W .ticks s) (leaves-in s (W .ticks s) out) in omega (arith, h)
+      idle-before = omega (arith, kept .under s f c o j move (W .ticks s) (leaves-in s (W .ticks s) out))
 
       pub done : Kept w o j vs clock idle (work + W .ticks s)
       done =
           record {
-            counted = let a = kept .counted in let b = left-total s (W .ticks s) out in omega (arith, a, b);
+            counted = omega (arith, kept .counted, left-total s (W .ticks s) out);
             under = λ u e d y k m x i. under-way u e d x i (back-move T W s u f e c d move m);
             ready = λ u e d y k m. could u e d (back-move T W s u f e c d move m);
           }
         where
           under-way : (u : S) (e : Search) (d x : ℕ) → Underway u x vs → BackMove T W s u e c d r l → idle + W .ticks u ≤ d + x
-          under-way u e d x i (after h) = let g = idle-before in omega (arith, h, g)
+          under-way u e d x i (after h) = omega (arith, h, idle-before)
           under-way u e d x i (earlier n y k m) = kept .under u e d y k m x (left-was s (W .ticks s) out u x i)
 
-          could : (u : S) (e : Search) (d : ℕ) → BackMove T W s u e c d r l
-              → (idle + W .ticks u ≤ d) ⊎ ((x : ℕ) × Underway u x vs)
-          could u e d (after h) = let g = idle-before in inl (omega (arith, h, g))
+          could : (u : S) (e : Search) (d : ℕ) → BackMove T W s u e c d r l → (idle + W .ticks u ≤ d) ⊎ ((x : ℕ) × Underway u x vs)
+          could u e d (after h) = inl (omega (arith, h, idle-before))
           could u e d (earlier n y k m) = ⊎-elim inl (λ i. inr (i .0, left-is s (W .ticks s) out u (i .0) n (i .1))) (kept .ready u e d y k m)
 
   -- THE BOUND: nothing is under way any more, and no more ticks were idle than the time c of the last step
   pub bound : (w : ℕ) (r : Fronts) (l : List (Timed S)) (clock idle work c : ℕ) → Kept w r l [] clock idle work → idle ≤ c → suc w * clock ≤ work + w * c
-  bound w r l clock idle work c kept h =
-      let a = kept .counted in
-      let b : w * idle ≤ w * c = mul-le-mul-left w h in
-      omega (arith, a, b)
+  bound w r l clock idle work c kept h = let b : w * idle ≤ w * c = mul-le-mul-left w h in omega (arith, kept .counted, b)

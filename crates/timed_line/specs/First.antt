@@ -8,10 +8,10 @@ use Prim.Native.Nat.{ℕ}
 use Rattle.lists.specs.Counting.{equal?}
 use Rattle.gaps.specs.Maps.{All}
 use Rattle.line.specs.Line.{Item, value, spot, finished, gave, Action, puts, looks, returns, Search, free, seeking, found, putting, NoSpot, Acts}
-use Rattle.line.specs.Rights.{Tasks}
+use Rattle.line.specs.Rights.{NoPop, Tasks}
 use Rattle.line.specs.Fronts.{Fronts}
 use Rattle.timed_line.specs.Times.{Timed, at, untimed}
-use Rattle.timed_line.specs.Walks.{Waits, Goes, heard}
+use Rattle.timed_line.specs.Walks.{Clear, Waits, Goes, heard, Walk}
 use Rattle.timed_line.specs.Starts.{startAt, startOf, opening, frontsOf}
 use Rattle.timed_line.specs.Agreement.{MoveOf, Bare}
 use Rattle.timed_line.specs.Parts.{parted}
@@ -25,20 +25,17 @@ Settled (found b q v) = Unit {0}
 Settled (putting q v) = Unit {0}
 
 module _ {S : Type 0} (T : Tasks S) (W : Waits T) where
+  no-spot : (u : S) (q : ℕ) (x : Item S) → NoSpot x → NoPop (T .Pushes) (T .Pops) q x × Clear (W .Halts) (W .Above) u x
+  no-spot u q (value p v) n = (tt, tt)
+  no-spot u q (spot t) n = absurd n
+  no-spot u q (finished t) n = (tt, tt)
+  no-spot u q (gave p) n = (tt, tt)
+
   bare-goes : (u : S) (m : Search) (x : Item S) → Settled m → NoSpot x → Goes T W m u x
-  bare-goes u free (value q v) s n = (tt, tt)
-  bare-goes u free (spot t) s n = absurd n
-  bare-goes u free (finished t) s n = (tt, tt)
-  bare-goes u free (gave q) s n = (tt, tt)
+  bare-goes u free x s n = (tt, no-spot u 0 x n .1)
   bare-goes u (seeking b p) x s n = absurd s
-  bare-goes u (found b p w) (value q v) s n = (tt, tt)
-  bare-goes u (found b p w) (spot t) s n = absurd n
-  bare-goes u (found b p w) (finished t) s n = (tt, tt)
-  bare-goes u (found b p w) (gave q) s n = (tt, tt)
-  bare-goes u (putting p w) (value q v) s n = (tt, tt)
-  bare-goes u (putting p w) (spot t) s n = absurd n
-  bare-goes u (putting p w) (finished t) s n = (tt, tt)
-  bare-goes u (putting p w) (gave q) s n = (tt, tt)
+  bare-goes u (found b p w) x s n = no-spot u p x n
+  bare-goes u (putting p w) x s n = no-spot u p x n
 
   -- past values, finished tasks and give-ups to the first spot
   pub lead-settled : (u : S) (m : Search) (t : ℕ) (xs : List (Item S)) (r : List (Timed S)) → Settled m → Acts m (T .next u) xs
@@ -57,16 +54,22 @@ module _ {S : Type 0} (T : Tasks S) (W : Waits T) where
       (lead-settled u m (p .time) xs (p .behind) s acts (p .before) (subst (All NoSpot) (sym (p .front)) h) a))
 
   -- a search along the items before the first spot ends, whatever it finds
-  pub record Seen (u : S) (b : Bool) (q a : ℕ) (l : List (Timed S)) : Type 0 where
-    pub end : Search
-    pub items : List (Item S)
-    pub lead : Lifted T W u (seeking b q) end a l items
+  record Seen (u : S) (b : Bool) (q a : ℕ) (l : List (Timed S)) : Type 0 where
+    end : Search
+    items : List (Item S)
+    lead : Lifted T W u (seeking b q) end a l items
 
-  pub lead-seeking : (u : S) (b : Bool) (q t : ℕ) (f : Option ℕ → List (Item S)) (r : List (Timed S)) → T .next u ≡ looks b q f
+  -- past an item that is no value of the queue
+  seen-past : (u : S) (b : Bool) (q a c : ℕ) (x : Item S) {l : List (Timed S)} → Goes T W (seeking b q) u x
+      → Seen u b q (heard T W (seeking b q) u x c a) l → Seen u b q a (at c x ∷ l)
+  seen-past u b q a c x g w = record { end = w .end; items = _; lead = lift-past T W u (seeking b q) (w .end) a c x _ _ g (w .lead) }
+
+  lead-seeking : (u : S) (b : Bool) (q t : ℕ) (f : Option ℕ → List (Item S)) (r : List (Timed S)) → T .next u ≡ looks b q f
       → (vs : List (Timed S)) → All NoSpot (untimed vs) → (a : ℕ) → Seen u b q a (vs ++ at t (spot u) ∷ r)
   lead-seeking u b q t f r e [] h a =
       record { end = seeking b q; items = _; lead = lift-here T W u (seeking b q) a t (f none) r (untimed r) (rw e (refl, refl, refl)) refl }
-  lead-seeking u b q t f r e (at c (value p v) ∷ vs) h a = ⊎-elim is (other (lead-seeking u b q t f r e vs (h .1) a)) (equal? p q)
+  lead-seeking u b q t f r e (at c (value p v) ∷ vs) h a =
+      ⊎-elim is (λ n. seen-past u b q a c (value p v) (n, tt) (lead-seeking u b q t f r e vs (h .1) a)) (equal? p q)
     where
       is : p ≡ q → Seen u b q a (at c (value p v) ∷ (vs ++ at t (spot u) ∷ r))
       is i =
@@ -76,17 +79,9 @@ module _ {S : Type 0} (T : Tasks S) (W : Waits T) where
             lead = lift-finds T W u (found b q v) a c b q v _ _
                 (lead-settled u (found b q v) t (f (some v)) r tt (rw e (refl, refl, refl)) vs (h .1) _);
           })
-
-      other : Seen u b q a (vs ++ at t (spot u) ∷ r) → (p ≡ q → ⊥) → Seen u b q a (at c (value p v) ∷ (vs ++ at t (spot u) ∷ r))
-      other w n =
-          record { end = w .end; items = _; lead = lift-past T W u (seeking b q) (w .end) a c (value p v) _ _ (n, tt) (w .lead) }
   lead-seeking u b q t f r e (at c (spot s) ∷ vs) h a = absurd (h .0)
-  lead-seeking u b q t f r e (at c (finished s) ∷ vs) h a =
-      let w = lead-seeking u b q t f r e vs (h .1) (heard T W (seeking b q) u (finished s) c a) in
-      record { end = w .end; items = _; lead = lift-past T W u (seeking b q) (w .end) a c (finished s) _ _ (tt, tt) (w .lead) }
-  lead-seeking u b q t f r e (at c (gave p) ∷ vs) h a =
-      let w = lead-seeking u b q t f r e vs (h .1) (heard T W (seeking b q) u (gave p) c a) in
-      record { end = w .end; items = _; lead = lift-past T W u (seeking b q) (w .end) a c (gave p) _ _ (tt, tt) (w .lead) }
+  lead-seeking u b q t f r e (at c (finished s) ∷ vs) h a = seen-past u b q a c (finished s) (tt, tt) (lead-seeking u b q t f r e vs (h .1) _)
+  lead-seeking u b q t f r e (at c (gave p) ∷ vs) h a = seen-past u b q a c (gave p) (tt, tt) (lead-seeking u b q t f r e vs (h .1) _)
 
   -- a walk of u from its start is a move
   pub record Can (u : S) (r : Fronts) (l : List (Timed S)) : Type 0 where
@@ -95,37 +90,32 @@ module _ {S : Type 0} (T : Tasks S) (W : Waits T) where
     pub line : List (Timed S)
     pub move : MoveOf T W u end done r l (frontsOf T u r) line
 
-  pub can-move : (u : S) (r : Fronts) (e : Search) (l : List (Timed S)) (k : List (Item S)) → Lifted T W u (startAt T u r) e 0 l k → Can u r l
-  can-move u r e l k h =
-      record { end = e; done = h .done; line = h .line; move = record { fronts = refl; walk = h .walk } }
+  can-move : (u : S) (r : Fronts) {m e : Search} {l : List (Timed S)} {k : List (Item S)} → m ≡ startAt T u r → Lifted T W u m e 0 l k → Can u r l
+  can-move u r {e = e} {l = l} d h =
+      record {
+        end = e;
+        done = h .done;
+        line = h .line;
+        move = record { fronts = refl; walk = subst (λ (m : Search). Walk T W u m e 0 (h .done) l (h .line)) d (h .walk) };
+      }
 
   pub first-moves : (u : S) (i : Action S) → T .next u ≡ i → (r : Fronts) (t : ℕ) (vs l : List (Timed S)) → All NoSpot (untimed vs)
       → Can u r (vs ++ at t (spot u) ∷ l)
-  first-moves u (puts xs) e r t vs l h =
-      can-move u r free _ _
-      (subst (λ (m : Search). Lifted T W u m free 0 (vs ++ at t (spot u) ∷ l) (untimed vs ++ (xs ++ untimed l))) (ap (λ (i : Action S). startOf i r) (sym e))
-      (lead-settled u free t xs l tt (rw e refl) vs h 0))
+  first-moves u (puts xs) e r t vs l h = can-move u r (ap (λ i. startOf i r) (sym e)) (lead-settled u free t xs l tt (rw e refl) vs h 0)
   first-moves u (returns q v xs) e r t vs l h =
-      can-move u r (putting q v) _ _
-      (subst (λ (m : Search). Lifted T W u m (putting q v) 0 (vs ++ at t (spot u) ∷ l) (untimed vs ++ (xs ++ untimed l))) (ap (λ (i : Action S). startOf i r) (sym e))
-      (lead-settled u (putting q v) t xs l tt (rw e (refl, refl, refl)) vs h 0))
+      can-move u r (ap (λ i. startOf i r) (sym e)) (lead-settled u (putting q v) t xs l tt (rw e (refl, refl, refl)) vs h 0)
   first-moves u (looks b q f) e r t vs l h = go (r q) refl
     where
       start : (c : List ℕ) → r q ≡ c → opening b q c ≡ startAt T u r
       start c d = ap (opening b q) (sym d) ∙ ap (λ (i : Action S). startOf i r) (sym e)
 
       go : (c : List ℕ) → r q ≡ c → Can u r (vs ++ at t (spot u) ∷ l)
-      go [] d =
-          let w = lead-seeking u b q t f l e vs h 0 in
-          can-move u r (w .end) _ _ (subst (λ (m : Search). Lifted T W u m (w .end) 0 (vs ++ at t (spot u) ∷ l) (w .items)) (start [] d) (w .lead))
-      go (v ∷ c) d =
-          can-move u r (found b q v) _ _
-          (subst (λ (m : Search). Lifted T W u m (found b q v) 0 (vs ++ at t (spot u) ∷ l) (untimed vs ++ (f (some v) ++ untimed l))) (start (v ∷ c) d)
-          (lead-settled u (found b q v) t (f (some v)) l tt (rw e (refl, refl, refl)) vs h 0))
+      go [] d = can-move u r (start [] d) (lead-seeking u b q t f l e vs h 0 .lead)
+      go (v ∷ c) d = can-move u r (start (v ∷ c) d) (lead-settled u (found b q v) t (f (some v)) l tt (rw e (refl, refl, refl)) vs h 0)
 
+  -- `Bare` of a line says this of its items
   pub bare-timed : (l : List (Timed S)) → All NoSpot (untimed l) → Bare T W l
-  bare-timed [] b = tt
-  bare-timed (at t x ∷ l) b = (b .0, bare-timed l (b .1))
+  bare-timed l b = b
 
   -- a line has no spot, or a first one
   pub data Front : List (Timed S) → Type 0 where
@@ -136,13 +126,14 @@ module _ {S : Type 0} (T : Tasks S) (W : Waits T) where
   front-past t x n (bare {l = l} h) = bare {l = at t x ∷ l} (n, h)
   front-past t x n (front vs c u l h) = front (at t x ∷ vs) c u l (n, h)
 
-  pub front-of : (l : List (Timed S)) → Front l
+  front-of : (l : List (Timed S)) → Front l
   front-of [] = bare tt
   front-of (at t (value q v) ∷ l) = front-past t (value q v) tt (front-of l)
   front-of (at t (spot u) ∷ l) = front [] t u l tt
   front-of (at t (finished s) ∷ l) = front-past t (finished s) tt (front-of l)
   front-of (at t (gave q) ∷ l) = front-past t (gave q) tt (front-of l)
 
+  -- PROGRESS; no proof uses it yet, requests to come will
   pub progress : (r : Fronts) (l : List (Timed S)) → Bare T W l ⊎ ((u : S) × Can u r l)
   progress r l = go (front-of l)
     where

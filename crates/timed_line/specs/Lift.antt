@@ -1,4 +1,5 @@
--- MOVES WHATEVER THE TIMES: a move on a timed line that leads to given items, built item by item.
+-- MOVES WHATEVER THE TIMES: a move on a timed line that leads to given items, built item by item. Proofs about the items of a line
+-- make moves so, without saying their times.
 use mathlib.Core.Path.{_≡_, refl, ap, _∙_}
 use mathlib.Core.Bool.{Bool, true, false}
 use mathlib.Core.List.{List, [], _∷_, _++_}
@@ -9,10 +10,6 @@ use Rattle.timed_line.specs.Times.{Timed, at, later, stamp, untimed, lea
 use Rattle.timed_line.specs.Walks.{Waits, Goes, heard, Walk}
 
 module _ {S : Type 0} where
-  pub untimed-append : (l k : List (Timed S)) → untimed (l ++ k) ≡ untimed l ++ untimed k
-  untimed-append [] k = refl
-  untimed-append (at t x ∷ l) k = ap (λ (m : List (Item S)). x ∷ m) (untimed-append l k)
-
   pub untimed-put : (d : ℕ) (xs : List (Item S)) (l : List (Timed S)) → untimed (stamp d xs ++ l) ≡ xs ++ untimed l
   untimed-put d [] l = refl
   untimed-put d (x ∷ xs) l = ap (λ (m : List (Item S)). x ∷ m) (untimed-put d xs l)
@@ -29,8 +26,8 @@ module _ {S : Type 0} (T : Tasks S) (W : Waits T) where
     pub walk : Walk T W u m e a done l line
     pub same : untimed line ≡ k
 
-  pub lift-past : (u : S) (m e : Search) (a t : ℕ) (x : Item S) (l : List (Timed S)) (k : List (Item S)) → Goes T W m u x → Lifted u m e (heard T W m u x t a) l k
-      → Lifted u m e a (at t x ∷ l) (x ∷ k)
+  pub lift-past : (u : S) (m e : Search) (a t : ℕ) (x : Item S) (l : List (Timed S)) (k : List (Item S)) → Goes T W m u x
+      → Lifted u m e (heard T W m u x t a) l k → Lifted u m e a (at t x ∷ l) (x ∷ k)
   lift-past u m e a t x l k g h =
       record { done = h .done; line = at t x ∷ h .line; walk = Walk.past g (h .walk); same = ap (λ (i : List (Item S)). x ∷ i) (h .same) }
 

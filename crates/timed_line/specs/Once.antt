@@ -1,18 +1,12 @@
 -- A TASK HAS ONE MOVE: on one line its search finds the same, and the step is done at the same time and leaves the same line.
+-- So a run is settled by the order in which its tasks move.
 use mathlib.Core.Path.{_≡_, refl, ap, ap₂, sym, _∙_}
-use mathlib.Core.Bool.{Bool}
 use mathlib.Core.List.{List, _∷_, _++_}
 use Prim.Native.Nat.{ℕ}
-use Rattle.line.specs.Line.{Item, value, Search, seeking, found, Fit, acts-once}
+use Rattle.line.specs.Line.{Item, value, Search, found, acts-same}
 use Rattle.line.specs.Rights.{Tasks}
 use Rattle.timed_line.specs.Times.{Timed, at, later, stamp, leaveAt}
 use Rattle.timed_line.specs.Walks.{Waits, heard, Walk}
-
-fits-itself : (m : Search) → Fit m m
-fits-itself Search.free = tt
-fits-itself (seeking b q) = tt
-fits-itself (found b q v) = λ e. refl
-fits-itself (Search.putting q v) = tt
 
 module _ {S : Type 0} (T : Tasks S) (W : Waits T) where
   pub record Same (e f : Search) (c d : ℕ) (l k : List (Timed S)) : Type 0 where
@@ -20,20 +14,17 @@ module _ {S : Type 0} (T : Tasks S) (W : Waits T) where
     pub time : c ≡ d
     pub line : l ≡ k
 
-  on-past : (e f : Search) (c d : ℕ) (x : Timed S) {l k : List (Timed S)} → Same e f c d l k → Same e f c d (x ∷ l) (x ∷ k)
-  on-past e f c d x s = record { found = s .found; time = s .time; line = ap (λ (l : List (Timed S)). x ∷ l) (s .line) }
-
-  on-find : (e f : Search) (c d : ℕ) (b : Bool) (x : Timed S) {l k : List (Timed S)} → Same e f c d l k → Same e f c d (leaveAt b x l) (leaveAt b x k)
-  on-find e f c d b x s = record { found = s .found; time = s .time; line = ap (leaveAt b x) (s .line) }
+  kept : {e f : Search} {c d : ℕ} {l k : List (Timed S)} (h : List (Timed S) → List (Timed S)) → Same e f c d l k → Same e f c d (h l) (h k)
+  kept h s = record { found = s .found; time = s .time; line = ap h (s .line) }
 
   pub once : (u : S) (m e f : Search) (a c d : ℕ) {l k j : List (Timed S)} → Walk T W u m e a c l k → Walk T W u m f a d l j → Same e f c d k j
   once u m e f a c d (Walk.here {l = l} xs acts i) (Walk.here ys acts′ i′) =
-      let h : xs ≡ ys = acts-once (T .next u) m m xs ys (fits-itself m) acts acts′ .1 in
+      let h : xs ≡ ys = acts-same m (T .next u) ys xs acts′ acts in
       record { found = refl; time = i ∙ sym i′; line = ap₂ (λ (t : ℕ) (zs : List (Item S)). stamp t zs ++ l) (i ∙ sym i′) h }
   once u m e f a c d (Walk.here xs acts i) (Walk.past g v) = absurd (g .1 .0 (W .self u))
   once u m e f a c d (Walk.past g v) (Walk.here ys acts i) = absurd (g .1 .0 (W .self u))
-  once u m e f a c d (Walk.past {t = t} {x = x} g v) (Walk.past g′ v′) = on-past e f c d (at t x) (once u m e f (heard T W m u x t a) c d v v′)
+  once u m e f a c d (Walk.past {t = t} {x = x} g v) (Walk.past g′ v′) = kept (λ i. at t x ∷ i) (once u m e f (heard T W m u x t a) c d v v′)
   once u m e f a c d (Walk.past g v) (Walk.finds v′) = absurd (g .0 refl)
   once u m e f a c d (Walk.finds v) (Walk.past g v′) = absurd (g .0 refl)
   once u m e f a c d (Walk.finds {b = b} {q = q} {v = x} {t = t} v) (Walk.finds v′) =
-      on-find e f c d b (at t (value q x)) (once u (found b q x) e f (later a t) c d v v′)
+      kept (leaveAt b (at t (value q x))) (once u (found b q x) e f (later a t) c d v v′)

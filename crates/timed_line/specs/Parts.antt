@@ -1,4 +1,5 @@
--- A TIMED LINE AT AN ITEM.
+-- A TIMED LINE AT AN ITEM: where the items of a line split at x, the timed line splits there too. Proofs that know only the items of
+-- a line need this.
 use mathlib.Core.Path.{_≡_, refl, ap, _∙_}
 use mathlib.Core.List.{List, [], _∷_, _++_, nil≢cons, head-eq-of-cons-eq, tail-eq-of-cons-eq}
 use Prim.Native.Nat.{ℕ}

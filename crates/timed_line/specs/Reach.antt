@@ -1,4 +1,4 @@
--- WHAT A SEARCH WENT PAST where its task moved.
+-- WHAT A SEARCH WENT PAST where its task moved. So a task with something before it that it may not go past has no move.
 use mathlib.Core.Path.{_≡_, refl, ap}
 use mathlib.Core.Bool.{Bool}
 use mathlib.Core.List.{List, [], _∷_, _++_}
@@ -6,7 +6,7 @@ use mathlib.Core.Logic.{_⊎_, inl, inr}
 use Prim.Native.Nat.{ℕ}
 use Rattle.gaps.specs.Maps.{All}
 use Rattle.line.specs.Line.{Item, value, spot, finished, gave, Search, free, seeking, found, putting}
-use Rattle.line.specs.Rights.{Passes, Tasks}
+use Rattle.line.specs.Rights.{Tasks, Passing}
 use Rattle.timed_line.specs.Times.{Timed, untimed}
 use Rattle.timed_line.specs.Walks.{Clear, Waits, Walk}
 
@@ -20,26 +20,13 @@ module _ {S : Type 0} (T : Tasks S) where
   -- a search for a value of queue q, up to the first one if there is one: no task that pushes or pops there; from then on none that pops
   abbrev pub Searched : ℕ → List (Item S) → Type 0
   Searched q [] = Unit {0}
-  Searched q (x ∷ f) = (Passes (T .Pushes) (T .Pops) (seeking Bool.true q) x × Searched q f) ⊎ (IsValue q x × All (Passes (T .Pushes) (T .Pops) (found Bool.true q 0)) f)
-
-  -- whether the value is left, and which it is, does not matter
-  seeking-same : (b : Bool) (q : ℕ) (x : Item S) → Passes (T .Pushes) (T .Pops) (seeking b q) x → Passes (T .Pushes) (T .Pops) (seeking Bool.true q) x
-  seeking-same b q (value p v) h = h
-  seeking-same b q (spot s) h = h
-  seeking-same b q (finished s) h = h
-  seeking-same b q (gave p) h = h
-
-  found-same : (b : Bool) (q v : ℕ) (x : Item S) → Passes (T .Pushes) (T .Pops) (found b q v) x → Passes (T .Pushes) (T .Pops) (found Bool.true q 0) x
-  found-same b q v (value p w) h = h
-  found-same b q v (spot s) h = h
-  found-same b q v (finished s) h = h
-  found-same b q v (gave p) h = h
+  Searched q (x ∷ f) = (Passing T (seeking Bool.true q) x × Searched q f) ⊎ (IsValue q x × All (Passing T (found Bool.true q 0)) f)
 
   abbrev pub Along : Search → List (Item S) → Type 0
   Along free f = Unit {0}
   Along (seeking b q) f = Searched q f
-  Along (found b q v) f = All (Passes (T .Pushes) (T .Pops) (found Bool.true q 0)) f
-  Along (putting q v) f = All (Passes (T .Pushes) (T .Pops) (putting q v)) f
+  Along (found b q v) f = All (Passing T (found b q v)) f
+  Along (putting q v) f = All (Passing T (putting q v)) f
 
   along-none : (m : Search) → Along m []
   along-none free = tt
@@ -47,10 +34,10 @@ module _ {S : Type 0} (T : Tasks S) where
   along-none (found b q v) = tt
   along-none (putting q v) = tt
 
-  along-past : (m : Search) (x : Item S) (f : List (Item S)) → Passes (T .Pushes) (T .Pops) m x → Along m f → Along m (x ∷ f)
+  along-past : (m : Search) (x : Item S) (f : List (Item S)) → Passing T m x → Along m f → Along m (x ∷ f)
   along-past free x f p a = tt
-  along-past (seeking b q) x f p a = inl (seeking-same b q x p, a)
-  along-past (found b q v) x f p a = (found-same b q v x p, a)
+  along-past (seeking b q) x f p a = inl (p, a)
+  along-past (found b q v) x f p a = (p, a)
   along-past (putting q v) x f p a = (p, a)
 
   module _ (W : Waits T) where

@@ -1,12 +1,12 @@
 -- WHERE A SEARCH BEGINS: in front of the line stand the values put back. A task that looks in a queue finds the first of them, and then
--- goes along the line; where there is none it looks along the line.
+-- goes along the line; where there is none it looks along the line. No operation puts a value back yet: request 12.
 use mathlib.Core.Path.{_≡_, refl, ap, sym, _∙_}
 use mathlib.Core.Bool.{Bool}
 use mathlib.Core.List.{List, [], _∷_}
 use Prim.Native.Nat.{ℕ}
-use Rattle.line.specs.Line.{Action, puts, looks, returns, Search, free, seeking, found, putting, About, Apart, Fit}
+use Rattle.line.specs.Line.{Action, puts, looks, returns, Search, free, seeking, found, putting, About, Apart}
 use Rattle.line.specs.Rights.{Tasks}
-use Rattle.line.specs.Fronts.{Fronts, Starts, frontsAfter, starts-fit, fronts-other, fronts-swap}
+use Rattle.line.specs.Fronts.{Fronts, frontsAfter, fronts-other, fronts-swap}
 
 abbrev pub opening : Bool → ℕ → List ℕ → Search
 opening b q [] = seeking b q
@@ -16,21 +16,12 @@ opening-about : (b : Bool) (q : ℕ) (vs : List ℕ) → About q (opening b q vs
 opening-about b q [] = refl
 opening-about b q (v ∷ vs) = refl
 
-opening-starts : (b : Bool) (q : ℕ) (r : Fronts) (vs : List ℕ) → r q ≡ vs → Starts (opening b q vs) r
-opening-starts b q r [] e = e
-opening-starts b q r (v ∷ vs) e = (vs, e)
-
 module _ {S : Type 0} where
   -- the search that an action begins with, as it comes to the line
   abbrev pub startOf : Action S → Fronts → Search
   startOf (puts xs) r = free
   startOf (looks b q f) r = opening b q (r q)
   startOf (returns q v xs) r = putting q v
-
-  pub starts : (i : Action S) (r : Fronts) → Starts (startOf i r) r
-  starts (puts xs) r = tt
-  starts (looks b q f) r = opening-starts b q r (r q) refl
-  starts (returns q v xs) r = tt
 
   -- it does not hang on what is done about other queues
   pub start-kept : (m : Search) (i : Action S) (r r′ : Fronts) → Apart m (startOf i r′) → startOf i (frontsAfter m r) ≡ startOf i r
@@ -45,9 +36,6 @@ module _ {S : Type 0} (T : Tasks S) where
   -- what stands in front after a move of u
   abbrev pub frontsOf : S → Fronts → Fronts
   frontsOf u r = frontsAfter (startAt u r) r
-
-  pub start-fit : (u w : S) (r : Fronts) → Fit (startAt u r) (startAt w r)
-  start-fit u w r = starts-fit (startAt u r) (startAt w r) r (starts (T .next u) r) (starts (T .next w) r)
 
   module _ (u w : S) (r : Fronts) (a : Apart (startAt u r) (startAt w r)) where
     pub start-after : (x : Fronts) → frontsOf u r ≡ x → startAt w x ≡ startAt w r

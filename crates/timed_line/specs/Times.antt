@@ -1,4 +1,5 @@
--- THE TIMED LINE: the line of crate `exchange`, each item with a time: when the step that put it there was done.
+-- THE TIMED LINE: the line of crate `line`, each item with a time: when the step that put it there was done. A move reads
+-- from it for what its step had to wait.
 use mathlib.Core.Path.{_≡_, refl}
 use mathlib.Core.Bool.{Bool, true, false}
 use mathlib.Core.List.{List, [], _∷_}
@@ -13,6 +14,12 @@ use Rattle.line.specs.Line.{Item}
 pub data Timed (S : Type 0) : Type 0 where
   at : ℕ → Item S → Timed S
 
+-- what holds of both holds of the one picked
+pub picked : {A : Type 0} (P : A → Type 0) (b : Bool) {x y : A} → P x → P y → P (pick b x y)
+unfolding pick
+picked P true h k = h
+picked P false h k = k
+
 -- the later of two times
 unfoldable pub later : ℕ → ℕ → ℕ
 later a b = pick (ltb a b) b a
@@ -23,16 +30,12 @@ module _ (a b : ℕ) where
   later-bounds = go (ltb a b) refl
     where
       go : (c : Bool) → ltb a b ≡ c → (a ≤ pick c b a) × (b ≤ pick c b a)
-      go true e = let h = ltb-true a b e in unfold pick in (omega (arith, h), omega arith)
-      go false e = let h = ltb-false a b e in unfold pick in (omega arith, omega (arith, h))
+      go true e = unfold pick in (omega (arith, ltb-true a b e), omega arith)
+      go false e = unfold pick in (omega arith, omega (arith, ltb-false a b e))
 
   pub later-least : (c : ℕ) → a ≤ c → b ≤ c → later a b ≤ c
   unfolding later
-  later-least c h k = go (ltb a b)
-    where
-      go : (x : Bool) → pick x b a ≤ c
-      go true = unfold pick in k
-      go false = unfold pick in h
+  later-least c h k = picked (λ x. x ≤ c) (ltb a b) k h
 
 -- some member of a list
 abbrev pub Some : {A : Type 0} → (A → Type 0) → List A → Type 0

@@ -1,7 +1,8 @@
--- MOVES WITH WAITS AND TIMES: a task's search goes along the line as in crate `exchange`, past no task that halts the mover. It
--- notes the latest finish of those tasks that would have stopped it were they unfinished, and the latest time when a task that
--- would have stopped it gave up its right. The step is done its ticks after that time, the push of the value it found on the line and
--- the task's own last step, whichever is the latest. A value put back has no time: who finds it waits for its putter (`same-queue`).
+-- MOVES WITH WAITS AND TIMES: a task's search goes along the line by its rights, past no task that halts the mover. It notes the
+-- latest finish of those tasks that would have stopped it were they unfinished, and the latest time when a task that would have
+-- stopped it gave up its right. The step is done its ticks after that time, the push of the value it found on the line and the task's
+-- own last step, whichever is the latest. A value put back has no time: a move about its queue straight after the put back waits for
+-- that (`same-queue`).
 use mathlib.Core.Path.{_≡_}
 use mathlib.Core.Bool.{Bool, true, false}
 use mathlib.Core.List.{List, _∷_, _++_}
@@ -14,7 +15,7 @@ use Rattle.line.specs.Line.{Item, value, spot, finished, gave, Search, free, se
 use Rattle.line.specs.Rights.{Passes, Tasks}
 use Rattle.timed_line.specs.Times.{Timed, at, later, Some, stamp, leaveAt}
 
--- A SEARCH WAITS FOR A GIVE-UP of queue q where it still looks for a value of that queue.
+-- A SEARCH WAITS FOR A GIVE-UP of queue q where it still looks for a value of that queue. No operation gives up a right yet: request 8.
 abbrev pub Awaits : Search → ℕ → Type 0
 Awaits free q = ⊥
 Awaits (seeking b p) q = p ≡ q
@@ -75,6 +76,12 @@ pub record Waits {S : Type 0} (T : Tasks S) : Type 1 where
 module _ {S : Type 0} (T : Tasks S) (W : Waits T) where
   abbrev pub Goes : Search → S → Item S → Type 0
   Goes = Past (W .Halts) (W .Above) (T .Pushes) (T .Pops) (W .counts)
+
+  abbrev pub Still : Search → S → Item S → Type 0
+  Still = Quiet (W .Halts) (W .Above) (T .Pushes) (T .Pops) (W .counts)
+
+  abbrev pub Stays : Search → S → Item S → Type 0
+  Stays = Remains (W .Halts) (W .Above) (T .Pushes) (T .Pops) (W .counts)
 
   -- the latest finish or give-up so far that u waits for, where a was the latest before item x of time t
   abbrev pub heard : Search → S → Item S → ℕ → ℕ → ℕ
