@@ -27,7 +27,6 @@ use Rattle.plain.specs.Run.{stackOf, run as plain-run, answersOf}
 use Rattle.line.specs.Line.{Item, value, spot, finished, gave, NoSpot}
 use Rattle.job_line.specs.Tasks.{action}
 use Rattle.job_line.specs.Within.{jobTasks}
-use Rattle.timed_line.specs.Times.{untimed}
 use Rattle.timed_line.specs.Walks.{Waits as Waiters}
 use Rattle.job_times.specs.Times.{jobWaits}
 use Rattle.job_line.specs.Agree.{none-back, moves-agree}
@@ -40,6 +39,7 @@ use Rattle.job_order.specs.Left.{left-along}
 use Rattle.job_waits.specs.Able.{Able}
 use Rattle.job_moves.specs.MovesAble.{moves-able}
 use Rattle.timed_line.specs.Parts.{Parted, parted}
+use Rattle.timed_line.specs.Agreement.{Bare}
 use Rattle.timed_line.specs.First.{Can, first-moves}
 use Rattle.runner.specs.declared.StepAnswer.{StepAnswer}
 use Rattle.runner.specs.declared.StepAnswer.the-variants.{Waits, Refused}
@@ -201,7 +201,7 @@ module _ (j : List ℕ) (ticks : ℕ → ℕ) (e : jobAnswer j ≡ Moved 0) wher
     unfolding outcomeOf answered ordered
     no-queue q i large = call-does (left-call q i) (s .core) (s .order) (run .state) .answer ∙ halt _ _ (le-leb 4 q large)
 
-    pub gone : AllFinished s → All NoSpot (untimed (run .times))
+    pub gone : AllFinished s → Bare (run .times)
     gone f = subst (All NoSpot) (sym (run .same)) (all-gone f)
 
     -- with the plain machine, which ends after n steps

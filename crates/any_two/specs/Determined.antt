@@ -12,8 +12,7 @@ use Rattle.job.specs.Accepted.{accepted}
 use Rattle.line.specs.Line.{Item}
 use Rattle.job_order.specs.Beside.{Numbered}
 use Rattle.plain.specs.Run.{stackOf, run}
-use Rattle.timed_line.specs.Agreement.{Bare, all-finished}
-use Rattle.timed_line.specs.First.{bare-timed}
+use Rattle.timed_line.specs.Agreement.{all-finished}
 use Rattle.job_line.specs.Within.{jobTasks}
 use Rattle.job_line.specs.Agree.{none-back}
 use Rattle.job_line.specs.Ends.{plain-ends}
@@ -30,7 +29,7 @@ termination j accept w v sw sv ts f =
     let s = afterCalls j ts (fresh j w v) in
     let r = under-way j accept noTicks w v sw sv ts .1 in
     subst (λ (n : ℕ). stackOf (run n j) ≡ []) (sym (log-length j W (r .moves)) ∙ ap length (r .log))
-    (plain-ends j W (accepted j accept) none-back (r .times) (bare-timed (jobTasks j) W (r .times) (gone j noTicks accept s _ r f)) (r .count) (r .moves))
+    (plain-ends j W (accepted j accept) none-back (r .times) (gone j noTicks accept s _ r f) (r .count) (r .moves))
 
 pub determinacy : Determinacy
 determinacy j accept w v w′ v′ sw sv sw′ sv′ ts us f g =
@@ -51,7 +50,4 @@ determinacy j accept w v w′ v′ sw sv sw′ sv′ ts us f g =
 pub same-times : (j : List ℕ) (accept : jobAnswer j ≡ Moved 0) (ticks : ℕ → ℕ) (s o : Stand) (l k : List (Item Numbered)) (r : Running j ticks s l)
     (r′ : Running j ticks o k) → AllFinished s → AllFinished o → r .times ≡ r′ .times
 same-times j accept ticks s o l k r r′ f g =
-    all-finished (jobTasks j) (jobWaits j ticks) (bare s l r f) (r .moves) (bare o k r′ g) (r′ .moves) .2
-  where
-    bare : (s : Stand) (l : List (Item Numbered)) (r : Running j ticks s l) → AllFinished s → Bare (jobTasks j) (jobWaits j ticks) (r .times)
-    bare s l r f = bare-timed (jobTasks j) (jobWaits j ticks) (r .times) (gone j ticks accept s l r f)
+    all-finished (jobTasks j) (jobWaits j ticks) (gone j ticks accept s l r f) (r .moves) (gone j ticks accept o k r′ g) (r′ .moves) .2

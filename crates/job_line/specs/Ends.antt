@@ -1,6 +1,6 @@
 -- WHERE SOME ORDER OF MOVES leaves no task unfinished, the plain run ends too, after as many steps: each of its steps is a move, and every
 -- move brings the end one move nearer.
-use mathlib.Core.Path.{_≡_, refl, ap, sym, _∙_, subst}
+use mathlib.Core.Path.{_≡_, ap, sym, _∙_, subst}
 use mathlib.Core.List.{List, [], _∷_}
 use Prim.Native.Nat.{ℕ, zero, suc, _+_}
 use native.Mathlib.Omega.{arith}
@@ -16,10 +16,10 @@ use Rattle.timed_line.specs.Walks.{Waits}
 use Rattle.timed_line.specs.Agreement.{Moves, Bare, after-move}
 use Rattle.job_line.specs.Tasks.{Runner}
 use Rattle.job_line.specs.Within.{jobTasks}
-use Rattle.job_line.specs.Plain.{tasksOf, Serially, Stepped, plain-step}
+use Rattle.job_line.specs.Plain.{tasksOf, Serially, plain-step}
 use Rattle.job_line.specs.Agree.{top, start, none-back, begins}
 
-module _ (j : List ℕ) (W : Waits (jobTasks j)) (acc : Accepted j) (y : Fronts) (z : List (Timed Runner)) (bare : Bare (jobTasks j) W z) where
+module _ (j : List ℕ) (W : Waits (jobTasks j)) (acc : Accepted j) (y : Fronts) (z : List (Timed Runner)) (bare : Bare z) where
   -- what is to be shown where n moves lead to the line z
   abbrev Ends : ℕ → Type 0
   Ends n =

@@ -28,7 +28,7 @@ pub record Ran (j : List ℕ) (W : Waits (jobTasks j)) (r : Fronts) (l : List (T
   pub fronts : Fronts
   pub last : List (Timed Runner)
   pub run : Moves (jobTasks j) W moves r l fronts last
-  pub bare : Bare (jobTasks j) W last
+  pub bare : Bare last
   pub serially : Serially fronts (queuesOf s) [] last
   pub count : stepsOf s ≡ k + moves
   pub events : log j W run ≡ es

@@ -134,7 +134,7 @@ module _ {S : Type 0} (T : Tasks S) (W : Waits T) where
   meets-found b q v a t = (halt _ _ (eq-eqb q q refl), halt _ _ (eq-eqb q q refl))
 
   -- THE TIME OF A STEP before which nobody unfinished stands
-  pub time-is : (u : S) (m e : Search) (a d : ℕ) (f : List (Timed S)) (t : ℕ) (r : List (Timed S)) {k : List (Timed S)} → Bare T W f
+  pub time-is : (u : S) (m e : Search) (a d : ℕ) (f : List (Timed S)) (t : ℕ) (r : List (Timed S)) {k : List (Timed S)} → Bare f
       → Walk T W u m e a d (f ++ at t (spot u) ∷ r) k → d ≡ later (hear (counting u) m a f) t + W .ticks u
   unfolding hear
   time-is u m e a d [] t r b (Walk.here xs acts i) = i

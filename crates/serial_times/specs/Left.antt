@@ -15,7 +15,7 @@ module _ {S : Type 0} (T : Tasks S) (W : Waits T) where
     pub front : List (Timed S)
     pub puts : List (Item S)
     pub line : k ≡ front ++ (stamp d puts ++ r)
-    pub bare : Bare T W front
+    pub bare : Bare front
     pub same : ended front ≡ ended f
     pub acts : Acts e (T .next u) puts
 
@@ -38,7 +38,7 @@ module _ {S : Type 0} (T : Tasks S) (W : Waits T) where
   left-found u e d t false p v f r k h =
       record { front = h .front; puts = h .puts; line = h .line; bare = h .bare; same = h .same; acts = h .acts }
 
-  pub leaves : (u : S) (m e : Search) (a d : ℕ) (f : List (Timed S)) (t : ℕ) (r : List (Timed S)) {k : List (Timed S)} → Bare T W f
+  pub leaves : (u : S) (m e : Search) (a d : ℕ) (f : List (Timed S)) (t : ℕ) (r : List (Timed S)) {k : List (Timed S)} → Bare f
       → Walk T W u m e a d (f ++ at t (spot u) ∷ r) k → Left u e d f r k
   unfolding ended
   leaves u m e a d [] t r b (Walk.here xs acts i) = record { front = []; puts = xs; line = refl; bare = tt; same = refl; acts = acts }

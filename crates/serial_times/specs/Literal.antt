@@ -70,7 +70,7 @@ module _ (j : List ℕ) (ticks : ℕ → ℕ) where
         (far j n u s k l)
 
     -- THE TIME OF A STEP by what is named
-    pub named-time : (e : Search) (d : ℕ) (r : List (Timed Runner)) {x : Fronts} {k : List (Timed Runner)} → Bare (jobTasks j) W f
+    pub named-time : (e : Search) (d : ℕ) (r : List (Timed Runner)) {x : Fronts} {k : List (Timed Runner)} → Bare f
         → MoveOf (jobTasks j) W u e d none-back (f ++ at t (spot u) ∷ r) x k → d ≡ ready u t f + ticksOf j ticks u
     named-time e d r bare v =
         time-is (jobTasks j) W u (begun u) e 0 d f t r bare (v .walk)

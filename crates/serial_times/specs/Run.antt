@@ -52,12 +52,12 @@ module _ (j : List ℕ) (acc : Accepted j) (ticks : ℕ → ℕ) where
     pub front : List (Timed Runner)
     pub stack : List Frame
     pub line : l ≡ front ++ spotsOf stack
-    pub bare : Bare (jobTasks j) W front
+    pub bare : Bare front
     pub dom : Dom j (ended front) (Nobody j) stack
     pub nested : Nesting stack
     pub stands : All Standing stack
 
-  bare-append : (f g : List (Timed Runner)) → Bare (jobTasks j) W f → Bare (jobTasks j) W g → Bare (jobTasks j) W (f ++ g)
+  bare-append : (f g : List (Timed Runner)) → Bare f → Bare g → Bare (f ++ g)
   bare-append [] g a b = b
   bare-append (at t x ∷ f) g a b = (a .0, bare-append f g (a .1) b)
 
@@ -68,7 +68,7 @@ module _ (j : List ℕ) (acc : Accepted j) (ticks : ℕ → ℕ) where
       (record { number = c .number; youngest = c .youngest; name = l .0 ∙ c .name; pops = λ q p. c .pops q (pop-like j u v q l p) }, n .1)
 
   -- ONE STEP of the task on top
-  module _ (f : List (Timed Runner)) (t : ℕ) (u : Runner) (st : List Frame) (bare : Bare (jobTasks j) W f)
+  module _ (f : List (Timed Runner)) (t : ℕ) (u : Runner) (st : List Frame) (bare : Bare f)
       (dom : Dom j (ended f) (Nobody j) (frame t u ∷ st)) (nested : Nested j u st) (stand : Stands j (u .task)) (stands : All Standing st)
       (e : Search) (d : ℕ) {x : Fronts} {k : List (Timed Runner)}
       (v : MoveOf (jobTasks j) W u e d none-back (f ++ at t (spot u) ∷ spotsOf st) x k) where
@@ -96,7 +96,7 @@ module _ (j : List ℕ) (acc : Accepted j) (ticks : ℕ → ℕ) where
     here xs = stamp d xs ++ spotsOf st
 
     -- where the items g of them are over, and s is the stack
-    joined : (g : List (Timed Runner)) (s : List Frame) → here (left .puts) ≡ g ++ spotsOf s → Bare (jobTasks j) W g
+    joined : (g : List (Timed Runner)) (s : List Frame) → here (left .puts) ≡ g ++ spotsOf s → Bare g
         → Dom j (ended f ++ ended g) (Nobody j) s → Nesting s → All Standing s → Stacked k
     joined g s i b h n a =
         record {
@@ -110,7 +110,7 @@ module _ (j : List ℕ) (acc : Accepted j) (ticks : ℕ → ℕ) where
         }
 
     -- the task goes on, behind the items g
-    goes-on : (g : List (Timed Runner)) (ef : Effect) → here (left .puts) ≡ g ++ at d (spot (gone ef)) ∷ spotsOf st → Bare (jobTasks j) W g
+    goes-on : (g : List (Timed Runner)) (ef : Effect) → here (left .puts) ≡ g ++ at d (spot (gone ef)) ∷ spotsOf st → Bare g
         → ended g ≡ [] → Stands j (gone ef .task) → Stacked k
     unfolding advanced
     goes-on g ef i b z s =

@@ -1,5 +1,5 @@
 -- THE WHOLE SERIAL RUN: every step's time is its ticks after the latest thing it waits for by document 02's words. This is the plain
--- machine's run of a job, with times.
+-- machine's run of a job, with times. No operation puts a value back yet, so nothing stands in front of the line (request 12).
 use mathlib.Core.Path.{_≡_, refl, subst}
 use mathlib.Core.List.{List, [], _∷_, _++_, append-nil}
 use Prim.Native.Nat.{ℕ, zero, suc, _+_}
@@ -9,9 +9,9 @@ use Rattle.job.specs.Accepted.{Accepted}
 use Rattle.plain.specs.Machine.{begin}
 use Rattle.plain.specs.Run.{stackOf, run}
 use Rattle.plain.specs.Kept.{begin-stands}
-use Rattle.line.specs.Line.{Action, puts, looks, returns, spot, Search, NoSpot}
+use Rattle.line.specs.Line.{Action, puts, looks, returns, spot, Search}
 use Rattle.line.specs.Fronts.{Fronts, frontsAfter}
-use Rattle.timed_line.specs.Times.{Timed, at, untimed}
+use Rattle.timed_line.specs.Times.{Timed, at}
 use Rattle.timed_line.specs.Walks.{Waits}
 use Rattle.timed_line.specs.Starts.{startOf}
 use Rattle.timed_line.specs.Agreement.{MoveOf, Moves, no-move, Bare, after-move, all-finished}
@@ -39,28 +39,24 @@ module _ (j : List ℕ) (acc : Accepted j) (ticks : ℕ → ℕ) where
 
   -- A RUN OF FIRST TASKS, each step timed by what is named
   pub data Timely : ℕ → List (Timed Runner) → List (Timed Runner) → Type 0 where
-    over : {l : List (Timed Runner)} → Bare (jobTasks j) W l → Timely zero l l
+    over : {l : List (Timed Runner)} → Bare l → Timely zero l l
     step : {n : ℕ} {k z : List (Timed Runner)} (f : List (Timed Runner)) (t : ℕ) (u : Runner) (r : List (Timed Runner)) (e : Search) (d : ℕ)
-        → Bare (jobTasks j) W f → MoveOf (jobTasks j) W u e d none-back (f ++ at t (spot u) ∷ r) none-back k
+        → Bare f → MoveOf (jobTasks j) W u e d none-back (f ++ at t (spot u) ∷ r) none-back k
         → d ≡ ready j ticks u t f + ticksOf j ticks u → Timely n k z → Timely (suc n) (f ++ at t (spot u) ∷ r) z
-
-  bare-items : (f : List (Timed Runner)) → Bare (jobTasks j) W f → All NoSpot (untimed f)
-  bare-items [] b = tt
-  bare-items (at t x ∷ f) b = (b .0, bare-items f (b .1))
 
   -- ANY RUN TO THE END IS THAT LONG, and its last line is that of the run of first tasks
   abbrev To : ℕ → List (Timed Runner) → Type 0
   To n z = (l : List (Timed Runner)) → Stacked j acc ticks l → (x : Fronts) → Moves (jobTasks j) W n none-back l x z → Timely n l z
 
-  module _ (n : ℕ) (z : List (Timed Runner)) (end : Bare (jobTasks j) W z) (rest : (m : ℕ) → n ≡ suc m → To m z) where
-    stack-timely : (f : List (Timed Runner)) (st : List Frame) → Bare (jobTasks j) W f → Dom j (ended f) (Nobody j) st → Nesting j acc ticks st
+  module _ (n : ℕ) (z : List (Timed Runner)) (end : Bare z) (rest : (m : ℕ) → n ≡ suc m → To m z) where
+    stack-timely : (f : List (Timed Runner)) (st : List Frame) → Bare f → Dom j (ended f) (Nobody j) st → Nesting j acc ticks st
         → All (Standing j acc ticks) st → (x : Fronts) → Moves (jobTasks j) W n none-back (f ++ spotsOf st) x z → Timely n (f ++ spotsOf st) z
     stack-timely f [] b dom nest stands x ms =
-        let bare : Bare (jobTasks j) W (f ++ []) = rw append-nil b in
+        let bare : Bare (f ++ []) = rw append-nil b in
         let h = all-finished (jobTasks j) W end ms bare no-move in
         rw (h .0, h .2) (over bare)
     stack-timely f (frame t u ∷ st) b dom nest stands x ms =
-        let c = first-moves (jobTasks j) W u (action j u) refl none-back t f (spotsOf st) (bare-items f b) in
+        let c = first-moves (jobTasks j) W u (action j u) refl none-back t f (spotsOf st) b in
         let v = rw (none-stays (action j u) (no-return j u)) at (c .move) in
         let a = after-move (jobTasks j) W end ms (record { task = u; end = c .end; done = c .done; move = v }) in
         let s = next-stacked j acc ticks f t u st b dom nest (stands .0) (stands .1) (c .end) (c .done) v in
@@ -71,7 +67,7 @@ module _ (j : List ℕ) (acc : Accepted j) (ticks : ℕ → ℕ) where
     stacked-timely l s x ms =
         rw (s .line) (stack-timely (s .front) (s .stack) (s .bare) (s .dom) (s .nested) (s .stands) x (rw (s .line) at ms))
 
-  pub serial-timely : (n : ℕ) (z : List (Timed Runner)) → Bare (jobTasks j) W z → To n z
+  pub serial-timely : (n : ℕ) (z : List (Timed Runner)) → Bare z → To n z
   serial-timely zero z end = stacked-timely zero z end (λ m e. let none : ⊥ = omega (arith, e) in absurd none)
   serial-timely (suc n) z end =
       stacked-timely (suc n) z end (λ m e. let i : n ≡ m = omega (arith, e) in subst (λ (k : ℕ). To k z) i (serial-timely n z end))

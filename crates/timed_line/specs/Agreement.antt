@@ -14,6 +14,10 @@ use Rattle.timed_line.specs.Starts.{startAt, frontsOf, start-after, fron
 use Rattle.timed_line.specs.Once.{once}
 use Rattle.timed_line.specs.Diamond.{apart-flip, Both, same, either-way, diamond}
 
+-- no task is unfinished
+abbrev pub Bare : {S : Type 0} → List (Timed S) → Type 0
+Bare l = All NoSpot (untimed l)
+
 module _ {S : Type 0} (T : Tasks S) (W : Waits T) where
   -- task u moves, with r in front of the line l: what its search came to, and the time when the step is done
   pub record MoveOf (u : S) (e : Search) (d : ℕ) (r : Fronts) (l : List (Timed S)) (x : Fronts) (k : List (Timed S)) : Type 0 where
@@ -33,10 +37,6 @@ module _ {S : Type 0} (T : Tasks S) (W : Waits T) where
   unfoldable pub one-more : {n : ℕ} {r x y : Fronts} {l k j : List (Timed S)} → Moves n r l x k → Move x k y j → Moves (suc n) r l y j
   one-more no-move o = moves o no-move
   one-more (moves m ms) o = moves m (one-more ms o)
-
-  -- no task is unfinished
-  abbrev pub Bare : List (Timed S) → Type 0
-  Bare l = All NoSpot (untimed l)
 
   -- a walk of w, made after a move of u about other queues
   then-walk : (u w : S) (f : Search) (d : ℕ) (r x : Fronts) {k i : List (Timed S)} → frontsOf T u r ≡ x → Apart (startAt T u r) (startAt T w r)

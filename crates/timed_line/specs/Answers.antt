@@ -69,6 +69,6 @@ module _ {S : Type 0} (T : Tasks S) (W : Waits T) (N : Lasting T) where
       record { task = d .task; later = N .then s (c .task) (d .task) (c .later) (d .later); on = d .on }
 
   -- every task of any run has its counterpart at the end of a run to the end
-  pub answers : {n k : ℕ} {r x y : Fronts} {l j z : List (Timed S)} (s : S) → Bare T W z → Moves T W n r l y z → Moves T W k r l x j → On s (untimed j)
+  pub answers : {n k : ℕ} {r x y : Fronts} {l j z : List (Timed S)} (s : S) → Bare z → Moves T W n r l y z → Moves T W k r l x j → On s (untimed j)
       → Grown s (untimed z)
   answers s b run ms o = grown s (agree T W b run ms .run) o

@@ -1,6 +1,6 @@
--- THE FIRST TASK: nobody stands before it, so it need not wait; and PROGRESS: while a task is unfinished, the first one can move.
+-- THE FIRST TASK on the line can always move: nobody stands before it. That is progress, while a task is unfinished.
 use mathlib.Core.Path.{_≡_, refl, ap, sym, _∙_, subst, subst₂}
-use mathlib.Core.Logic.{_⊎_, inl, inr, ⊎-elim}
+use mathlib.Core.Logic.{_⊎_, ⊎-elim}
 use mathlib.Core.Bool.{Bool}
 use mathlib.Core.Option.{Option, none, some}
 use mathlib.Core.List.{List, [], _∷_, _++_}
@@ -13,7 +13,7 @@ use Rattle.line.specs.Fronts.{Fronts}
 use Rattle.timed_line.specs.Times.{Timed, at, untimed}
 use Rattle.timed_line.specs.Walks.{Clear, Waits, Goes, heard, Walk}
 use Rattle.timed_line.specs.Starts.{startAt, startOf, opening, frontsOf}
-use Rattle.timed_line.specs.Agreement.{MoveOf, Bare}
+use Rattle.timed_line.specs.Agreement.{MoveOf}
 use Rattle.timed_line.specs.Parts.{parted}
 use Rattle.timed_line.specs.Lift.{Lifted, lift-past, lift-finds, lift-here}
 
@@ -112,31 +112,3 @@ module _ {S : Type 0} (T : Tasks S) (W : Waits T) where
       go : (c : List ℕ) → r q ≡ c → Can u r (vs ++ at t (spot u) ∷ l)
       go [] d = can-move u r (start [] d) (lead-seeking u b q t f l e vs h 0 .lead)
       go (v ∷ c) d = can-move u r (start (v ∷ c) d) (lead-settled u (found b q v) t (f (some v)) l tt (rw e (refl, refl, refl)) vs h 0)
-
-  -- `Bare` of a line says this of its items
-  pub bare-timed : (l : List (Timed S)) → All NoSpot (untimed l) → Bare T W l
-  bare-timed l b = b
-
-  -- a line has no spot, or a first one
-  pub data Front : List (Timed S) → Type 0 where
-    bare : {l : List (Timed S)} → Bare T W l → Front l
-    front : (vs : List (Timed S)) (t : ℕ) (u : S) (l : List (Timed S)) → All NoSpot (untimed vs) → Front (vs ++ at t (spot u) ∷ l)
-
-  front-past : (t : ℕ) (x : Item S) {l : List (Timed S)} → NoSpot x → Front l → Front (at t x ∷ l)
-  front-past t x n (bare {l = l} h) = bare {l = at t x ∷ l} (n, h)
-  front-past t x n (front vs c u l h) = front (at t x ∷ vs) c u l (n, h)
-
-  front-of : (l : List (Timed S)) → Front l
-  front-of [] = bare tt
-  front-of (at t (value q v) ∷ l) = front-past t (value q v) tt (front-of l)
-  front-of (at t (spot u) ∷ l) = front [] t u l tt
-  front-of (at t (finished s) ∷ l) = front-past t (finished s) tt (front-of l)
-  front-of (at t (gave q) ∷ l) = front-past t (gave q) tt (front-of l)
-
-  -- PROGRESS; no proof uses it yet, requests to come will
-  pub progress : (r : Fronts) (l : List (Timed S)) → Bare T W l ⊎ ((u : S) × Can u r l)
-  progress r l = go (front-of l)
-    where
-      go : {k : List (Timed S)} → Front k → Bare T W k ⊎ ((u : S) × Can u r k)
-      go (bare h) = inl h
-      go (front vs t u k h) = inr (u, first-moves u (T .next u) refl r t vs k h)
