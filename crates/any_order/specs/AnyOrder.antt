@@ -2,7 +2,7 @@
 use mathlib.Core.Path.{_≡_, refl, ap, sym, _∙_, subst}
 use mathlib.Core.Bool.{Bool, true, false, false≢true}
 use mathlib.Core.List.{List, [], _∷_, _++_, nil≢cons}
-use mathlib.Core.Logic.{_⊎_, inl, inr}
+use mathlib.Core.Logic.{_⊎_, inl, inr, ⊎-elim}
 use Prim.Native.Nat.{ℕ, _<_, _≤_}
 use lib.ListN.{length, getElem?}
 use borrow.Author.Tests.{lt-leb, le-leb}
@@ -44,7 +44,7 @@ use Rattle.timed_line.specs.First.{Can, first-moves}
 use Rattle.runner.specs.declared.StepAnswer.{StepAnswer}
 use Rattle.runner.specs.declared.StepAnswer.the-variants.{Waits, Refused}
 use Rattle.runner.specs.Answers.{hasMoved, answerOf}
-use Rattle.any_order.specs.Statement.{Stand, stepped, afterCalls, fresh, stepAnswer, AllFinished, Agreed, Promise}
+use Rattle.any_order.specs.Statement.{Stand, stepped, afterCalls, fresh, stepAnswer, AllFinished, Wants, a-record, a-segment, Agreed, Promise}
 use Rattle.any_order.specs.States.{state-unfinished}
 use Rattle.any_order.specs.Goes.{represents, Stays, waits, eight, nine, Does, stays, goes}
 use Rattle.any_order.specs.Looking.{step-does}
@@ -120,26 +120,32 @@ module _ (j : List ℕ) (ticks : ℕ → ℕ) (e : jobAnswer j ≡ Moved 0) wher
     abbrev W : Waiters (jobTasks j)
     W = jobWaits j ticks
 
+    abbrev Kept : ℕ → Type 0
+    Kept t = (stepAnswer j s t ≡ Waits) ⊎ (((stepAnswer j s t ≡ Refused 4) × (unfinishedIn (s .core) t ≡ false)) ⊎ Wants j s t)
+
+    -- a step that stays: its task is not able, or it wants a record or a segment
+    pub stayed : (n : Numbered) (x : StepAnswer) → Stays j (s .core) (s .runner) (s .order) n x → stepAnswer j s (n .number) ≡ x
+        → (¬ Able j (s .order) n × (x ≡ Waits)) ⊎ Wants j s (n .number)
+    stayed n x (waits unable) i = inl (unable, refl)
+    stayed n x (eight k c d) i = inr (a-record k i c d)
+    stayed n x (nine q v c d f) i = inr (a-segment q v i c d f)
+
     -- a call that does not move
-    only : (t : ℕ) → hasMoved (stepAnswer j s t) ≡ false
-        → (stepAnswer j s t ≡ Waits) ⊎ ((stepAnswer j s t ≡ Refused 4) ⊎ ((stepAnswer j s t ≡ Refused 8) ⊎ (stepAnswer j s t ≡ Refused 9)))
+    only : (t : ℕ) → hasMoved (stepAnswer j s t) ≡ false → Kept t
     only t no-move = go (call s l run t)
       where
-        by : (n : Numbered) (x : StepAnswer) → Stays j (s .order) n x → stepAnswer j s t ≡ x
-            → (stepAnswer j s t ≡ Waits) ⊎ ((stepAnswer j s t ≡ Refused 4) ⊎ ((stepAnswer j s t ≡ Refused 8) ⊎ (stepAnswer j s t ≡ Refused 9)))
-        by n x (waits w) a = inl a
-        by n x eight a = inr (inr (inl a))
-        by n x nine a = inr (inr (inr a))
-
-        go : Called j ticks e s l t
-            → (stepAnswer j s t ≡ Waits) ⊎ ((stepAnswer j s t ≡ Refused 4) ⊎ ((stepAnswer j s t ≡ Refused 8) ⊎ (stepAnswer j s t ≡ Refused 9)))
-        go (absent f a same) = inr (inl a)
-        go (held a b n x f g y z same) = by n x y z
+        go : Called j ticks e s l t → Kept t
+        go (absent f a same) = inr (inl (a, state-unfinished (s .core) (s .order) (run .state) t ∙ f))
+        go (held a b n x f g y z same) =
+            subst Kept g (⊎-elim (λ w. inl (z′ ∙ w .1)) (λ w. inr (inr w)) (stayed n x y z′))
+          where
+            z′ : stepAnswer j s (n .number) ≡ x
+            z′ = ap (stepAnswer j s) g ∙ z
         go (went w m k r) = absurd (false≢true (sym no-move ∙ m))
 
     -- the first task on the line
     abbrev Ready : ℕ → Type 0
-    Ready t = (hasMoved (stepAnswer j s t) ≡ true) ⊎ ((stepAnswer j s t ≡ Refused 8) ⊎ (stepAnswer j s t ≡ Refused 9))
+    Ready t = (hasMoved (stepAnswer j s t) ≡ true) ⊎ Wants j s t
 
     first-ready : (a b : List (Item Numbered)) (n : Numbered) → standing a ≡ [] → Running j ticks s (a ++ spot n ∷ b) → Ready (n .number)
     unfolding stepAnswer answerOf
@@ -156,13 +162,8 @@ module _ (j : List ℕ) (ticks : ℕ → ℕ) (e : jobAnswer j ≡ Moved 0) wher
             let m = subst (Can (jobTasks j) W (n .runner) none-back) (sym (at-task .line)) c in
             moves-able j ticks (represents (place j ticks e s a b n r) .played) a b n (r .beside) (r .times) (r .same) (m .end) (m .done) _ (m .line) (m .move)
 
-        by : (x : StepAnswer) → Stays j (s .order) n x → stepAnswer j s (n .number) ≡ x → Ready (n .number)
-        by x (waits unable) i = absurd (unable able)
-        by x eight i = inr (inl i)
-        by x nine i = inr (inr i)
-
         go : Does j (s .core) (s .runner) (s .order) a b n → Ready (n .number)
-        go (stays x y o) = by x y (unfold stepAnswer answerOf in ap answerOf o)
+        go (stays x y o) = ⊎-elim (λ w. absurd (w .0 able)) inr (stayed n x y (unfold stepAnswer answerOf in ap answerOf o))
         go (goes g) = inl (has-gone j ticks e s a b n r g)
 
     -- while a task is unfinished, the first on the line can move, or wants a record or a segment

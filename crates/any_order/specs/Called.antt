@@ -40,11 +40,11 @@ use Rattle.any_order.specs.Running.{Running, same-stand, next-stand}
 use Rattle.any_order.specs.Names.{name-is, event-is}
 
 -- an answer of a step that does not move
-pub stays-still : {j : List ℕ} {xs : List Mark} {n : Numbered} (x : StepAnswer) → Stays j xs n x → hasMoved x ≡ false
+pub stays-still : {j m r : List ℕ} {xs : List Mark} {n : Numbered} (x : StepAnswer) → Stays j m r xs n x → hasMoved x ≡ false
 unfolding hasMoved
 stays-still x (waits w) = refl
-stays-still x eight = refl
-stays-still x nine = refl
+stays-still x (eight k c d) = refl
+stays-still x (nine q v c d e) = refl
 
 module _ (j : List ℕ) (ticks : ℕ → ℕ) (e : jobAnswer j ≡ Moved 0) where
   -- every task on the line is at an instruction that exists
@@ -72,8 +72,8 @@ module _ (j : List ℕ) (ticks : ℕ → ℕ) (e : jobAnswer j ≡ Moved 0) wher
   -- What a call of task number t does.
   pub data Called (s : Stand) (l : List (Item Numbered)) (t : ℕ) : Type 0 where
     absent : unfinished t (s .order) ≡ false → stepAnswer j s t ≡ Refused 4 → stepped j t s ≡ s → Called s l t
-    held : (a b : List (Item Numbered)) (n : Numbered) (x : StepAnswer) → l ≡ a ++ spot n ∷ b → n .number ≡ t → Stays j (s .order) n x → stepAnswer j s t ≡ x
-        → stepped j t s ≡ s → Called s l t
+    held : (a b : List (Item Numbered)) (n : Numbered) (x : StepAnswer) → l ≡ a ++ spot n ∷ b → n .number ≡ t
+        → Stays j (s .core) (s .runner) (s .order) n x → stepAnswer j s t ≡ x → stepped j t s ≡ s → Called s l t
     went : Mover s l t → hasMoved (stepAnswer j s t) ≡ true → (k : List (Item Numbered)) → Running j ticks (stepped j t s) k → Called s l t
 
   -- 4: nobody unfinished has the number

@@ -10,14 +10,15 @@ use Rattle.gaps.specs.Maps.{All, all-behind}
 use Rattle.answers.specs.declared.Answer.{Answer}
 use Rattle.answers.specs.declared.Answer.the-variants.{Moved}
 use Rattle.answers.specs.Answers.{Outcome as CoreOutcome, outcome as core-outcome, wordsOf, answerOf as coreAnswer}
-use Rattle.answers.specs.Calls.{Call}
+use Rattle.answers.specs.Calls.{Call, spawn-call, push-call}
 use Rattle.calls.specs.Waits.{blocked as blockedIn}
 use Rattle.calls.specs.Outcomes.{outcomeOf}
 use Rattle.order.specs.Steps.{Item as Mark, numberOf, rightsOf as rightsWith, noted}
 use Rattle.order.specs.Waits.{unfinished, blocked}
-use Rattle.order.specs.Ordered.{rightsAt}
+use Rattle.order.specs.Ordered.{rightsAt, spots}
 use Rattle.represents.specs.Represents.{Represents}
-use Rattle.in_order.specs.Answered.{answered}
+use Rattle.calls.specs.Segments.{noneFree}
+use Rattle.in_order.specs.Answered.{needsSegment, answered}
 use Rattle.in_order.specs.State.{State}
 use Rattle.in_order.specs.Ladder.{blocked-same, rights-are}
 use Rattle.in_order.specs.InOrder.{call-does}
@@ -35,19 +36,20 @@ use Rattle.job_order.specs.After.{After}
 use Rattle.job_waits.specs.Able.{Able}
 use Rattle.runner.specs.declared.StepAnswer.{StepAnswer}
 use Rattle.runner.specs.declared.StepAnswer.the-variants.{Waits, Refused}
-use Rattle.runner.specs.Words.{registerOf, instructionFor}
+use Rattle.runner.specs.Words.{instructionFor}
 use Rattle.runner.specs.Answers.{answerWith, outcome}
 use Rattle.runner.specs.Step.{callOf, replyOf, runnerAfter, done, replied, repliedTo, makes, stepTested, stepOutcome}
-use Rattle.any_order.specs.Statement.{notedBy}
+use Rattle.any_order.specs.Statement.{coreCall, notedBy}
 use Rattle.any_order.specs.States.{state-unfinished, still, behind-test}
 use Rattle.any_order.specs.Written.{Words, Holds, Written}
 use Rattle.any_order.specs.Tested.{stands-at, tests-pass}
 
--- the answers of a step that does not move
-pub data Stays (j : List ℕ) (xs : List Mark) (n : Numbered) : StepAnswer → Type 0 where
-  waits : ¬ Able j xs n → Stays j xs n Waits
-  eight : Stays j xs n (Refused 8)
-  nine : Stays j xs n (Refused 9)
+-- the answers of a step that does not move, and why it does not
+pub data Stays (j m r : List ℕ) (xs : List Mark) (n : Numbered) : StepAnswer → Type 0 where
+  waits : ¬ Able j xs n → Stays j m r xs n Waits
+  eight : (k : ℕ) → coreCall j r (n .number) ≡ some (spawn-call (n .number) k) → spots xs ≡ 128 → Stays j m r xs n (Refused 8)
+  nine : (q v : ℕ) → coreCall j r (n .number) ≡ some (push-call (n .number) q v) → needsSegment m (n .number) q ≡ true → noneFree m ≡ true
+      → Stays j m r xs n (Refused 9)
 
 -- a step that moves: what it found, the number of a new task, and what it leaves
 pub record Goes (j m r : List ℕ) (xs : List Mark) (a b : List (Item Numbered)) (n : Numbered) : Type 0 where
@@ -60,14 +62,13 @@ pub record Goes (j m r : List ℕ) (xs : List Mark) (a b : List (Item Numbered))
   pub able : Able j xs n
   pub outcome-is : let e = does (n .runner) (instructionOf j (n .runner)) found in
       stepOutcome j m r (n .number) ≡ outcome (answerWith (e .word) (e .value) new) core runner
-  pub noted-is : let i = instructionFor j r (n .number) in
-      notedBy (callOf (operationAt (i .operation)) j (n .number) (registerOf r (n .number)) i) m xs ≡ order
+  pub noted-is : notedBy (coreCall j r (n .number)) m xs ≡ order
   pub state : State core order
   pub after : After j order a b n tasks found
   pub written : Written runner (standing a ++ (tasks ++ standing b))
 
 pub data Does (j m r : List ℕ) (xs : List Mark) (a b : List (Item Numbered)) (n : Numbered) : Type 0 where
-  stays : (x : StepAnswer) → Stays j xs n x → stepOutcome j m r (n .number) ≡ outcome x m r → Does j m r xs a b n
+  stays : (x : StepAnswer) → Stays j m r xs n x → stepOutcome j m r (n .number) ≡ outcome x m r → Does j m r xs a b n
   goes : Goes j m r xs a b n → Does j m r xs a b n
 
 -- A TASK THAT STANDS: task n stands between a and b on the line of an accepted job, in a state with the core's words m, the runner's
@@ -109,7 +110,7 @@ module _ {j m r : List ℕ} {xs : List Mark} {a b : List (Item Numbered)} {n : N
       let v = located j a b n (p .beside) in
       ap (rightsAt t) (v .here) ∙ rights-are m (v .before) (v .behind) (taskOf j n) (subst (Represents m) (v .here) represents)
 
-  blocked-is : blockedIn m t ≡ blocked t xs
+  pub blocked-is : blockedIn m t ≡ blocked t xs
   unfolding taskOf numberOf
   blocked-is =
       let v = located j a b n (p .beside) in
@@ -136,8 +137,7 @@ module _ {j m r : List ℕ} {xs : List Mark} {a b : List (Item Numbered)} {n : N
         (pass _ (blocked-is ∙ free)
         (ap₂ (λ (s : Instruction) (x : ℕ). makes t s (callOf (operationAt (s .operation)) j t x s) m r) (instruction-is ∙ is) (words .register)))
 
-    pub call-is : callOf (operationAt (instructionFor j r t .operation)) j t (registerOf r t) (instructionFor j r t)
-        ≡ callOf (operationAt (i .operation)) j t (u .task .register) i
+    pub call-is : coreCall j r t ≡ callOf (operationAt (i .operation)) j t (u .task .register) i
     call-is = ap₂ (λ (s : Instruction) (x : ℕ). callOf (operationAt (s .operation)) j t x s) (instruction-is ∙ is) (words .register)
 
     -- what the step leaves, in terms of the task
@@ -168,7 +168,7 @@ module _ {j m r : List ℕ} {xs : List Mark} {a b : List (Item Numbered)} {n : N
       pub call-state : State core (noted c x xs)
       call-state = subst (λ (y : Answer). State core (noted c y xs)) answer (call-does c m xs (p .state) .holds)
 
-      pub call-noted : notedBy (callOf (operationAt (instructionFor j r t .operation)) j t (registerOf r t) (instructionFor j r t)) m xs ≡ noted c x xs
+      pub call-noted : notedBy (coreCall j r t) m xs ≡ noted c x xs
       unfolding notedBy
       call-noted =
           ap (λ (o : Option Call). notedBy o m xs) (call-is ∙ which) ∙ ap (λ (y : Answer). noted c y xs) (call-does c m xs (p .state) .answer ∙ answer)

@@ -41,10 +41,10 @@ use Rattle.job_order.specs.Instructions.{instruction, which-holds}
 use Rattle.job_order.specs.Puts.{on, go-after, zero-after, add-after, sync-after, push-after, sum-after, finish-after, spawn-after}
 use Rattle.runner.specs.declared.StepAnswer.{StepAnswer}
 use Rattle.runner.specs.declared.StepAnswer.the-variants.{Waits as Later, Refused as TurnedDown}
-use Rattle.runner.specs.Words.{procedureOf, registerOf, put, instructionFor}
+use Rattle.runner.specs.Words.{procedureOf, registerOf, put}
 use Rattle.runner.specs.Answers.{answerWith, outcome}
 use Rattle.runner.specs.Step.{callOf, replyOf, runnerAfter, done, replied, makes, stepOutcome}
-use Rattle.any_order.specs.Statement.{notedBy}
+use Rattle.any_order.specs.Statement.{coreCall, notedBy}
 use Rattle.any_order.specs.States.{few}
 use Rattle.any_order.specs.Numbers.{others, there}
 use Rattle.any_order.specs.Written.{Written, Other}
@@ -113,7 +113,7 @@ module _ {j m r : List ℕ} {xs : List Mark} {a b : List (Item Numbered)} {n : N
 
     -- the step goes on
     goes-with : Able j xs n → (f : Option ℕ) (c : ℕ) (core : List ℕ) (order : List Mark) (ns : List Numbered) → stepOutcome j m r t ≡ done t i f c core r
-        → notedBy (callOf (operationAt (instructionFor j r t .operation)) j t (registerOf r t) (instructionFor j r t)) m xs ≡ order
+        → notedBy (coreCall j r t) m xs ≡ order
         → State core order → After j order a b n ns f
         → Written (runnerAfter (operationAt (i .operation)) t c i (does u i f) r) (standing a ++ (ns ++ standing b)) → Result
     goes-with able f c core order ns z d s x y =
@@ -150,7 +150,7 @@ module _ {j m r : List ℕ} {xs : List Mark} {a b : List (Item Numbered)} {n : N
 
     -- with a core call that does not move
     pub held : (c : Call) → callOf (operationAt (i .operation)) j t (u .task .register) i ≡ some c → (x : Answer) → answered c m xs ≡ x → (y : StepAnswer)
-        → Stays j xs n y → replied t i (replyOf x) (wordsOf (outcomeOf c m)) m r ≡ outcome y m r → Result
+        → Stays j m r xs n y → replied t i (replyOf x) (wordsOf (outcomeOf c m)) m r ≡ outcome y m r → Result
     held c which x answer y why o = stays y why (common.call-replied p free i is c which x answer ∙ o)
 
     -- with a core call that moves
@@ -199,7 +199,8 @@ module _ {j m r : List ℕ} {xs : List Mark} {a b : List (Item Numbered)} {n : N
       ⊎-elim
       (λ d. called i is able (push-call t (i .which) v) which (Moved v) d none v _ same after
       (subst (λ (k : List ℕ). Written k (standing a ++ on n (goesOn u i none) ∷ standing b)) (sym words) (on-written i is none)))
-      (λ d. held i is (push-call t (i .which) v) which (Refused 9) d (TurnedDown 9) nine refl)
+      (λ d. held i is (push-call t (i .which) v) which (Refused 9) (d .0) (TurnedDown 9)
+      (nine (i .which) v (common.call-is p free i is ∙ which) (d .1) (d .2)) refl)
       (push-answer m xs t (common.is-unfinished p) free (i .which) v small
       (subst (λ (k : ℕ). mayPush k (i .which) ≡ true) (sym (common.rights-is p)) may))
 
@@ -280,7 +281,7 @@ module _ {j m r : List ℕ} {xs : List Mark} {a b : List (Item Numbered)} {n : N
         (λ d.
         called i is (able-plainly i is refl refl) call refl (Moved c) d none c _ refl (spawn-after j acc played a b n stands (p .beside) q x c is)
         (spawn-written d (common.call-state p free i is call refl (Moved c) d)))
-        (λ d. held i is call refl (Refused 8) d (TurnedDown 8) eight refl)
+        (λ d. held i is call refl (Refused 8) (d .0) (TurnedDown 8) (eight (rights j q) (common.call-is p free i is) (d .1)) refl)
         (spawn-answer m xs t (common.is-unfinished p) free (rights j q)
         (subst (λ (k : ℕ). subset (rights j q) k ≡ true) (sym (common.rights-is p)) (holds .1)))
 

@@ -5,10 +5,9 @@ use mathlib.Core.List.{List, [], _∷_, _++_}
 use mathlib.Core.Option.{Option, none, some}
 use Prim.Native.Nat.{ℕ}
 use Rattle.words.specs.Words.{pass, halt}
-use Rattle.answers.specs.Calls.{Call}
 use Rattle.order.specs.Steps.{Item as Mark}
 use Rattle.in_order.specs.State.{State}
-use Rattle.job.specs.Operations.{Operation, return, push, pushSum, pop, goIfEmpty, go, goIfZero, add, spawn, sync, operationAt}
+use Rattle.job.specs.Operations.{Operation, return, push, pushSum, pop, goIfEmpty, go, goIfZero, add, spawn, sync}
 use Rattle.job.specs.Effects.{Word, spawned, pushed, took, moved, finished, empty, notEmpty, waits, refused, effect}
 use Rattle.plain.specs.Machine.{Event}
 use Rattle.line.specs.Line.{Item}
@@ -21,10 +20,9 @@ use Rattle.job_line.specs.Agree.{start, none-back}
 use Rattle.job_line.specs.Events as Log
 use Rattle.job_order.specs.Beside.{Numbered, unnumbered, standing, Beside}
 use Rattle.runner.specs.declared.StepAnswer.{StepAnswer}
-use Rattle.runner.specs.Words.{registerOf, instructionFor}
 use Rattle.runner.specs.Answers.{answerWith, wordOf, hasMoved, Outcome, outcome, answerOf, coreOf, runnerOf}
-use Rattle.runner.specs.Step.{callOf, stepOutcome}
-use Rattle.any_order.specs.Statement.{Stand, aside, eventFor, notedBy, standAfter, stepped}
+use Rattle.runner.specs.Step.{stepOutcome}
+use Rattle.any_order.specs.Statement.{Stand, aside, coreCall, eventFor, notedBy, standAfter, stepped}
 use Rattle.any_order.specs.Written.{Written}
 
 -- with the times of its line, by any ticks
@@ -68,9 +66,6 @@ same-value sync p x y f c = refl
 
 -- WHERE A RUN STANDS after a call
 module _ (j : List ℕ) (s : Stand) (t : ℕ) where
-  abbrev Call-of : Option Call
-  Call-of = callOf (operationAt (instructionFor j (s .runner) t .operation)) j t (registerOf (s .runner) t) (instructionFor j (s .runner) t)
-
   stepped-is : (o : Outcome) → stepOutcome j (s .core) (s .runner) t ≡ o → stepped j t s ≡ standAfter j t s o
   unfolding stepped
   stepped-is o e = ap (standAfter j t s) e
@@ -84,7 +79,7 @@ module _ (j : List ℕ) (s : Stand) (t : ℕ) where
 
   -- a call that moves
   pub next-stand : (x : StepAnswer) (m r : List ℕ) (l : List Mark) (e : Event) → hasMoved x ≡ true → stepOutcome j (s .core) (s .runner) t ≡ outcome x m r
-      → notedBy Call-of (s .core) (s .order) ≡ l → eventFor j s t x ≡ e
+      → notedBy (coreCall j (s .runner) t) (s .core) (s .order) ≡ l → eventFor j s t x ≡ e
       → stepped j t s ≡ record { core = m; runner = r; order = l; events = s .events ++ e ∷ [] }
   unfolding coreOf runnerOf answerOf standAfter
   next-stand x m r l e d o n v =

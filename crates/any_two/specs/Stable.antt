@@ -2,7 +2,7 @@
 -- other's step, and finds the same.
 use mathlib.Core.Path.{_≡_, refl, ap, sym, _∙_, subst}
 use mathlib.Core.List.{List, _∷_, _++_}
-use mathlib.Core.Logic.{inl}
+use mathlib.Core.Logic.{inl, ⊎-elim}
 use Prim.Native.Nat.{ℕ}
 use Rattle.answers.specs.declared.Answer.the-variants.{Moved}
 use Rattle.order.specs.Steps.{Item as Mark, spot as place-of, nameOf, numberOf}
@@ -33,8 +33,8 @@ use Rattle.any_order.specs.Goes.{Place, Stays, waits, eight, nine, Goes, Does, 
 use Rattle.any_order.specs.Looking.{step-does}
 use Rattle.any_order.specs.Running.{Running}
 use Rattle.any_order.specs.Called.{place, Mover, its-move, has-gone, goes-event, after-goes}
-use Rattle.any_order.specs.AnyOrder.{mover, under-way, noTicks}
-use Rattle.any_two.specs.Statement.{Still, moves, no-record, no-segment, Stability}
+use Rattle.any_order.specs.AnyOrder.{mover, stayed, under-way, noTicks}
+use Rattle.any_two.specs.Statement.{Still, moves, wants, Stability}
 use Rattle.any_two.specs.Stands.{At, still-stands}
 
 -- two tasks of one line with different numbers have different names
@@ -107,13 +107,10 @@ module _ (j : List ℕ) (ticks : ℕ → ℕ) (accept : jobAnswer j ≡ Moved 0)
     unfolding stepAnswer
     still-moves = go (step-does here)
       where
-        by : (x : StepAnswer) → Stays j (then .order) n x → stepAnswer j then (n .number) ≡ x → Still j s then (n .number)
-        by x (waits unable) i = absurd (unable (still-able (now .able)))
-        by x eight i = no-record i
-        by x nine i = no-segment i
-
         go : Does j (then .core) (then .runner) (then .order) (stood .before) (stood .behind) n → Still j s then (n .number)
-        go (stays x y i) = by x y (unfold stepAnswer answerOf in ap answerOf i)
+        go (stays x y i) =
+            ⊎-elim (λ w. absurd (w .0 (still-able (now .able)))) wants
+            (stayed j ticks accept then _ after n x y (unfold stepAnswer answerOf in ap answerOf i))
         go (goes later) =
             moves (has-gone j ticks accept then (stood .before) (stood .behind) n after later)
             (goes-event j ticks accept then (stood .before) (stood .behind) n after later ∙ ap (eventWith j (n .runner)) (same-found later)

@@ -16,7 +16,7 @@ use Rattle.plain.specs.Run.{stackOf, run, answersOf}
 use Rattle.runner.specs.declared.StepAnswer.the-variants.{Refused}
 use Rattle.runner.specs.Words.{RUNNER}
 use Rattle.runner.specs.Answers.{hasMoved}
-use Rattle.any_order.specs.Statement.{Stand, eventFor, stepped, afterCalls, fresh, stepAnswer, AllFinished}
+use Rattle.any_order.specs.Statement.{Stand, eventFor, stepped, afterCalls, fresh, stepAnswer, AllFinished, Wants}
 
 -- Every task has got the same answers, as many calls have moved, and left answers the same, for any queue and index.
 pub record Alike (s o : Stand) : Type 0 where
@@ -42,8 +42,7 @@ Termination =
 -- a new task's number aside, or it wants a task record or a segment.
 pub data Still (j : List ℕ) (s o : Stand) (t : ℕ) : Type 0 where
   moves : hasMoved (stepAnswer j o t) ≡ true → eventFor j o t (stepAnswer j o t) ≡ eventFor j s t (stepAnswer j s t) → Still j s o t
-  no-record : stepAnswer j o t ≡ Refused 8 → Still j s o t
-  no-segment : stepAnswer j o t ≡ Refused 9 → Still j s o t
+  wants : Wants j o t → Still j s o t
 
 -- STABILITY: after any list of calls, a step that would move still does so after a step of any other task that moved.
 abbrev pub Stability : Type 0
