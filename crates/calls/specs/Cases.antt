@@ -2,12 +2,13 @@
 -- of its own.
 use mathlib.Core.Path.{_≡_, refl}
 use mathlib.Core.Bool.{true}
+use mathlib.Core.List.{List, [], _∷_}
 use Rattle.cases.specs.Starred.{longest, noPush}
 use Rattle.cases.specs.Traps.{parentPush, hidden}
 use Rattle.cases.specs.Waiting.{leftLater}
 use Rattle.cases.specs.Refused.{notAllowed}
-use Rattle.cases.specs.Joining.{localHead}
-use Rattle.calls.specs.Table.{lent, right}
+use Rattle.cases.specs.Joining.{localHead, lastFreed}
+use Rattle.calls.specs.Table.{lent, right, Placed, placed, leaves}
 
 pub parent-push-right : right lent parentPush ≡ true
 unfolding right
@@ -36,3 +37,11 @@ longest-right = refl
 pub left-later-right : right lent leftLater ≡ true
 unfolding right
 left-later-right = refl
+
+-- 4 and 5 go to segments 4 and 0: the last freed first
+abbrev pub lastFreedPlaces : List Placed
+lastFreedPlaces = placed 0 5 ∷ placed 4 4 ∷ placed 5 3 ∷ []
+
+pub last-freed-right : leaves lent lastFreed lastFreedPlaces ≡ true
+unfolding leaves
+last-freed-right = refl

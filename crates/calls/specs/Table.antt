@@ -4,13 +4,14 @@ use mathlib.Core.Bool.{Bool, true, false}
 use mathlib.Core.List.{List, [], _∷_, _++_}
 use mathlib.Core.Option.{Option, none, some, Option·none-ne-some, Option·some-injective}
 use Prim.Native.Nat.{ℕ}
+use lib.Dec.{eqb}
 use lib.ListN.{replicate}
 use Rattle.words.specs.Words.{load, store, size, pick, pick-true, pick-false, both, either}
 use Rattle.words.specs.Blocks.{storeAll, rows}
 use Rattle.lists.specs.Counting.{one, occurrences}
 use Rattle.lists.specs.Tests.{each, upto, eachWord}
 use Rattle.lists.specs.Distinct.{fresh, distinct}
-use Rattle.layout.specs.Layout.{WORDS, address, read, write, recordOf}
+use Rattle.layout.specs.Layout.{WORDS, value, address, read, write, recordOf}
 use Rattle.answers.specs.Answers.{Outcome, outcome, answerOf, wordsOf, statusOf, valueOf, sameAnswer}
 use Rattle.tree.specs.Rights.{bits, pushes, pops, uses, eachQueue, someQueue, sharesPop, subset}
 use Rattle.tree.specs.Tour.{leaving, entering, after, tour, met, seek, sibling, oldest}
@@ -83,3 +84,21 @@ computes c m = refl
 unfoldable pub right : List ℕ → Case → Bool
 unfolding computed isSome
 right m c = isSome (computed c m)
+
+-- Words that document 01 fixes: "The values of segment s are the L words that start at s times L in the value area." Value number k of that area
+-- is v.
+pub data Placed : Type 0 where
+  placed : ℕ → ℕ → Placed
+
+unfoldable pub stand : List Placed → List ℕ → Bool
+stand [] m = true
+stand (placed k v ∷ ps) m = let more = stand ps m in both (eqb (read m (value k)) v) more
+
+unfoldable pub standIn : List Placed → Option (List ℕ) → Bool
+standIn ps none = false
+standIn ps (some m) = stand ps m
+
+-- each call gets its answer, and then the values stand there
+unfoldable pub leaves : List ℕ → Case → List Placed → Bool
+unfolding computed standIn stand both read address load
+leaves m c ps = standIn ps (computed c m)

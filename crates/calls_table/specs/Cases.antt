@@ -23,11 +23,11 @@ allRight [] = true
 allRight (c ∷ cs) = both (right lent c) (allRight cs)
 
 -- The checker computes each case; the 127 children in parts.
-many-children-right : right lent manyChildren ≡ true
+pub many-children-right : right lent manyChildren ≡ true
 unfolding right isSome
 many-children-right = ap isSome (computes manyChildren lent ∙ many-children)
 
-one-segment-right : right lent oneSegment ≡ true
+pub one-segment-right : right lent oneSegment ≡ true
 unfolding right
 one-segment-right = refl
 
@@ -35,7 +35,7 @@ longest-right : right lent longest ≡ true
 unfolding right
 longest-right = refl
 
-new-queue-right : right lent newQueue ≡ true
+pub new-queue-right : right lent newQueue ≡ true
 unfolding right
 new-queue-right = refl
 
@@ -43,11 +43,11 @@ full-run-right : right lent fullRun ≡ true
 unfolding right
 full-run-right = refl
 
-later-push-right : right lent laterPush ≡ true
+pub later-push-right : right lent laterPush ≡ true
 unfolding right
 later-push-right = refl
 
-more-rights-right : right lent moreRights ≡ true
+pub more-rights-right : right lent moreRights ≡ true
 unfolding right
 more-rights-right = refl
 

@@ -49,3 +49,9 @@ numbers =
     row (open-call 4 8) (Moved 0) ∷ row (spawn-call 0 1) (Moved 1) ∷ row (spawn-call 0 1) (Moved 2) ∷ row (finish-call 1) (Moved 0)
     ∷ row (spawn-call 0 4) (Moved 1) ∷ row (spawn-call 0 4) (Moved 3) ∷ row (finish-call 2) (Moved 0) ∷ row (finish-call 3) (Moved 0)
     ∷ row (spawn-call 1 0) (Moved 3) ∷ row (spawn-call 1 0) (Moved 2) ∷ []
+
+-- Freed segments are used again, "the last freed first; opening offers them in ascending order": segments 0 and 4 are freed, in this order.
+abbrev pub lastFreed : Case
+lastFreed =
+    row (open-call 1 6) (Moved 0) ∷ row (push-call 0 0 1) (Moved 1) ∷ row (push-call 0 0 2) (Moved 2) ∷ row (push-call 0 0 3) (Moved 3)
+    ∷ row (pop-call 0 0) (Moved 1) ∷ row (pop-call 0 0) (Moved 2) ∷ row (push-call 0 0 4) (Moved 4) ∷ row (push-call 0 0 5) (Moved 5) ∷ []

@@ -4,10 +4,10 @@ use mathlib.Core.Bool.{true}
 use mathlib.Core.List.{List, [], _∷_}
 use Prim.Native.Nat.{ℕ}
 use Rattle.answers.specs.declared.Answer.the-variants.{Moved as Gives, Refused as NoMore}
-use Rattle.job.specs.Examples.{head, entry, ins, alone, fullRun, wrappedSpawn}
+use Rattle.job.specs.Examples.{head, entry, ins, alone, fullRun, wrapping, wrappedSpawn}
 use Rattle.runner.specs.declared.StepAnswer.the-variants.{Spawned, Pushed, Took, Finished, Moved, Empty, Waits, Refused}
 use Rattle.runner.specs.Ready.{noMap}
-use Rattle.runner_table.specs.Table.{step, ready, left, lent, lentRunner, right}
+use Rattle.runner_table.specs.Table.{Row, step, ready, left, lent, lentRunner, right}
 
 -- Four poppers of queue 0, each blocked by those before it: the first tests and pops an empty queue, the others begin with
 -- operations 7, 6 and 5.
@@ -22,12 +22,22 @@ blockedJob =
     (ins 5 0 1 (ins 0 0 0 []))))))))))))))))))))
 
 -- "A run in full": step 5 waits, step 7 takes 10
-pub full-run : right fullRun
-    (step 0 (Spawned 1) ∷ step 0 (Spawned 2) ∷ step 0 (Spawned 3) ∷ step 3 (Pushed 20) ∷ step 2 Waits ∷ step 1 (Pushed 10) ∷ step 2 (Took 10)
-    ∷ step 1 Finished ∷ step 2 Finished ∷ step 3 Finished ∷ step 0 Moved ∷ step 0 Finished ∷ left 0 0 (Gives 20) ∷ left 0 1 (NoMore 7) ∷ [])
-    lent lentRunner ≡ true
+abbrev pub fullSteps : List Row
+fullSteps =
+    step 0 (Spawned 1) ∷ step 0 (Spawned 2) ∷ step 0 (Spawned 3) ∷ step 3 (Pushed 20) ∷ step 2 Waits ∷ step 1 (Pushed 10) ∷ step 2 (Took 10)
+    ∷ step 1 Finished ∷ step 2 Finished ∷ step 3 Finished ∷ step 0 Moved ∷ step 0 Finished ∷ left 0 0 (Gives 20) ∷ left 0 1 (NoMore 7) ∷ []
+
+pub full-run : right fullRun fullSteps lent lentRunner ≡ true
 unfolding right
 full-run = refl
+
+-- "Register 4,294,967,295 plus 1 is 0", by operation 2, and then by operation 7
+abbrev pub wrappingSteps : List Row
+wrappingSteps = step 0 Moved ∷ step 0 (Pushed 0) ∷ step 0 Moved ∷ step 0 (Pushed 7) ∷ step 0 Finished ∷ []
+
+pub register-wraps : right wrapping wrappingSteps lent lentRunner ≡ true
+unfolding right
+register-wraps = refl
 
 -- "Every call of a task, any operation of a job too, waits while an older sibling is unfinished that shares a pop right"
 pub blocked : right blockedJob
