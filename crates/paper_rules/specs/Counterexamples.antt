@@ -1,8 +1,10 @@
--- RULES 6, 7 AND 8 AS WRITTEN ARE FALSE: for each a short list of calls, and what the words are after it, by computation.
+-- RULES 6, 7 AND 8 ARE FALSE, 6 if "consumer" means a task with pop right, 7 and 8 as written: for each a short list of calls,
+-- and what the words are after it, by computation.
 use mathlib.Core.Path.{_≡_, refl, ap, ap₂, sym, _∙_}
 use mathlib.Core.Bool.{true, false, false≢true}
 use mathlib.Core.Option.{Option, none, some}
 use mathlib.Core.List.{List, [], _∷_}
+use mathlib.Core.Logic.{inr}
 use Prim.Native.Nat.{ℕ, _<_}
 use native.Mathlib.Omega.{arith}
 use Rattle.words.specs.Words.{load, pick, both}
@@ -13,7 +15,7 @@ use Rattle.tree.specs.Rights.{bits, pushes, pops}
 use Rattle.tree.specs.Tour.{leaving, entering, after, tour}
 use Rattle.rules.specs.Views.{view}
 use Rattle.rules.specs.Contents.{decode}
-use Rattle.rules.specs.Rules.{Unfinished}
+use Rattle.rules.specs.Rules.{Holder}
 use Rattle.cases.specs.Rows.{Case, row}
 use Rattle.calls.specs.Views.{viewOf, isEmpty}
 use Rattle.calls.specs.Waits.{rightsOf}
@@ -26,8 +28,8 @@ use Rattle.meaning.specs.Free.{optional-none}
 use Rattle.paper_rules.specs.Order.{ViewName, queue, user, right, behind, placeIn, place, Before}
 use Rattle.paper_rules.specs.Words.{viewAt, headOnly, taskOf, NotQueue, Current, LinkedList}
 
--- THE RULES AS WRITTEN, of queue q in the words m
--- "any segment may be shared by at most two tasks, of which one is a consumer and one is a producer"
+-- THE RULES, of queue q in the words m
+-- "any segment may be shared by at most two tasks, of which one is a consumer and one is a producer", by their rights
 abbrev pub Rule6 : List ℕ → ℕ → Type 0
 Rule6 m q =
     (v w : ViewName) (s : ℕ) (x y : End) → Current m v → Current m w → viewAt m q v ≡ extent (local s) x → viewAt m q w ≡ extent y (local s)
@@ -63,11 +65,11 @@ view-of : (m : List ℕ) (k t h e : ℕ) → k < 3 → t < 128 → read m (head 
 unfolding viewOf
 view-of m k t h e lk lt i j = view-at m 0 k t (omega arith) lk lt ∙ ap₂ (λ (x y : ℕ). extentOf (view x y)) i j
 
-busy : (m : List ℕ) (t : ℕ) → t < 128 → read m (task t STATUS) ≡ UNFINISHED → Unfinished (decode m) t
-busy m t l e = (l, word-is m t STATUS ∙ e)
+busy : (m : List ℕ) (t : ℕ) → t < 128 → read m (task t STATUS) ≡ UNFINISHED → Holder (decode m) t
+busy m t l e = inr (l, word-is m t STATUS ∙ e)
 
 -- RULE 6. Two children of the top that push, and the younger one does first: task 1 has the head of the new segment 4 in its
--- right view, task 2 the tail, and neither may pop.
+-- right view, task 2 the tail, and neither may pop. The paper's Figure 4 (a) has the same with its Tasks 2 and 3.
 abbrev pub youngerPushes : Case
 youngerPushes = row (open-call 4 8) (Moved 0) ∷ row (spawn-call 0 1) (Moved 1) ∷ row (spawn-call 0 1) (Moved 2) ∷ row (push-call 2 0 9) (Moved 9) ∷ []
 

@@ -11,4 +11,5 @@ pub mod Rules79
 pub mod Rule6
 pub mod Rule8
 pub mod Finished
+pub mod AfterCalls
 pub mod Counterexamples

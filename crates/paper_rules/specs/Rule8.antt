@@ -12,7 +12,7 @@ use Rattle.words.specs.Words.{true-both}
 use Rattle.lists.specs.Counting.{occurrences}
 use Rattle.tree.specs.Rights.{uses}
 use Rattle.rules.specs.Contents.{decode}
-use Rattle.rules.specs.Rules.{Unfinished}
+use Rattle.rules.specs.Rules.{Holder}
 use Rattle.calls.specs.Waits.{rightsOf as rightsIn}
 use Rattle.order.specs.Steps.{Item}
 use Rattle.gaps.specs.Maps.{All, lastOf, all-append}
@@ -23,7 +23,7 @@ use Rattle.represents.specs.Represents.{queueMemory, ofTasks, usesIn, Represent
 use Rattle.paper_rules.specs.Order.{ViewName, queue, children, user, right, placeIn, place}
 use Rattle.paper_rules.specs.Slots.{Slot, slot, slots, chains, chain-in, NoRight, Ends, ends-in}
 use Rattle.paper_rules.specs.Along.{Stands, slot-at, Falling, Above, falling-after}
-use Rattle.paper_rules.specs.Words.{LinkedList, headOnly, NotQueue, same-place, stands, line-falls}
+use Rattle.paper_rules.specs.Words.{LinkedList, headOnly, NotQueue, busy, same-place, stands, line-falls}
 use Rattle.paper_rules.specs.Spans.{linked-same, CalmHere, full-stands, tail-chain, not-both}
 use Rattle.paper_rules.specs.Rules123.{queue-head, holds-right}
 use Rattle.paper_rules.specs.Rules79.{tail-not-queue}
@@ -127,7 +127,7 @@ module _ (m : List ℕ) (xs : List Item) (r : Represents m xs) (q : ℕ) (small 
         (above-later (at-w .later) (falling-after T (at-w .later) w (at-w .chain) (at-w .earlier) (subst (Falling T) (at-w .here) (line-falls m xs r q small))))
         (not-right w (at-w .chain) (quiet-first .0), calm-later (at-w .earlier) (quiet-first .1)))
 
-    ends-early : (u : ℕ) → Unfinished (decode m) u → usesIn m q u ≡ true → placeIn T w < placeIn T (right u)
+    ends-early : (u : ℕ) → Holder (decode m) u → usesIn m q u ≡ true → placeIn T w < placeIn T (right u)
     ends-early u c b = slot-at RightLater (right u) S all-later (stands m xs r q small (right u) tt c b)
 
   -- RULE 8, AMENDED. "For views T1.v1 and T2.v2 as in invariant 7, it holds that T2.v2 < T1.v1 provided that v1 is a queue view
@@ -136,11 +136,11 @@ module _ (m : List ℕ) (xs : List Item) (r : Represents m xs) (q : ℕ) (small 
   -- right or both: a spawn hands the user view on with the queue view, so the tail may lie in the consumer's own user view,
   -- and the queue view stands before that. It holds of the user view of every task with a right to the queue: the first
   -- list ends before the first spot.
-  pub rule-8-amended : (t u : ℕ) (w : ViewName) → LinkedList m q (queue t) w → Unfinished (decode m) u → uses (rightsIn m u) q ≡ true
+  pub rule-8-amended : (t u : ℕ) (w : ViewName) → LinkedList m q (queue t) w → Holder (decode m) u → uses (rightsIn m u) q ≡ true
       → place m w ≤ place m (user u)
   unfolding placeIn usesIn
   rule-8-amended t u w l c b =
-      let a = ends-early t w l u c (true-both (lt-ltb u 128 (c .0)) b) in
+      let a = ends-early t w l u c (true-both (lt-ltb u 128 (busy m xs r u c .0)) b) in
       let d = same-place m xs r w in
       let e = same-place m xs r (user u) in
       omega (arith, a, d, e)

@@ -11,7 +11,7 @@ use Rattle.lists.specs.Sums.{total-term}
 use Rattle.layout.specs.Layout.{RIGHTS}
 use Rattle.tree.specs.Rights.{uses, pops as mayPop}
 use Rattle.rules.specs.Contents.{decode}
-use Rattle.rules.specs.Rules.{Unfinished, Held}
+use Rattle.rules.specs.Rules.{Holder, Held}
 use Rattle.calls.specs.Waits.{rightsOf as rightsIn, blocked, childPops}
 use Rattle.order.specs.Steps.{Task, Item, spot, numberOf, rightsOf}
 use Rattle.order.specs.Waits.{blocked as orderBlocked, childPops as orderChildPops}
@@ -34,21 +34,36 @@ use Rattle.represents_rules.specs.Free.{free-count}
 use Rattle.paper_rules.specs.Order.{queue, user}
 use Rattle.paper_rules.specs.Slots.{slots, each-user}
 use Rattle.paper_rules.specs.Along.{Stands, slot-at}
-use Rattle.paper_rules.specs.Words.{viewAt, headOnly, same-head, same-view, empty-or-stands}
+use Rattle.paper_rules.specs.Words.{viewAt, headOnly, busy, same-head, same-view, empty-or-stands}
+
+-- RULE 2. "At any one time, for a given hyperqueue, there is exactly one queue view with a local head pointer. This view
+-- is accessible by the single task with pop privileges that is allowed to consume data." A spawn hands the queue view to
+-- the first child that may pop, a finish to the next task that may: so it is always with the task that may pop and whose
+-- spot stands first in program order.
+pub record OneQueueView (m : List ℕ) (q : ℕ) : Type 0 where
+  pub task : ℕ
+  pub segment : ℕ
+  pub current : Holder (decode m) task
+  pub head : headsIn m q task ≡ some segment
+  -- no other task has a queue view with a head
+  pub alone : (t : ℕ) → Holder (decode m) t → (t ≡ task → ⊥) → headsIn m q t ≡ none
+  pub may : mayPop (rightsIn m task) q ≡ true
+  -- a task with pop right on q that neither an older sibling nor a child keeps from popping is this one
+  pub consumer : (t : ℕ) → Holder (decode m) t → mayPop (rightsIn m t) q ≡ true → blocked m t ≡ false → childPops m t q ≡ false → t ≡ task
 
 module _ (m : List ℕ) (xs : List Item) (r : Represents m xs) (q : ℕ) (small : q < 4) where
   -- what the words have as queue heads
-  head-is : (t : ℕ) → Unfinished (decode m) t → headsIn m q t ≡ put (λ y. none) (holder m xs r q small) (headOf (firstChain (r .line q))) t
+  head-is : (t : ℕ) → Holder (decode m) t → headsIn m q t ≡ put (λ y. none) (holder m xs r q small) (headOf (firstChain (r .line q))) t
   head-is t u = sym (same-head m xs r q small t u) ∙ r .queue q small .laid .held .head t
 
   holder-has : headsIn m q (holder m xs r q small) ≡ some (firstSegment m xs r q small)
   holder-has =
-      head-is (holder m xs r q small) (holder-busy m xs r q small)
+      head-is (holder m xs r q small) (inr (holder-busy m xs r q small))
       ∙ put-same (λ y. none) (holder m xs r q small) (headOf (firstChain (r .line q)))
       ∙ ap headOf (first-is m xs r q small .1)
 
   -- a queue view with a head is that of the holder
-  pub queue-holder : (t : ℕ) → Unfinished (decode m) t → (s : ℕ) → headsIn m q t ≡ some s → t ≡ holder m xs r q small
+  pub queue-holder : (t : ℕ) → Holder (decode m) t → (s : ℕ) → headsIn m q t ≡ some s → t ≡ holder m xs r q small
   queue-holder t u s e = ⊎-elim (λ i. i) (λ n. absurd (other n)) (equal? t (holder m xs r q small))
     where
       other : (t ≡ holder m xs r q small → ⊥) → ⊥
@@ -58,13 +73,13 @@ module _ (m : List ℕ) (xs : List Item) (r : Represents m xs) (q : ℕ) (small 
           omega (arith, z)
 
   -- and its head the first segment of the first chain
-  pub queue-head : (t : ℕ) → Unfinished (decode m) t → (s : ℕ) → headsIn m q t ≡ some s → (d : List ℕ) × (firstChain (r .line q) ≡ s ∷ d)
+  pub queue-head : (t : ℕ) → Holder (decode m) t → (s : ℕ) → headsIn m q t ≡ some s → (d : List ℕ) × (firstChain (r .line q) ≡ s ∷ d)
   queue-head t u s e =
       let i = Option·some-injective _ _ (sym holder-has ∙ ap (headsIn m q) (sym (queue-holder t u s e)) ∙ e) in
       let w = first-is m xs r q small in
       (w .0, w .1 ∙ ap (λ (x : ℕ). x ∷ w .0) i)
 
-  pub holds-right : (t : ℕ) → Unfinished (decode m) t → (s : ℕ) × (headsIn m q t ≡ some s) → uses (rightsIn m t) q ≡ true
+  pub holds-right : (t : ℕ) → Holder (decode m) t → (s : ℕ) × (headsIn m q t ≡ some s) → uses (rightsIn m t) q ≡ true
   unfolding rightsIn
   holds-right t u w =
       ap (λ (x : ℕ). uses (rightsIn m x) q) (queue-holder t u (w .0) (w .1))
@@ -73,8 +88,8 @@ module _ (m : List ℕ) (xs : List Item) (r : Represents m xs) (q : ℕ) (small 
 
   -- RULE 1. "Every hyperqueue holds at least one segment. .. The last segment is not deleted when it is empty."
   -- The chain of the first gap is never empty, and its first segment, which the queue view names, is held.
-  pub rule-1 : (s : ℕ) × Held (decode m) s × (t : ℕ) × Unfinished (decode m) t × (headsIn m q t ≡ some s)
-  rule-1 = (firstSegment m xs r q small, (first-opened m xs r q small, not-free), holder m xs r q small, holder-busy m xs r q small, holder-has)
+  pub rule-1 : (s : ℕ) × Held (decode m) s × (t : ℕ) × Holder (decode m) t × (headsIn m q t ≡ some s)
+  rule-1 = (firstSegment m xs r q small, (first-opened m xs r q small, not-free), holder m xs r q small, inr (holder-busy m xs r q small), holder-has)
     where
       not-free : occurrences (firstSegment m xs r q small) (decode m .free) ≡ 0
       not-free =
@@ -88,21 +103,6 @@ module _ (m : List ℕ) (xs : List Item) (r : Represents m xs) (q : ℕ) (small 
           let h = occurs-here g g (w .0) refl in
           let i = free-count m (r .sized) g in
           omega (arith, a, b, d, e, f, h, i)
-
-  -- RULE 2. "At any one time, for a given hyperqueue, there is exactly one queue view with a local head pointer. This view
-  -- is accessible by the single task with pop privileges that is allowed to consume data." A spawn hands the queue view to
-  -- the first child that may pop, a finish to the next task that may: so it is always with the task that may pop and whose
-  -- spot stands first in program order.
-  pub record OneQueueView : Type 0 where
-    pub task : ℕ
-    pub segment : ℕ
-    pub unfinished : Unfinished (decode m) task
-    pub head : headsIn m q task ≡ some segment
-    -- no other task has a queue view with a head
-    pub alone : (t : ℕ) → Unfinished (decode m) t → (t ≡ task → ⊥) → headsIn m q t ≡ none
-    pub may : mayPop (rightsIn m task) q ≡ true
-    -- a task with pop right on q that neither an older sibling nor a child keeps from popping is this one
-    pub consumer : (t : ℕ) → Unfinished (decode m) t → mayPop (rightsIn m t) q ≡ true → blocked m t ≡ false → childPops m t q ≡ false → t ≡ task
 
   rights-of : (s : Task) → In (spot s) xs → rightsIn m (numberOf s) ≡ rightsOf s
   rights-of s i = same-rights m (r .tour) xs (r .played) (r .linked) s i
@@ -123,17 +123,17 @@ module _ (m : List ℕ) (xs : List Item) (r : Represents m xs) (q : ℕ) (small 
       (ap (orderChildPops q (numberOf s)) (sym e) ∙ sym (same-childPops m (r .tour) xs (r .played) (r .linked) q s i) ∙ d) in
       Option·some-injective _ _ (sym first ∙ ap (firstPopper q) (sym e) ∙ r .queue q small .first)
 
-  pub rule-2 : OneQueueView
+  pub rule-2 : OneQueueView m q
   rule-2 =
       record {
         task = holder m xs r q small;
         segment = firstSegment m xs r q small;
-        unfinished = holder-busy m xs r q small;
+        current = inr (holder-busy m xs r q small);
         head = holder-has;
         alone = λ t u n. head-is t u ∙ put-other (λ y. none) (holder m xs r q small) (headOf (firstChain (r .line q))) t n;
         may = holder-may;
         consumer = λ t u p b d.
-            let w = unfinished-spot m (r .tour) xs (r .linked) t u in
+            let w = unfinished-spot m (r .tour) xs (r .linked) t (busy m xs r t u) in
             let e = sym (w .2) in
             e
             ∙ free-holds (w .0) (w .1) (ap (λ (x : ℕ). mayPop (rightsIn m x) q) (w .2) ∙ p) (ap (blocked m) (w .2) ∙ b)
@@ -143,7 +143,7 @@ module _ (m : List ℕ) (xs : List Item) (r : Represents m xs) (q : ℕ) (small 
   -- RULE 3. "The tail pointer in the queue view and the head pointer in the user view are always non-local unless if these
   -- views are empty. Space may be saved by not storing these pointers." A push that finds an empty user view gives the head
   -- of its new segment away at once, to the view just before. The queue view's tail is not stored.
-  pub rule-3 : (t : ℕ) → Unfinished (decode m) t
+  pub rule-3 : (t : ℕ) → Holder (decode m) t
       → ((viewAt m q (queue t) ≡ vacant) ⊎ ((s : ℕ) × (viewAt m q (queue t) ≡ extent (local s) nonlocal)))
       × ((viewAt m q (user t) ≡ vacant) ⊎ ((s : ℕ) × (viewAt m q (user t) ≡ extent nonlocal (local s))))
   rule-3 t u = (by-head (headsIn m q t), ⊎-elim (λ e. inl e) by-slot (empty-or-stands m xs r q small (user t) tt u))

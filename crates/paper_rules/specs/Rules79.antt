@@ -1,6 +1,6 @@
 -- RULES 7 AND 9 of the paper's section 4.4, of all memory that represents program order: the order of the views with the
--- head and the tail of one linked list of segments. Rule 7 holds as amended here; Counterexamples.antt shows that it is
--- false as written.
+-- head and the tail of one linked list of segments. Rule 7 holds as amended here, where the two views differ;
+-- Counterexamples.antt shows that they may be one.
 use mathlib.Core.Path.{_≡_, refl, ap, sym, _∙_, subst}
 use mathlib.Core.Option.{Option, none, some}
 use mathlib.Core.List.{List, [], _∷_, _++_}
@@ -53,9 +53,10 @@ module _ (m : List ℕ) (xs : List Item) (r : Represents m xs) (q : ℕ) (small 
       (l .tail-task) (l .head-in) (l .linked) (l .tail-in)
 
   -- RULE 7, AMENDED. "If a linked list of segments is pointed to by the head pointer of view T1.v1 and by the tail pointer of
-  -- view T2.v2, then T1.v1 < T2.v2 provided that v1 is not a queue view." Head and tail may also be those of one view: once
-  -- the younger sibling that pushed has finished, the right view of the older one has both. Else v1 stands before v2: a list
-  -- begins at the right view of a task, and its tail comes to lie only in views that follow.
+  -- view T2.v2, then T1.v1 < T2.v2 provided that v1 is not a queue view." It fails where head and tail are those of one view,
+  -- and only there: no view stands before itself. Once the younger sibling that pushed has finished, the right view of the
+  -- older one has both. Else v1 stands before v2: a list begins at the right view of a task, and its tail comes to lie only in
+  -- views that follow.
   pub rule-7-amended : (v w : ViewName) → NotQueue v → LinkedList m q v w → (v ≡ w) ⊎ Before m v w
   rule-7-amended v w k l = ⊎-elim (λ e. inl e) (λ b. inr (by-words v w (follows b))) (spans v w k l)
     where

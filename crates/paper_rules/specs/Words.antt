@@ -11,14 +11,14 @@ use Rattle.lists.specs.Counting.{occurrences}
 use Rattle.layout.specs.Layout.{CHILDREN, USER, RIGHT}
 use Rattle.tree.specs.Tour.{tour}
 use Rattle.rules.specs.Contents.{decode}
-use Rattle.rules.specs.Rules.{Unfinished}
+use Rattle.rules.specs.Rules.{Unfinished, Holder}
 use Rattle.order.specs.Steps.{Item}
 use Rattle.gaps.specs.Line.{End, nonlocal, local, Extent, vacant, extent, firstChain}
 use Rattle.gaps.specs.Maps.{lastOf}
 use Rattle.gaps.specs.Store.{LinkedFrom, Memory}
 use Rattle.gaps.specs.Names.{count-parts}
 use Rattle.gaps.specs.Splits.{small-mets}
-use Rattle.links.specs.Linked.{tour-is}
+use Rattle.links.specs.Linked.{tour-is, holder-unfinished}
 use Rattle.links.specs.Marks.{mark-once, mark-left, mark-met}
 use Rattle.meaning.specs.Meaning.{nextIn, headsIn, viewIn}
 use Rattle.represents.specs.Represents.{queueMemory, ofTasks, usesIn, Represents}
@@ -55,12 +55,12 @@ NotQueue (children t) = Unit {0}
 NotQueue (user t) = Unit {0}
 NotQueue (right t) = Unit {0}
 
--- a view of an unfinished task
+-- a view of a task that has views: an unfinished one, or the top, which keeps its views when it has finished
 abbrev pub Current : List ℕ → ViewName → Type 0
-Current m v = Unfinished (decode m) (taskOf v)
+Current m v = Holder (decode m) (taskOf v)
 
 -- A LINKED LIST of segments of queue q, from start on: its first segment is the head of view v and its last one the tail of
--- view w, both of unfinished tasks.
+-- view w, both of tasks that have views.
 pub record LinkedList (m : List ℕ) (q : ℕ) (v w : ViewName) : Type 0 where
   pub start : ℕ
   pub rest : List ℕ
@@ -78,6 +78,10 @@ module _ (m : List ℕ) (xs : List Item) (r : Represents m xs) where
   unfolding place
   same-place v = ap (λ (T : List ℕ). placeIn T v) (tour-is m (r .tour) xs (r .linked))
 
+  -- the top is unfinished, so every task that has views is
+  pub busy : (t : ℕ) → Holder (decode m) t → Unfinished (decode m) t
+  busy = holder-unfinished m (r .tour) xs (r .linked)
+
   module _ (q : ℕ) (small : q < 4) where
     abbrev M : Memory
     M = queueMemory m q
@@ -85,17 +89,17 @@ module _ (m : List ℕ) (xs : List Item) (r : Represents m xs) where
     abbrev pub viewHere : ViewName → Extent
     viewHere = viewOf (M .children) (M .user) (M .right)
 
-    -- what the words say of an unfinished task is what the invariant says
+    -- what the words say of a task that has views is what the invariant says
     pub same-view : (v : ViewName) → NotQueue v → Current m v → viewHere v ≡ viewAt m q v
     unfolding queueMemory ofTasks
     same-view (queue t) k u = absurd k
-    same-view (children t) k u = halt _ _ (unfinished-alive m t u)
-    same-view (user t) k u = halt _ _ (unfinished-alive m t u)
-    same-view (right t) k u = halt _ _ (unfinished-alive m t u)
+    same-view (children t) k u = halt _ _ (unfinished-alive m t (busy t u))
+    same-view (user t) k u = halt _ _ (unfinished-alive m t (busy t u))
+    same-view (right t) k u = halt _ _ (unfinished-alive m t (busy t u))
 
-    pub same-head : (t : ℕ) → Unfinished (decode m) t → M .store .heads t ≡ headsIn m q t
+    pub same-head : (t : ℕ) → Holder (decode m) t → M .store .heads t ≡ headsIn m q t
     unfolding queueMemory ofTasks
-    same-head t u = halt _ _ (unfinished-alive m t u)
+    same-head t u = halt _ _ (unfinished-alive m t (busy t u))
 
     both-stand : (t : ℕ) → Unfinished (decode m) t → usesIn m q t ≡ true → Stands (user t) (slots (r .line q)) × Stands (right t) (slots (r .line q))
     both-stand t u b =
@@ -111,9 +115,9 @@ module _ (m : List ℕ) (xs : List Item) (r : Represents m xs) where
         let Q = parts-of m xs r in
         children-stands t (r .line q)
         (left-in (usesIn m q) (r .line q) (Q .fits q small) (small-mets (usesIn m q) (r .line q) (uses-small m q) (Q .fits q small)) t b
-        (subst (λ (l : List ℕ). 0 < occurrences (128 + t) l) (sym (Q .marked q small)) (mark-left m (r .tour) xs (r .linked) t u)))
-    stands (user t) k u b = both-stand t u b .0
-    stands (right t) k u b = both-stand t u b .1
+        (subst (λ (l : List ℕ). 0 < occurrences (128 + t) l) (sym (Q .marked q small)) (mark-left m (r .tour) xs (r .linked) t (busy t u))))
+    stands (user t) k u b = both-stand t (busy t u) b .0
+    stands (right t) k u b = both-stand t (busy t u) b .1
 
     -- a view is empty or stands there
     pub empty-or-stands : (v : ViewName) → NotQueue v → Current m v → (viewAt m q v ≡ vacant) ⊎ Stands v (slots (r .line q))
