@@ -37,7 +37,7 @@ use Rattle.in_order.specs.Alone.{tour-alone}
 use Rattle.in_order.specs.Open.{opens}
 use Rattle.in_order.specs.InOrder.{calls-do}
 use Rattle.paper_rules.specs.Order.{ViewName, queue, user, place, Before}
-use Rattle.paper_rules.specs.Words.{viewAt, NotQueue, Current, LinkedList, busy}
+use Rattle.paper_rules.specs.Words.{viewAt, taskOf, NotQueue, Current, LinkedList, busy}
 use Rattle.paper_rules.specs.Rules123.{OneQueueView, rule-1, rule-2, rule-3}
 use Rattle.paper_rules.specs.Rules45.{allHeads, allTails, passed-4, passed-5}
 use Rattle.paper_rules.specs.Rule6.{rule-6-heads, rule-6-tails}
@@ -79,6 +79,52 @@ pub record PaperRules (m : List ℕ) : Type 0 where
 pub unfinished-tasks : (m : List ℕ) → word (decode m) 0 STATUS ≡ UNFINISHED → (t : ℕ) → Holder (decode m) t → Unfinished (decode m) t
 unfinished-tasks m e t (inl i) = (omega (arith, i), ap (λ (x : ℕ). word (decode m) x STATUS) i ∙ e)
 unfinished-tasks m e t (inr u) = u
+
+-- RULE 6 IN THE PAPER'S WORDS: "any segment may be shared by at most two tasks", and of two one has it by a head, the other by
+-- a tail. A sharer is a view that names segment s.
+abbrev pub ByHead : List ℕ → ℕ → ℕ → ViewName → Type 0
+ByHead m s q v = (x : End) × (viewAt m q v ≡ extent (local s) x)
+
+abbrev pub ByTail : List ℕ → ℕ → ℕ → ViewName → Type 0
+ByTail m s q v = (x : End) × (viewAt m q v ≡ extent x (local s))
+
+pub record Sharer (m : List ℕ) (s : ℕ) : Type 0 where
+  pub of : ℕ
+  pub small : of < 4
+  pub view : ViewName
+  pub current : Current m view
+  pub names : ByHead m s of view ⊎ ByTail m s of view
+
+module _ (m : List ℕ) (s : ℕ) (rules : PaperRules m) where
+  abbrev sharing : Sharer m s → ℕ
+  sharing a = taskOf (a .view)
+
+  heads-one : (a b : Sharer m s) → ByHead m s (a .of) (a .view) → ByHead m s (b .of) (b .view) → sharing a ≡ sharing b
+  heads-one a b h k =
+      ap taskOf (rules .rule-6-heads (a .of) (b .of) (a .small) (b .small) (a .view) (b .view) s (h .0) (k .0) (a .current) (b .current) (h .1) (k .1) .1)
+
+  tails-one : (a b : Sharer m s) → ByTail m s (a .of) (a .view) → ByTail m s (b .of) (b .view) → sharing a ≡ sharing b
+  tails-one a b h k =
+      ap taskOf (rules .rule-6-tails (a .of) (b .of) (a .small) (b .small) (a .view) (b .view) s (h .0) (k .0) (a .current) (b .current) (h .1) (k .1) .1)
+
+  pub head-and-tail : (a b : Sharer m s) → (sharing a ≡ sharing b → ⊥)
+      → (ByHead m s (a .of) (a .view) × ByTail m s (b .of) (b .view)) ⊎ (ByTail m s (a .of) (a .view) × ByHead m s (b .of) (b .view))
+  head-and-tail a b n =
+      ⊎-elim (λ h. ⊎-elim (λ k. absurd (n (heads-one a b h k))) (λ k. inl (h, k)) (b .names))
+      (λ h. ⊎-elim (λ k. inr (h, k)) (λ k. absurd (n (tails-one a b h k))) (b .names)) (a .names)
+
+  pub at-most-two : (a b c : Sharer m s) → (sharing a ≡ sharing b) ⊎ ((sharing b ≡ sharing c) ⊎ (sharing a ≡ sharing c))
+  at-most-two a b c = go (a .names) (b .names) (c .names)
+    where
+      go : ByHead m s (a .of) (a .view) ⊎ ByTail m s (a .of) (a .view) → ByHead m s (b .of) (b .view) ⊎ ByTail m s (b .of) (b .view)
+          → ByHead m s (c .of) (c .view) ⊎ ByTail m s (c .of) (c .view)
+          → (sharing a ≡ sharing b) ⊎ ((sharing b ≡ sharing c) ⊎ (sharing a ≡ sharing c))
+      go (inl h) (inl k) l = inl (heads-one a b h k)
+      go (inr h) (inr k) l = inl (tails-one a b h k)
+      go (inl h) (inr k) (inl l) = inr (inr (heads-one a c h l))
+      go (inl h) (inr k) (inr l) = inr (inl (tails-one b c k l))
+      go (inr h) (inl k) (inl l) = inr (inl (heads-one b c k l))
+      go (inr h) (inl k) (inr l) = inr (inr (tails-one a c h l))
 
 -- ONE LAW FOR ALL NINE: they hold of words n that pass the memory test and have the views of words m that represent an order.
 module _ (m n : List ℕ) (xs : List Item) (r : Represents m xs) (same : SameViews m n) (p : Passed (decode n)) where

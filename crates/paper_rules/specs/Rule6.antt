@@ -206,10 +206,11 @@ module _ (m : List ℕ) (xs : List Item) (r : Represents m xs) where
   -- RULE 6. "A consequence of invariants 4 and 5 is that any segment may be shared by at most two tasks, of which one is a
   -- consumer and one is a producer, as a consumer requires access through the head pointer and a producer requires access
   -- through the tail pointer." Two views with the same head are one view of one queue, and so are two views with the same
-  -- tail: so at most two tasks share a segment, and where two do, one names it by a head and the other by a tail. That is the
-  -- rule if the consumer is the task that names the segment by a head. It is false if the consumer must have pop right
-  -- (Counterexamples.antt): the head of a list that no consumer can reach yet lies in a right view. The paper's own Figure 4
-  -- (a) has such a view: Task 2, with push right only, has the head of Task 3's new segment in its right view (section 4.3).
+  -- tail: so at most two tasks share a segment, and where two do, one names it by a head and the other by a tail
+  -- (`at-most-two`, `head-and-tail` in AfterCalls.antt). That is the rule if the consumer is the task that names the segment
+  -- by a head. It is false if the consumer must have pop right (Counterexamples.antt): the head of a list that no consumer can
+  -- reach yet lies in a right view. The paper's own Figure 4 (a) has such a view: Task 2, with push right only, has the head of
+  -- Task 3's new segment in its right view (section 4.3).
   pub rule-6-heads : (q p : ℕ) → q < 4 → p < 4 → (v w : ViewName) (s : ℕ) (x y : End) → Current m v → Current m w
       → viewAt m q v ≡ extent (local s) x → viewAt m p w ≡ extent (local s) y → (q ≡ p) × (v ≡ w)
   rule-6-heads q p i j v w s x y c d e f =
