@@ -9,7 +9,7 @@ use Rattle.answers.specs.declared.Answer.{Answer}
 use Rattle.answers.specs.declared.Answer.the-variants.{Moved, Empty, NotEmpty, Waits, Refused}
 use Rattle.answers.specs.declared.Finding.{Finding}
 use Rattle.answers.specs.declared.Finding.the-variants.{Value as Found, Empty as Nothing, Waits as Later}
-use Rattle.answers.specs.Answers.{Outcome, outcome}
+use Rattle.answers.specs.Answers.{Outcome, outcome, wordsOf}
 use Rattle.answers.specs.Calls.{Call, open-call, spawn-call, push-call, pop-call, test-call, sync-call, finish-call, left-call}
 use Rattle.calls.specs.Waits.{tested}
 use Rattle.calls.specs.Open.{openOutcome}
@@ -107,3 +107,29 @@ keeps (test-call t q) m = keeps-tested m _ (keeps-allowed m t q _ (keeps-found m
 keeps (sync-call t) m = keeps-tested m _ (keeps-reduced m t _ _ tt)
 keeps (finish-call t) m = keeps-tested m _ (keeps-pick m _ _ _ (keeps-reduced m t _ _ tt) (keeps-reduced m t _ _ tt))
 keeps (left-call q i) m = keeps-tested m _ (keeps-pick m _ _ _ refl (keeps-pick m _ _ _ refl (keeps-any m (queued 256 m (read m (queueHead 0 q)) i))))
+
+-- the same of outcomes that leave the words whatever is answered
+same-pick : (m : List ℕ) (b : Bool) (x y : Outcome) → wordsOf x ≡ m → wordsOf y ≡ m → wordsOf (pick b x y) ≡ m
+unfolding pick
+same-pick m true x y p q = p
+same-pick m false x y p q = q
+
+same-tested : (m : List ℕ) (o : Outcome) → wordsOf o ≡ m → wordsOf (tested m o) ≡ m
+unfolding tested wordsOf
+same-tested m o p = same-pick m _ _ _ refl (same-pick m _ _ _ refl p)
+
+same-found : (m : List ℕ) (f : Finding) → wordsOf (testGives m f) ≡ m
+unfolding testGives wordsOf
+same-found m (Found v) = refl
+same-found m Nothing = refl
+same-found m Later = refl
+
+-- "Pop takes it; test says "not empty"": a test takes nothing, so it changes no word, whatever it finds.
+pub test-keeps : (t q : ℕ) (m : List ℕ) → wordsOf (outcomeOf (test-call t q) m) ≡ m
+unfolding outcomeOf testOutcome testTested popAllowed wordsOf
+test-keeps t q m = same-tested m _ (same-pick m _ _ _ refl (same-pick m _ _ _ refl (same-pick m _ _ _ refl (same-found m _))))
+
+-- "Left answers value number index (from 0) still queued": the value stays queued, so no word changes, although the call moves.
+pub left-keeps : (q i : ℕ) (m : List ℕ) → wordsOf (outcomeOf (left-call q i) m) ≡ m
+unfolding outcomeOf leftOutcome leftTested wordsOf
+left-keeps q i m = same-tested m _ (same-pick m _ _ _ refl (same-pick m _ _ _ refl refl))
