@@ -23,9 +23,9 @@ use Rattle.runner.specs.Words.{RUNNER, procedureOf, positionOf, registerOf}
 use Rattle.runner.specs.Answers.{Outcome, coreOf, runnerOf}
 use Rattle.runner.specs.Open.{segmentsFor, jobOpened, openOutcome}
 use Rattle.runner.specs.Opens.{in-range}
+use Rattle.runner.specs.Laws.{job-passes}
 use Rattle.any_order.specs.Statement.{Stand, fresh}
 use Rattle.any_order.specs.Written.{Words}
-use Rattle.any_order.specs.Tested.{job-passes}
 use Rattle.any_order.specs.Running.{Running}
 
 no-word : (a : ℕ) → load (replicate RUNNER 0) a ≡ 0

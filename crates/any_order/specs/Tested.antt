@@ -4,9 +4,8 @@ use mathlib.Core.Bool.{Bool, true, false, not, false≢true}
 use mathlib.Core.List.{List, [], _∷_, _++_}
 use Prim.Native.Nat.{ℕ, _<_}
 use borrow.Author.Tests.{eq-eqb, lt-ltb}
-use Rattle.words.specs.Words.{size, pass, halt, true-both}
+use Rattle.words.specs.Words.{pass, halt, true-both}
 use Rattle.lists.specs.Tests.{says-upto}
-use Rattle.layout.specs.Layout.{WORDS}
 use Rattle.gaps.specs.Maps.{All, all-behind}
 use Rattle.answers.specs.declared.Answer.the-variants.{Moved}
 use Rattle.calls.specs.Waits.{rightsOf as rightsIn, unfinished as unfinishedIn}
@@ -17,26 +16,17 @@ use Rattle.in_order.specs.State.{State, state-rules, state-size}
 use Rattle.in_order.specs.Ladder.{rights-same, rights-are}
 use Rattle.job.specs.Fields.{procedures, count, rights}
 use Rattle.job.specs.Test.{jobAnswer}
-use Rattle.job.specs.Accepted.{passed}
 use Rattle.plain.specs.Stack.{Stands, rightsOf}
 use Rattle.line.specs.Line.{Item, value, spot, finished, gave}
 use Rattle.job_order.specs.Beside.{Numbered, standing, taskOf, Beside}
 use Rattle.job_order.specs.Points.{standing-append}
 use Rattle.job_order.specs.Located.{located, stands-unfinished, unfinished-stands}
-use Rattle.runner.specs.Words.{RUNNER, positionOf}
+use Rattle.runner.specs.Words.{positionOf}
 use Rattle.runner.specs.Answers.{Outcome}
-use Rattle.runner.specs.Rules.{taskHolds, zeros, recordHolds, runnerHolds, jobTested, tested}
+use Rattle.runner.specs.Rules.{taskHolds, zeros, recordHolds, runnerHolds, tested}
+use Rattle.runner.specs.Laws.{job-passes}
 use Rattle.any_order.specs.States.{state-unfinished, still}
 use Rattle.any_order.specs.Written.{Holds, Other, Written}
-
--- no refusal 10, 11, 12 of an accepted job
-pub job-passes : (j m r : List ℕ) → jobAnswer j ≡ Moved 0 → size m ≡ WORDS → size r ≡ RUNNER → (o : Outcome) → jobTested j m r o ≡ o
-unfolding jobTested jobAnswer
-job-passes j m r e sm sr o =
-    let a = passed _ 10 _ e in
-    let b = passed _ 11 _ (a .1) in
-    let c = passed _ 12 _ (b .1) in
-    pass _ (ap not (eq-eqb (size m) WORDS sm)) (pass _ (ap not (eq-eqb (size r) RUNNER sr)) (pass _ (a .0) (pass _ (b .0) (pass _ (c .0) refl))))
 
 -- the parts of a line at a task
 pub stands-at : (P : Numbered → Type 0) (a b : List (Item Numbered)) (n : Numbered) → All P (standing (a ++ spot n ∷ b)) → All P (standing a ++ n ∷ standing b)

@@ -4,9 +4,10 @@ use mathlib.Core.Bool.{Bool, true, false, not, false≢true}
 use mathlib.Core.List.{List}
 use mathlib.Core.Option.{Option, none, some}
 use Prim.Native.Nat.{ℕ, _+_}
-use Rattle.words.specs.Words.{size, pick, pass, halt}
+use borrow.Author.Tests.{eq-eqb}
+use Rattle.words.specs.Words.{size, pick, pass, halt, both-right-off}
 use Rattle.layout.specs.Layout.{WORDS}
-use Rattle.answers.specs.declared.Answer.the-variants.{Waits}
+use Rattle.answers.specs.declared.Answer.the-variants.{Moved, Waits}
 use Rattle.answers.specs.Answers.{Outcome as CoreOutcome, outcome as answered}
 use Rattle.answers.specs.Calls.{Call, open-call, spawn-call, push-call, pop-call, test-call, sync-call, finish-call, left-call}
 use Rattle.rules.specs.Test.{rulesHold}
@@ -19,12 +20,15 @@ use Rattle.calls.specs.Finish.{finishTested, finishOutcome}
 use Rattle.calls.specs.Left.{leftTested, leftOutcome}
 use Rattle.calls.specs.Outcomes.{outcomeOf}
 use Rattle.job.specs.declared.Instruction.{Instruction}
+use Rattle.job.specs.Test.{jobAnswer}
+use Rattle.job.specs.Accepted.{passed}
 use Rattle.job.specs.Operations.{Operation, operationAt, rowOf, operationOf}
 use Rattle.job.specs.Effects.{Word, spawned, pushed, took, moved, finished, empty, notEmpty, waits, refused as turned-down, sum, effect, moves, always-moves}
-use Rattle.runner.specs.declared.StepAnswer.the-variants.{Spawned, Waits as Later}
-use Rattle.runner.specs.Words.{procedureOf, positionOf, registerOf, put, instructionFor}
+use Rattle.runner.specs.declared.StepAnswer.the-variants.{Spawned, Waits as Later, Refused as TurnedDown}
+use Rattle.runner.specs.Words.{RUNNER, procedureOf, positionOf, registerOf, put, instructionFor}
 use Rattle.runner.specs.Answers.{answerWith, hasMoved, Outcome, outcome, answerOf, coreOf, runnerOf}
-use Rattle.runner.specs.Rules.{refused, jobTested, tested}
+use Rattle.runner.specs.Rules.{runnerHolds, refused, jobTested, tested}
+use Rattle.runner.specs.Open.{jobOpened, openOutcome}
 use Rattle.runner.specs.Step.{Reply, goes, stops, replyOf, runnerAfter, done, replied, coreOutcome, repliedTo, makes, stepTested, stepOutcome}
 
 word-moved : (w : Word) (v c : ℕ) → hasMoved (answerWith w v c) ≡ moves w
@@ -55,6 +59,21 @@ module _ (m : List ℕ) (s : size m ≡ WORDS) (h : rulesHold m ≡ true) where
   core-outcome (sync-call t) = sym (test-passes m s h (syncTested m t))
   core-outcome (finish-call t) = sym (test-passes m s h (finishTested m t))
   core-outcome (left-call q i) = sym (test-passes m s h (leftTested m q i))
+
+-- no refusal 1 of memories of the right lengths, no refusal 10, 11, 12 of an accepted job
+pub job-passes : (j m r : List ℕ) → jobAnswer j ≡ Moved 0 → size m ≡ WORDS → size r ≡ RUNNER → (o : Outcome) → jobTested j m r o ≡ o
+unfolding jobTested jobAnswer
+job-passes j m r e sm sr o =
+    let a = passed _ 10 _ e in
+    let b = passed _ 11 _ (a .1) in
+    let c = passed _ 12 _ (b .1) in
+    pass _ (ap not (eq-eqb (size m) WORDS sm)) (pass _ (ap not (eq-eqb (size r) RUNNER sr)) (pass _ (a .0) (pass _ (b .0) (pass _ (c .0) refl))))
+
+-- 2 "the memory rules fail": the runner's words have rules too, and whatever the core's words are, a step tests them
+pub runner-tested : (j m r : List ℕ) (t : ℕ) → jobAnswer j ≡ Moved 0 → size m ≡ WORDS → size r ≡ RUNNER → runnerHolds j m r ≡ false
+    → stepOutcome j m r t ≡ outcome (TurnedDown 2) m r
+unfolding stepOutcome tested refused
+runner-tested j m r t e sm sr h = job-passes j m r e sm sr _ ∙ halt _ _ (ap not (both-right-off (rulesHold m) h))
 
 -- an outcome that has moved, or has left both memories as they were
 abbrev Fair : List ℕ → List ℕ → Outcome → Type 0
@@ -87,17 +106,25 @@ module _ (m r : List ℕ) where
   unfolding answerOf coreOf runnerOf
   fair-says (outcome a n s) f e = f e
 
+  same : {A : Type 0} → A → (m ≡ m) × (r ≡ r)
+  same x = (refl, refl)
+
+  -- 1, 10, 11 and 12 leave both memories as they were
+  job-fair : (j : List ℕ) (o : Outcome) → Fair m r o → Fair m r (jobTested j m r o)
+  unfolding jobTested refused
+  job-fair j o f = choice _ _ _ same (choice _ _ _ same (choice _ _ _ same (choice _ _ _ same (choice _ _ _ same f))))
+
   -- "no refused or waiting call changes a word"
   pub step-keeps : (j : List ℕ) (t : ℕ) → hasMoved (answerOf (stepOutcome j m r t)) ≡ false
       → (coreOf (stepOutcome j m r t) ≡ m) × (runnerOf (stepOutcome j m r t) ≡ r)
-  unfolding stepOutcome tested jobTested refused stepTested
+  unfolding stepOutcome tested refused stepTested
   step-keeps j t =
-      fair-says _
-      (choice _ _ _ same (choice _ _ _ same (choice _ _ _ same (choice _ _ _ same (choice _ _ _ same (choice _ _ _ same
-      (choice _ _ _ same (choice _ _ _ same (makes-fair t (instructionFor j r t) _)))))))))
-    where
-      same : {A : Type 0} → A → (m ≡ m) × (r ≡ r)
-      same x = (refl, refl)
+      fair-says _ (job-fair j _ (choice _ _ _ same (choice _ _ _ same (choice _ _ _ same (makes-fair t (instructionFor j r t) _)))))
+
+  pub open-keeps : (j : List ℕ) → hasMoved (answerOf (openOutcome j m r)) ≡ false
+      → (coreOf (openOutcome j m r) ≡ m) × (runnerOf (openOutcome j m r) ≡ r)
+  unfolding openOutcome jobOpened hasMoved
+  open-keeps j = fair-says (openOutcome j m r) (job-fair j (jobOpened j) (λ e. absurd (false≢true (sym e))))
 
   -- A TASK THAT AN OLDER SIBLING BLOCKS WAITS, whatever its operation.
   pub blocked-waits : (j : List ℕ) (t : ℕ) → unfinished m t ≡ true → blocked m t ≡ true → stepTested j m r t ≡ outcome Later m r

@@ -49,4 +49,4 @@ passed false k m r o p f e = f e
 pub open-forgets : (j m r : List ℕ) → answerOf (openOutcome j m r) ≡ Went → openOutcome j m r ≡ jobOpened j
 unfolding openOutcome jobTested refused
 open-forgets j m r =
-    passed _ 1 m r _ _ (passed _ 1 m r _ _ (passed _ 10 m r _ _ (passed _ 11 m r _ _ (passed _ 12 m r _ _ (λ e. refl)))))
+    passed _ 1 _ _ _ _ (passed _ 1 _ _ _ _ (passed _ 10 _ _ _ _ (passed _ 11 _ _ _ _ (passed _ 12 _ _ _ _ (λ e. refl)))))
