@@ -1,7 +1,7 @@
 -- REFUSALS 5 AND 6 CANNOT ARISE in a step: the job test fixed queue and right, and the memory rules give the core's task the rights of
 -- its procedure, on memory of any origin.
 use mathlib.Core.Path.{_≡_, refl, ap, sym, _∙_, subst}
-use mathlib.Core.Bool.{true, not}
+use mathlib.Core.Bool.{true, false, not}
 use mathlib.Core.List.{List}
 use Prim.Native.Nat.{ℕ, _<_}
 use native.Mathlib.Omega.{arith}
@@ -20,8 +20,8 @@ use lib.Dec.{eqb}
 use Rattle.job.specs.Operations.{rowOf}
 use Rattle.job.specs.Test.{whichHolds, fitting, instructionHolds, jobAnswer}
 use Rattle.job.specs.Accepted.{accepted}
-use Rattle.runner.specs.Words.{procedureOf, positionOf, instructionFor}
-use Rattle.runner.specs.Rules.{taskHolds, recordHolds, runnerHolds}
+use Rattle.runner.specs.Words.{procedureOf, positionOf, registerOf, instructionFor}
+use Rattle.runner.specs.Rules.{taskHolds, zeros, recordHolds, runnerHolds}
 
 module _ (j m r : List ℕ) (t : ℕ) (job : jobAnswer j ≡ Moved 0) (rules : runnerHolds j m r ≡ true) (there : unfinished m t ≡ true) where
   few : t < 128
@@ -56,3 +56,13 @@ module _ (j m r : List ℕ) (t : ℕ) (job : jobAnswer j ≡ Moved 0) (rules : r
       → spawnTested m t u ≡ pick (blocked m t) (outcome Waits m) (pick (eqb (read m freeTasks) 0) (outcome (Refused 8) m) (spawned m t u))
   unfolding spawnTested
   spawn-allowed u may = pass _ (ap not there) (pass _ (ap not may) refl)
+
+-- "zeros for records not unfinished": all three words
+pub idle-zeros : (j m r : List ℕ) (t : ℕ) → runnerHolds j m r ≡ true → t < 128 → unfinished m t ≡ false
+    → (procedureOf r t ≡ 0) × (positionOf r t ≡ 0) × (registerOf r t ≡ 0)
+unfolding runnerHolds recordHolds zeros
+idle-zeros j m r t rules small idle =
+    let h : zeros r t ≡ true = sym (pass _ idle refl) ∙ upto-says (recordHolds j m r) 128 0 rules t (omega arith) (omega arith) in
+    let a = both-true _ _ h in
+    let b = both-true _ _ (a .1) in
+    (eqb-true _ _ (a .0), eqb-true _ _ (b .0), eqb-true _ _ (b .1))
