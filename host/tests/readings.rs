@@ -28,6 +28,18 @@ fn pushers() {
     assert_eq!(core.test(0, 0), Empty);
 }
 
+/// A pusher counts wherever it stands before the caller, also behind a task without the right.
+#[test]
+fn far_pusher() {
+    let mut core = Core::open(4, 8);
+    core.spawn(0, 1);
+    core.spawn(0, 8);
+    core.spawn(0, 2);
+    assert_eq!(core.pop(3, 0), Waits);
+    core.finish(1);
+    assert_eq!(core.pop(3, 0), Refused(7));
+}
+
 /// Pending is over steps in program order, not in time.
 #[test]
 fn pending_in_program_order() {

@@ -6,7 +6,7 @@ use Rattle.words.specs.Words.{both, true-both}
 use Rattle.cases.specs.Rows.{Case}
 use Rattle.cases.specs.Starred.{oneSegment, longest, manyChildren, newQueue, fullRun, noPush, laterPush, moreRights}
 use Rattle.cases.specs.Traps.{parentPush, reachable, hidden}
-use Rattle.cases.specs.Waiting.{olderSibling, waitBeforeNine, childPopping, pushersBefore, leftLater}
+use Rattle.cases.specs.Waiting.{olderSibling, waitBeforeNine, childPopping, pushersBefore, farPusher, leftLater}
 use Rattle.cases.specs.Refused.{unopened, notAllowed}
 use Rattle.cases.specs.Joining.{ring, localHead, emptyFreed, stillNine, queueView, numbers}
 use Rattle.calls.specs.Table.{lent, isSome, computes, right}
@@ -16,7 +16,8 @@ use Rattle.calls.specs.Cases.{parent-push-right, hidden-right, local-head-right
 abbrev pub table : List Case
 table =
     oneSegment ∷ longest ∷ manyChildren ∷ newQueue ∷ fullRun ∷ noPush ∷ laterPush ∷ moreRights ∷ parentPush ∷ reachable ∷ hidden ∷ olderSibling ∷
-    waitBeforeNine ∷ childPopping ∷ pushersBefore ∷ leftLater ∷ unopened ∷ notAllowed ∷ ring ∷ localHead ∷ emptyFreed ∷ stillNine ∷ queueView ∷ numbers ∷ []
+    waitBeforeNine ∷ childPopping ∷ pushersBefore ∷ farPusher ∷ leftLater ∷ unopened ∷ notAllowed ∷ ring ∷ localHead ∷ emptyFreed ∷ stillNine ∷ queueView ∷
+    numbers ∷ []
 
 unfoldable pub allRight : List Case → Bool
 allRight [] = true
@@ -71,6 +72,10 @@ pushers-before-right : right lent pushersBefore ≡ true
 unfolding right
 pushers-before-right = refl
 
+far-pusher-right : right lent farPusher ≡ true
+unfolding right
+far-pusher-right = refl
+
 left-later-right : right lent leftLater ≡ true
 unfolding right
 left-later-right = refl
@@ -105,6 +110,6 @@ table-right =
     (true-both one-segment-right (true-both longest-right (true-both many-children-right (true-both new-queue-right (true-both full-run-right
     (true-both no-push-right (true-both later-push-right (true-both more-rights-right (true-both parent-push-right (true-both reachable-right
     (true-both hidden-right (true-both older-sibling-right (true-both wait-before-nine-right (true-both child-popping-right
-    (true-both pushers-before-right (true-both left-later-right (true-both unopened-right (true-both not-allowed-right (true-both ring-right
-    (true-both local-head-right (true-both empty-freed-right (true-both still-nine-right (true-both queue-view-right
-    (true-both numbers-right refl))))))))))))))))))))))))
+    (true-both pushers-before-right (true-both far-pusher-right (true-both left-later-right (true-both unopened-right (true-both not-allowed-right
+    (true-both ring-right (true-both local-head-right (true-both empty-freed-right (true-both still-nine-right (true-both queue-view-right
+    (true-both numbers-right refl)))))))))))))))))))))))))

@@ -32,6 +32,12 @@ pushersBefore =
     ∷ row (test-call 1 0) Waits ∷ row (spawn-call 1 2) (Moved 3) ∷ row (pop-call 3 0) Waits ∷ row (finish-call 2) (Moved 0)
     ∷ row (pop-call 3 0) (Refused 7) ∷ row (test-call 1 0) Waits ∷ row (finish-call 3) (Moved 0) ∷ row (test-call 1 0) Empty ∷ []
 
+-- A pusher counts wherever it stands before the caller: task 1 may still push, and task 2, which may not, stands between it and task 3.
+abbrev pub farPusher : Case
+farPusher =
+    row (open-call 4 8) (Moved 0) ∷ row (spawn-call 0 1) (Moved 1) ∷ row (spawn-call 0 8) (Moved 2) ∷ row (spawn-call 0 2) (Moved 3)
+    ∷ row (pop-call 3 0) Waits ∷ row (finish-call 1) (Moved 0) ∷ row (pop-call 3 0) (Refused 7) ∷ []
+
 -- "Left .. before that it waits."
 abbrev pub leftLater : Case
 leftLater =

@@ -8,7 +8,7 @@ use Rattle.tree.specs.Rights.{bits, pushes, pops, eachQueue, someQueue, sharesP
 use Rattle.cases.specs.Rows.{Case, row}
 use Rattle.cases.specs.Starred.{oneSegment, longest, children, manyChildren, newQueue, fullRun, noPush, laterPush, moreRights}
 use Rattle.cases.specs.Traps.{parentPush, reachable, hidden}
-use Rattle.cases.specs.Waiting.{olderSibling, waitBeforeNine, childPopping, pushersBefore, leftLater}
+use Rattle.cases.specs.Waiting.{olderSibling, waitBeforeNine, childPopping, pushersBefore, farPusher, leftLater}
 use Rattle.cases.specs.Refused.{notAllowed}
 use Rattle.cases.specs.Joining.{ring, localHead, emptyFreed, stillNine, queueView, numbers}
 use Rattle.order.specs.Steps.{Item, nameOf, numberOf, rightsOf, begin, made, moved, advance, counted, noted}
@@ -28,7 +28,7 @@ allFollow (c ∷ cs) = let more = allFollow cs in both (follows c begin) more
 abbrev pub table : List Case
 table =
     oneSegment ∷ longest ∷ manyChildren ∷ newQueue ∷ fullRun ∷ noPush ∷ laterPush ∷ moreRights ∷ parentPush ∷ reachable ∷ hidden
-    ∷ olderSibling ∷ waitBeforeNine ∷ childPopping ∷ pushersBefore ∷ leftLater ∷ notAllowed
+    ∷ olderSibling ∷ waitBeforeNine ∷ childPopping ∷ pushersBefore ∷ farPusher ∷ leftLater ∷ notAllowed
     ∷ ring ∷ localHead ∷ emptyFreed ∷ stillNine ∷ queueView ∷ numbers ∷ []
 
 pub table-follows : allFollow table ≡ true
