@@ -8,7 +8,7 @@ use Rattle.order.specs.Waits.{sameName}
 use Rattle.job.specs.Fields.{bytes2, bytes4, offset, instructionFrom, instructionAt}
 use Rattle.job.specs.Operations.{Operation, return, push, pushSum, pop, goIfEmpty, go, goIfZero, add, spawn, sync, rowOf, operationOf, operationAt}
 use Rattle.job.specs.Effects.{Word, spawned, pushed, took, moved, finished, empty, notEmpty, sum, effect}
-use Rattle.job.specs.Examples.{fullRun, wrapping, wrappedSpawn, emptyPop, tested, counted}
+use Rattle.job.specs.Examples.{fullRun, wrapping, wrappedSpawn, emptyPop, tested, counted, alone, ins}
 use Rattle.plain.specs.Machine.{State, state, Event, begin, queue, front, queuesAfter, advanced, parent, child, stackAfter, effectOn, eventOf, does, step}
 use Rattle.plain.specs.Run.{after, eventIn, next, runFrom, eventsFrom, run, events, answersOf}
 
@@ -20,6 +20,10 @@ did p o w a v = record { name = p; operation = o; which = w; word = a; value = v
 abbrev leaves : List ℕ → ℕ → State
 leaves vs n = state (vs ∷ [] ∷ [] ∷ [] ∷ []) [] n
 
+-- pushes 5, 6 and 7, and pops once
+abbrev oneTaken : List ℕ
+oneTaken = alone 5 (ins 1 0 5 (ins 1 0 6 (ins 1 0 7 (ins 3 0 0 (ins 0 0 0 [])))))
+
 pub record Cases : Type 0 where
   -- THE JOB OF DOCUMENT 01, run serially: its events, what it leaves, and the answers of its second child
   pub fullRunEvents : events 11 fullRun ≡
@@ -30,6 +34,8 @@ pub record Cases : Type 0 where
   pub fullRunEnd : run 11 fullRun ≡ leaves (20 ∷ []) 11
   pub fullRunOver : run 12 fullRun ≡ leaves (20 ∷ []) 11
   pub fullRunPopper : answersOf (1 ∷ []) (events 11 fullRun) ≡ did (1 ∷ []) pop 0 took 10 ∷ did (1 ∷ []) return 0 finished 0 ∷ []
+  -- "pop takes the front", and nothing else
+  pub oneTakenEnd : run 5 oneTaken ≡ leaves (6 ∷ 7 ∷ []) 5
   -- "Register 4,294,967,295 plus 1 is 0."
   pub wrapped : run 5 wrapping ≡ leaves (0 ∷ 7 ∷ []) 5
   pub spawnWrapped : run 6 wrappedSpawn ≡ leaves (0 ∷ 4294967295 ∷ []) 6
@@ -53,6 +59,7 @@ cases =
       fullRunEnd = refl;
       fullRunOver = refl;
       fullRunPopper = refl;
+      oneTakenEnd = refl;
       wrapped = refl;
       spawnWrapped = refl;
       emptyPopEvents = refl;
