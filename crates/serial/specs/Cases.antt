@@ -29,9 +29,12 @@ top i = record { name = []; procedure = 0; position = i; register = 0; children 
 abbrev near : ℕ → ℕ → ℕ → State
 near n d k = state (replicate n 7 ∷ [] ∷ [] ∷ [] ∷ []) (replicate d (top 0)) k
 
--- pushes without end
+-- pushes without end, by operation 1 and by operation 2
 abbrev pushing : List ℕ
 pushing = alone 2 (ins 1 0 7 (ins 5 0 0 []))
+
+abbrev pushingSums : List ℕ
+pushingSums = alone 2 (ins 2 0 7 (ins 5 0 0 []))
 
 -- a top that spawns itself
 abbrev spawning : List ℕ
@@ -58,9 +61,10 @@ pub record Cases : Type 0 where
   -- DEPTH: the 127th spawn stacks the 128th task, the next is turned down
   pub deep : serial spawning .end ≡ Refused 8
   pub deepSteps : serial spawning .steps ≡ 127
-  -- VALUES: the 4,096th is pushed, the next is turned down
+  -- VALUES: the 4,096th is pushed, the next is turned down, by either operation
   pub lastValue : length (queue (serialFrom 2 pushing (near 4095 1 65533) .queues) 0) ≡ 4096
   pub oneTooMany : serialFrom 2 pushing (near 4096 1 65533) .end ≡ Refused 9
+  pub oneSumTooMany : serialFrom 2 pushingSums (near 4096 1 65533) .end ≡ Refused 9
   -- "spent" is tried first
   pub spentBeforeDepth : serialFrom 0 spawning (near 0 128 65535) .end ≡ Spent
   pub depthBeforeSpent : serialFrom 1 spawning (near 0 128 65534) .end ≡ Refused 8
@@ -83,6 +87,7 @@ cases =
       deepSteps = refl;
       lastValue = refl;
       oneTooMany = refl;
+      oneSumTooMany = refl;
       spentBeforeDepth = refl;
       depthBeforeSpent = refl;
       spentBeforeValues = refl;
