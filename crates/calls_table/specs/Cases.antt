@@ -8,10 +8,10 @@ use Rattle.cases.specs.Starred.{oneSegment, longest, manyChildren, newQueue, fu
 use Rattle.cases.specs.Traps.{parentPush, reachable, hidden}
 use Rattle.cases.specs.Waiting.{olderSibling, waitBeforeNine, childPopping, pushersBefore, farPusher, leftLater}
 use Rattle.cases.specs.Refused.{unopened, notAllowed}
-use Rattle.cases.specs.Joining.{ring, localHead, emptyFreed, stillNine, queueView, numbers}
+use Rattle.cases.specs.Joining.{ring, localHead, emptyFreed, stillNine, queueView, numbers, lastFreed}
 use Rattle.calls.specs.Table.{lent, isSome, computes, right}
 use Rattle.calls_wider.specs.Wide.{many-children}
-use Rattle.calls.specs.Cases.{parent-push-right, hidden-right, local-head-right, no-push-right, not-allowed-right}
+use Rattle.calls.specs.Cases.{parent-push-right, hidden-right, local-head-right, no-push-right, not-allowed-right, longest-right, left-later-right}
 
 abbrev pub table : List Case
 table =
@@ -31,10 +31,6 @@ many-children-right = ap isSome (computes manyChildren lent ∙ many-children)
 pub one-segment-right : right lent oneSegment ≡ true
 unfolding right
 one-segment-right = refl
-
-longest-right : right lent longest ≡ true
-unfolding right
-longest-right = refl
 
 pub new-queue-right : right lent newQueue ≡ true
 unfolding right
@@ -76,10 +72,6 @@ far-pusher-right : right lent farPusher ≡ true
 unfolding right
 far-pusher-right = refl
 
-left-later-right : right lent leftLater ≡ true
-unfolding right
-left-later-right = refl
-
 unopened-right : right lent unopened ≡ true
 unfolding right
 unopened-right = refl
@@ -104,6 +96,10 @@ numbers-right : right lent numbers ≡ true
 unfolding right
 numbers-right = refl
 
+last-freed-right : right lent lastFreed ≡ true
+unfolding right
+last-freed-right = refl
+
 pub table-right : allRight table ≡ true
 unfolding allRight
 table-right =
@@ -112,4 +108,4 @@ table-right =
     (true-both hidden-right (true-both older-sibling-right (true-both wait-before-nine-right (true-both child-popping-right
     (true-both pushers-before-right (true-both far-pusher-right (true-both left-later-right (true-both unopened-right (true-both not-allowed-right
     (true-both ring-right (true-both local-head-right (true-both empty-freed-right (true-both still-nine-right (true-both queue-view-right
-    (true-both numbers-right refl)))))))))))))))))))))))))
+    (true-both numbers-right (true-both last-freed-right refl))))))))))))))))))))))))))

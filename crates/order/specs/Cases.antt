@@ -10,7 +10,7 @@ use Rattle.cases.specs.Starred.{oneSegment, longest, children, manyChildren, ne
 use Rattle.cases.specs.Traps.{parentPush, reachable, hidden}
 use Rattle.cases.specs.Waiting.{olderSibling, waitBeforeNine, childPopping, pushersBefore, farPusher, leftLater}
 use Rattle.cases.specs.Refused.{notAllowed}
-use Rattle.cases.specs.Joining.{ring, localHead, emptyFreed, stillNine, queueView, numbers}
+use Rattle.cases.specs.Joining.{ring, localHead, emptyFreed, stillNine, queueView, numbers, lastFreed}
 use Rattle.order.specs.Steps.{Item, nameOf, numberOf, rightsOf, begin, made, moved, advance, counted, noted}
 use Rattle.order.specs.Waits.{sameName, isChild, isOlder, someSpot, unfinished, somePair, blocked, childPops, hasChild}
 use Rattle.order.specs.Finding.{before, later, stepped, passes, runs, found, finding, valueNumber, pendingOf, leftOver}
@@ -29,7 +29,7 @@ abbrev pub table : List Case
 table =
     oneSegment ∷ longest ∷ manyChildren ∷ newQueue ∷ fullRun ∷ noPush ∷ laterPush ∷ moreRights ∷ parentPush ∷ reachable ∷ hidden
     ∷ olderSibling ∷ waitBeforeNine ∷ childPopping ∷ pushersBefore ∷ farPusher ∷ leftLater ∷ notAllowed
-    ∷ ring ∷ localHead ∷ emptyFreed ∷ stillNine ∷ queueView ∷ numbers ∷ []
+    ∷ ring ∷ localHead ∷ emptyFreed ∷ stillNine ∷ queueView ∷ numbers ∷ lastFreed ∷ []
 
 pub table-follows : allFollow table ≡ true
 unfolding pick both either statusOf valueOf sameAnswer bits pushes pops eachQueue someQueue sharesPop subset nameOf numberOf rightsOf begin made moved advance
