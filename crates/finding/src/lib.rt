@@ -114,8 +114,8 @@ pub fn pop(m: &mut [u32], t: u32, q: u32) -> answers::Answer
 }
 
 // Test on memory that passes the rules.
-pub fn test(m: &[u32], t: u32, q: u32) -> answers::Answer
-    ensures { λ a. ⌜ outcome a (now (m .entry)) ≡ testTested (now (m .entry)) t q ⌝ }
+pub fn test(m: &mut [u32], t: u32, q: u32) -> answers::Answer
+    ensures { λ a. ⌜ outcome a (now (m .exit)) ≡ testTested (now (m .entry)) t q ⌝ }
 {
     let k = refusal(m, t, q);
     if k != 0 {

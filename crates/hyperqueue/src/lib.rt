@@ -63,8 +63,8 @@ pub fn pop(m: &mut [u32], t: u32, q: u32) -> answers::Answer
     finding::pop(m, t, q)
 }
 
-pub fn test(m: &[u32], t: u32, q: u32) -> answers::Answer
-    ensures { λ a. ⌜ outcome a (now (m .entry)) ≡ testOutcome (now (m .entry)) t q ⌝ }
+pub fn test(m: &mut [u32], t: u32, q: u32) -> answers::Answer
+    ensures { λ a. ⌜ outcome a (now (m .exit)) ≡ testOutcome (now (m .entry)) t q ⌝ }
 {
     let k = refusal(m);
     if k != 0 {
@@ -93,8 +93,8 @@ pub fn finish(m: &mut [u32], t: u32) -> answers::Answer
     finishing::finish(m, t)
 }
 
-pub fn left(m: &[u32], q: u32, i: u32) -> answers::Answer
-    ensures { λ a. ⌜ outcome a (now (m .entry)) ≡ leftOutcome (now (m .entry)) q i ⌝ }
+pub fn left(m: &mut [u32], q: u32, i: u32) -> answers::Answer
+    ensures { λ a. ⌜ outcome a (now (m .exit)) ≡ leftOutcome (now (m .entry)) q i ⌝ }
 {
     let k = refusal(m);
     if k != 0 {
@@ -153,8 +153,8 @@ pub extern "C" fn hq_pop(words: &mut [u32], task: u32, queue: u32) -> u64
 }
 
 #[no_mangle]
-pub extern "C" fn hq_test(words: &[u32], task: u32, queue: u32) -> u64
-    ensures { λ r. ⌜ Handed r (now (words .entry)) (testOutcome (now (words .entry)) task queue) ⌝ }
+pub extern "C" fn hq_test(words: &mut [u32], task: u32, queue: u32) -> u64
+    ensures { λ r. ⌜ Handed r (now (words .exit)) (testOutcome (now (words .entry)) task queue) ⌝ }
 {
     pack(test(words, task, queue))
 }
@@ -174,8 +174,8 @@ pub extern "C" fn hq_finish(words: &mut [u32], task: u32) -> u64
 }
 
 #[no_mangle]
-pub extern "C" fn hq_left(words: &[u32], queue: u32, index: u32) -> u64
-    ensures { λ r. ⌜ Handed r (now (words .entry)) (leftOutcome (now (words .entry)) queue index) ⌝ }
+pub extern "C" fn hq_left(words: &mut [u32], queue: u32, index: u32) -> u64
+    ensures { λ r. ⌜ Handed r (now (words .exit)) (leftOutcome (now (words .entry)) queue index) ⌝ }
 {
     pack(left(words, queue, index))
 }

@@ -26,8 +26,8 @@ fn queued(m: &[u32], first: u32, index: u32) -> answers::Answer
     answers::Answer::Refused(7)
 }
 
-// Left on memory that passes the rules.
-pub fn left(m: &[u32], q: u32, i: u32) -> answers::Answer
+// Left on memory that passes the rules, for a caller that may only read it.
+pub fn left_at(m: &[u32], q: u32, i: u32) -> answers::Answer
     ensures { λ r. ⌜ outcome r (now (m .entry)) ≡ leftTested (now (m .entry)) q i ⌝ }
 {
     if q >= 4 {
@@ -37,4 +37,11 @@ pub fn left(m: &[u32], q: u32, i: u32) -> answers::Answer
         return answers::Answer::Waits;
     }
     queued(m, memory::task(m, 0, 16 + q), i)
+}
+
+// Left on memory that passes the rules: every word stays as it was.
+pub fn left(m: &mut [u32], q: u32, i: u32) -> answers::Answer
+    ensures { λ r. ⌜ outcome r (now (m .exit)) ≡ leftTested (now (m .entry)) q i ⌝ }
+{
+    left_at(m, q, i)
 }

@@ -62,7 +62,7 @@ pub fn call_lines(
 fn is_left(m: &[u32], q: u32, i: u32) -> bool
     ensures { λ b. ⌜ b ≡ isValue (leftAt (now (m .entry)) q i) ⌝ }
 {
-    let a = leaving::left(m, q, i);
+    let a = leaving::left_at(m, q, i);
     match a {
         Answer::Moved(_) => true,
         Answer::Empty => false,
@@ -90,7 +90,7 @@ pub fn left_count(m: &[u32], q: u32) -> u32
 fn left_value(m: &[u32], q: u32, i: u32) -> u32
     ensures { λ v. ⌜ v ≡ valueOf (leftAt (now (m .entry)) q i) ⌝ }
 {
-    let a = leaving::left(m, q, i);
+    let a = leaving::left_at(m, q, i);
     match a {
         Answer::Moved(v) => v,
         Answer::Empty => 0,

@@ -9,8 +9,11 @@ left-requires c κs = search needs
 pack-requires : tie.Need-pack-requires
 pack-requires c κs = search needs
 
+same-length : tie.Need-same-length
+same-length c = search needs
+
 returns : tie.Need-returns
-returns c = handed (c .before .left .ensures) (c .pack .ensures)
+returns c = handed (c .before .before .before .left .ensures) (c .pack .ensures)
 
 pub hq-left-spec : {M : Type 1} → statement M
-hq-left-spec = tie.close (tie.spec left-requires pack-requires returns)
+hq-left-spec = tie.close (tie.spec left-requires pack-requires same-length returns)

@@ -9,8 +9,11 @@ test-requires c κs = search needs
 pack-requires : tie.Need-pack-requires
 pack-requires c κs = search needs
 
+same-length : tie.Need-same-length
+same-length c = search needs
+
 returns : tie.Need-returns
-returns c = handed (c .before .test .ensures) (c .pack .ensures)
+returns c = handed (c .before .before .before .test .ensures) (c .pack .ensures)
 
 pub hq-test-spec : {M : Type 1} → statement M
-hq-test-spec = tie.close (tie.spec test-requires pack-requires returns)
+hq-test-spec = tie.close (tie.spec test-requires pack-requires same-length returns)

@@ -5,8 +5,8 @@ use borrow.Author.Needs.{needs}
 use Rattle.overlap_text.proofs.is_left.Statement.{statement}
 use Rattle.overlap_text.proofs.is_left.Tie as tie
 
-left-requires : tie.Need-left-requires
-left-requires c κs = search needs
+left-at-requires : tie.Need-left-at-requires
+left-at-requires c κs = search needs
 
 enum-told : tie.Need-enum-told
 enum-told c = search needs
@@ -25,29 +25,29 @@ enum-told-5 c = search needs
 
 returns : tie.Need-returns
 unfolding isValue
-returns c = sym (ap isValue (c .enum-told .given .1)) ∙ ap isValue (left-says _ _ _ (c .before .before .left .ensures))
+returns c = sym (ap isValue (c .enum-told .given .1)) ∙ ap isValue (left-says _ _ _ (c .before .before .left-at .ensures))
 
 returns-2 : tie.Need-returns-2
 unfolding isValue
-returns-2 c = sym (ap isValue (c .enum-told2 .given .1)) ∙ ap isValue (left-says _ _ _ (c .before .before .left .ensures))
+returns-2 c = sym (ap isValue (c .enum-told2 .given .1)) ∙ ap isValue (left-says _ _ _ (c .before .before .left-at .ensures))
 
 returns-3 : tie.Need-returns-3
 unfolding isValue
-returns-3 c = sym (ap isValue (c .enum-told3 .given .1)) ∙ ap isValue (left-says _ _ _ (c .before .before .left .ensures))
+returns-3 c = sym (ap isValue (c .enum-told3 .given .1)) ∙ ap isValue (left-says _ _ _ (c .before .before .left-at .ensures))
 
 returns-4 : tie.Need-returns-4
 unfolding isValue
-returns-4 c = sym (ap isValue (c .enum-told4 .given .1)) ∙ ap isValue (left-says _ _ _ (c .before .before .left .ensures))
+returns-4 c = sym (ap isValue (c .enum-told4 .given .1)) ∙ ap isValue (left-says _ _ _ (c .before .before .left-at .ensures))
 
 returns-5 : tie.Need-returns-5
 unfolding isValue
-returns-5 c = sym (ap isValue (c .enum-told5 .given .1)) ∙ ap isValue (left-says _ _ _ (c .before .before .left .ensures))
+returns-5 c = sym (ap isValue (c .enum-told5 .given .1)) ∙ ap isValue (left-says _ _ _ (c .before .before .left-at .ensures))
 
 pub is-left-spec : {M : Type 1} → statement M
 is-left-spec =
     tie.close
     (tie.spec
-    left-requires
+    left-at-requires
     enum-told
     enum-told-2
     enum-told-3

@@ -5,8 +5,8 @@ use borrow.Author.Needs.{needs}
 use Rattle.overlap_text.proofs.left_value.Statement.{statement}
 use Rattle.overlap_text.proofs.left_value.Tie as tie
 
-left-requires : tie.Need-left-requires
-left-requires c κs = search needs
+left-at-requires : tie.Need-left-at-requires
+left-at-requires c κs = search needs
 
 enum-known-a : tie.Need-enum-known-a
 enum-known-a c = search needs
@@ -25,29 +25,29 @@ enum-told-4 c = search needs
 
 returns : tie.Need-returns
 unfolding valueOf
-returns c = sym (ap valueOf (c .before .a .given .1)) ∙ ap valueOf (left-says _ _ _ (c .before .before .before .left .ensures))
+returns c = sym (ap valueOf (c .before .a .given .1)) ∙ ap valueOf (left-says _ _ _ (c .before .before .before .left-at .ensures))
 
 returns-2 : tie.Need-returns-2
 unfolding valueOf
-returns-2 c = sym (ap valueOf (c .enum-told .given .1)) ∙ ap valueOf (left-says _ _ _ (c .before .before .left .ensures))
+returns-2 c = sym (ap valueOf (c .enum-told .given .1)) ∙ ap valueOf (left-says _ _ _ (c .before .before .left-at .ensures))
 
 returns-3 : tie.Need-returns-3
 unfolding valueOf
-returns-3 c = sym (ap valueOf (c .enum-told2 .given .1)) ∙ ap valueOf (left-says _ _ _ (c .before .before .left .ensures))
+returns-3 c = sym (ap valueOf (c .enum-told2 .given .1)) ∙ ap valueOf (left-says _ _ _ (c .before .before .left-at .ensures))
 
 returns-4 : tie.Need-returns-4
 unfolding valueOf
-returns-4 c = sym (ap valueOf (c .enum-told3 .given .1)) ∙ ap valueOf (left-says _ _ _ (c .before .before .left .ensures))
+returns-4 c = sym (ap valueOf (c .enum-told3 .given .1)) ∙ ap valueOf (left-says _ _ _ (c .before .before .left-at .ensures))
 
 returns-5 : tie.Need-returns-5
 unfolding valueOf
-returns-5 c = sym (ap valueOf (c .enum-told4 .given .1)) ∙ ap valueOf (left-says _ _ _ (c .before .before .left .ensures))
+returns-5 c = sym (ap valueOf (c .enum-told4 .given .1)) ∙ ap valueOf (left-says _ _ _ (c .before .before .left-at .ensures))
 
 pub left-value-spec : {M : Type 1} → statement M
 left-value-spec =
     tie.close
     (tie.spec
-    left-requires
+    left-at-requires
     enum-known-a
     enum-told
     enum-told-2

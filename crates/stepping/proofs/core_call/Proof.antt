@@ -57,7 +57,7 @@ same-length-4 : tie.Need-same-length-4
 same-length-4 c = search needs
 
 returns-4 : tie.Need-returns-4
-returns-4 c = test-made _ _ _ _ _ (c .before .before .match .keys4) (c .test .ensures)
+returns-4 c = test-made _ _ _ _ _ (c .before .before .before .before .match .keys4) (c .before .before .test .ensures)
 
 same-length-5 : tie.Need-same-length-5
 same-length-5 c = search needs

@@ -1,7 +1,7 @@
 use Rattle.leaving.proofs.Glue.{no-queue, not-yet, found}
 use borrow.Author.Needs.{needs}
-use Rattle.leaving.proofs.left.Statement.{statement}
-use Rattle.leaving.proofs.left.Tie as tie
+use Rattle.leaving.proofs.left_at.Statement.{statement}
+use Rattle.leaving.proofs.left_at.Tie as tie
 
 returns : tie.Need-returns
 returns c = no-queue _ _ _ (c .if1 .taken)
@@ -26,7 +26,7 @@ returns-3 c =
     found _ _ _ (c .before .before .before .before .if1 .left) (c .before .before .before .task .ensures) (c .before .before .if2 .left)
     (c .before .task2 .ensures) (c .queued .ensures)
 
-pub left-spec : {M : Type 1} → statement M
-left-spec =
+pub left-at-spec : {M : Type 1} → statement M
+left-at-spec =
     tie.close
     (tie.spec returns task-requires returns-2 add-task task-requires-2 queued-requires returns-3)
