@@ -1,6 +1,6 @@
 -- The core call of an instruction, by its number.
 use mathlib.Core.Path.{_≡_, ap, sym, _∙_}
-use mathlib.Core.List.{List}
+use mathlib.Core.List.{List, []}
 use mathlib.Core.Logic.{_⊎_}
 use mathlib.Core.Option.{Option}
 use Prim.Native.Nat.{ℕ, _+_, _%_, _<_, _≤_}
@@ -19,7 +19,7 @@ use Rattle.job.specs.Effects.{sum}
 use Rattle.runner.specs.Step.{callOf, coreOutcome}
 use Rattle.job.specs.Rows.{returns-at}
 use Rattle.stepping.specs.Parts.{called}
-use Rattle.stepping.proofs.Numbers.{no-call}
+use Rattle.stepping.proofs.Numbers.{any-job, no-call}
 
 module _ (j m : List ℕ) (t : ℕ) (s : Instruction) (x : ℕ) where
   abbrev Called : Outcome → Type 0
@@ -34,6 +34,9 @@ module _ (j m : List ℕ) (t : ℕ) (s : Instruction) (x : ℕ) where
   none-made a b = ap (λ (o : Option Call). called o m) (sym (no-call j t x s (s .operation) a b))
 
   module _ {o : Outcome} where
+    pub queue-made : 1 ≤ s .operation → s .operation < 5 → o ≡ called (callOf (operationAt (s .operation)) [] t x s) m → Called o
+    queue-made a b e = e ∙ ap (λ (o : Option Call). called o m) (any-job j t x s (s .operation) a b)
+
     pub push-made : s .operation ≡ 1 → o ≡ pushTested m t (s .which) (s .operand) → Called o
     unfolding operationAt operationOf rowOf callOf called coreOutcome
     push-made k e = numbered k e

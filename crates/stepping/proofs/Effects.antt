@@ -3,18 +3,19 @@ use mathlib.Core.Path.{_≡_, refl, ap, sym, _∙_}
 use mathlib.Core.Bool.{Bool, true, false}
 use mathlib.Core.Logic.{_⊎_}
 use mathlib.Core.Option.{none}
-use Prim.Native.Nat.{ℕ, _+_, _%_, _≤_}
+use Prim.Native.Nat.{ℕ, _+_, _%_, _<_, _≤_}
+use native.Mathlib.Omega.{arith}
 use borrow.Author.Tests.{eq-eqb, ne-eqb}
 use Rattle.words.specs.Words.{halt, pass}
-use Rattle.job.specs.Operations.{Operation, pop, goIfEmpty, goIfZero, rowOf, operationOf, operationAt}
+use Rattle.job.specs.Operations.{Operation, pop, goIfEmpty, rowOf, operationOf, operationAt}
 use Rattle.job.specs.Effects.{sum, effect}
 use Rattle.runner.specs.declared.StepAnswer.the-variants.{Spawned, Pushed, Took, Finished, Moved, Empty, NotEmpty}
 use Rattle.runner.specs.Answers.{answerWith}
-use Rattle.job.specs.Rows.{returns-at}
+use Rattle.job.specs.Rows.{from, returns-at}
 use Rattle.stepping.specs.declared.Made.{Made}
 use Rattle.stepping.specs.Parts.{gives, foundWith, coded}
 
--- POP, TEST AND THE REGISTER'S TEST
+-- POP AND TEST
 module _ (i r : ℕ) {e : Made} where
   pub took-value : (v : ℕ) {b : Bool} → b ≡ true → e ≡ gives (Took v) v (i + 1) → e ≡ coded (effect pop i r 0 (foundWith b v)) v
   unfolding effect coded answerWith foundWith
@@ -33,13 +34,37 @@ module _ (i r : ℕ) {e : Made} where
     unfolding effect coded answerWith foundWith
     is-empty h g = g ∙ ap (λ (b : Bool). coded (effect goIfEmpty i r x (foundWith b 0)) 0) (sym h)
 
-    pub is-zero : r ≡ 0 → e ≡ gives Moved r x → e ≡ coded (effect goIfZero i r x none) 0
-    unfolding effect coded answerWith
+-- GOING TO INSTRUCTION x, WHATEVER WAS FOUND
+module _ (x i r : ℕ) where
+  abbrev Goes : Made → ℕ → Type 0
+  Goes e k = e ≡ coded (effect (operationAt k) i r x none) 0
+
+  module _ {e : Made} where
+    pub goes-keyed : {k n : ℕ} → k ≡ n → Goes e n → Goes e k
+    goes-keyed h g = g ∙ ap (λ (k : ℕ). coded (effect (operationAt k) i r x none) 0) (sym h)
+
+    pub go-five : e ≡ gives Moved r x → Goes e 5
+    unfolding operationAt operationOf rowOf effect coded answerWith
+    go-five g = g
+
+    pub is-zero : r ≡ 0 → e ≡ gives Moved r x → Goes e 6
+    unfolding operationAt operationOf rowOf effect coded answerWith
     is-zero h g = g ∙ ap (gives Moved r) (sym (halt _ _ (eq-eqb r 0 h)))
 
-    pub not-zero : (r ≡ 0 → ⊥) → e ≡ gives Moved r (i + 1) → e ≡ coded (effect goIfZero i r x none) 0
-    unfolding effect coded answerWith
+    pub not-zero : (r ≡ 0 → ⊥) → e ≡ gives Moved r (i + 1) → Goes e 6
+    unfolding operationAt operationOf rowOf effect coded answerWith
     not-zero h g = g ∙ ap (gives Moved r) (sym (pass _ (ne-eqb r 0 h) refl))
+
+  module _ (v : ℕ) (b : Bool) where
+    abbrev Alike : ℕ → Type 0
+    Alike k = k < 7 → coded (effect (operationAt k) i r x none) 0 ≡ coded (effect (operationAt k) i r x (foundWith b v)) v
+
+    alike : (k : ℕ) → 5 ≤ k → Alike k
+    unfolding operationAt operationOf rowOf effect coded answerWith
+    alike = from Alike 5 (λ l. refl) (from Alike 6 (λ l. refl) (λ k h l. absurd (omega (arith, h, l))))
+
+    pub goes-anyhow : {e : Made} {k : ℕ} → 5 ≤ k → k < 7 → Goes e k → e ≡ coded (effect (operationAt k) i r x (foundWith b v)) v
+    goes-anyhow {e} {k} h l g = g ∙ alike k h l
 
 -- BY THE NUMBER
 module _ (x i r v : ℕ) (b : Bool) {e : Made} where
@@ -67,14 +92,6 @@ module _ (x i r v : ℕ) (b : Bool) {e : Made} where
       same : (b : Bool) → coded (effect goIfEmpty i r x (foundWith b 0)) 0 ≡ coded (effect (operationAt 4) i r x (foundWith b v)) v
       same true = unfold operationAt operationOf rowOf effect coded answerWith foundWith in refl
       same false = unfold operationAt operationOf rowOf effect coded answerWith foundWith in refl
-
-  pub zero-six : e ≡ coded (effect goIfZero i r x none) 0 → e ≡ coded (effect (operationAt 6) i r x (foundWith b v)) v
-  unfolding operationAt operationOf rowOf effect coded answerWith
-  zero-six g = g
-
-  pub go-five : e ≡ gives Moved r x → e ≡ coded (effect (operationAt 5) i r x (foundWith b v)) v
-  unfolding operationAt operationOf rowOf effect coded answerWith
-  go-five g = g
 
   pub add-seven : {y : ℕ} → y ≡ (r + x) % 4294967296 → e ≡ gives Moved y (i + 1) → e ≡ coded (effect (operationAt 7) i r x (foundWith b v)) v
   unfolding operationAt operationOf rowOf effect coded answerWith sum

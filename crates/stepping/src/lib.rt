@@ -1,12 +1,13 @@
 // One step of a job's task: the tests, the core call of its instruction, and where the task goes on.
 ghost use mathlib.Core.Path.{_≡_};
 ghost use mathlib.Core.Bool.{true};
+ghost use mathlib.Core.List.{[]};
 ghost use mathlib.Core.Option.{none};
-ghost use Prim.Native.Nat.{_^_, _<_};
+ghost use Prim.Native.Nat.{_^_, _<_, _≤_};
 ghost use lib.ListN.{length};
 ghost use Rattle.rules.specs.Test.{rulesHold};
 ghost use Rattle.answers.specs.Answers.{outcome as answered};
-ghost use Rattle.job.specs.Operations.{pop, goIfEmpty, goIfZero, operationAt};
+ghost use Rattle.job.specs.Operations.{pop, goIfEmpty, operationAt};
 ghost use Rattle.job.specs.Effects.{effect};
 ghost use Rattle.runner.specs.Words.{positionOf};
 ghost use Rattle.runner.specs.Answers.{outcome};
@@ -57,15 +58,39 @@ fn test_effect(x: u32, i: u32, r: u32, found: bool) -> Made
     }
 }
 
-// Goes to instruction x where the register is zero.
-fn zero_effect(x: u32, i: u32, r: u32) -> Made
-    requires { ⌜ i < 2 ^ 31 ⌝ }
-    ensures { λ e. ⌜ e ≡ coded (effect goIfZero i r x none) 0 ⌝ }
+// An operation that uses a queue.
+fn queue_effect(k: u32, x: u32, i: u32, r: u32, found: bool, v: u32) -> Made
+    requires { ⌜ (1 ≤ k) × (k ≤ 4) × (i < 2 ^ 31) ⌝ }
+    ensures { λ e. ⌜ e ≡ coded (effect (operationAt k) i r x (foundWith found v)) v ⌝ }
 {
-    if r == 0 {
-        gives(StepAnswer::Moved, r, x)
-    } else {
-        gives(StepAnswer::Moved, r, i + 1)
+    let next = i + 1;
+    match k {
+        1 => gives(StepAnswer::Pushed(x), r, next),
+        2 => gives(
+            StepAnswer::Pushed(std::num::wrapping_add_u32(r, x)),
+            r,
+            next,
+        ),
+        3 => pop_effect(i, r, found, v),
+        _ => test_effect(x, i, r, found),
+    }
+}
+
+// Goes to instruction x: operation 5 always, operation 6 where the register is zero.
+fn go_effect(k: u32, x: u32, i: u32, r: u32) -> Made
+    requires { ⌜ (5 ≤ k) × (k ≤ 6) × (i < 2 ^ 31) ⌝ }
+    ensures { λ e. ⌜ e ≡ coded (effect (operationAt k) i r x none) 0 ⌝ }
+{
+    let next = i + 1;
+    match k {
+        5 => gives(StepAnswer::Moved, r, x),
+        _ => {
+            if r == 0 {
+                gives(StepAnswer::Moved, r, x)
+            } else {
+                gives(StepAnswer::Moved, r, next)
+            }
+        }
     }
 }
 
@@ -74,16 +99,11 @@ fn effect(k: u32, x: u32, i: u32, r: u32, found: bool, v: u32) -> Made
     requires { ⌜ i < 2 ^ 31 ⌝ }
     ensures { λ e. ⌜ e ≡ coded (effect (operationAt k) i r x (foundWith found v)) v ⌝ }
 {
-    let sum = std::num::wrapping_add_u32(r, x);
     let next = i + 1;
     match k {
-        1 => gives(StepAnswer::Pushed(x), r, next),
-        2 => gives(StepAnswer::Pushed(sum), r, next),
-        3 => pop_effect(i, r, found, v),
-        4 => test_effect(x, i, r, found),
-        5 => gives(StepAnswer::Moved, r, x),
-        6 => zero_effect(x, i, r),
-        7 => gives(StepAnswer::Moved, sum, next),
+        1..=4 => queue_effect(k, x, i, r, found, v),
+        5..=6 => go_effect(k, x, i, r),
+        7 => gives(StepAnswer::Moved, std::num::wrapping_add_u32(r, x), next),
         8 => gives(StepAnswer::Spawned(v), r, next),
         9 => gives(StepAnswer::Moved, r, next),
         _ => gives(StepAnswer::Finished, r, i),
@@ -123,10 +143,10 @@ fn done(r: &mut [u32], t: u32, s: Instruction, found: bool, v: u32) -> StepAnswe
     e.answer
 }
 
-// The core call of instruction s. Operations 5, 6 and 7 make none: they go on as one that found nothing.
-fn core_call(job: &[u8], m: &mut [u32], t: u32, s: Instruction, x: u32) -> Answer
-    requires { ⌜ (length (now m) ≡ 16384) × (rulesHold (now m) ≡ true) ⌝ }
-    ensures { λ a. ⌜ answered a (now (m .exit)) ≡ called (callOf (operationAt (s .operation)) (now (job .entry)) t x s) (now (m .entry)) ⌝ }
+// The core call of an instruction s that uses a queue. It does not depend on the job: the contract says so with none.
+fn queue_call(m: &mut [u32], t: u32, s: Instruction, x: u32) -> Answer
+    requires { ⌜ (length (now m) ≡ 16384) × (rulesHold (now m) ≡ true) × (1 ≤ s .operation) × (s .operation ≤ 4) ⌝ }
+    ensures { λ a. ⌜ answered a (now (m .exit)) ≡ called (callOf (operationAt (s .operation)) [] t x s) (now (m .entry)) ⌝ }
 {
     let k = s.operation;
     let q = s.which;
@@ -134,9 +154,20 @@ fn core_call(job: &[u8], m: &mut [u32], t: u32, s: Instruction, x: u32) -> Answe
         1 => pushing::push(m, t, q, s.operand),
         2 => pushing::push(m, t, q, std::num::wrapping_add_u32(x, s.operand)),
         3 => finding::pop(m, t, q),
-        4 => finding::test(m, t, q),
+        _ => finding::test(m, t, q),
+    }
+}
+
+// The core call of instruction s. Operations 5, 6 and 7 make none: they go on as one that found nothing.
+fn core_call(job: &[u8], m: &mut [u32], t: u32, s: Instruction, x: u32) -> Answer
+    requires { ⌜ (length (now m) ≡ 16384) × (rulesHold (now m) ≡ true) ⌝ }
+    ensures { λ a. ⌜ answered a (now (m .exit)) ≡ called (callOf (operationAt (s .operation)) (now (job .entry)) t x s) (now (m .entry)) ⌝ }
+{
+    let k = s.operation;
+    match k {
+        1..=4 => queue_call(m, t, s, x),
         5..=7 => Answer::Empty,
-        8 => spawning::spawn(m, t, job_fields::rights(job, q)),
+        8 => spawning::spawn(m, t, job_fields::rights(job, s.which)),
         9 => finishing::sync(m, t),
         _ => finishing::finish(m, t),
     }

@@ -1,0 +1,42 @@
+use Rattle.stepping.proofs.Effects.{goes-keyed, go-five, is-zero, not-zero}
+use Rattle.stepping.proofs.Numbers.{last-of-two}
+use borrow.Author.Needs.{needs}
+use Rattle.stepping.proofs.go_effect.Statement.{statement}
+use Rattle.stepping.proofs.go_effect.Tie as tie
+
+add-next : tie.Need-add-next
+add-next c = search needs
+
+gives-requires : tie.Need-gives-requires
+gives-requires c κs = search needs
+
+gives-requires-2 : tie.Need-gives-requires-2
+gives-requires-2 c κs = search needs
+
+gives-requires-3 : tie.Need-gives-requires-3
+gives-requires-3 c κs = search needs
+
+returns : tie.Need-returns
+returns c = goes-keyed _ _ _ (c .before .match .keys1) (go-five _ _ _ (c .gives .ensures))
+
+returns-2 : tie.Need-returns-2
+returns-2 c =
+    goes-keyed _ _ _ (last-of-two _ (c .before .before .before .pre .0) (c .before .before .before .pre .1) (c .before .before .match .rest))
+    (is-zero _ _ _ (c .before .if1 .taken) (c .gives2 .ensures))
+
+returns-3 : tie.Need-returns-3
+returns-3 c =
+    goes-keyed _ _ _ (last-of-two _ (c .before .before .before .pre .0) (c .before .before .before .pre .1) (c .before .before .match .rest))
+    (not-zero _ _ _ (c .before .if1 .left) (c .gives3 .ensures))
+
+pub go-effect-spec : {M : Type 1} → statement M
+go-effect-spec =
+    tie.close
+    (tie.spec
+    add-next
+    gives-requires
+    gives-requires-2
+    gives-requires-3
+    returns
+    returns-2
+    returns-3)
