@@ -63,14 +63,11 @@ fn queue_effect(k: u32, x: u32, i: u32, r: u32, found: bool, v: u32) -> Made
     requires { ⌜ (1 ≤ k) × (k ≤ 4) × (i < 2 ^ 31) ⌝ }
     ensures { λ e. ⌜ e ≡ coded (effect (operationAt k) i r x (foundWith found v)) v ⌝ }
 {
+    let sum = std::num::wrapping_add_u32(r, x);
     let next = i + 1;
     match k {
         1 => gives(StepAnswer::Pushed(x), r, next),
-        2 => gives(
-            StepAnswer::Pushed(std::num::wrapping_add_u32(r, x)),
-            r,
-            next,
-        ),
+        2 => gives(StepAnswer::Pushed(sum), r, next),
         3 => pop_effect(i, r, found, v),
         _ => test_effect(x, i, r, found),
     }
@@ -143,7 +140,7 @@ fn done(r: &mut [u32], t: u32, s: Instruction, found: bool, v: u32) -> StepAnswe
     e.answer
 }
 
-// The core call of an instruction s that uses a queue. It does not depend on the job: the contract says so with none.
+// The core call of an instruction s that uses a queue. No job has a part in it, so the contract has the empty one.
 fn queue_call(m: &mut [u32], t: u32, s: Instruction, x: u32) -> Answer
     requires { ⌜ (length (now m) ≡ 16384) × (rulesHold (now m) ≡ true) × (1 ≤ s .operation) × (s .operation ≤ 4) ⌝ }
     ensures { λ a. ⌜ answered a (now (m .exit)) ≡ called (callOf (operationAt (s .operation)) [] t x s) (now (m .entry)) ⌝ }

@@ -4,14 +4,14 @@ use borrow.Author.Needs.{needs}
 use Rattle.stepping.proofs.queue_effect.Statement.{statement}
 use Rattle.stepping.proofs.queue_effect.Tie as tie
 
+wrapping-add-u32-requires : tie.Need-wrapping-add-u32-requires
+wrapping-add-u32-requires c κs = search needs
+
 add-next : tie.Need-add-next
 add-next c = search needs
 
 gives-requires : tie.Need-gives-requires
 gives-requires c κs = search needs
-
-wrapping-add-u32-requires : tie.Need-wrapping-add-u32-requires
-wrapping-add-u32-requires c κs = search needs
 
 gives-requires-2 : tie.Need-gives-requires-2
 gives-requires-2 c κs = search needs
@@ -26,23 +26,23 @@ returns : tie.Need-returns
 returns c = keyed _ _ _ _ _ (c .before .match .keys1) (push-one _ _ _ _ _ (c .gives .ensures))
 
 returns-2 : tie.Need-returns-2
-returns-2 c = keyed _ _ _ _ _ (c .before .before .match .keys2) (push-two _ _ _ _ _ (c .before .wrapping-add-u32 .ensures) (c .gives2 .ensures))
+returns-2 c = keyed _ _ _ _ _ (c .before .match .keys2) (push-two _ _ _ _ _ (c .before .before .wrapping-add-u32 .ensures) (c .gives2 .ensures))
 
 returns-3 : tie.Need-returns-3
 returns-3 c = keyed _ _ _ _ _ (c .before .match .keys3) (pop-three _ _ _ _ _ (c .pop-effect .ensures))
 
 returns-4 : tie.Need-returns-4
 returns-4 c =
-    keyed _ _ _ _ _ (last-of-four _ (c .before .before .pre .0) (c .before .before .pre .1) (c .before .match .rest))
+    keyed _ _ _ _ _ (last-of-four _ (c .before .before .before .pre .0) (c .before .before .before .pre .1) (c .before .match .rest))
     (test-four _ _ _ _ _ (c .test-effect .ensures))
 
 pub queue-effect-spec : {M : Type 1} → statement M
 queue-effect-spec =
     tie.close
     (tie.spec
+    wrapping-add-u32-requires
     add-next
     gives-requires
-    wrapping-add-u32-requires
     gives-requires-2
     pop-effect-requires
     test-effect-requires
