@@ -87,7 +87,8 @@ uint64_t hq_sync(uint32_t *words, size_t len, uint32_t task);
  * the top's is not. */
 uint64_t hq_finish(uint32_t *words, size_t len, uint32_t task);
 
-/* Value number `index`, from 0, still in the queue once the top has finished. */
+/* Value number `index`, from 0, still in the queue once the top has finished;
+ * no word changes. */
 uint64_t hq_left(uint32_t *words, size_t len, uint32_t queue, uint32_t index);
 
 /* JOBS. A job is the len bytes of a job file; any bytes may be handed in, and
