@@ -121,10 +121,6 @@ module _ (x i r : ℕ) where
 pub none-below : (k : ℕ) → Inner k → k < 1 → 7 ≤ k
 none-below k h l = let z = h .some in omega (arith, z, l)
 
--- what the range of 3 and 4 leaves once 3 is told apart
-pub last-of-two : (k : ℕ) → 3 ≤ k → k ≤ 4 → (k ≡ 3 → ⊥) → k ≡ 4
-last-of-two k a b n = omega (arith, n)
-
 -- by its number
 pub keyed : (q x i r : ℕ) (qs us : List (List ℕ)) (e : Made) {k n : ℕ} → k ≡ n → Does n q x i r qs e us → Does k q x i r qs e us
 keyed q x i r qs us e p d = subst (λ (k : ℕ). Does k q x i r qs e us) (sym p) d

@@ -122,17 +122,6 @@ fn test_step(w: &[u32], q: u32, x: u32, i: u32, r: u32) -> Made
     }
 }
 
-// What is found in queue q: operation 3 pops it, operation 4 goes on by it.
-fn find_step(w: &mut [u32], k: u32, q: u32, x: u32, i: u32, r: u32) -> Made
-    requires { ⌜ (size (now w) ≡ WORKING) × (3 ≤ k) × (k ≤ 4) × (i < 2 ^ 31) ⌝ }
-    ensures { λ e. ⌜ Does k q x i r (lists (now (w .entry))) e (lists (now (w .exit))) ⌝ }
-{
-    match k {
-        3 => pop_step(w, q, x, i, r),
-        _ => test_step(w, q, x, i, r),
-    }
-}
-
 // Goes to instruction x: operation 5 always, operation 6 where the register is zero.
 fn go_step(k: u32, x: u32, i: u32, r: u32) -> Made
     requires { ⌜ (5 ≤ k) × (k ≤ 6) × (i < 2 ^ 31) ⌝ }
@@ -186,7 +175,8 @@ pub fn step(w: &mut [u32], s: Instruction, i: u32, r: u32) -> Made
     let x = s.operand;
     match k {
         1..=2 => push_step(w, k, q, x, i, r),
-        3..=4 => find_step(w, k, q, x, i, r),
+        3 => pop_step(w, q, x, i, r),
+        4 => test_step(w, q, x, i, r),
         5..=6 => go_step(k, x, i, r),
         7 => add_step(x, i, r),
         _ => Made {
