@@ -17,7 +17,7 @@ abbrev pub table : List Case
 table =
     oneSegment ∷ longest ∷ manyChildren ∷ newQueue ∷ fullRun ∷ noPush ∷ laterPush ∷ moreRights ∷ parentPush ∷ reachable ∷ hidden ∷ olderSibling ∷
     waitBeforeNine ∷ childPopping ∷ pushersBefore ∷ farPusher ∷ leftLater ∷ unopened ∷ notAllowed ∷ ring ∷ localHead ∷ emptyFreed ∷ stillNine ∷ queueView ∷
-    numbers ∷ []
+    numbers ∷ lastFreed ∷ []
 
 unfoldable pub allRight : List Case → Bool
 allRight [] = true
