@@ -10,21 +10,9 @@ returns : tie.Need-returns
 unfolding findMoves
 returns c = no-queue _ _ _ pops _ (c .if1 .taken)
 
-task-requires : tie.Need-task-requires
-task-requires c κs = search needs
-
-pops-requires : tie.Need-pops-requires
-pops-requires c κs = search needs
-
 returns-2 : tie.Need-returns-2
 unfolding findMoves
 returns-2 c = not-held _ _ _ pops _ (c .before .before .before .if1 .left) (c .before .before .task .ensures) (c .before .pops .ensures) (c .if2 .taken)
-
-find-requires : tie.Need-find-requires
-find-requires c κs = search needs
-
-decided-requires : tie.Need-decided-requires
-decided-requires c κs = search needs
 
 returns-3 : tie.Need-returns-3
 unfolding findMoves
@@ -35,11 +23,4 @@ returns-3 c =
 pub find-moves-spec : {M : Type 1} → statement M
 find-moves-spec =
     tie.close
-    (tie.spec
-    returns
-    task-requires
-    pops-requires
-    returns-2
-    find-requires
-    decided-requires
-    returns-3)
+    (tie.spec returns (λ c κs. search needs) (λ c κs. search needs) returns-2 (λ c κs. search needs) (λ c κs. search needs) returns-3)

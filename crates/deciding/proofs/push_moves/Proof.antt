@@ -9,18 +9,9 @@ returns : tie.Need-returns
 unfolding pushMoves
 returns c = no-queue _ _ _ pushes _ (c .if1 .taken)
 
-task-requires : tie.Need-task-requires
-task-requires c κs = search needs
-
-pushes-requires : tie.Need-pushes-requires
-pushes-requires c κs = search needs
-
 returns-2 : tie.Need-returns-2
 unfolding pushMoves
 returns-2 c = not-held _ _ _ pushes _ (c .before .before .before .if1 .left) (c .before .before .task .ensures) (c .before .pushes .ensures) (c .if2 .taken)
-
-value-fits-requires : tie.Need-value-fits-requires
-value-fits-requires c κs = search needs
 
 returns-3 : tie.Need-returns-3
 unfolding pushMoves
@@ -29,6 +20,4 @@ returns-3 c =
     (c .before .if2 .left) (c .value-fits .ensures)
 
 pub push-moves-spec : {M : Type 1} → statement M
-push-moves-spec =
-    tie.close
-    (tie.spec returns task-requires pushes-requires returns-2 value-fits-requires returns-3)
+push-moves-spec = tie.close (tie.spec returns (λ c κs. search needs) (λ c κs. search needs) returns-2 (λ c κs. search needs) returns-3)

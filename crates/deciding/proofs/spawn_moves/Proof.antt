@@ -3,21 +3,11 @@ use borrow.Author.Needs.{needs}
 use Rattle.deciding.proofs.spawn_moves.Statement.{statement}
 use Rattle.deciding.proofs.spawn_moves.Tie as tie
 
-task-requires : tie.Need-task-requires
-task-requires c κs = search needs
-
-subset-requires : tie.Need-subset-requires
-subset-requires c κs = search needs
-
 returns : tie.Need-returns
 returns c = given-more _ _ _ (c .before .before .task .ensures) (c .before .subset .ensures) (c .if1 .taken)
-
-header-requires : tie.Need-header-requires
-header-requires c κs = search needs
 
 returns-2 : tie.Need-returns-2
 returns-2 c = record-free _ _ _ (c .before .before .before .task .ensures) (c .before .before .subset .ensures) (c .before .if1 .left) (c .header .ensures)
 
 pub spawn-moves-spec : {M : Type 1} → statement M
-spawn-moves-spec =
-    tie.close (tie.spec task-requires subset-requires returns header-requires returns-2)
+spawn-moves-spec = tie.close (tie.spec (λ c κs. search needs) (λ c κs. search needs) returns (λ c κs. search needs) returns-2)

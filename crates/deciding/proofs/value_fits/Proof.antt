@@ -3,25 +3,10 @@ use borrow.Author.Needs.{needs}
 use Rattle.deciding.proofs.value_fits.Statement.{statement}
 use Rattle.deciding.proofs.value_fits.Tie as tie
 
-tail-requires : tie.Need-tail-requires
-tail-requires c κs = search needs
-
-head-requires : tie.Need-head-requires
-head-requires c κs = search needs
-
-is-empty-requires : tie.Need-is-empty-requires
-is-empty-requires c κs = search needs
-
-none-free-requires : tie.Need-none-free-requires
-none-free-requires c κs = search needs
-
 returns : tie.Need-returns
 returns c =
     none-left _ _ _ (c .before .before .before .before .before .tail .ensures) (c .before .before .before .before .head .ensures)
     (c .before .before .before .is-empty .ensures) (c .before .before .if1 .taken) (c .before .none-free .ensures) (c .if2 .taken)
-
-just-before-requires : tie.Need-just-before-requires
-just-before-requires c κs = search needs
 
 fits-apart-requires : tie.Need-fits-apart-requires
 fits-apart-requires c κs = some-free _ (c .before .before .none-free .ensures) (c .before .if2 .left)
@@ -38,9 +23,6 @@ returns-3 c =
     ends-away _ _ _ (c .before .before .before .before .tail .ensures) (c .before .before .before .head .ensures) (c .before .before .is-empty .ensures)
     (c .before .if1 .left) (c .if3 .taken)
 
-has-room-requires : tie.Need-has-room-requires
-has-room-requires c κs = search needs
-
 returns-4 : tie.Need-returns-4
 returns-4 c =
     goes-behind _ _ _ (c .before .before .before .before .before .tail .ensures) (c .before .before .before .before .head .ensures)
@@ -49,15 +31,5 @@ returns-4 c =
 pub value-fits-spec : {M : Type 1} → statement M
 value-fits-spec =
     tie.close
-    (tie.spec
-    tail-requires
-    head-requires
-    is-empty-requires
-    none-free-requires
-    returns
-    just-before-requires
-    fits-apart-requires
-    returns-2
-    returns-3
-    has-room-requires
-    returns-4)
+    (tie.spec (λ c κs. search needs) (λ c κs. search needs) (λ c κs. search needs) (λ c κs. search needs) returns (λ c κs. search needs)
+    fits-apart-requires returns-2 returns-3 (λ c κs. search needs) returns-4)

@@ -7,26 +7,11 @@ use borrow.Author.Needs.{needs}
 use Rattle.finding.proofs.pop.Statement.{statement}
 use Rattle.finding.proofs.pop.Tie as tie
 
-refusal-requires : tie.Need-refusal-requires
-refusal-requires c κs = search needs
-
-same-length : tie.Need-same-length
-same-length c = search needs
-
 returns : tie.Need-returns
 returns c = pop-refused _ _ _ _ (c .before .refusal .ensures) (c .if1 .taken)
 
 find-requires : tie.Need-find-requires
 find-requires c κs = may-pop _ _ _ (outcome Waits []) (c .before .before .refusal .ensures) (c .before .if1 .left) .1
-
-enum-known-f : tie.Need-enum-known-f
-enum-known-f c = search needs
-
-pop-nothing-requires : tie.Need-pop-nothing-requires
-pop-nothing-requires c κs = search needs
-
-same-length-2 : tie.Need-same-length-2
-same-length-2 c = search needs
 
 returns-2 : tie.Need-returns-2
 returns-2 c =
@@ -41,9 +26,6 @@ take-first-requires c κs = (
   value-there _ _ _ _ (c .before .before .before .before .find .ensures) (c .before .before .f .given .1),
 )
 
-same-length-3 : tie.Need-same-length-3
-same-length-3 c = search needs
-
 returns-3 : tie.Need-returns-3
 returns-3 c =
     value-popped _ _ _ _ _ (c .before .before .before .before .before .f .given .1) (c .before .before .take-first .ensures)
@@ -54,15 +36,5 @@ returns-3 c =
 pub pop-spec : {M : Type 1} → statement M
 pop-spec =
     tie.close
-    (tie.spec
-    refusal-requires
-    same-length
-    returns
-    find-requires
-    enum-known-f
-    pop-nothing-requires
-    same-length-2
-    returns-2
-    take-first-requires
-    same-length-3
-    returns-3)
+    (tie.spec (λ c κs. search needs) (λ c. search needs) returns find-requires (λ c. search needs) (λ c κs. search needs) (λ c. search needs)
+    returns-2 take-first-requires (λ c. search needs) returns-3)

@@ -3,20 +3,11 @@ use borrow.Author.Needs.{needs}
 use Rattle.finding.proofs.refusal.Statement.{statement}
 use Rattle.finding.proofs.refusal.Tie as tie
 
-unfinished-requires : tie.Need-unfinished-requires
-unfinished-requires c κs = search needs
-
 returns : tie.Need-returns
 returns c = refusal-4 _ _ _ (c .before .unfinished .ensures) (c .if1 .taken)
 
 returns-2 : tie.Need-returns-2
 returns-2 c = refusal-5 _ _ _ (c .before .before .unfinished .ensures) (c .before .if1 .left) (c .if2 .taken)
-
-task-requires : tie.Need-task-requires
-task-requires c κs = search needs
-
-pops-requires : tie.Need-pops-requires
-pops-requires c κs = search needs
 
 returns-3 : tie.Need-returns-3
 returns-3 c =
@@ -29,13 +20,4 @@ returns-4 c =
     (c .before .before .before .if2 .left) (c .before .before .task .ensures) (c .before .pops .ensures) (c .if3 .left)
 
 pub refusal-spec : {M : Type 1} → statement M
-refusal-spec =
-    tie.close
-    (tie.spec
-    unfinished-requires
-    returns
-    returns-2
-    task-requires
-    pops-requires
-    returns-3
-    returns-4)
+refusal-spec = tie.close (tie.spec (λ c κs. search needs) returns returns-2 (λ c κs. search needs) (λ c κs. search needs) returns-3 returns-4)

@@ -7,35 +7,17 @@ use borrow.Author.Needs.{needs}
 use Rattle.finding.proofs.test.Statement.{statement}
 use Rattle.finding.proofs.test.Tie as tie
 
-refusal-requires : tie.Need-refusal-requires
-refusal-requires c κs = search needs
-
-same-length : tie.Need-same-length
-same-length c = search needs
-
 returns : tie.Need-returns
 returns c = test-refused _ _ _ _ (c .before .refusal .ensures) (c .if1 .taken)
 
 find-requires : tie.Need-find-requires
 find-requires c κs = may-pop _ _ _ (outcome Waits []) (c .before .before .refusal .ensures) (c .before .if1 .left) .1
 
-enum-told : tie.Need-enum-told
-enum-told c = search needs
-
-test-nothing-requires : tie.Need-test-nothing-requires
-test-nothing-requires c κs = search needs
-
-same-length-2 : tie.Need-same-length-2
-same-length-2 c = search needs
-
 returns-2 : tie.Need-returns-2
 returns-2 c =
     none-tested _ _ _ (c .before .match .keys2) (c .test-nothing .ensures)
     ∙ test-given _ _ _ _ (c .before .before .before .before .before .refusal .ensures) (c .before .before .before .before .if1 .left)
     (c .before .before .find .ensures)
-
-same-length-3 : tie.Need-same-length-3
-same-length-3 c = search needs
 
 returns-3 : tie.Need-returns-3
 returns-3 c =
@@ -46,14 +28,5 @@ returns-3 c =
 pub test-spec : {M : Type 1} → statement M
 test-spec =
     tie.close
-    (tie.spec
-    refusal-requires
-    same-length
-    returns
-    find-requires
-    enum-told
-    test-nothing-requires
-    same-length-2
-    returns-2
-    same-length-3
-    returns-3)
+    (tie.spec (λ c κs. search needs) (λ c. search needs) returns find-requires (λ c. search needs) (λ c κs. search needs) (λ c. search needs)
+    returns-2 (λ c. search needs) returns-3)

@@ -3,28 +3,16 @@ use borrow.Author.Needs.{needs}
 use Rattle.finishing.proofs.each_finishes.Statement.{statement}
 use Rattle.finishing.proofs.each_finishes.Tie as tie
 
-finishes-requires : tie.Need-finishes-requires
-finishes-requires c κs = search needs
-
 returns : tie.Need-returns
 returns c = not-first _ (c .before .finishes .ensures) (c .if1 .taken)
 
-finishes-requires-2 : tie.Need-finishes-requires-2
-finishes-requires-2 c κs = search needs
-
 returns-2 : tie.Need-returns-2
 returns-2 c = not-second _ (c .before .before .before .finishes .ensures) (c .before .before .if1 .left) (c .before .finishes2 .ensures) (c .if2 .taken)
-
-finishes-requires-3 : tie.Need-finishes-requires-3
-finishes-requires-3 c κs = search needs
 
 returns-3 : tie.Need-returns-3
 returns-3 c =
     not-third _ (c .before .before .before .before .before .finishes .ensures) (c .before .before .before .before .if1 .left)
     (c .before .before .before .finishes2 .ensures) (c .before .before .if2 .left) (c .before .finishes3 .ensures) (c .if3 .taken)
-
-finishes-requires-4 : tie.Need-finishes-requires-4
-finishes-requires-4 c κs = search needs
 
 returns-4 : tie.Need-returns-4
 returns-4 c =
@@ -35,12 +23,4 @@ returns-4 c =
 pub each-finishes-spec : {M : Type 1} → statement M
 each-finishes-spec =
     tie.close
-    (tie.spec
-    finishes-requires
-    returns
-    finishes-requires-2
-    returns-2
-    finishes-requires-3
-    returns-3
-    finishes-requires-4
-    returns-4)
+    (tie.spec (λ c κs. search needs) returns (λ c κs. search needs) returns-2 (λ c κs. search needs) returns-3 (λ c κs. search needs) returns-4)

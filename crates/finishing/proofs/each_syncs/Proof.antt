@@ -3,28 +3,16 @@ use borrow.Author.Needs.{needs}
 use Rattle.finishing.proofs.each_syncs.Statement.{statement}
 use Rattle.finishing.proofs.each_syncs.Tie as tie
 
-syncs-requires : tie.Need-syncs-requires
-syncs-requires c κs = search needs
-
 returns : tie.Need-returns
 returns c = not-first _ (c .before .syncs .ensures) (c .if1 .taken)
 
-syncs-requires-2 : tie.Need-syncs-requires-2
-syncs-requires-2 c κs = search needs
-
 returns-2 : tie.Need-returns-2
 returns-2 c = not-second _ (c .before .before .before .syncs .ensures) (c .before .before .if1 .left) (c .before .syncs2 .ensures) (c .if2 .taken)
-
-syncs-requires-3 : tie.Need-syncs-requires-3
-syncs-requires-3 c κs = search needs
 
 returns-3 : tie.Need-returns-3
 returns-3 c =
     not-third _ (c .before .before .before .before .before .syncs .ensures) (c .before .before .before .before .if1 .left)
     (c .before .before .before .syncs2 .ensures) (c .before .before .if2 .left) (c .before .syncs3 .ensures) (c .if3 .taken)
-
-syncs-requires-4 : tie.Need-syncs-requires-4
-syncs-requires-4 c κs = search needs
 
 returns-4 : tie.Need-returns-4
 returns-4 c =
@@ -35,12 +23,4 @@ returns-4 c =
 pub each-syncs-spec : {M : Type 1} → statement M
 each-syncs-spec =
     tie.close
-    (tie.spec
-    syncs-requires
-    returns
-    syncs-requires-2
-    returns-2
-    syncs-requires-3
-    returns-3
-    syncs-requires-4
-    returns-4)
+    (tie.spec (λ c κs. search needs) returns (λ c κs. search needs) returns-2 (λ c κs. search needs) returns-3 (λ c κs. search needs) returns-4)

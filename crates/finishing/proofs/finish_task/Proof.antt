@@ -6,20 +6,8 @@ use borrow.Author.Needs.{needs}
 use Rattle.finishing.proofs.finish_task.Statement.{statement}
 use Rattle.finishing.proofs.finish_task.Tie as tie
 
-unfinished-requires : tie.Need-unfinished-requires
-unfinished-requires c κs = search needs
-
-same-length : tie.Need-same-length
-same-length c = search needs
-
 returns : tie.Need-returns
 returns c = not-unfinished _ _ _ _ (c .before .unfinished .ensures) (c .if1 .taken)
-
-waits-requires : tie.Need-waits-requires
-waits-requires c κs = search needs
-
-same-length-2 : tie.Need-same-length-2
-same-length-2 c = search needs
 
 returns-2 : tie.Need-returns-2
 returns-2 c =
@@ -27,9 +15,6 @@ returns-2 c =
 
 each-finishes-requires : tie.Need-each-finishes-requires
 each-finishes-requires c κs = below _ _ (c .before .before .before .before .before .unfinished .ensures) (c .before .before .before .before .if1 .left)
-
-same-length-3 : tie.Need-same-length-3
-same-length-3 c = search needs
 
 returns-3 : tie.Need-returns-3
 returns-3 c =
@@ -44,9 +29,6 @@ finished-requires c κs = (
       (c .before .before .before .before .before .before .before .if1 .left),
 )
 
-same-length-4 : tie.Need-same-length-4
-same-length-4 c = search needs
-
 returns-4 : tie.Need-returns-4
 returns-4 c =
     moved _ _ _ _ (c .before .before .before .before .before .before .before .before .before .before .before .unfinished .ensures)
@@ -58,16 +40,5 @@ returns-4 c =
 pub finish-task-spec : {M : Type 1} → statement M
 finish-task-spec =
     tie.close
-    (tie.spec
-    unfinished-requires
-    same-length
-    returns
-    waits-requires
-    same-length-2
-    returns-2
-    each-finishes-requires
-    same-length-3
-    returns-3
-    finished-requires
-    same-length-4
-    returns-4)
+    (tie.spec (λ c κs. search needs) (λ c. search needs) returns (λ c κs. search needs) (λ c. search needs) returns-2 each-finishes-requires
+    (λ c. search needs) returns-3 finished-requires (λ c. search needs) returns-4)

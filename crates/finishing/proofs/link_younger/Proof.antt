@@ -6,14 +6,8 @@ use Rattle.finishing.proofs.link_younger.Tie as tie
 returns : tie.Need-returns
 returns c = no-older _ _ _ (c .if1 .taken)
 
-set-task-requires : tie.Need-set-task-requires
-set-task-requires c κs = search needs
-
-same-length : tie.Need-same-length
-same-length c = search needs
-
 returns-2 : tie.Need-returns-2
 returns-2 c = older-linked _ _ _ _ (c .before .before .before .before .if1 .left) (c .before .before .set-task .ensures)
 
 pub link-younger-spec : {M : Type 1} → statement M
-link-younger-spec = tie.close (tie.spec returns set-task-requires same-length returns-2)
+link-younger-spec = tie.close (tie.spec returns (λ c κs. search needs) (λ c. search needs) returns-2)

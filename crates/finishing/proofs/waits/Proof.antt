@@ -3,17 +3,11 @@ use borrow.Author.Needs.{needs}
 use Rattle.finishing.proofs.waits.Statement.{statement}
 use Rattle.finishing.proofs.waits.Tie as tie
 
-has-child-requires : tie.Need-has-child-requires
-has-child-requires c κs = search needs
-
 returns : tie.Need-returns
 returns c = child-waits _ _ (c .before .has-child .ensures) (c .if1 .taken)
-
-blocked-requires : tie.Need-blocked-requires
-blocked-requires c κs = search needs
 
 returns-2 : tie.Need-returns-2
 returns-2 c = sibling-waits _ _ (c .before .before .has-child .ensures) _ (c .before .if1 .left) (c .blocked .ensures)
 
 pub waits-spec : {M : Type 1} → statement M
-waits-spec = tie.close (tie.spec has-child-requires returns blocked-requires returns-2)
+waits-spec = tie.close (tie.spec (λ c κs. search needs) returns (λ c κs. search needs) returns-2)

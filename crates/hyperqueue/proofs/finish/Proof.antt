@@ -6,12 +6,6 @@ use borrow.Author.Needs.{needs}
 use Rattle.hyperqueue.proofs.finish.Statement.{statement}
 use Rattle.hyperqueue.proofs.finish.Tie as tie
 
-refusal-requires : tie.Need-refusal-requires
-refusal-requires c κs = search needs
-
-same-length : tie.Need-same-length
-same-length c = search needs
-
 returns : tie.Need-returns
 unfolding finishOutcome
 returns c = turned-down _ _ _ (c .before .refusal .ensures) (c .if1 .taken)
@@ -20,9 +14,6 @@ finish-requires : tie.Need-finish-requires
 unfolding size
 finish-requires c κs = passes _ (c .before .before .refusal .ensures) (c .before .if1 .left) .0
 
-same-length-2 : tie.Need-same-length-2
-same-length-2 c = search needs
-
 returns-2 : tie.Need-returns-2
 unfolding finishOutcome
 returns-2 c =
@@ -30,6 +21,4 @@ returns-2 c =
     (c .before .before .before .before .if1 .left)
 
 pub finish-spec : {M : Type 1} → statement M
-finish-spec =
-    tie.close
-    (tie.spec refusal-requires same-length returns finish-requires same-length-2 returns-2)
+finish-spec = tie.close (tie.spec (λ c κs. search needs) (λ c. search needs) returns finish-requires (λ c. search needs) returns-2)

@@ -8,9 +8,6 @@ returns : tie.Need-returns
 unfolding size
 returns c = other-length _ (c .if1 .taken)
 
-rules-hold-requires : tie.Need-rules-hold-requires
-rules-hold-requires c κs = search needs
-
 returns-2 : tie.Need-returns-2
 unfolding size
 returns-2 c = rules-fail _ (c .before .before .if1 .left) (c .before .rules-hold .ensures) (c .if2 .taken)
@@ -20,4 +17,4 @@ unfolding size
 returns-3 c = may-call _ (c .before .before .if1 .left) (c .before .rules-hold .ensures) (c .if2 .left)
 
 pub refusal-spec : {M : Type 1} → statement M
-refusal-spec = tie.close (tie.spec returns rules-hold-requires returns-2 returns-3)
+refusal-spec = tie.close (tie.spec returns (λ c κs. search needs) returns-2 returns-3)

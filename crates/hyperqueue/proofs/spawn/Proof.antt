@@ -6,12 +6,6 @@ use borrow.Author.Needs.{needs}
 use Rattle.hyperqueue.proofs.spawn.Statement.{statement}
 use Rattle.hyperqueue.proofs.spawn.Tie as tie
 
-refusal-requires : tie.Need-refusal-requires
-refusal-requires c κs = search needs
-
-same-length : tie.Need-same-length
-same-length c = search needs
-
 returns : tie.Need-returns
 unfolding spawnOutcome
 returns c = turned-down _ _ _ (c .before .refusal .ensures) (c .if1 .taken)
@@ -20,9 +14,6 @@ spawn-requires : tie.Need-spawn-requires
 unfolding size
 spawn-requires c κs = passes _ (c .before .before .refusal .ensures) (c .before .if1 .left)
 
-same-length-2 : tie.Need-same-length-2
-same-length-2 c = search needs
-
 returns-2 : tie.Need-returns-2
 unfolding spawnOutcome
 returns-2 c =
@@ -30,6 +21,4 @@ returns-2 c =
     (c .before .before .before .before .if1 .left)
 
 pub spawn-spec : {M : Type 1} → statement M
-spawn-spec =
-    tie.close
-    (tie.spec refusal-requires same-length returns spawn-requires same-length-2 returns-2)
+spawn-spec = tie.close (tie.spec (λ c κs. search needs) (λ c. search needs) returns spawn-requires (λ c. search needs) returns-2)

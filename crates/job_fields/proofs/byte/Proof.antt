@@ -5,9 +5,6 @@ use borrow.Author.Needs.{needs}
 use Rattle.job_fields.proofs.byte.Statement.{statement}
 use Rattle.job_fields.proofs.byte.Tie as tie
 
-shared-slice-read-result : tie.Need-shared-slice-read-result
-shared-slice-read-result c = search needs
-
 returns : tie.Need-returns
 unfolding load
 returns c = search needs
@@ -17,4 +14,4 @@ unfolding load
 returns-2 c = sym (List·getD-eq-default (c .before .args .job .now) 0 (c .if1 .left))
 
 pub byte-spec : {M : Type 1} → statement M
-byte-spec = tie.close (tie.spec shared-slice-read-result returns returns-2)
+byte-spec = tie.close (tie.spec (λ c. search needs) returns returns-2)

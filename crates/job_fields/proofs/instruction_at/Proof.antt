@@ -5,21 +5,6 @@ use borrow.Author.Needs.{needs}
 use Rattle.job_fields.proofs.instruction_at.Statement.{statement}
 use Rattle.job_fields.proofs.instruction_at.Tie as tie
 
-offset-requires : tie.Need-offset-requires
-offset-requires c κs = search needs
-
-cast-instruction-from : tie.Need-cast-instruction-from
-cast-instruction-from c = search needs
-
-mul-instruction-from : tie.Need-mul-instruction-from
-mul-instruction-from c = search needs
-
-add-instruction-from : tie.Need-add-instruction-from
-add-instruction-from c = search needs
-
-instruction-from-requires : tie.Need-instruction-from-requires
-instruction-from-requires c κs = search needs
-
 returns : tie.Need-returns
 unfolding instructionAt
 returns c =
@@ -29,10 +14,4 @@ returns c =
 pub instruction-at-spec : {M : Type 1} → statement M
 instruction-at-spec =
     tie.close
-    (tie.spec
-    offset-requires
-    cast-instruction-from
-    mul-instruction-from
-    add-instruction-from
-    instruction-from-requires
-    returns)
+    (tie.spec (λ c κs. search needs) (λ c. search needs) (λ c. search needs) (λ c. search needs) (λ c κs. search needs) returns)

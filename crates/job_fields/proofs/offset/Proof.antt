@@ -3,21 +3,9 @@ use borrow.Author.Needs.{needs}
 use Rattle.job_fields.proofs.offset.Statement.{statement}
 use Rattle.job_fields.proofs.offset.Tie as tie
 
-mul-bytes2 : tie.Need-mul-bytes2
-mul-bytes2 c = search needs
-
-add-bytes2 : tie.Need-add-bytes2
-add-bytes2 c = search needs
-
-bytes2-requires : tie.Need-bytes2-requires
-bytes2-requires c κs = search needs
-
-cast-result : tie.Need-cast-result
-cast-result c = search needs
-
 returns : tie.Need-returns
 unfolding offset
 returns c = c .bytes2 .ensures
 
 pub offset-spec : {M : Type 1} → statement M
-offset-spec = tie.close (tie.spec mul-bytes2 add-bytes2 bytes2-requires cast-result returns)
+offset-spec = tie.close (tie.spec (λ c. search needs) (λ c. search needs) (λ c κs. search needs) (λ c. search needs) returns)

@@ -6,9 +6,6 @@ use borrow.Author.Needs.{needs}
 use Rattle.job_opening.proofs.segments_for.Statement.{statement}
 use Rattle.job_opening.proofs.segments_for.Tie as tie
 
-div-result : tie.Need-div-result
-div-result c = search needs
-
 returns : tie.Need-returns
 unfolding segmentsFor
 returns c = sym (halt _ _ (le-leb _ _ (c .if1 .taken)))
@@ -18,4 +15,4 @@ unfolding segmentsFor
 returns-2 c = sym (pass _ (lt-leb _ _ (c .if1 .left)) refl)
 
 pub segments-for-spec : {M : Type 1} → statement M
-segments-for-spec = tie.close (tie.spec div-result returns returns-2)
+segments-for-spec = tie.close (tie.spec (λ c. search needs) returns returns-2)

@@ -8,18 +8,9 @@ use borrow.Author.Needs.{needs}
 use Rattle.job_test.proofs.contents_hold.Statement.{statement}
 use Rattle.job_test.proofs.contents_hold.Tie as tie
 
-rights-requires : tie.Need-rights-requires
-rights-requires c κs = search needs
-
 returns : tie.Need-returns
 unfolding contentsHold
 returns c = sym (both-off _ (ne-eqb _ _ (λ e. c .if1 .taken (c .before .rights .ensures ∙ e))))
-
-procedures-requires : tie.Need-procedures-requires
-procedures-requires c κs = search needs
-
-entries-hold-requires : tie.Need-entries-hold-requires
-entries-hold-requires c κs = search needs
 
 returns-2 : tie.Need-returns-2
 unfolding contentsHold
@@ -28,6 +19,4 @@ returns-2 c =
     (c .before .procedures .ensures) ∙ sym (both-on (eq-eqb _ _ (sym (c .before .before .before .rights .ensures) ∙ c .before .before .if1 .left)))
 
 pub contents-hold-spec : {M : Type 1} → statement M
-contents-hold-spec =
-    tie.close
-    (tie.spec rights-requires returns procedures-requires entries-hold-requires returns-2)
+contents-hold-spec = tie.close (tie.spec (λ c κs. search needs) returns (λ c κs. search needs) (λ c κs. search needs) returns-2)

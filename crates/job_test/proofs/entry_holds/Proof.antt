@@ -9,30 +9,15 @@ use borrow.Author.Needs.{needs}
 use Rattle.job_test.proofs.entry_holds.Statement.{statement}
 use Rattle.job_test.proofs.entry_holds.Tie as tie
 
-offset-requires : tie.Need-offset-requires
-offset-requires c κs = search needs
-
-cast-o : tie.Need-cast-o
-cast-o c = search needs
-
-count-requires : tie.Need-count-requires
-count-requires c κs = search needs
-
 returns : tie.Need-returns
 unfolding entryHolds
 returns c = sym (both-off _ (ne-eqb _ _ (λ e. c .if1 .taken (c .before .before .offset .ensures ∙ e))))
-
-between-requires : tie.Need-between-requires
-between-requires c κs = search needs
 
 returns-2 : tie.Need-returns-2
 unfolding entryHolds
 returns-2 c =
     sym (both-on (eq-eqb _ _ (sym (c .before .before .before .before .offset .ensures) ∙ c .before .before .if1 .left))
     ∙ both-off _ (in-range 1 128 (c .before .before .before .count .ensures) (c .before .between .ensures) ∙ not-true _ (c .if2 .taken)))
-
-reserved-requires : tie.Need-reserved-requires
-reserved-requires c κs = search needs
 
 returns-3 : tie.Need-returns-3
 unfolding entryHolds
@@ -44,12 +29,5 @@ returns-3 c =
 pub entry-holds-spec : {M : Type 1} → statement M
 entry-holds-spec =
     tie.close
-    (tie.spec
-    offset-requires
-    cast-o
-    count-requires
-    returns
-    between-requires
-    returns-2
-    reserved-requires
+    (tie.spec (λ c κs. search needs) (λ c. search needs) (λ c κs. search needs) returns (λ c κs. search needs) returns-2 (λ c κs. search needs)
     returns-3)

@@ -10,27 +10,15 @@ use borrow.Author.Needs.{needs}
 use Rattle.job_test.proofs.head_holds.Statement.{statement}
 use Rattle.job_test.proofs.head_holds.Tie as tie
 
-procedures-requires : tie.Need-procedures-requires
-procedures-requires c κs = search needs
-
-segment-length-requires : tie.Need-segment-length-requires
-segment-length-requires c κs = search needs
-
 returns : tie.Need-returns
 unfolding headHolds size
 returns c = sym (both-off _ (lt-leb _ _ (c .if1 .taken)))
-
-between-requires : tie.Need-between-requires
-between-requires c κs = search needs
 
 returns-2 : tie.Need-returns-2
 unfolding headHolds size
 returns-2 c =
     sym (both-on (le-leb _ _ (c .before .before .if1 .left))
     ∙ both-off _ (in-range 1 64 (c .before .before .before .before .procedures .ensures) (c .before .between .ensures) ∙ not-true _ (c .if2 .taken)))
-
-between-requires-2 : tie.Need-between-requires-2
-between-requires-2 c κs = search needs
 
 returns-3 : tie.Need-returns-3
 unfolding headHolds size
@@ -40,15 +28,6 @@ returns-3 c =
     ∙ not-false _ (c .before .before .if2 .left))
     ∙ both-off _ (in-range 1 64 (c .before .before .before .before .before .segment-length .ensures) (c .before .between2 .ensures)
     ∙ not-true _ (c .if3 .taken)))
-
-cast-result : tie.Need-cast-result
-cast-result c = search needs
-
-mul-result : tie.Need-mul-result
-mul-result c = search needs
-
-add-result : tie.Need-add-result
-add-result c = search needs
 
 returns-4 : tie.Need-returns-4
 unfolding headHolds size
@@ -63,15 +42,5 @@ returns-4 c =
 pub head-holds-spec : {M : Type 1} → statement M
 head-holds-spec =
     tie.close
-    (tie.spec
-    procedures-requires
-    segment-length-requires
-    returns
-    between-requires
-    returns-2
-    between-requires-2
-    returns-3
-    cast-result
-    mul-result
-    add-result
-    returns-4)
+    (tie.spec (λ c κs. search needs) (λ c κs. search needs) returns (λ c κs. search needs) returns-2 (λ c κs. search needs) returns-3
+    (λ c. search needs) (λ c. search needs) (λ c. search needs) returns-4)

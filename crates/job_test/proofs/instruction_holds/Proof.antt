@@ -4,17 +4,8 @@ use borrow.Author.Needs.{needs}
 use Rattle.job_test.proofs.instruction_holds.Statement.{statement}
 use Rattle.job_test.proofs.instruction_holds.Tie as tie
 
-instruction-from-requires : tie.Need-instruction-from-requires
-instruction-from-requires c κs = search needs
-
-which-holds-requires : tie.Need-which-holds-requires
-which-holds-requires c κs = search needs
-
 returns : tie.Need-returns
 returns c = which-fails _ _ _ (c .before .before .instruction-from .ensures) (c .before .which-holds .ensures) (not-true _ (c .if1 .taken))
-
-operand-holds-requires : tie.Need-operand-holds-requires
-operand-holds-requires c κs = search needs
 
 returns-2 : tie.Need-returns-2
 returns-2 c =
@@ -22,11 +13,4 @@ returns-2 c =
     (c .operand-holds .ensures)
 
 pub instruction-holds-spec : {M : Type 1} → statement M
-instruction-holds-spec =
-    tie.close
-    (tie.spec
-    instruction-from-requires
-    which-holds-requires
-    returns
-    operand-holds-requires
-    returns-2)
+instruction-holds-spec = tie.close (tie.spec (λ c κs. search needs) (λ c κs. search needs) returns (λ c κs. search needs) returns-2)

@@ -7,15 +7,9 @@ use borrow.Author.Needs.{needs}
 use Rattle.job_test.proofs.job_test.Statement.{statement}
 use Rattle.job_test.proofs.job_test.Tie as tie
 
-head-holds-requires : tie.Need-head-holds-requires
-head-holds-requires c κs = search needs
-
 returns : tie.Need-returns
 unfolding jobAnswer refusal10
 returns c = sym (halt _ _ (ap not (sym (c .before .head-holds .ensures)) ∙ c .if1 .taken))
-
-contents-hold-requires : tie.Need-contents-hold-requires
-contents-hold-requires c κs = search needs
 
 returns-2 : tie.Need-returns-2
 unfolding jobAnswer refusal10 refusal11
@@ -41,13 +35,4 @@ returns-4 c =
     (pass _ (ap not (sym (c .before .bodies-hold .ensures)) ∙ c .if3 .left) refl)))
 
 pub job-test-spec : {M : Type 1} → statement M
-job-test-spec =
-    tie.close
-    (tie.spec
-    head-holds-requires
-    returns
-    contents-hold-requires
-    returns-2
-    bodies-hold-requires
-    returns-3
-    returns-4)
+job-test-spec = tie.close (tie.spec (λ c κs. search needs) returns (λ c κs. search needs) returns-2 bodies-hold-requires returns-3 returns-4)

@@ -8,11 +8,8 @@ use Rattle.job_test.proofs.popped_queue.Tie as tie
 returns : tie.Need-returns
 returns c = sym (both-off _ (le-ltb _ _ (c .if1 .taken)))
 
-pops-requires : tie.Need-pops-requires
-pops-requires c κs = search needs
-
 returns-2 : tie.Need-returns-2
 returns-2 c = c .pops .ensures ∙ sym (both-on (lt-ltb _ _ (c .before .if1 .left)))
 
 pub popped-queue-spec : {M : Type 1} → statement M
-popped-queue-spec = tie.close (tie.spec returns pops-requires returns-2)
+popped-queue-spec = tie.close (tie.spec returns (λ c κs. search needs) returns-2)

@@ -8,17 +8,8 @@ use borrow.Author.Needs.{needs}
 use Rattle.job_test.proofs.spawned.Statement.{statement}
 use Rattle.job_test.proofs.spawned.Tie as tie
 
-procedures-requires : tie.Need-procedures-requires
-procedures-requires c κs = search needs
-
 returns : tie.Need-returns
 returns c = sym (both-off _ (ap (ltb (c .before .before .before .args .w)) (sym (c .before .procedures .ensures)) ∙ le-ltb _ _ (c .if1 .taken)))
-
-rights-requires : tie.Need-rights-requires
-rights-requires c κs = search needs
-
-subset-requires : tie.Need-subset-requires
-subset-requires c κs = search needs
 
 returns-2 : tie.Need-returns-2
 returns-2 c =
@@ -27,5 +18,4 @@ returns-2 c =
     ∙ lt-ltb _ _ (c .before .before .if1 .left)))
 
 pub spawned-spec : {M : Type 1} → statement M
-spawned-spec =
-    tie.close (tie.spec procedures-requires returns rights-requires subset-requires returns-2)
+spawned-spec = tie.close (tie.spec (λ c κs. search needs) returns (λ c κs. search needs) (λ c κs. search needs) returns-2)

@@ -7,15 +7,6 @@ use borrow.Author.Needs.{needs}
 use Rattle.job_test.proofs.which_holds.Statement.{statement}
 use Rattle.job_test.proofs.which_holds.Tie as tie
 
-spawned-requires : tie.Need-spawned-requires
-spawned-requires c κs = search needs
-
-pushed-queue-requires : tie.Need-pushed-queue-requires
-pushed-queue-requires c κs = search needs
-
-popped-queue-requires : tie.Need-popped-queue-requires
-popped-queue-requires c κs = search needs
-
 returns : tie.Need-returns
 returns c = c .spawned .ensures ∙ which-procedure _ _ _ (c .before .match .keys1)
 
@@ -36,12 +27,4 @@ returns-5 c = ⊎-elim (λ s. which-zero _ _ _ (s .keys2)) (λ s. which-goes _ _
 pub which-holds-spec : {M : Type 1} → statement M
 which-holds-spec =
     tie.close
-    (tie.spec
-    spawned-requires
-    pushed-queue-requires
-    popped-queue-requires
-    returns
-    returns-2
-    returns-3
-    returns-4
-    returns-5)
+    (tie.spec (λ c κs. search needs) (λ c κs. search needs) (λ c κs. search needs) returns returns-2 returns-3 returns-4 returns-5)

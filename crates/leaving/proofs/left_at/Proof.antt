@@ -6,20 +6,8 @@ use Rattle.leaving.proofs.left_at.Tie as tie
 returns : tie.Need-returns
 returns c = no-queue _ _ _ (c .if1 .taken)
 
-task-requires : tie.Need-task-requires
-task-requires c κs = search needs
-
 returns-2 : tie.Need-returns-2
 returns-2 c = not-yet _ _ _ (c .before .before .if1 .left) (c .before .task .ensures) (c .if2 .taken)
-
-add-task : tie.Need-add-task
-add-task c = search needs
-
-task-requires-2 : tie.Need-task-requires-2
-task-requires-2 c κs = search needs
-
-queued-requires : tie.Need-queued-requires
-queued-requires c κs = search needs
 
 returns-3 : tie.Need-returns-3
 returns-3 c =
@@ -29,4 +17,4 @@ returns-3 c =
 pub left-at-spec : {M : Type 1} → statement M
 left-at-spec =
     tie.close
-    (tie.spec returns task-requires returns-2 add-task task-requires-2 queued-requires returns-3)
+    (tie.spec returns (λ c κs. search needs) returns-2 (λ c. search needs) (λ c κs. search needs) (λ c κs. search needs) returns-3)

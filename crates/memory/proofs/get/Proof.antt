@@ -5,12 +5,6 @@ use borrow.Author.Needs.{needs}
 use Rattle.memory.proofs.get.Statement.{statement}
 use Rattle.memory.proofs.get.Tie as tie
 
-mul-result : tie.Need-mul-result
-mul-result c = search needs
-
-shared-slice-read-result : tie.Need-shared-slice-read-result
-shared-slice-read-result c = search needs
-
 returns : tie.Need-returns
 unfolding load
 returns c = search needs
@@ -20,4 +14,4 @@ unfolding load
 returns-2 c = sym (List·getD-eq-default (c .before .args .m .now) 0 (c .if1 .left))
 
 pub get-spec : {M : Type 1} → statement M
-get-spec = tie.close (tie.spec mul-result shared-slice-read-result returns returns-2)
+get-spec = tie.close (tie.spec (λ c. search needs) (λ c. search needs) returns returns-2)

@@ -3,15 +3,9 @@ use borrow.Author.Needs.{needs}
 use Rattle.memory.proofs.set_header.Statement.{statement}
 use Rattle.memory.proofs.set_header.Tie as tie
 
-put-requires : tie.Need-put-requires
-put-requires c κs = search needs
-
-same-length : tie.Need-same-length
-same-length c = search needs
-
 returns : tie.Need-returns
 unfolding write address
 returns c = c .before .before .put .ensures
 
 pub set-header-spec : {M : Type 1} → statement M
-set-header-spec = tie.close (tie.spec put-requires same-length returns)
+set-header-spec = tie.close (tie.spec (λ c κs. search needs) (λ c. search needs) returns)

@@ -3,21 +3,9 @@ use borrow.Author.Needs.{needs}
 use Rattle.memory.proofs.task.Statement.{statement}
 use Rattle.memory.proofs.task.Tie as tie
 
-mul-get : tie.Need-mul-get
-mul-get c = search needs
-
-add-get : tie.Need-add-get
-add-get c = search needs
-
-add-get-2 : tie.Need-add-get-2
-add-get-2 c = search needs
-
-get-requires : tie.Need-get-requires
-get-requires c κs = search needs
-
 returns : tie.Need-returns
 unfolding read address
 returns c = c .get .ensures
 
 pub task-spec : {M : Type 1} → statement M
-task-spec = tie.close (tie.spec mul-get add-get add-get-2 get-requires returns)
+task-spec = tie.close (tie.spec (λ c. search needs) (λ c. search needs) (λ c. search needs) (λ c κs. search needs) returns)

@@ -8,9 +8,6 @@ returns : tie.Need-returns
 unfolding size
 returns c = other-length _ _ _ (c .if1 .taken)
 
-in-range-requires : tie.Need-in-range-requires
-in-range-requires c κs = search needs
-
 returns-2 : tie.Need-returns-2
 unfolding size
 returns-2 c = out-of-range _ _ _ (c .before .before .if1 .left) (c .before .in-range .ensures) (c .if2 .taken)
@@ -22,9 +19,6 @@ write-all-requires c κs = (
   number-fits _ _ (c .before .before .in-range .ensures) (c .before .if2 .left) .1,
 )
 
-same-length : tie.Need-same-length
-same-length c = search needs
-
 returns-3 : tie.Need-returns-3
 unfolding size
 returns-3 c =
@@ -32,6 +26,4 @@ returns-3 c =
     (c .before .before .before .before .if2 .left) (c .before .before .write-all .ensures)
 
 pub open-spec : {M : Type 1} → statement M
-open-spec =
-    tie.close
-    (tie.spec returns in-range-requires returns-2 write-all-requires same-length returns-3)
+open-spec = tie.close (tie.spec returns (λ c κs. search needs) returns-2 write-all-requires (λ c. search needs) returns-3)

@@ -4,36 +4,6 @@ use borrow.Author.Needs.{needs}
 use Rattle.opening.proofs.top.Statement.{statement}
 use Rattle.opening.proofs.top.Tie as tie
 
-put4-requires : tie.Need-put4-requires
-put4-requires c κs = search needs
-
-put-requires : tie.Need-put-requires
-put-requires c κs = search needs
-
-put-requires-2 : tie.Need-put-requires-2
-put-requires-2 c κs = search needs
-
-put4-requires-2 : tie.Need-put4-requires-2
-put4-requires-2 c κs = search needs
-
-put4-requires-3 : tie.Need-put4-requires-3
-put4-requires-3 c κs = search needs
-
-put4-requires-4 : tie.Need-put4-requires-4
-put4-requires-4 c κs = search needs
-
-put4-requires-5 : tie.Need-put4-requires-5
-put4-requires-5 c κs = search needs
-
-put4-requires-6 : tie.Need-put4-requires-6
-put4-requires-6 c κs = search needs
-
-put4-requires-7 : tie.Need-put4-requires-7
-put4-requires-7 c κs = search needs
-
-put4-requires-8 : tie.Need-put4-requires-8
-put4-requires-8 c κs = search needs
-
 same-length : tie.Need-same-length
 same-length c =
     c .before .before .put48 .kept .0 ∙ c .before .before .before .before .before .before .put47 .kept .0
@@ -75,16 +45,5 @@ returns c =
 pub top-spec : {M : Type 1} → statement M
 top-spec =
     tie.close
-    (tie.spec
-    put4-requires
-    put-requires
-    put-requires-2
-    put4-requires-2
-    put4-requires-3
-    put4-requires-4
-    put4-requires-5
-    put4-requires-6
-    put4-requires-7
-    put4-requires-8
-    same-length
-    returns)
+    (tie.spec (λ c κs. search needs) (λ c κs. search needs) (λ c κs. search needs) (λ c κs. search needs) (λ c κs. search needs)
+    (λ c κs. search needs) (λ c κs. search needs) (λ c κs. search needs) (λ c κs. search needs) (λ c κs. search needs) same-length returns)

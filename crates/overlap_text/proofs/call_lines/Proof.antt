@@ -4,15 +4,6 @@ use borrow.Author.Needs.{needs}
 use Rattle.overlap_text.proofs.call_lines.Statement.{statement}
 use Rattle.overlap_text.proofs.call_lines.Tie as tie
 
-slice-aggregate-run : tie.Need-slice-aggregate-run
-slice-aggregate-run c = search needs
-
-run-requires : tie.Need-run-requires
-run-requires c κs = search needs
-
-slice-aggregate-row-lines : tie.Need-slice-aggregate-row-lines
-slice-aggregate-row-lines c = search needs
-
 row-lines-requires : tie.Need-row-lines-requires
 row-lines-requires c κs = (
   c .before .before .before .before .before .before .before .before .before .before .before .before .before .before .before .before .pre .0,
@@ -20,15 +11,6 @@ row-lines-requires c κs = (
       (c .before .before .before .before .before .before .before .run .ensures .steps),
   c .before .before .before .before .before .before .before .before .before .before .before .before .before .before .before .before .pre .2,
 )
-
-same-length : tie.Need-same-length
-same-length c = search needs
-
-same-length-2 : tie.Need-same-length-2
-same-length-2 c = search needs
-
-same-length-3 : tie.Need-same-length-3
-same-length-3 c = search needs
 
 returns : tie.Need-returns
 returns c =
@@ -39,12 +21,5 @@ returns c =
 pub call-lines-spec : {M : Type 1} → statement M
 call-lines-spec =
     tie.close
-    (tie.spec
-    slice-aggregate-run
-    run-requires
-    slice-aggregate-row-lines
-    row-lines-requires
-    same-length
-    same-length-2
-    same-length-3
-    returns)
+    (tie.spec (λ c. search needs) (λ c κs. search needs) (λ c. search needs) row-lines-requires (λ c. search needs) (λ c. search needs)
+    (λ c. search needs) returns)

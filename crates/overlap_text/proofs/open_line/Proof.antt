@@ -5,20 +5,10 @@ use borrow.Author.Needs.{needs}
 use Rattle.overlap_text.proofs.open_line.Statement.{statement}
 use Rattle.overlap_text.proofs.open_line.Tie as tie
 
-unfinished-count-requires : tie.Need-unfinished-count-requires
-unfinished-count-requires c κs = search needs
-
-open-line-requires : tie.Need-open-line-requires
-open-line-requires c κs = search needs
-
-same-length : tie.Need-same-length
-same-length c = search needs
-
 returns : tie.Need-returns
 returns c =
     open-block _ (c .before .before .before .before .unfinished-count .ensures)
     (block (c .before .before .open-line .kept .0) (let h = c .before .before .open-line .ensures .1 in omega arith) (c .before .before .open-line .ensures .0))
 
 pub open-line-spec : {M : Type 1} → statement M
-open-line-spec =
-    tie.close (tie.spec unfinished-count-requires open-line-requires same-length returns)
+open-line-spec = tie.close (tie.spec (λ c κs. search needs) (λ c κs. search needs) (λ c. search needs) returns)

@@ -3,15 +3,6 @@ use borrow.Author.Needs.{needs}
 use Rattle.overlap_text.proofs.value_line.Statement.{statement}
 use Rattle.overlap_text.proofs.value_line.Tie as tie
 
-left-value-requires : tie.Need-left-value-requires
-left-value-requires c κs = search needs
-
-left-line-requires : tie.Need-left-line-requires
-left-line-requires c κs = search needs
-
-same-length : tie.Need-same-length
-same-length c = search needs
-
 returns : tie.Need-returns
 returns c = (
   value-line _ _ _ (c .before .before .before .before .left-value .ensures) (c .before .before .left-line .ensures .0),
@@ -19,4 +10,4 @@ returns c = (
 )
 
 pub value-line-spec : {M : Type 1} → statement M
-value-line-spec = tie.close (tie.spec left-value-requires left-line-requires same-length returns)
+value-line-spec = tie.close (tie.spec (λ c κs. search needs) (λ c κs. search needs) (λ c. search needs) returns)

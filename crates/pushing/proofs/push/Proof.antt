@@ -5,40 +5,16 @@ use borrow.Author.Needs.{needs}
 use Rattle.pushing.proofs.push.Statement.{statement}
 use Rattle.pushing.proofs.push.Tie as tie
 
-unfinished-requires : tie.Need-unfinished-requires
-unfinished-requires c κs = search needs
-
-same-length : tie.Need-same-length
-same-length c = search needs
-
 returns : tie.Need-returns
 returns c = refused-4 _ _ _ _ (c .before .unfinished .ensures) (c .if1 .taken)
 
-same-length-2 : tie.Need-same-length-2
-same-length-2 c = search needs
-
 returns-2 : tie.Need-returns-2
 returns-2 c = refused-5 _ _ _ _ (c .before .before .unfinished .ensures) (c .before .if1 .left) (c .if2 .taken)
-
-task-requires : tie.Need-task-requires
-task-requires c κs = search needs
-
-pushes-requires : tie.Need-pushes-requires
-pushes-requires c κs = search needs
-
-same-length-3 : tie.Need-same-length-3
-same-length-3 c = search needs
 
 returns-3 : tie.Need-returns-3
 returns-3 c =
     refused-6 _ _ _ _ (c .before .before .before .before .before .before .unfinished .ensures) (c .before .before .before .before .before .if1 .left)
     (c .before .before .before .before .if2 .left) (c .before .before .task .ensures) (c .before .pushes .ensures) (c .if3 .taken)
-
-blocked-requires : tie.Need-blocked-requires
-blocked-requires c κs = search needs
-
-same-length-4 : tie.Need-same-length-4
-same-length-4 c = search needs
 
 returns-4 : tie.Need-returns-4
 returns-4 c =
@@ -56,9 +32,6 @@ push-value-requires c κs = (
   c .before .before .before .before .before .before .before .before .if2 .left,
 )
 
-same-length-5 : tie.Need-same-length-5
-same-length-5 c = search needs
-
 returns-5 : tie.Need-returns-5
 returns-5 c =
     goes-on _ _ _ _ (c .before .before .before .before .before .before .before .before .before .before .before .before .before .unfinished .ensures)
@@ -72,19 +45,5 @@ returns-5 c =
 pub push-spec : {M : Type 1} → statement M
 push-spec =
     tie.close
-    (tie.spec
-    unfinished-requires
-    same-length
-    returns
-    same-length-2
-    returns-2
-    task-requires
-    pushes-requires
-    same-length-3
-    returns-3
-    blocked-requires
-    same-length-4
-    returns-4
-    push-value-requires
-    same-length-5
-    returns-5)
+    (tie.spec (λ c κs. search needs) (λ c. search needs) returns (λ c. search needs) returns-2 (λ c κs. search needs) (λ c κs. search needs)
+    (λ c. search needs) returns-3 (λ c κs. search needs) (λ c. search needs) returns-4 push-value-requires (λ c. search needs) returns-5)

@@ -3,21 +3,6 @@ use borrow.Author.Needs.{needs}
 use Rattle.pushing.proofs.push_behind.Statement.{statement}
 use Rattle.pushing.proofs.push_behind.Tie as tie
 
-next-free-requires : tie.Need-next-free-requires
-next-free-requires c κs = search needs
-
-take-requires : tie.Need-take-requires
-take-requires c κs = search needs
-
-set-segment-requires : tie.Need-set-segment-requires
-set-segment-requires c κs = search needs
-
-set-tail-requires : tie.Need-set-tail-requires
-set-tail-requires c κs = search needs
-
-same-length : tie.Need-same-length
-same-length c = search needs
-
 returns : tie.Need-returns
 returns c =
     behind _ _ _ _ _ _ _ _ _ (c .before .before .before .before .before .before .before .before .before .before .before .before .next-free .ensures)
@@ -27,10 +12,4 @@ returns c =
 pub push-behind-spec : {M : Type 1} → statement M
 push-behind-spec =
     tie.close
-    (tie.spec
-    next-free-requires
-    take-requires
-    set-segment-requires
-    set-tail-requires
-    same-length
-    returns)
+    (tie.spec (λ c κs. search needs) (λ c κs. search needs) (λ c κs. search needs) (λ c κs. search needs) (λ c. search needs) returns)

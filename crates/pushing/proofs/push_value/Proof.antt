@@ -4,28 +4,10 @@ use borrow.Author.Needs.{needs}
 use Rattle.pushing.proofs.push_value.Statement.{statement}
 use Rattle.pushing.proofs.push_value.Tie as tie
 
-tail-requires : tie.Need-tail-requires
-tail-requires c κs = search needs
-
-head-requires : tie.Need-head-requires
-head-requires c κs = search needs
-
-is-empty-requires : tie.Need-is-empty-requires
-is-empty-requires c κs = search needs
-
-none-free-requires : tie.Need-none-free-requires
-none-free-requires c κs = search needs
-
-same-length : tie.Need-same-length
-same-length c = search needs
-
 returns : tie.Need-returns
 returns c =
     none-apart _ _ _ _ (c .before .before .before .before .before .before .before .tail .ensures) (c .before .before .before .before .before .head .ensures)
     (c .before .before .before .before .is-empty .ensures) (c .before .before .before .if1 .taken) (c .before .none-free .ensures) (c .if2 .taken)
-
-just-before-requires : tie.Need-just-before-requires
-just-before-requires c κs = search needs
 
 push-apart-requires : tie.Need-push-apart-requires
 unfolding size
@@ -36,9 +18,6 @@ push-apart-requires c κs =
     (c .before .before .before .before .before .before .before .before .before .before .before .before .before .pre .3)
     (c .before .before .before .before .none-free .ensures) (c .before .before .before .if2 .left)
 
-same-length-2 : tie.Need-same-length-2
-same-length-2 c = search needs
-
 returns-2 : tie.Need-returns-2
 returns-2 c =
     goes-apart _ _ _ _ (c .before .before .before .before .before .before .before .before .before .before .before .before .before .tail .ensures)
@@ -48,19 +27,10 @@ returns-2 c =
     (c .before .before .before .before .before .before .before .none-free .ensures) (c .before .before .before .before .before .before .if2 .left)
     (c .before .before .before .just-before .ensures) (c .before .before .push-apart .ensures)
 
-same-length-3 : tie.Need-same-length-3
-same-length-3 c = search needs
-
 returns-3 : tie.Need-returns-3
 returns-3 c =
     ends-away _ _ _ _ (c .before .before .before .before .before .tail .ensures) (c .before .before .before .head .ensures)
     (c .before .before .is-empty .ensures) (c .before .if1 .left) (c .if3 .taken)
-
-segment-requires : tie.Need-segment-requires
-segment-requires c κs = search needs
-
-header-requires : tie.Need-header-requires
-header-requires c κs = search needs
 
 store-one-requires : tie.Need-store-one-requires
 unfolding size
@@ -73,9 +43,6 @@ store-one-requires c κs =
     (c .before .before .before .before .before .before .if3 .left) (c .before .before .before .before .segment .ensures) (c .before .before .header .ensures)
     (c .before .if4 .taken)
 
-same-length-4 : tie.Need-same-length-4
-same-length-4 c = search needs
-
 returns-4 : tie.Need-returns-4
 returns-4 c =
     is-stored _ _ _ _ (c .before .before .before .before .before .before .before .before .before .before .before .before .before .before .tail .ensures)
@@ -85,12 +52,6 @@ returns-4 c =
     (c .before .before .before .before .before .before .before .before .before .if3 .left)
     (c .before .before .before .before .before .before .before .segment .ensures) (c .before .before .before .before .before .header .ensures) _
     (c .before .before .before .before .if4 .taken) (c .before .before .store-one .ensures)
-
-none-free-requires-2 : tie.Need-none-free-requires-2
-none-free-requires-2 c κs = search needs
-
-same-length-5 : tie.Need-same-length-5
-same-length-5 c = search needs
 
 returns-5 : tie.Need-returns-5
 returns-5 c =
@@ -111,9 +72,6 @@ push-behind-requires c κs =
     (c .before .before .before .before .before .before .before .before .before .before .before .before .before .before .before .before .before .pre .3)
     (c .before .before .none-free2 .ensures) (c .before .if5 .left)
 
-same-length-6 : tie.Need-same-length-6
-same-length-6 c = search needs
-
 returns-6 : tie.Need-returns-6
 returns-6 c =
     goes-behind _ _ _ _
@@ -130,27 +88,7 @@ returns-6 c =
 pub push-value-spec : {M : Type 1} → statement M
 push-value-spec =
     tie.close
-    (tie.spec
-    tail-requires
-    head-requires
-    is-empty-requires
-    none-free-requires
-    same-length
-    returns
-    just-before-requires
-    push-apart-requires
-    same-length-2
-    returns-2
-    same-length-3
-    returns-3
-    segment-requires
-    header-requires
-    store-one-requires
-    same-length-4
-    returns-4
-    none-free-requires-2
-    same-length-5
-    returns-5
-    push-behind-requires
-    same-length-6
-    returns-6)
+    (tie.spec (λ c κs. search needs) (λ c κs. search needs) (λ c κs. search needs) (λ c κs. search needs) (λ c. search needs) returns
+    (λ c κs. search needs) push-apart-requires (λ c. search needs) returns-2 (λ c. search needs) returns-3 (λ c κs. search needs)
+    (λ c κs. search needs) store-one-requires (λ c. search needs) returns-4 (λ c κs. search needs) (λ c. search needs) returns-5 push-behind-requires
+    (λ c. search needs) returns-6)

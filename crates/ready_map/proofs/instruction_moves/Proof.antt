@@ -5,24 +5,6 @@ use borrow.Author.Needs.{needs}
 use Rattle.ready_map.proofs.instruction_moves.Statement.{statement}
 use Rattle.ready_map.proofs.instruction_moves.Tie as tie
 
-rights-requires : tie.Need-rights-requires
-rights-requires c κs = search needs
-
-spawn-moves-requires : tie.Need-spawn-moves-requires
-spawn-moves-requires c κs = search needs
-
-sync-moves-requires : tie.Need-sync-moves-requires
-sync-moves-requires c κs = search needs
-
-push-moves-requires : tie.Need-push-moves-requires
-push-moves-requires c κs = search needs
-
-find-moves-requires : tie.Need-find-moves-requires
-find-moves-requires c κs = search needs
-
-finish-moves-requires : tie.Need-finish-moves-requires
-finish-moves-requires c κs = search needs
-
 returns : tie.Need-returns
 returns c = c .spawn-moves .ensures ∙ spawning _ _ _ _ (c .before .before .match .keys1) (c .before .rights .ensures)
 
@@ -46,16 +28,5 @@ returns-6 c =
 pub instruction-moves-spec : {M : Type 1} → statement M
 instruction-moves-spec =
     tie.close
-    (tie.spec
-    rights-requires
-    spawn-moves-requires
-    sync-moves-requires
-    push-moves-requires
-    find-moves-requires
-    finish-moves-requires
-    returns
-    returns-2
-    returns-3
-    returns-4
-    returns-5
-    returns-6)
+    (tie.spec (λ c κs. search needs) (λ c κs. search needs) (λ c κs. search needs) (λ c κs. search needs) (λ c κs. search needs)
+    (λ c κs. search needs) returns returns-2 returns-3 returns-4 returns-5 returns-6)

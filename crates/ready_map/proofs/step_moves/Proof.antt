@@ -4,20 +4,11 @@ use borrow.Author.Needs.{needs}
 use Rattle.ready_map.proofs.step_moves.Statement.{statement}
 use Rattle.ready_map.proofs.step_moves.Tie as tie
 
-unfinished-requires : tie.Need-unfinished-requires
-unfinished-requires c κs = search needs
-
 returns : tie.Need-returns
 returns c = not-unfinished _ _ _ _ (c .before .unfinished .ensures) (c .if1 .taken)
 
-blocked-requires : tie.Need-blocked-requires
-blocked-requires c κs = search needs
-
 returns-2 : tie.Need-returns-2
 returns-2 c = is-blocked _ _ _ _ (c .before .before .before .unfinished .ensures) (c .before .before .if1 .left) (c .before .blocked .ensures) (c .if2 .taken)
-
-instruction-for-requires : tie.Need-instruction-for-requires
-instruction-for-requires c κs = search needs
 
 instruction-moves-requires : tie.Need-instruction-moves-requires
 instruction-moves-requires c κs = below _ _ (c .before .before .before .before .unfinished .ensures) (c .before .before .before .if1 .left)
@@ -30,11 +21,4 @@ returns-3 c =
 pub step-moves-spec : {M : Type 1} → statement M
 step-moves-spec =
     tie.close
-    (tie.spec
-    unfinished-requires
-    returns
-    blocked-requires
-    returns-2
-    instruction-for-requires
-    instruction-moves-requires
-    returns-3)
+    (tie.spec (λ c κs. search needs) returns (λ c κs. search needs) returns-2 (λ c κs. search needs) instruction-moves-requires returns-3)

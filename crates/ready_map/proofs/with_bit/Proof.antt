@@ -3,9 +3,6 @@ use borrow.Author.Needs.{needs}
 use Rattle.ready_map.proofs.with_bit.Statement.{statement}
 use Rattle.ready_map.proofs.with_bit.Tie as tie
 
-shl-result : tie.Need-shl-result
-shl-result c = search needs
-
 returns : tie.Need-returns
 returns c = bit-set _ _ (c .before .pre .0) (c .before .pre .1) (c .if1 .taken)
 
@@ -13,4 +10,4 @@ returns-2 : tie.Need-returns-2
 returns-2 c = bit-unset _ _ (c .if1 .left)
 
 pub with-bit-spec : {M : Type 1} → statement M
-with-bit-spec = tie.close (tie.spec shl-result returns returns-2)
+with-bit-spec = tie.close (tie.spec (λ c. search needs) returns returns-2)

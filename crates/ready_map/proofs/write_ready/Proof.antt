@@ -3,30 +3,6 @@ use borrow.Author.Needs.{needs}
 use Rattle.ready_map.proofs.write_ready.Statement.{statement}
 use Rattle.ready_map.proofs.write_ready.Tie as tie
 
-word-from-requires : tie.Need-word-from-requires
-word-from-requires c κs = search needs
-
-word-from-requires-2 : tie.Need-word-from-requires-2
-word-from-requires-2 c κs = search needs
-
-word-from-requires-3 : tie.Need-word-from-requires-3
-word-from-requires-3 c κs = search needs
-
-word-from-requires-4 : tie.Need-word-from-requires-4
-word-from-requires-4 c κs = search needs
-
-count-requires : tie.Need-count-requires
-count-requires c κs = search needs
-
-lowest-requires : tie.Need-lowest-requires
-lowest-requires c κs = search needs
-
-write-map-requires : tie.Need-write-map-requires
-write-map-requires c κs = search needs
-
-same-length : tie.Need-same-length
-same-length c = search needs
-
 returns : tie.Need-returns
 returns c =
     map-written _ _ _ _ _ _ _ _ (c .before .before .before .before .before .before .before .before .before .word-from .ensures)
@@ -37,13 +13,5 @@ returns c =
 pub write-ready-spec : {M : Type 1} → statement M
 write-ready-spec =
     tie.close
-    (tie.spec
-    word-from-requires
-    word-from-requires-2
-    word-from-requires-3
-    word-from-requires-4
-    count-requires
-    lowest-requires
-    write-map-requires
-    same-length
-    returns)
+    (tie.spec (λ c κs. search needs) (λ c κs. search needs) (λ c κs. search needs) (λ c κs. search needs) (λ c κs. search needs)
+    (λ c κs. search needs) (λ c κs. search needs) (λ c. search needs) returns)

@@ -3,21 +3,12 @@ use borrow.Author.Needs.{needs}
 use Rattle.returning.proofs.no_views.Statement.{statement}
 use Rattle.returning.proofs.no_views.Tie as tie
 
-empty-view-requires : tie.Need-empty-view-requires
-empty-view-requires c κs = search needs
-
 returns : tie.Need-returns
 returns c = user-stands _ _ _ (c .before .empty-view .ensures) (c .if1 .taken)
-
-empty-view-requires-2 : tie.Need-empty-view-requires-2
-empty-view-requires-2 c κs = search needs
 
 returns-2 : tie.Need-returns-2
 returns-2 c =
     children-stand _ _ _ (c .before .before .before .empty-view .ensures) (c .before .before .if1 .left) (c .before .empty-view2 .ensures) (c .if2 .taken)
-
-empty-view-requires-3 : tie.Need-empty-view-requires-3
-empty-view-requires-3 c κs = search needs
 
 returns-3 : tie.Need-returns-3
 returns-3 c =
@@ -25,12 +16,4 @@ returns-3 c =
     _ (c .before .if2 .left) (c .empty-view3 .ensures)
 
 pub no-views-spec : {M : Type 1} → statement M
-no-views-spec =
-    tie.close
-    (tie.spec
-    empty-view-requires
-    returns
-    empty-view-requires-2
-    returns-2
-    empty-view-requires-3
-    returns-3)
+no-views-spec = tie.close (tie.spec (λ c κs. search needs) returns (λ c κs. search needs) returns-2 (λ c κs. search needs) returns-3)

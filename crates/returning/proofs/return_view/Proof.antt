@@ -3,36 +3,9 @@ use borrow.Author.Needs.{needs}
 use Rattle.returning.proofs.return_view.Statement.{statement}
 use Rattle.returning.proofs.return_view.Tie as tie
 
-head-requires : tie.Need-head-requires
-head-requires c κs = search needs
-
-tail-requires : tie.Need-tail-requires
-tail-requires c κs = search needs
-
-is-empty-requires : tie.Need-is-empty-requires
-is-empty-requires c κs = search needs
-
-same-length : tie.Need-same-length
-same-length c = search needs
-
 returns : tie.Need-returns
 returns c =
     empty-stays _ _ _ _ _ (c .before .before .before .before .head .ensures) (c .before .before .tail .ensures) (c .before .is-empty .ensures) (c .if1 .taken)
-
-way-requires : tie.Need-way-requires
-way-requires c κs = search needs
-
-kind-at-requires : tie.Need-kind-at-requires
-kind-at-requires c κs = search needs
-
-task-at-requires : tie.Need-task-at-requires
-task-at-requires c κs = search needs
-
-merge-requires : tie.Need-merge-requires
-merge-requires c κs = search needs
-
-same-length-2 : tie.Need-same-length-2
-same-length-2 c = search needs
 
 returns-2 : tie.Need-returns-2
 returns-2 c =
@@ -45,15 +18,5 @@ returns-2 c =
 pub return-view-spec : {M : Type 1} → statement M
 return-view-spec =
     tie.close
-    (tie.spec
-    head-requires
-    tail-requires
-    is-empty-requires
-    same-length
-    returns
-    way-requires
-    kind-at-requires
-    task-at-requires
-    merge-requires
-    same-length-2
-    returns-2)
+    (tie.spec (λ c κs. search needs) (λ c κs. search needs) (λ c κs. search needs) (λ c. search needs) returns (λ c κs. search needs)
+    (λ c κs. search needs) (λ c κs. search needs) (λ c κs. search needs) (λ c. search needs) returns-2)

@@ -8,15 +8,9 @@ use borrow.Author.Needs.{needs}
 use Rattle.rights.proofs.uses.Statement.{statement}
 use Rattle.rights.proofs.uses.Tie as tie
 
-mul-result : tie.Need-mul-result
-mul-result c = search needs
-
-shr-result : tie.Need-shr-result
-shr-result c = search needs
-
 returns : tie.Need-returns
 unfolding uses
 returns c = ap (λ (u : ℕ). not (eqb u 0)) (shift (c .args .r) (c .args .q) (c .pre))
 
 pub uses-spec : {M : Type 1} → statement M
-uses-spec = tie.close (tie.spec mul-result shr-result returns)
+uses-spec = tie.close (tie.spec (λ c. search needs) (λ c. search needs) returns)

@@ -6,21 +6,6 @@ use borrow.Author.Needs.{needs}
 use Rattle.run_text.proofs.left_line.Statement.{statement}
 use Rattle.run_text.proofs.left_line.Tie as tie
 
-slice-aggregate-put : tie.Need-slice-aggregate-put
-slice-aggregate-put c = search needs
-
-put-requires : tie.Need-put-requires
-put-requires c κs = search needs
-
-spaced-number-requires : tie.Need-spaced-number-requires
-spaced-number-requires c κs = search needs
-
-ended-number-requires : tie.Need-ended-number-requires
-ended-number-requires c κs = search needs
-
-same-length : tie.Need-same-length
-same-length c = search needs
-
 returns : tie.Need-returns
 unfolding ascii
 returns c = (
@@ -32,10 +17,4 @@ returns c = (
 pub left-line-spec : {M : Type 1} → statement M
 left-line-spec =
     tie.close
-    (tie.spec
-    slice-aggregate-put
-    put-requires
-    spaced-number-requires
-    ended-number-requires
-    same-length
-    returns)
+    (tie.spec (λ c. search needs) (λ c κs. search needs) (λ c κs. search needs) (λ c κs. search needs) (λ c. search needs) returns)

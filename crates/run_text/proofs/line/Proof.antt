@@ -5,20 +5,8 @@ use borrow.Author.Needs.{needs}
 use Rattle.run_text.proofs.line.Statement.{statement}
 use Rattle.run_text.proofs.line.Tie as tie
 
-spaced-long-requires : tie.Need-spaced-long-requires
-spaced-long-requires c κs = search needs
-
-spaced-number-requires : tie.Need-spaced-number-requires
-spaced-number-requires c κs = search needs
-
-answer-requires : tie.Need-answer-requires
-answer-requires c κs = search needs
-
 value-requires : tie.Need-value-requires
 value-requires c κs = let h = answer-ends _ (c .before .before .before .answer .ensures) in omega arith
-
-same-length : tie.Need-same-length
-same-length c = search needs
 
 returns : tie.Need-returns
 returns c = (
@@ -30,12 +18,4 @@ returns c = (
 )
 
 pub line-spec : {M : Type 1} → statement M
-line-spec =
-    tie.close
-    (tie.spec
-    spaced-long-requires
-    spaced-number-requires
-    answer-requires
-    value-requires
-    same-length
-    returns)
+line-spec = tie.close (tie.spec (λ c κs. search needs) (λ c κs. search needs) (λ c κs. search needs) value-requires (λ c. search needs) returns)

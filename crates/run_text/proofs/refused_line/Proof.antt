@@ -6,18 +6,6 @@ use borrow.Author.Needs.{needs}
 use Rattle.run_text.proofs.refused_line.Statement.{statement}
 use Rattle.run_text.proofs.refused_line.Tie as tie
 
-slice-aggregate-put : tie.Need-slice-aggregate-put
-slice-aggregate-put c = search needs
-
-put-requires : tie.Need-put-requires
-put-requires c κs = search needs
-
-ended-number-requires : tie.Need-ended-number-requires
-ended-number-requires c κs = search needs
-
-same-length : tie.Need-same-length
-same-length c = search needs
-
 returns : tie.Need-returns
 unfolding ascii
 returns c = (
@@ -26,5 +14,4 @@ returns c = (
 )
 
 pub refused-line-spec : {M : Type 1} → statement M
-refused-line-spec =
-    tie.close (tie.spec slice-aggregate-put put-requires ended-number-requires same-length returns)
+refused-line-spec = tie.close (tie.spec (λ c. search needs) (λ c κs. search needs) (λ c κs. search needs) (λ c. search needs) returns)

@@ -3,15 +3,9 @@ use borrow.Author.Needs.{needs}
 use Rattle.runner_words.proofs.procedure.Statement.{statement}
 use Rattle.runner_words.proofs.procedure.Tie as tie
 
-mul-get : tie.Need-mul-get
-mul-get c = search needs
-
-get-requires : tie.Need-get-requires
-get-requires c κs = search needs
-
 returns : tie.Need-returns
 unfolding procedureOf
 returns c = c .get .ensures
 
 pub procedure-spec : {M : Type 1} → statement M
-procedure-spec = tie.close (tie.spec mul-get get-requires returns)
+procedure-spec = tie.close (tie.spec (λ c. search needs) (λ c κs. search needs) returns)

@@ -3,27 +3,6 @@ use borrow.Author.Needs.{needs}
 use Rattle.runner_words.proofs.put.Statement.{statement}
 use Rattle.runner_words.proofs.put.Tie as tie
 
-mul-a : tie.Need-mul-a
-mul-a c = search needs
-
-put-requires : tie.Need-put-requires
-put-requires c κs = search needs
-
-add-put : tie.Need-add-put
-add-put c = search needs
-
-put-requires-2 : tie.Need-put-requires-2
-put-requires-2 c κs = search needs
-
-add-put-2 : tie.Need-add-put-2
-add-put-2 c = search needs
-
-put-requires-3 : tie.Need-put-requires-3
-put-requires-3 c κs = search needs
-
-same-length : tie.Need-same-length
-same-length c = search needs
-
 returns : tie.Need-returns
 returns c =
     three _ _ _ _ _ _ _ _ (c .before .before .before .before .before .before .before .before .before .before .put .ensures)
@@ -32,12 +11,5 @@ returns c =
 pub put-spec : {M : Type 1} → statement M
 put-spec =
     tie.close
-    (tie.spec
-    mul-a
-    put-requires
-    add-put
-    put-requires-2
-    add-put-2
-    put-requires-3
-    same-length
-    returns)
+    (tie.spec (λ c. search needs) (λ c κs. search needs) (λ c. search needs) (λ c κs. search needs) (λ c. search needs) (λ c κs. search needs)
+    (λ c. search needs) returns)

@@ -3,15 +3,6 @@ use borrow.Author.Needs.{needs}
 use Rattle.runner_words.proofs.record_holds.Statement.{statement}
 use Rattle.runner_words.proofs.record_holds.Tie as tie
 
-unfinished-requires : tie.Need-unfinished-requires
-unfinished-requires c κs = search needs
-
-task-holds-requires : tie.Need-task-holds-requires
-task-holds-requires c κs = search needs
-
-zeros-requires : tie.Need-zeros-requires
-zeros-requires c κs = search needs
-
 returns : tie.Need-returns
 returns c = in-use _ _ _ _ (c .before .before .unfinished .ensures) (c .before .if1 .taken) (c .task-holds .ensures)
 
@@ -19,5 +10,4 @@ returns-2 : tie.Need-returns-2
 returns-2 c = not-in-use _ _ _ _ (c .before .before .unfinished .ensures) (c .before .if1 .left) (c .zeros .ensures)
 
 pub record-holds-spec : {M : Type 1} → statement M
-record-holds-spec =
-    tie.close (tie.spec unfinished-requires task-holds-requires zeros-requires returns returns-2)
+record-holds-spec = tie.close (tie.spec (λ c κs. search needs) (λ c κs. search needs) (λ c κs. search needs) returns returns-2)

@@ -3,21 +3,6 @@ use borrow.Author.Needs.{needs}
 use Rattle.runner_words.proofs.refusal_in.Statement.{statement}
 use Rattle.runner_words.proofs.refusal_in.Tie as tie
 
-enum-known-a : tie.Need-enum-known-a
-enum-known-a c = search needs
-
-enum-told : tie.Need-enum-told
-enum-told c = search needs
-
-enum-told-2 : tie.Need-enum-told-2
-enum-told-2 c = search needs
-
-enum-told-3 : tie.Need-enum-told-3
-enum-told-3 c = search needs
-
-enum-told-4 : tie.Need-enum-told-4
-enum-told-4 c = search needs
-
 returns : tie.Need-returns
 unfolding refusalIn
 returns c = search needs
@@ -41,14 +26,5 @@ returns-5 c = search needs
 pub refusal-in-spec : {M : Type 1} → statement M
 refusal-in-spec =
     tie.close
-    (tie.spec
-    enum-known-a
-    enum-told
-    enum-told-2
-    enum-told-3
-    enum-told-4
-    returns
-    returns-2
-    returns-3
-    returns-4
-    returns-5)
+    (tie.spec (λ c. search needs) (λ c. search needs) (λ c. search needs) (λ c. search needs) (λ c. search needs) returns returns-2 returns-3
+    returns-4 returns-5)

@@ -6,11 +6,8 @@ use Rattle.segments.proofs.head_here.Tie as tie
 returns : tie.Need-returns
 returns c = head-elsewhere _ _ _ (c .if1 .taken)
 
-head-index-requires : tie.Need-head-index-requires
-head-index-requires c κs = search needs
-
 returns-2 : tie.Need-returns-2
 returns-2 c = head-tested _ _ _ _ (c .before .if1 .left) (c .head-index .ensures)
 
 pub head-here-spec : {M : Type 1} → statement M
-head-here-spec = tie.close (tie.spec returns head-index-requires returns-2)
+head-here-spec = tie.close (tie.spec returns (λ c κs. search needs) returns-2)

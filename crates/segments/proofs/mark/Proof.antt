@@ -5,12 +5,6 @@ use borrow.Author.Needs.{needs}
 use Rattle.segments.proofs.mark.Statement.{statement}
 use Rattle.segments.proofs.mark.Tie as tie
 
-slice-write-d : tie.Need-slice-write-d
-slice-write-d c = search needs
-
-same-length : tie.Need-same-length
-same-length c = search needs
-
 returns : tie.Need-returns
 unfolding store
 returns c = search needs
@@ -20,4 +14,4 @@ unfolding store
 returns-2 c = sym (set-out _ _ _ (c .if1 .left))
 
 pub mark-spec : {M : Type 1} → statement M
-mark-spec = tie.close (tie.spec slice-write-d same-length returns returns-2)
+mark-spec = tie.close (tie.spec (λ c. search needs) (λ c. search needs) returns returns-2)

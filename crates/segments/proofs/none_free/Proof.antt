@@ -3,11 +3,8 @@ use borrow.Author.Needs.{needs}
 use Rattle.segments.proofs.none_free.Statement.{statement}
 use Rattle.segments.proofs.none_free.Tie as tie
 
-header-requires : tie.Need-header-requires
-header-requires c κs = search needs
-
 returns : tie.Need-returns
 returns c = none-left _ _ (c .header .ensures)
 
 pub none-free-spec : {M : Type 1} → statement M
-none-free-spec = tie.close (tie.spec header-requires returns)
+none-free-spec = tie.close (tie.spec (λ c κs. search needs) returns)

@@ -4,47 +4,20 @@ use borrow.Author.Needs.{needs}
 use Rattle.segments.proofs.rename.Statement.{statement}
 use Rattle.segments.proofs.rename.Tie as tie
 
-head-task-requires : tie.Need-head-task-requires
-head-task-requires c κs = search needs
-
-head-index-requires : tie.Need-head-index-requires
-head-index-requires c κs = search needs
-
 add-set-task : tie.Need-add-set-task
 add-set-task c = let e = c .before .head-index .ensures in let h = head-few (c .before .before .before .before .before .before .before .args .m .now)
     (c .before .before .before .before .before .before .before .args .s) (c .before .before .before .before .head-task .result) in omega (arith, e, h)
-
-set-task-requires : tie.Need-set-task-requires
-set-task-requires c κs = search needs
-
-same-length : tie.Need-same-length
-same-length c = search needs
 
 returns : tie.Need-returns
 returns c = rename-head _ _ _ _ (c .before .before .before .before .before .before .before .head-task .ensures) _ _
     (c .before .before .before .before .before .before .if1 .taken) (c .before .before .before .before .head-index .ensures)
     (c .before .before .set-task .ensures)
 
-linked-by-requires : tie.Need-linked-by-requires
-linked-by-requires c κs = search needs
-
-header-requires : tie.Need-header-requires
-header-requires c κs = search needs
-
-set-segment-requires : tie.Need-set-segment-requires
-set-segment-requires c κs = search needs
-
-same-length-2 : tie.Need-same-length-2
-same-length-2 c = search needs
-
 returns-2 : tie.Need-returns-2
 returns-2 c = rename-next _ _ _ _ (c .before .before .before .before .before .before .before .before .before .before .head-task .ensures) _ _
     (c .before .before .before .before .before .before .before .linked-by .ensures) (c .before .before .before .before .before .header .ensures)
     (c .before .before .before .before .before .before .before .before .before .if1 .left) _ (c .before .before .before .before .if2 .taken)
     (c .before .before .set-segment .ensures)
-
-same-length-3 : tie.Need-same-length-3
-same-length-3 c = search needs
 
 returns-3 : tie.Need-returns-3
 returns-3 c = rename-none _ _ _ _ (c .before .before .before .before .before .before .head-task .ensures) _ _
@@ -53,17 +26,5 @@ returns-3 c = rename-none _ _ _ _ (c .before .before .before .before .before .be
 pub rename-spec : {M : Type 1} → statement M
 rename-spec =
     tie.close
-    (tie.spec
-    head-task-requires
-    head-index-requires
-    add-set-task
-    set-task-requires
-    same-length
-    returns
-    linked-by-requires
-    header-requires
-    set-segment-requires
-    same-length-2
-    returns-2
-    same-length-3
-    returns-3)
+    (tie.spec (λ c κs. search needs) (λ c κs. search needs) add-set-task (λ c κs. search needs) (λ c. search needs) returns (λ c κs. search needs)
+    (λ c κs. search needs) (λ c κs. search needs) (λ c. search needs) returns-2 (λ c. search needs) returns-3)

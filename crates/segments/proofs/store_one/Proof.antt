@@ -4,15 +4,6 @@ use borrow.Author.Needs.{needs}
 use Rattle.segments.proofs.store_one.Statement.{statement}
 use Rattle.segments.proofs.store_one.Tie as tie
 
-header-requires : tie.Need-header-requires
-header-requires c κs = search needs
-
-read-record-requires : tie.Need-read-record-requires
-read-record-requires c κs = search needs
-
-place-requires : tie.Need-place-requires
-place-requires c κs = search needs
-
 store-at-requires : tie.Need-store-at-requires
 store-at-requires c κs = (
   place-inside _ _ _ _ _ _ (c .before .before .before .before .header .ensures) (c .before .before .read-record .ensures .1)
@@ -21,15 +12,6 @@ store-at-requires c κs = (
       (c .before .before .before .before .before .before .before .pre .1) (c .before .before .before .before .before .before .before .pre .2)
       (c .before .before .before .before .header .ensures) refl,
 )
-
-with-one-more-requires : tie.Need-with-one-more-requires
-with-one-more-requires c κs = search needs
-
-set-segment-requires : tie.Need-set-segment-requires
-set-segment-requires c κs = search needs
-
-same-length : tie.Need-same-length
-same-length c = search needs
 
 returns : tie.Need-returns
 returns c =
@@ -42,12 +24,5 @@ returns c =
 pub store-one-spec : {M : Type 1} → statement M
 store-one-spec =
     tie.close
-    (tie.spec
-    header-requires
-    read-record-requires
-    place-requires
-    store-at-requires
-    with-one-more-requires
-    set-segment-requires
-    same-length
-    returns)
+    (tie.spec (λ c κs. search needs) (λ c κs. search needs) (λ c κs. search needs) store-at-requires (λ c κs. search needs) (λ c κs. search needs)
+    (λ c. search needs) returns)

@@ -5,27 +5,6 @@ use borrow.Author.Needs.{needs}
 use Rattle.segments.proofs.take.Statement.{statement}
 use Rattle.segments.proofs.take.Tie as tie
 
-header-requires : tie.Need-header-requires
-header-requires c κs = search needs
-
-header-requires-2 : tie.Need-header-requires-2
-header-requires-2 c κs = search needs
-
-sub-free-segment : tie.Need-sub-free-segment
-sub-free-segment c = search needs
-
-free-segment-requires : tie.Need-free-segment-requires
-free-segment-requires c κs = search needs
-
-sub-set-header : tie.Need-sub-set-header
-sub-set-header c = search needs
-
-set-header-requires : tie.Need-set-header-requires
-set-header-requires c κs = search needs
-
-set-record-requires : tie.Need-set-record-requires
-set-record-requires c κs = search needs
-
 store-at-requires : tie.Need-store-at-requires
 store-at-requires c κs = (
   search needs,
@@ -39,9 +18,6 @@ store-at-requires c κs = (
       (c .before .before .before .set-record .kept .0 ∙ c .before .before .before .before .before .before .before .set-header .kept .0),
 )
 
-same-length : tie.Need-same-length
-same-length c = search needs
-
 returns : tie.Need-returns
 returns c = take-it _ _ _ _ _ _ _ _
     (c .before .before .before .before .before .before .before .before .before .before .before .before .before .before .before .before .header
@@ -53,14 +29,5 @@ returns c = take-it _ _ _ _ _ _ _ _
 pub take-spec : {M : Type 1} → statement M
 take-spec =
     tie.close
-    (tie.spec
-    header-requires
-    header-requires-2
-    sub-free-segment
-    free-segment-requires
-    sub-set-header
-    set-header-requires
-    set-record-requires
-    store-at-requires
-    same-length
-    returns)
+    (tie.spec (λ c κs. search needs) (λ c κs. search needs) (λ c. search needs) (λ c κs. search needs) (λ c. search needs) (λ c κs. search needs)
+    (λ c κs. search needs) store-at-requires (λ c. search needs) returns)

@@ -4,24 +4,9 @@ use borrow.Author.Needs.{needs}
 use Rattle.segments.proofs.value_at.Statement.{statement}
 use Rattle.segments.proofs.value_at.Tie as tie
 
-header-requires : tie.Need-header-requires
-header-requires c κs = search needs
-
-segment-requires : tie.Need-segment-requires
-segment-requires c κs = search needs
-
-place-requires : tie.Need-place-requires
-place-requires c κs = search needs
-
-cast-get : tie.Need-cast-get
-cast-get c = search needs
-
 mul-get : tie.Need-mul-get
 mul-get c = let h = product-fits (c .before .before .before .before .args .s) (c .before .before .header .result) (search needs) (search needs)
     in record { fits = omega (arith, h) }
-
-cast-get-2 : tie.Need-cast-get-2
-cast-get-2 c = search needs
 
 add-get : tie.Need-add-get
 add-get c = let h = product-fits (c .before .before .before .before .args .s) (c .before .before .header .result) (search needs) (search needs)
@@ -31,9 +16,6 @@ add-get-2 : tie.Need-add-get-2
 add-get-2 c = let h = product-fits (c .before .before .before .before .args .s) (c .before .before .header .result) (search needs) (search needs)
     in record { fits = omega (arith, h) }
 
-get-requires : tie.Need-get-requires
-get-requires c κs = search needs
-
 returns : tie.Need-returns
 returns c = value-read _ _ _ _ _ _ _ (c .before .before .before .header .ensures) (c .before .before .segment .ensures) (c .before .place .ensures)
     (c .get .ensures)
@@ -41,14 +23,5 @@ returns c = value-read _ _ _ _ _ _ _ (c .before .before .before .header .ensures
 pub value-at-spec : {M : Type 1} → statement M
 value-at-spec =
     tie.close
-    (tie.spec
-    header-requires
-    segment-requires
-    place-requires
-    cast-get
-    mul-get
-    cast-get-2
-    add-get
-    add-get-2
-    get-requires
-    returns)
+    (tie.spec (λ c κs. search needs) (λ c κs. search needs) (λ c κs. search needs) (λ c. search needs) mul-get (λ c. search needs) add-get add-get-2
+    (λ c κs. search needs) returns)

@@ -8,17 +8,8 @@ use Rattle.serial_queues.proofs.count.Tie as tie
 returns : tie.Need-returns
 returns c = sym (ap length (queue-none _ _ (c .if1 .taken)))
 
-mul-get : tie.Need-mul-get
-mul-get c = search needs
-
-add-get : tie.Need-add-get
-add-get c = search needs
-
-get-requires : tie.Need-get-requires
-get-requires c κs = search needs
-
 returns-2 : tie.Need-returns-2
 returns-2 c = c .get .ensures ∙ sym (queue-length _ _ (c .before .if1 .left))
 
 pub count-spec : {M : Type 1} → statement M
-count-spec = tie.close (tie.spec returns mul-get add-get get-requires returns-2)
+count-spec = tie.close (tie.spec returns (λ c. search needs) (λ c. search needs) (λ c κs. search needs) returns-2)

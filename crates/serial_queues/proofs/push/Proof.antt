@@ -8,59 +8,11 @@ use Rattle.serial_queues.proofs.push.Tie as tie
 returns : tie.Need-returns
 returns c = no-queue _ _ _ (c .if1 .taken)
 
-mul-get : tie.Need-mul-get
-mul-get c = search needs
-
-add-get : tie.Need-add-get
-add-get c = search needs
-
-get-requires : tie.Need-get-requires
-get-requires c κs = search needs
-
-cast-h : tie.Need-cast-h
-cast-h c = search needs
-
-mul-get-2 : tie.Need-mul-get-2
-mul-get-2 c = search needs
-
-add-get-2 : tie.Need-add-get-2
-add-get-2 c = search needs
-
-get-requires-2 : tie.Need-get-requires-2
-get-requires-2 c κs = search needs
-
-mul-put : tie.Need-mul-put
-mul-put c = search needs
-
-cast-put : tie.Need-cast-put
-cast-put c = search needs
-
-add-put : tie.Need-add-put
-add-put c = search needs
-
-add-put-2 : tie.Need-add-put-2
-add-put-2 c = search needs
-
-put-requires : tie.Need-put-requires
-put-requires c κs = search needs
-
-mul-put-2 : tie.Need-mul-put-2
-mul-put-2 c = search needs
-
-add-put-3 : tie.Need-add-put-3
-add-put-3 c = search needs
-
 add-put-4 : tie.Need-add-put-4
 add-put-4 c =
     let z = fewer _ _ (c .before .before .before .before .before .before .before .before .before .if1 .left)
     (c .before .before .before .before .before .get2 .ensures)
     (c .before .before .before .before .before .before .before .before .before .before .before .pre .1) in omega (arith, z)
-
-put-requires-2 : tie.Need-put-requires-2
-put-requires-2 c κs = search needs
-
-same-length : tie.Need-same-length
-same-length c = search needs
 
 returns-2 : tie.Need-returns-2
 returns-2 c =
@@ -76,23 +28,6 @@ returns-2 c =
 pub push-spec : {M : Type 1} → statement M
 push-spec =
     tie.close
-    (tie.spec
-    returns
-    mul-get
-    add-get
-    get-requires
-    cast-h
-    mul-get-2
-    add-get-2
-    get-requires-2
-    mul-put
-    cast-put
-    add-put
-    add-put-2
-    put-requires
-    mul-put-2
-    add-put-3
-    add-put-4
-    put-requires-2
-    same-length
-    returns-2)
+    (tie.spec returns (λ c. search needs) (λ c. search needs) (λ c κs. search needs) (λ c. search needs) (λ c. search needs) (λ c. search needs)
+    (λ c κs. search needs) (λ c. search needs) (λ c. search needs) (λ c. search needs) (λ c. search needs) (λ c κs. search needs) (λ c. search needs)
+    (λ c. search needs) add-put-4 (λ c κs. search needs) (λ c. search needs) returns-2)

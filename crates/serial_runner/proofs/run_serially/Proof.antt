@@ -15,20 +15,11 @@ returns-2 : tie.Need-returns-2
 unfolding turnedDown
 returns-2 c = wrong-answers _ _ _ (c .before .if1 .left) (c .if2 .taken)
 
-job-test-requires : tie.Need-job-test-requires
-job-test-requires c κs = search needs
-
-enum-known-t : tie.Need-enum-known-t
-enum-known-t c = search needs
-
 returns-3 : tie.Need-returns-3
 unfolding turnedDown
 returns-3 c =
     job-refused _ _ _ (c .before .before .before .before .before .if1 .left) (c .before .before .before .before .if2 .left)
     (c .before .before .before .job-test .ensures) _ (c .before .t .given .1)
-
-clear-requires : tie.Need-clear-requires
-clear-requires c κs = search needs
 
 run-body-requires : tie.Need-run-body-requires
 run-body-requires c κs = (
@@ -40,15 +31,6 @@ run-body-requires c κs = (
   omega arith,
   omega arith,
 )
-
-sub-steps : tie.Need-sub-steps
-sub-steps c = search needs
-
-same-length : tie.Need-same-length
-same-length c = search needs
-
-same-length-2 : tie.Need-same-length-2
-same-length-2 c = search needs
 
 returns-4 : tie.Need-returns-4
 returns-4 c =
@@ -65,15 +47,5 @@ returns-4 c =
 pub run-serially-spec : {M : Type 1} → statement M
 run-serially-spec =
     tie.close
-    (tie.spec
-    returns
-    returns-2
-    job-test-requires
-    enum-known-t
-    returns-3
-    clear-requires
-    run-body-requires
-    sub-steps
-    same-length
-    same-length-2
-    returns-4)
+    (tie.spec returns returns-2 (λ c κs. search needs) (λ c. search needs) returns-3 (λ c κs. search needs) run-body-requires (λ c. search needs)
+    (λ c. search needs) (λ c. search needs) returns-4)

@@ -4,15 +4,6 @@ use borrow.Author.Needs.{needs}
 use Rattle.serial_runner.proofs.status.Statement.{statement}
 use Rattle.serial_runner.proofs.status.Tie as tie
 
-enum-told : tie.Need-enum-told
-enum-told c = search needs
-
-enum-told-2 : tie.Need-enum-told-2
-enum-told-2 c = search needs
-
-enum-known-e : tie.Need-enum-known-e
-enum-known-e c = search needs
-
 returns : tie.Need-returns
 unfolding statusOf
 returns c = search needs
@@ -26,4 +17,4 @@ unfolding statusOf
 returns-3 c = sym (ap statusOf (c .before .e .given .1))
 
 pub status-spec : {M : Type 1} → statement M
-status-spec = tie.close (tie.spec enum-told enum-told-2 enum-known-e returns returns-2 returns-3)
+status-spec = tie.close (tie.spec (λ c. search needs) (λ c. search needs) (λ c. search needs) returns returns-2 returns-3)

@@ -5,15 +5,6 @@ use borrow.Author.Needs.{needs}
 use Rattle.serial_steps.proofs.step.Statement.{statement}
 use Rattle.serial_steps.proofs.step.Tie as tie
 
-pop-step-requires : tie.Need-pop-step-requires
-pop-step-requires c κs = search needs
-
-test-step-requires : tie.Need-test-step-requires
-test-step-requires c κs = search needs
-
-add-step-requires : tie.Need-add-step-requires
-add-step-requires c κs = search needs
-
 push-step-requires : tie.Need-push-step-requires
 push-step-requires c κs = (
   c .before .before .before .before .before .pre .0,
@@ -24,32 +15,14 @@ push-step-requires c κs = (
   c .before .before .before .before .before .pre .3,
 )
 
-go-step-requires : tie.Need-go-step-requires
-go-step-requires c κs = search needs
-
-add-t16 : tie.Need-add-t16
-add-t16 c = search needs
-
-same-length : tie.Need-same-length
-same-length c = search needs
-
 returns : tie.Need-returns
 returns c = keyed _ _ _ _ _ _ _ (c .before .before .before .before .match .keys1) (c .before .before .pop-step .ensures)
-
-same-length-2 : tie.Need-same-length-2
-same-length-2 c = search needs
 
 returns-2 : tie.Need-returns-2
 returns-2 c = keyed _ _ _ _ _ _ _ (c .before .before .match .keys2) (c .test-step .ensures)
 
 returns-3 : tie.Need-returns-3
 returns-3 c = keyed _ _ _ _ _ _ _ (c .before .match .keys3) (c .add-step .ensures .moves _ _)
-
-same-length-3 : tie.Need-same-length-3
-same-length-3 c = search needs
-
-returns-4 : tie.Need-returns-4
-returns-4 c = search needs
 
 returns-5 : tie.Need-returns-5
 returns-5 c = c .go-step .ensures .moves _ _
@@ -62,19 +35,5 @@ returns-6 c =
 pub step-spec : {M : Type 1} → statement M
 step-spec =
     tie.close
-    (tie.spec
-    pop-step-requires
-    test-step-requires
-    add-step-requires
-    push-step-requires
-    go-step-requires
-    add-t16
-    same-length
-    returns
-    same-length-2
-    returns-2
-    returns-3
-    same-length-3
-    returns-4
-    returns-5
-    returns-6)
+    (tie.spec (λ c κs. search needs) (λ c κs. search needs) (λ c κs. search needs) push-step-requires (λ c κs. search needs) (λ c. search needs)
+    (λ c. search needs) returns (λ c. search needs) returns-2 returns-3 (λ c. search needs) (λ c. search needs) returns-5 returns-6)

@@ -4,15 +4,9 @@ use borrow.Author.Needs.{needs}
 use Rattle.serial_text.proofs.end_line.Statement.{statement}
 use Rattle.serial_text.proofs.end_line.Tie as tie
 
-end-line-requires : tie.Need-end-line-requires
-end-line-requires c κs = search needs
-
-same-length : tie.Need-same-length
-same-length c = search needs
-
 returns : tie.Need-returns
 returns c =
     block (c .before .before .end-line .kept .0) (let h = c .before .before .end-line .ensures .1 in omega arith) (c .before .before .end-line .ensures .0)
 
 pub end-line-spec : {M : Type 1} → statement M
-end-line-spec = tie.close (tie.spec end-line-requires same-length returns)
+end-line-spec = tie.close (tie.spec (λ c κs. search needs) (λ c. search needs) returns)

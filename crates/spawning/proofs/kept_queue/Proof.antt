@@ -4,21 +4,9 @@ use borrow.Author.Needs.{needs}
 use Rattle.spawning.proofs.kept_queue.Statement.{statement}
 use Rattle.spawning.proofs.kept_queue.Tie as tie
 
-pops-requires : tie.Need-pops-requires
-pops-requires c κs = search needs
-
-add-task : tie.Need-add-task
-add-task c = search needs
-
-task-requires : tie.Need-task-requires
-task-requires c κs = search needs
-
-choose-requires : tie.Need-choose-requires
-choose-requires c κs = search needs
-
 returns : tie.Need-returns
 unfolding keptQueue
 returns c = chosen-not _ (c .choose .ensures) (c .before .before .pops .ensures) (c .before .task .ensures)
 
 pub kept-queue-spec : {M : Type 1} → statement M
-kept-queue-spec = tie.close (tie.spec pops-requires add-task task-requires choose-requires returns)
+kept-queue-spec = tie.close (tie.spec (λ c κs. search needs) (λ c. search needs) (λ c κs. search needs) (λ c κs. search needs) returns)

@@ -6,30 +6,6 @@ use borrow.Author.Needs.{needs}
 use Rattle.stepping.proofs.effect.Statement.{statement}
 use Rattle.stepping.proofs.effect.Tie as tie
 
-add-next : tie.Need-add-next
-add-next c = search needs
-
-wrapping-add-u32-requires : tie.Need-wrapping-add-u32-requires
-wrapping-add-u32-requires c κs = search needs
-
-gives-requires : tie.Need-gives-requires
-gives-requires c κs = search needs
-
-gives-requires-2 : tie.Need-gives-requires-2
-gives-requires-2 c κs = search needs
-
-gives-requires-3 : tie.Need-gives-requires-3
-gives-requires-3 c κs = search needs
-
-queue-effect-requires : tie.Need-queue-effect-requires
-queue-effect-requires c κs = search needs
-
-go-effect-requires : tie.Need-go-effect-requires
-go-effect-requires c κs = search needs
-
-gives-requires-4 : tie.Need-gives-requires-4
-gives-requires-4 c κs = search needs
-
 returns : tie.Need-returns
 returns c = keyed _ _ _ _ _ (c .before .before .match .keys1) (add-seven _ _ _ _ _ (c .before .wrapping-add-u32 .ensures) (c .gives .ensures))
 
@@ -38,9 +14,6 @@ returns-2 c = keyed _ _ _ _ _ (c .before .match .keys2) (spawn-eight _ _ _ _ _ (
 
 returns-3 : tie.Need-returns-3
 returns-3 c = keyed _ _ _ _ _ (c .before .match .keys3) (sync-nine _ _ _ _ _ (c .gives3 .ensures))
-
-returns-4 : tie.Need-returns-4
-returns-4 c = search needs
 
 returns-5 : tie.Need-returns-5
 returns-5 c = goes-anyhow _ _ _ _ _ (c .before .before .if2 .left) (c .before .if3 .taken) (c .go-effect .ensures)
@@ -54,18 +27,5 @@ returns-6 c =
 pub effect-spec : {M : Type 1} → statement M
 effect-spec =
     tie.close
-    (tie.spec
-    add-next
-    wrapping-add-u32-requires
-    gives-requires
-    gives-requires-2
-    gives-requires-3
-    queue-effect-requires
-    go-effect-requires
-    gives-requires-4
-    returns
-    returns-2
-    returns-3
-    returns-4
-    returns-5
-    returns-6)
+    (tie.spec (λ c. search needs) (λ c κs. search needs) (λ c κs. search needs) (λ c κs. search needs) (λ c κs. search needs) (λ c κs. search needs)
+    (λ c κs. search needs) (λ c κs. search needs) returns returns-2 returns-3 (λ c. search needs) returns-5 returns-6)

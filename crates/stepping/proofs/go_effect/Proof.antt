@@ -4,18 +4,6 @@ use borrow.Author.Needs.{needs}
 use Rattle.stepping.proofs.go_effect.Statement.{statement}
 use Rattle.stepping.proofs.go_effect.Tie as tie
 
-add-next : tie.Need-add-next
-add-next c = search needs
-
-gives-requires : tie.Need-gives-requires
-gives-requires c κs = search needs
-
-gives-requires-2 : tie.Need-gives-requires-2
-gives-requires-2 c κs = search needs
-
-gives-requires-3 : tie.Need-gives-requires-3
-gives-requires-3 c κs = search needs
-
 returns : tie.Need-returns
 returns c = goes-keyed _ _ _ (c .before .match .keys1) (go-five _ _ _ (c .gives .ensures))
 
@@ -32,11 +20,4 @@ returns-3 c =
 pub go-effect-spec : {M : Type 1} → statement M
 go-effect-spec =
     tie.close
-    (tie.spec
-    add-next
-    gives-requires
-    gives-requires-2
-    gives-requires-3
-    returns
-    returns-2
-    returns-3)
+    (tie.spec (λ c. search needs) (λ c κs. search needs) (λ c κs. search needs) (λ c κs. search needs) returns returns-2 returns-3)

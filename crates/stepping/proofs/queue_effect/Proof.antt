@@ -4,24 +4,6 @@ use borrow.Author.Needs.{needs}
 use Rattle.stepping.proofs.queue_effect.Statement.{statement}
 use Rattle.stepping.proofs.queue_effect.Tie as tie
 
-wrapping-add-u32-requires : tie.Need-wrapping-add-u32-requires
-wrapping-add-u32-requires c κs = search needs
-
-add-next : tie.Need-add-next
-add-next c = search needs
-
-gives-requires : tie.Need-gives-requires
-gives-requires c κs = search needs
-
-gives-requires-2 : tie.Need-gives-requires-2
-gives-requires-2 c κs = search needs
-
-pop-effect-requires : tie.Need-pop-effect-requires
-pop-effect-requires c κs = search needs
-
-test-effect-requires : tie.Need-test-effect-requires
-test-effect-requires c κs = search needs
-
 returns : tie.Need-returns
 returns c = keyed _ _ _ _ _ (c .before .match .keys1) (push-one _ _ _ _ _ (c .gives .ensures))
 
@@ -39,14 +21,5 @@ returns-4 c =
 pub queue-effect-spec : {M : Type 1} → statement M
 queue-effect-spec =
     tie.close
-    (tie.spec
-    wrapping-add-u32-requires
-    add-next
-    gives-requires
-    gives-requires-2
-    pop-effect-requires
-    test-effect-requires
-    returns
-    returns-2
-    returns-3
-    returns-4)
+    (tie.spec (λ c κs. search needs) (λ c. search needs) (λ c κs. search needs) (λ c κs. search needs) (λ c κs. search needs) (λ c κs. search needs)
+    returns returns-2 returns-3 returns-4)

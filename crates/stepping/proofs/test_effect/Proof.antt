@@ -3,15 +3,6 @@ use borrow.Author.Needs.{needs}
 use Rattle.stepping.proofs.test_effect.Statement.{statement}
 use Rattle.stepping.proofs.test_effect.Tie as tie
 
-add-gives : tie.Need-add-gives
-add-gives c = search needs
-
-gives-requires : tie.Need-gives-requires
-gives-requires c κs = search needs
-
-gives-requires-2 : tie.Need-gives-requires-2
-gives-requires-2 c κs = search needs
-
 returns : tie.Need-returns
 returns c = not-empty _ _ _ (c .before .if1 .taken) (c .gives .ensures)
 
@@ -19,4 +10,4 @@ returns-2 : tie.Need-returns-2
 returns-2 c = is-empty _ _ _ (c .before .if1 .left) (c .gives2 .ensures)
 
 pub test-effect-spec : {M : Type 1} → statement M
-test-effect-spec = tie.close (tie.spec add-gives gives-requires gives-requires-2 returns returns-2)
+test-effect-spec = tie.close (tie.spec (λ c. search needs) (λ c κs. search needs) (λ c κs. search needs) returns returns-2)

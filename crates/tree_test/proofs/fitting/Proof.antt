@@ -13,31 +13,10 @@ returns c = fit-top _ _ _ _ _ (c .if1 .taken)
 returns-2 : tie.Need-returns-2
 returns-2 c = fit-far _ _ _ _ _ (c .before .if1 .left) (c .if2 .taken)
 
-mul-a : tie.Need-mul-a
-mul-a c = search needs
-
-add-a : tie.Need-add-a
-add-a c = search needs
-
-mul-if3 : tie.Need-mul-if3
-mul-if3 c = search needs
-
-shared-slice-read-if3 : tie.Need-shared-slice-read-if3
-shared-slice-read-if3 c = search needs
-
 returns-3 : tie.Need-returns-3
 returns-3 c =
     fit-free _ _ _ _ _ (c .before .before .before .if1 .left) (c .before .before .if2 .left)
     (λ e. c .if3 .taken (status-at (c .before .before .before .before .before .args .m .now) (c .before .before .before .before .before .args .t) ∙ e))
-
-add-if4 : tie.Need-add-if4
-add-if4 c = search needs
-
-mul-if4 : tie.Need-mul-if4
-mul-if4 c = search needs
-
-shared-slice-read-if4 : tie.Need-shared-slice-read-if4
-shared-slice-read-if4 c = search needs
 
 returns-4 : tie.Need-returns-4
 returns-4 c =
@@ -46,15 +25,6 @@ returns-4 c =
     (c .before .before .before .before .before .before .before .args .t)) ∙ c .before .before .if3 .left)
     (λ e. c .if4 .taken (word-at (c .before .before .before .before .before .before .before .args .m .now)
     (c .before .before .before .before .before .before .before .args .t) 2 ∙ e))
-
-add-if5 : tie.Need-add-if5
-add-if5 c = search needs
-
-mul-if5 : tie.Need-mul-if5
-mul-if5 c = search needs
-
-shared-slice-read-if5 : tie.Need-shared-slice-read-if5
-shared-slice-read-if5 c = search needs
 
 returns-5 : tie.Need-returns-5
 returns-5 c =
@@ -66,15 +36,6 @@ returns-5 c =
     (c .before .before .before .before .before .before .before .before .before .args .t) 2) ∙ c .before .before .if4 .left)
     (λ e. c .if5 .taken (word-at (c .before .before .before .before .before .before .before .before .before .args .m .now)
     (c .before .before .before .before .before .before .before .before .before .args .t) 4 ∙ e))
-
-add-subset : tie.Need-add-subset
-add-subset c = search needs
-
-mul-subset : tie.Need-mul-subset
-mul-subset c = search needs
-
-shared-slice-read-subset : tie.Need-shared-slice-read-subset
-shared-slice-read-subset c = search needs
 
 subset-requires : tie.Need-subset-requires
 subset-requires c κs = tt
@@ -97,24 +58,6 @@ returns-6 c =
 pub fitting-spec : {M : Type 1} → statement M
 fitting-spec =
     tie.close
-    (tie.spec
-    returns
-    returns-2
-    mul-a
-    add-a
-    mul-if3
-    shared-slice-read-if3
-    returns-3
-    add-if4
-    mul-if4
-    shared-slice-read-if4
-    returns-4
-    add-if5
-    mul-if5
-    shared-slice-read-if5
-    returns-5
-    add-subset
-    mul-subset
-    shared-slice-read-subset
-    subset-requires
-    returns-6)
+    (tie.spec returns returns-2 (λ c. search needs) (λ c. search needs) (λ c. search needs) (λ c. search needs) returns-3 (λ c. search needs)
+    (λ c. search needs) (λ c. search needs) returns-4 (λ c. search needs) (λ c. search needs) (λ c. search needs) returns-5 (λ c. search needs)
+    (λ c. search needs) (λ c. search needs) subset-requires returns-6)

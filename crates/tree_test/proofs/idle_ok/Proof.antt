@@ -18,12 +18,6 @@ returns c =
     idle-many (c .before .before .before .args .m .now) (c .before .before .before .pre) (let a = c .before .header .ensures in let b = c .if1 .taken in
     omega (arith, a, b))
 
-slice-aggregate-mark-free : tie.Need-slice-aggregate-mark-free
-slice-aggregate-mark-free c = search needs
-
-cast-mark-free : tie.Need-cast-mark-free
-cast-mark-free c = search needs
-
 mark-free-requires : tie.Need-mark-free-requires
 mark-free-requires c κs = (c .before .before .before .before .pre, refl, c .before .if1 .left)
 
@@ -34,9 +28,6 @@ returns-2 c =
     (c .before .before .before .before .before .header .result) (c .before .before .before .before .before .header .ensures)
     (c .before .before .before .before .if1 .left) _ (c .before .before .mark-free .ensures .0) (c .if2 .taken)
 
-array-read-if3 : tie.Need-array-read-if3
-array-read-if3 c = search needs
-
 returns-3 : tie.Need-returns-3
 unfolding size load
 returns-3 c =
@@ -44,12 +35,6 @@ returns-3 c =
     (c .before .before .before .before .before .before .before .before .pre) (c .before .before .before .before .before .before .header .result)
     (c .before .before .before .before .before .before .header .ensures) (c .before .before .before .before .before .if1 .left) _
     (c .before .before .before .mark-free .ensures .0) (c .before .if2 .left) _ (c .before .before .before .mark-free .ensures .1) (c .if3 .taken)
-
-slice-aggregate-marks : tie.Need-slice-aggregate-marks
-slice-aggregate-marks c = search needs
-
-marks-requires : tie.Need-marks-requires
-marks-requires c κs = search needs
 
 returns-4 : tie.Need-returns-4
 unfolding size load
@@ -65,15 +50,5 @@ returns-4 c =
 pub idle-ok-spec : {M : Type 1} → statement M
 idle-ok-spec =
     tie.close
-    (tie.spec
-    header-requires
-    returns
-    slice-aggregate-mark-free
-    cast-mark-free
-    mark-free-requires
-    returns-2
-    array-read-if3
-    returns-3
-    slice-aggregate-marks
-    marks-requires
-    returns-4)
+    (tie.spec header-requires returns (λ c. search needs) (λ c. search needs) mark-free-requires returns-2 (λ c. search needs) returns-3
+    (λ c. search needs) (λ c κs. search needs) returns-4)

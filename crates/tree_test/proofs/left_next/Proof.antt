@@ -9,61 +9,16 @@ use borrow.Author.Needs.{needs}
 use Rattle.tree_test.proofs.left_next.Statement.{statement}
 use Rattle.tree_test.proofs.left_next.Tie as tie
 
-mul-a : tie.Need-mul-a
-mul-a c = search needs
-
-add-a : tie.Need-add-a
-add-a c = search needs
-
-add-p : tie.Need-add-p
-add-p c = search needs
-
-mul-p : tie.Need-mul-p
-mul-p c = search needs
-
-shared-slice-read-p : tie.Need-shared-slice-read-p
-shared-slice-read-p c = search needs
-
 returns : tie.Need-returns
 returns c =
     left-out (decode (c .before .before .before .args .m .now)) (c .before .before .before .args .t) _
     (word-at (c .before .before .before .args .m .now) (c .before .before .before .args .t) 2) (c .if1 .taken)
-
-add-u : tie.Need-add-u
-add-u c = search needs
-
-mul-u : tie.Need-mul-u
-mul-u c = search needs
-
-shared-slice-read-u : tie.Need-shared-slice-read-u
-shared-slice-read-u c = search needs
-
-add-result : tie.Need-add-result
-add-result c = search needs
 
 returns-2 : tie.Need-returns-2
 returns-2 c =
     left-up (decode (c .before .before .before .before .before .args .m .now)) (c .before .before .before .before .before .args .t) _
     (word-at (c .before .before .before .before .before .args .m .now) (c .before .before .before .before .before .args .t) 2) (c .before .before .if1 .left)
     _ (word-at (c .before .before .before .before .before .args .m .now) (c .before .before .before .before .before .args .t) 3) (c .if2 .taken)
-
-cast-fitting : tie.Need-cast-fitting
-cast-fitting c = search needs
-
-mul-fitting : tie.Need-mul-fitting
-mul-fitting c = search needs
-
-add-fitting : tie.Need-add-fitting
-add-fitting c = search needs
-
-add-fitting-2 : tie.Need-add-fitting-2
-add-fitting-2 c = search needs
-
-mul-fitting-2 : tie.Need-mul-fitting-2
-mul-fitting-2 c = search needs
-
-shared-slice-read-fitting : tie.Need-shared-slice-read-fitting
-shared-slice-read-fitting c = search needs
 
 fitting-requires : tie.Need-fitting-requires
 fitting-requires c κs = c .before .before .before .before .before .before .pre .0
@@ -99,24 +54,6 @@ returns-4 c =
 pub left-next-spec : {M : Type 1} → statement M
 left-next-spec =
     tie.close
-    (tie.spec
-    mul-a
-    add-a
-    add-p
-    mul-p
-    shared-slice-read-p
-    returns
-    add-u
-    mul-u
-    shared-slice-read-u
-    add-result
-    returns-2
-    cast-fitting
-    mul-fitting
-    add-fitting
-    add-fitting-2
-    mul-fitting-2
-    shared-slice-read-fitting
-    fitting-requires
-    returns-3
-    returns-4)
+    (tie.spec (λ c. search needs) (λ c. search needs) (λ c. search needs) (λ c. search needs) (λ c. search needs) returns (λ c. search needs)
+    (λ c. search needs) (λ c. search needs) (λ c. search needs) returns-2 (λ c. search needs) (λ c. search needs) (λ c. search needs)
+    (λ c. search needs) (λ c. search needs) (λ c. search needs) fitting-requires returns-3 returns-4)

@@ -8,37 +8,10 @@ use borrow.Author.Needs.{needs}
 use Rattle.tree_test.proofs.met_next.Statement.{statement}
 use Rattle.tree_test.proofs.met_next.Tie as tie
 
-mul-a : tie.Need-mul-a
-mul-a c = search needs
-
-add-a : tie.Need-add-a
-add-a c = search needs
-
-add-u : tie.Need-add-u
-add-u c = search needs
-
-mul-u : tie.Need-mul-u
-mul-u c = search needs
-
-shared-slice-read-u : tie.Need-shared-slice-read-u
-shared-slice-read-u c = search needs
-
-add-result : tie.Need-add-result
-add-result c = search needs
-
 returns : tie.Need-returns
 returns c =
     met-leaf (decode (c .before .before .before .args .m .now)) (c .before .before .before .args .t) _
     (word-at (c .before .before .before .args .m .now) (c .before .before .before .args .t) 5) (c .if1 .taken)
-
-add-fitting : tie.Need-add-fitting
-add-fitting c = search needs
-
-mul-fitting : tie.Need-mul-fitting
-mul-fitting c = search needs
-
-shared-slice-read-fitting : tie.Need-shared-slice-read-fitting
-shared-slice-read-fitting c = search needs
 
 fitting-requires : tie.Need-fitting-requires
 fitting-requires c κs = c .before .before .before .before .pre .0
@@ -64,17 +37,5 @@ returns-3 c =
 pub met-next-spec : {M : Type 1} → statement M
 met-next-spec =
     tie.close
-    (tie.spec
-    mul-a
-    add-a
-    add-u
-    mul-u
-    shared-slice-read-u
-    add-result
-    returns
-    add-fitting
-    mul-fitting
-    shared-slice-read-fitting
-    fitting-requires
-    returns-2
-    returns-3)
+    (tie.spec (λ c. search needs) (λ c. search needs) (λ c. search needs) (λ c. search needs) (λ c. search needs) (λ c. search needs) returns
+    (λ c. search needs) (λ c. search needs) (λ c. search needs) fitting-requires returns-2 returns-3)

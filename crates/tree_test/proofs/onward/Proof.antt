@@ -9,17 +9,11 @@ use borrow.Author.Needs.{needs}
 use Rattle.tree_test.proofs.onward.Statement.{statement}
 use Rattle.tree_test.proofs.onward.Tie as tie
 
-mul-xs : tie.Need-mul-xs
-mul-xs c = search needs
-
 slice-write-xs : tie.Need-slice-write-xs
 slice-write-xs c = (let a = c .before .before .pre .1 in let b = c .before .before .pre .2 in let d = c .before .before .pre .4 in omega (arith, a, b, d))
 
 met-next-requires : tie.Need-met-next-requires
 met-next-requires c κs = (c .before .before .pre .0, c .before .before .pre .3)
-
-add-t10 : tie.Need-add-t10
-add-t10 c = search needs
 
 same-length : tie.Need-same-length
 same-length c =
@@ -38,9 +32,6 @@ returns c = (
   omega arith,
 )
 
-add-t11 : tie.Need-add-t11
-add-t11 c = search needs
-
 same-length-2 : tie.Need-same-length-2
 same-length-2 c =
     length-set (c .before .before .before .before .before .args .xs .now) (c .before .before .before .before .before .args .i)
@@ -56,9 +47,6 @@ returns-2 c = (
       (c .before .before .before .before .before .args .t) (c .before .before .before .before .before .pre .3)) (c .if2 .taken)),
   omega arith,
 )
-
-add-climb : tie.Need-add-climb
-add-climb c = search needs
 
 climb-requires : tie.Need-climb-requires
 climb-requires c κs = (
@@ -105,17 +93,5 @@ returns-3 c = (
 pub onward-spec : {M : Type 1} → statement M
 onward-spec =
     tie.close
-    (tie.spec
-    mul-xs
-    slice-write-xs
-    met-next-requires
-    add-t10
-    same-length
-    returns
-    add-t11
-    same-length-2
-    returns-2
-    add-climb
-    climb-requires
-    same-length-3
-    returns-3)
+    (tie.spec (λ c. search needs) slice-write-xs met-next-requires (λ c. search needs) same-length returns (λ c. search needs) same-length-2 returns-2
+    (λ c. search needs) climb-requires same-length-3 returns-3)

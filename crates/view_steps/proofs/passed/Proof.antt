@@ -13,14 +13,8 @@ returns-2 c = sym (passed-half _ _ _ (c .before .if1 .taken) (c .if2 .left))
 returns-3 : tie.Need-returns-3
 returns-3 c = sym (passed-open _ _ _ (c .before .if1 .left) (c .if3 .taken))
 
-marked-requires : tie.Need-marked-requires
-marked-requires c κs = search needs
-
 returns-4 : tie.Need-returns-4
 returns-4 c = sym (passed-odd _ _ _ (c .before .before .before .if1 .left) (λ q. c .if4 .taken (c .before .marked .ensures ∙ q)))
-
-marked-requires-2 : tie.Need-marked-requires-2
-marked-requires-2 c κs = search needs
 
 returns-5 : tie.Need-returns-5
 returns-5 c =
@@ -29,6 +23,4 @@ returns-5 c =
     (sym (c .before .before .marked .ensures) ∙ c .before .if4 .left))
 
 pub passed-spec : {M : Type 1} → statement M
-passed-spec =
-    tie.close
-    (tie.spec returns returns-2 returns-3 marked-requires returns-4 marked-requires-2 returns-5)
+passed-spec = tie.close (tie.spec returns returns-2 returns-3 (λ c κs. search needs) returns-4 (λ c κs. search needs) returns-5)

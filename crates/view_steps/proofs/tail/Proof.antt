@@ -7,21 +7,12 @@ use Rattle.view_steps.proofs.tail.Tie as tie
 returns : tie.Need-returns
 returns c = λ d. record { same = λ es. tail-far _ es d _ _ _ (c .if1 .taken) }
 
-shared-slice-read-if2 : tie.Need-shared-slice-read-if2
-shared-slice-read-if2 c = search needs
-
 returns-2 : tie.Need-returns-2
 returns-2 c = λ d. record { same = λ es. tail-out _ es d _ _ _ (c .before .before .if1 .left) _ (c .if2 .taken) }
-
-element-copy-out-if3 : tie.Need-element-copy-out-if3
-element-copy-out-if3 c = search needs
 
 returns-3 : tie.Need-returns-3
 returns-3 c =
     λ d. record { same = λ es. tail-again _ es d _ _ _ (c .before .before .before .before .if1 .left) (c .before .before .if2 .left) _ (c .if3 .taken) }
-
-next-requires : tie.Need-next-requires
-next-requires c κs = search needs
 
 returns-4 : tie.Need-returns-4
 returns-4 c =
@@ -29,18 +20,6 @@ returns-4 c =
       same = λ es. tail-inner _ es d _ _ _ (c .before .before .before .before .before .before .if1 .left)
           (c .before .before .before .before .if2 .left) _ (c .before .before .if3 .left) (λ q. c .if4 .taken (c .before .next .ensures ∙ q));
     }
-
-element-write-f : tie.Need-element-write-f
-element-write-f c = search needs
-
-element-copy-out-wrapping-add-u32 : tie.Need-element-copy-out-wrapping-add-u32
-element-copy-out-wrapping-add-u32 c = search needs
-
-wrapping-add-u32-requires : tie.Need-wrapping-add-u32-requires
-wrapping-add-u32-requires c κs = search needs
-
-element-write-w : tie.Need-element-write-w
-element-write-w c = search needs
 
 returns-5 : tie.Need-returns-5
 returns-5 c =
@@ -53,16 +32,5 @@ returns-5 c =
 pub tail-spec : {M : Type 1} → statement M
 tail-spec =
     tie.close
-    (tie.spec
-    returns
-    shared-slice-read-if2
-    returns-2
-    element-copy-out-if3
-    returns-3
-    next-requires
-    returns-4
-    element-write-f
-    element-copy-out-wrapping-add-u32
-    wrapping-add-u32-requires
-    element-write-w
-    returns-5)
+    (tie.spec returns (λ c. search needs) returns-2 (λ c. search needs) returns-3 (λ c κs. search needs) returns-4 (λ c. search needs)
+    (λ c. search needs) (λ c κs. search needs) (λ c. search needs) returns-5)

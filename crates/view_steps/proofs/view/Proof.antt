@@ -8,21 +8,6 @@ use borrow.Author.Needs.{needs}
 use Rattle.view_steps.proofs.view.Statement.{statement}
 use Rattle.view_steps.proofs.view.Tie as tie
 
-mul-h : tie.Need-mul-h
-mul-h c = search needs
-
-shared-slice-read-h : tie.Need-shared-slice-read-h
-shared-slice-read-h c = search needs
-
-add-e : tie.Need-add-e
-add-e c = search needs
-
-mul-e : tie.Need-mul-e
-mul-e c = search needs
-
-shared-slice-read-e : tie.Need-shared-slice-read-e
-shared-slice-read-e c = search needs
-
 returns : tie.Need-returns
 returns c =
     record {
@@ -34,24 +19,6 @@ returns c =
 returns-2 : tie.Need-returns-2
 returns-2 c = record { same = λ es. view-refused _ es _ _ _ _ _ _ _ (and-some _ _ (c .before .if1 .left)) _ (ap not (eq-eqb _ _ (c .if2 .taken))) }
 
-mul-passed : tie.Need-mul-passed
-mul-passed c = search needs
-
-element-copy-out-passed : tie.Need-element-copy-out-passed
-element-copy-out-passed c = search needs
-
-passed-requires : tie.Need-passed-requires
-passed-requires c κs = search needs
-
-mul-w : tie.Need-mul-w
-mul-w c = search needs
-
-element-write-w : tie.Need-element-write-w
-element-write-w c = search needs
-
-tail-requires : tie.Need-tail-requires
-tail-requires c κs = search needs
-
 returns-3 : tie.Need-returns-3
 returns-3 c =
     record {
@@ -59,9 +26,6 @@ returns-3 c =
           ∙ view-open _ es _ _ _ _ _ _ _ (and-some _ _ (c .before .before .before .before .before .before .before .if1 .left)) _
           (ap not (ne-eqb _ _ (c .before .before .before .before .before .before .if2 .left))) (c .before .before .before .before .passed .ensures);
     }
-
-head-requires : tie.Need-head-requires
-head-requires c κs = search needs
 
 returns-4 : tie.Need-returns-4
 returns-4 c =
@@ -76,20 +40,6 @@ returns-4 c =
 pub view-spec : {M : Type 1} → statement M
 view-spec =
     tie.close
-    (tie.spec
-    mul-h
-    shared-slice-read-h
-    add-e
-    mul-e
-    shared-slice-read-e
-    returns
-    returns-2
-    mul-passed
-    element-copy-out-passed
-    passed-requires
-    mul-w
-    element-write-w
-    tail-requires
-    returns-3
-    head-requires
-    returns-4)
+    (tie.spec (λ c. search needs) (λ c. search needs) (λ c. search needs) (λ c. search needs) (λ c. search needs) returns returns-2
+    (λ c. search needs) (λ c. search needs) (λ c κs. search needs) (λ c. search needs) (λ c. search needs) (λ c κs. search needs) returns-3
+    (λ c κs. search needs) returns-4)

@@ -3,20 +3,11 @@ use borrow.Author.Needs.{needs}
 use Rattle.view_test.proofs.mark.Statement.{statement}
 use Rattle.view_test.proofs.mark.Tie as tie
 
-met-requires : tie.Need-met-requires
-met-requires c κs = search needs
-
 returns : tie.Need-returns
 returns c = mark-met _ _ (c .before .before .before .before .if1 .taken) (c .met .ensures)
-
-sub-left : tie.Need-sub-left
-sub-left c = search needs
-
-left-requires : tie.Need-left-requires
-left-requires c κs = search needs
 
 returns-2 : tie.Need-returns-2
 returns-2 c = mark-left _ _ (c .before .before .before .before .if1 .left) (c .left .ensures)
 
 pub mark-spec : {M : Type 1} → statement M
-mark-spec = tie.close (tie.spec met-requires returns sub-left left-requires returns-2)
+mark-spec = tie.close (tie.spec (λ c κs. search needs) returns (λ c. search needs) (λ c κs. search needs) returns-2)

@@ -6,52 +6,19 @@ use borrow.Author.Needs.{needs}
 use Rattle.view_test.proofs.ones.Statement.{statement}
 use Rattle.view_test.proofs.ones.Tie as tie
 
-mul-if1 : tie.Need-mul-if1
-mul-if1 c = search needs
-
-element-copy-out-if1 : tie.Need-element-copy-out-if1
-element-copy-out-if1 c = search needs
-
 returns : tie.Need-returns
 unfolding fourOnes load
 returns c = sym (both-off _ (ne-eqb _ _ (c .if1 .taken)))
 
-add-if2 : tie.Need-add-if2
-add-if2 c = search needs
-
-mul-if2 : tie.Need-mul-if2
-mul-if2 c = search needs
-
-element-copy-out-if2 : tie.Need-element-copy-out-if2
-element-copy-out-if2 c = search needs
-
 returns-2 : tie.Need-returns-2
 unfolding fourOnes load
 returns-2 c = sym (both-on (eq-eqb _ _ (c .before .before .if1 .left)) ∙ both-off _ (ne-eqb _ _ (c .if2 .taken)))
-
-add-if3 : tie.Need-add-if3
-add-if3 c = search needs
-
-mul-if3 : tie.Need-mul-if3
-mul-if3 c = search needs
-
-element-copy-out-if3 : tie.Need-element-copy-out-if3
-element-copy-out-if3 c = search needs
 
 returns-3 : tie.Need-returns-3
 unfolding fourOnes load
 returns-3 c =
     sym (both-on (eq-eqb _ _ (c .before .before .before .before .if1 .left)) ∙ both-on (eq-eqb _ _ (c .before .before .if2 .left))
     ∙ both-off _ (ne-eqb _ _ (c .if3 .taken)))
-
-add-result : tie.Need-add-result
-add-result c = search needs
-
-mul-result : tie.Need-mul-result
-mul-result c = search needs
-
-element-copy-out-result : tie.Need-element-copy-out-result
-element-copy-out-result c = search needs
 
 returns-4 : tie.Need-returns-4
 unfolding fourOnes load
@@ -62,19 +29,5 @@ returns-4 c =
 pub ones-spec : {M : Type 1} → statement M
 ones-spec =
     tie.close
-    (tie.spec
-    mul-if1
-    element-copy-out-if1
-    returns
-    add-if2
-    mul-if2
-    element-copy-out-if2
-    returns-2
-    add-if3
-    mul-if3
-    element-copy-out-if3
-    returns-3
-    add-result
-    mul-result
-    element-copy-out-result
-    returns-4)
+    (tie.spec (λ c. search needs) (λ c. search needs) returns (λ c. search needs) (λ c. search needs) (λ c. search needs) returns-2
+    (λ c. search needs) (λ c. search needs) (λ c. search needs) returns-3 (λ c. search needs) (λ c. search needs) (λ c. search needs) returns-4)

@@ -5,37 +5,10 @@ use borrow.Author.Needs.{needs}
 use Rattle.view_test.proofs.queues.Statement.{statement}
 use Rattle.view_test.proofs.queues.Tie as tie
 
-mul-r : tie.Need-mul-r
-mul-r c = search needs
-
-add-r : tie.Need-add-r
-add-r c = search needs
-
-mul-r-2 : tie.Need-mul-r-2
-mul-r-2 c = search needs
-
-shared-slice-read-r : tie.Need-shared-slice-read-r
-shared-slice-read-r c = search needs
-
-mul-a : tie.Need-mul-a
-mul-a c = search needs
-
-add-a : tie.Need-add-a
-add-a c = search needs
-
-queue-requires : tie.Need-queue-requires
-queue-requires c κs = search needs
-
 returns : tie.Need-returns
 unfolding queuesAt
 returns c =
     λ f. end _ _ _ (not-true _ (c .if1 .taken)) (queue-first _ (c .before .before .before .before .before .before .args .t) (c .before .queue .ensures f))
-
-add-queue : tie.Need-add-queue
-add-queue c = search needs
-
-queue-requires-2 : tie.Need-queue-requires-2
-queue-requires-2 c κs = search needs
 
 returns-2 : tie.Need-returns-2
 unfolding queuesAt
@@ -45,12 +18,6 @@ returns-2 c =
     (c .before .before .before .before .before .queue .ensures f))
     (end _ _ _ (not-true _ (c .if2 .taken))
     (queue-later _ (c .before .before .before .before .before .before .before .before .before .before .args .t) 1 (c .before .queue2 .ensures f)))
-
-add-queue-2 : tie.Need-add-queue-2
-add-queue-2 c = search needs
-
-queue-requires-3 : tie.Need-queue-requires-3
-queue-requires-3 c κs = search needs
 
 returns-3 : tie.Need-returns-3
 unfolding queuesAt
@@ -64,12 +31,6 @@ returns-3 c =
     (end _ _ _ (not-true _ (c .if3 .taken))
     (queue-later _ (c .before .before .before .before .before .before .before .before .before .before .before .before .before .before .args .t) 2
     (c .before .queue3 .ensures f))))
-
-add-queue-3 : tie.Need-add-queue-3
-add-queue-3 c = search needs
-
-queue-requires-4 : tie.Need-queue-requires-4
-queue-requires-4 c κs = search needs
 
 returns-4 : tie.Need-returns-4
 unfolding queuesAt
@@ -93,21 +54,6 @@ returns-4 c =
 pub queues-spec : {M : Type 1} → statement M
 queues-spec =
     tie.close
-    (tie.spec
-    mul-r
-    add-r
-    mul-r-2
-    shared-slice-read-r
-    mul-a
-    add-a
-    queue-requires
-    returns
-    add-queue
-    queue-requires-2
-    returns-2
-    add-queue-2
-    queue-requires-3
-    returns-3
-    add-queue-3
-    queue-requires-4
-    returns-4)
+    (tie.spec (λ c. search needs) (λ c. search needs) (λ c. search needs) (λ c. search needs) (λ c. search needs) (λ c. search needs)
+    (λ c κs. search needs) returns (λ c. search needs) (λ c κs. search needs) returns-2 (λ c. search needs) (λ c κs. search needs) returns-3
+    (λ c. search needs) (λ c κs. search needs) returns-4)

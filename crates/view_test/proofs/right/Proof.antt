@@ -5,25 +5,13 @@ use borrow.Author.Needs.{needs}
 use Rattle.view_test.proofs.right.Statement.{statement}
 use Rattle.view_test.proofs.right.Tie as tie
 
-empty-requires : tie.Need-empty-requires
-empty-requires c κs = search needs
-
-user-requires : tie.Need-user-requires
-user-requires c κs = search needs
-
 returns : tie.Need-returns
 returns c =
     follow _ _ _ refl (kind-none _ (c .before .before .before .before .before .before .before .args .t) 2
     (c .before .before .before .before .before .empty .ensures (c .before .before .before .before .if1 .taken))) (c .user .ensures)
 
-four-requires : tie.Need-four-requires
-four-requires c κs = search needs
-
 returns-2 : tie.Need-returns-2
 returns-2 c = end _ _ _ (not-true _ (c .if2 .taken)) (c .before .four .ensures)
-
-user-requires-2 : tie.Need-user-requires-2
-user-requires-2 c κs = search needs
 
 returns-3 : tie.Need-returns-3
 returns-3 c =
@@ -32,11 +20,4 @@ returns-3 c =
 pub right-spec : {M : Type 1} → statement M
 right-spec =
     tie.close
-    (tie.spec
-    empty-requires
-    user-requires
-    returns
-    four-requires
-    returns-2
-    user-requires-2
-    returns-3)
+    (tie.spec (λ c κs. search needs) (λ c κs. search needs) returns (λ c κs. search needs) returns-2 (λ c κs. search needs) returns-3)

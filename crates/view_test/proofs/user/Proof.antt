@@ -3,17 +3,8 @@ use borrow.Author.Needs.{needs}
 use Rattle.view_test.proofs.user.Statement.{statement}
 use Rattle.view_test.proofs.user.Tie as tie
 
-empty-requires : tie.Need-empty-requires
-empty-requires c κs = search needs
-
 returns : tie.Need-returns
 returns c = kind-none _ (c .before .before .before .args .t) 1 (c .before .empty .ensures (c .if1 .taken))
 
-four-requires : tie.Need-four-requires
-four-requires c κs = search needs
-
-returns-2 : tie.Need-returns-2
-returns-2 c = search needs
-
 pub user-spec : {M : Type 1} → statement M
-user-spec = tie.close (tie.spec empty-requires returns four-requires returns-2)
+user-spec = tie.close (tie.spec (λ c κs. search needs) returns (λ c κs. search needs) (λ c. search needs))

@@ -23,9 +23,6 @@ returns-2 c =
 shared-slice-read-w : tie.Need-shared-slice-read-w
 shared-slice-read-w c = let a = ready _ _ (c .before .before .before .before .before .before .before .before .pre) .0 in omega (arith, a)
 
-array-write-w : tie.Need-array-write-w
-array-write-w c = search needs
-
 walk-requires : tie.Need-walk-requires
 walk-requires c κs = (
   ready _ _ (c .before .before .before .before .before .before .before .before .before .before .before .pre),
@@ -43,12 +40,4 @@ returns-3 c =
 pub views-hold-spec : {M : Type 1} → statement M
 views-hold-spec =
     tie.close
-    (tie.spec
-    segments-hold-requires
-    returns
-    mark-free-requires
-    returns-2
-    shared-slice-read-w
-    array-write-w
-    walk-requires
-    returns-3)
+    (tie.spec segments-hold-requires returns mark-free-requires returns-2 shared-slice-read-w (λ c. search needs) walk-requires returns-3)

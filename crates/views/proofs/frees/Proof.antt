@@ -5,30 +5,18 @@ use borrow.Author.Needs.{needs}
 use Rattle.views.proofs.frees.Statement.{statement}
 use Rattle.views.proofs.frees.Tie as tie
 
-is-empty-requires : tie.Need-is-empty-requires
-is-empty-requires c κs = search needs
-
 returns : tie.Need-returns
 returns c = keeps-left _ _ _ _ _ (sym (c .before .is-empty .ensures) ∙ c .if1 .taken)
-
-is-empty-requires-2 : tie.Need-is-empty-requires-2
-is-empty-requires-2 c κs = search needs
 
 returns-2 : tie.Need-returns-2
 returns-2 c =
     keeps-right _ _ _ _ _ (sym (c .before .before .before .is-empty .ensures) ∙ c .before .before .if1 .left)
     (sym (c .before .is-empty2 .ensures) ∙ c .if2 .taken)
 
-local-requires : tie.Need-local-requires
-local-requires c κs = search needs
-
 returns-3 : tie.Need-returns-3
 returns-3 c =
     keeps-apart _ _ _ _ _ (sym (c .before .before .before .before .before .is-empty .ensures) ∙ c .before .before .before .before .if1 .left)
     (sym (c .before .before .before .is-empty2 .ensures) ∙ c .before .before .if2 .left) (sym (c .before .local .ensures) ∙ not-true _ (c .if3 .taken))
-
-segment-requires : tie.Need-segment-requires
-segment-requires c κs = search needs
 
 returns-4 : tie.Need-returns-4
 returns-4 c =
@@ -39,12 +27,4 @@ returns-4 c =
 pub frees-spec : {M : Type 1} → statement M
 frees-spec =
     tie.close
-    (tie.spec
-    is-empty-requires
-    returns
-    is-empty-requires-2
-    returns-2
-    local-requires
-    returns-3
-    segment-requires
-    returns-4)
+    (tie.spec (λ c κs. search needs) returns (λ c κs. search needs) returns-2 (λ c κs. search needs) returns-3 (λ c κs. search needs) returns-4)

@@ -4,22 +4,13 @@ use borrow.Author.Needs.{needs}
 use Rattle.views.proofs.reduced_head.Statement.{statement}
 use Rattle.views.proofs.reduced_head.Tie as tie
 
-is-empty-requires : tie.Need-is-empty-requires
-is-empty-requires c κs = search needs
-
 returns : tie.Need-returns
 returns c = head-is (right-alone _ _ _ _ _ (sym (c .before .is-empty .ensures) ∙ c .if1 .taken))
-
-is-empty-requires-2 : tie.Need-is-empty-requires-2
-is-empty-requires-2 c κs = search needs
 
 returns-2 : tie.Need-returns-2
 returns-2 c =
     head-is (left-alone _ _ _ _ _ (sym (c .before .before .before .is-empty .ensures) ∙ c .before .before .if1 .left)
     (sym (c .before .is-empty2 .ensures) ∙ c .if2 .taken))
-
-head-behind-requires : tie.Need-head-behind-requires
-head-behind-requires c κs = search needs
 
 returns-3 : tie.Need-returns-3
 returns-3 c =
@@ -27,12 +18,4 @@ returns-3 c =
     (sym (c .before .before .is-empty2 .ensures) ∙ c .before .if2 .left) (c .head-behind .ensures _))
 
 pub reduced-head-spec : {M : Type 1} → statement M
-reduced-head-spec =
-    tie.close
-    (tie.spec
-    is-empty-requires
-    returns
-    is-empty-requires-2
-    returns-2
-    head-behind-requires
-    returns-3)
+reduced-head-spec = tie.close (tie.spec (λ c κs. search needs) returns (λ c κs. search needs) returns-2 (λ c κs. search needs) returns-3)

@@ -4,14 +4,8 @@ use borrow.Author.Needs.{needs}
 use Rattle.views.proofs.reduced_tail.Statement.{statement}
 use Rattle.views.proofs.reduced_tail.Tie as tie
 
-is-empty-requires : tie.Need-is-empty-requires
-is-empty-requires c κs = search needs
-
 returns : tie.Need-returns
 returns c = λ m. tail-is (right-alone m _ _ _ _ (sym (c .before .is-empty .ensures) ∙ c .if1 .taken))
-
-is-empty-requires-2 : tie.Need-is-empty-requires-2
-is-empty-requires-2 c κs = search needs
 
 returns-2 : tie.Need-returns-2
 returns-2 c =
@@ -24,5 +18,4 @@ returns-3 c =
     (sym (c .before .is-empty2 .ensures) ∙ c .if2 .left)
 
 pub reduced-tail-spec : {M : Type 1} → statement M
-reduced-tail-spec =
-    tie.close (tie.spec is-empty-requires returns is-empty-requires-2 returns-2 returns-3)
+reduced-tail-spec = tie.close (tie.spec (λ c κs. search needs) returns (λ c κs. search needs) returns-2 returns-3)

@@ -4,14 +4,8 @@ use borrow.Author.Needs.{needs}
 use Rattle.views.proofs.reducible.Statement.{statement}
 use Rattle.views.proofs.reducible.Tie as tie
 
-is-empty-requires : tie.Need-is-empty-requires
-is-empty-requires c κs = search needs
-
 returns : tie.Need-returns
 returns c = left-empty _ _ _ _ (sym (c .before .is-empty .ensures) ∙ c .if1 .taken)
-
-is-empty-requires-2 : tie.Need-is-empty-requires-2
-is-empty-requires-2 c κs = search needs
 
 returns-2 : tie.Need-returns-2
 returns-2 c =
@@ -34,13 +28,4 @@ returns-5 c =
     (sym (c .before .before .before .is-empty2 .ensures) ∙ c .before .before .if2 .left) (c .before .if3 .left) (c .if4 .left)
 
 pub reducible-spec : {M : Type 1} → statement M
-reducible-spec =
-    tie.close
-    (tie.spec
-    is-empty-requires
-    returns
-    is-empty-requires-2
-    returns-2
-    returns-3
-    returns-4
-    returns-5)
+reducible-spec = tie.close (tie.spec (λ c κs. search needs) returns (λ c κs. search needs) returns-2 returns-3 returns-4 returns-5)

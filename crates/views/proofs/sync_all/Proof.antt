@@ -3,21 +3,6 @@ use borrow.Author.Needs.{needs}
 use Rattle.views.proofs.sync_all.Statement.{statement}
 use Rattle.views.proofs.sync_all.Tie as tie
 
-sync-queue-requires : tie.Need-sync-queue-requires
-sync-queue-requires c κs = search needs
-
-sync-queue-requires-2 : tie.Need-sync-queue-requires-2
-sync-queue-requires-2 c κs = search needs
-
-sync-queue-requires-3 : tie.Need-sync-queue-requires-3
-sync-queue-requires-3 c κs = search needs
-
-sync-queue-requires-4 : tie.Need-sync-queue-requires-4
-sync-queue-requires-4 c κs = search needs
-
-same-length : tie.Need-same-length
-same-length c = search needs
-
 returns : tie.Need-returns
 returns c =
     sync-four _ _ _ _ _ _
@@ -28,10 +13,4 @@ returns c =
 pub sync-all-spec : {M : Type 1} → statement M
 sync-all-spec =
     tie.close
-    (tie.spec
-    sync-queue-requires
-    sync-queue-requires-2
-    sync-queue-requires-3
-    sync-queue-requires-4
-    same-length
-    returns)
+    (tie.spec (λ c κs. search needs) (λ c κs. search needs) (λ c κs. search needs) (λ c κs. search needs) (λ c. search needs) returns)

@@ -6,9 +6,6 @@ use borrow.Author.Needs.{needs}
 use Rattle.walks.proofs.leaving.Statement.{statement}
 use Rattle.walks.proofs.leaving.Tie as tie
 
-add-result : tie.Need-add-result
-add-result c = search needs
-
 returns : tie.Need-returns
 unfolding leaving
 returns c = sym (halt _ _ (lt-ltb _ _ (c .if1 .taken)))
@@ -18,4 +15,4 @@ unfolding leaving
 returns-2 c = sym (pass _ (le-ltb _ _ (c .if1 .left)) refl)
 
 pub leaving-spec : {M : Type 1} → statement M
-leaving-spec = tie.close (tie.spec add-result returns returns-2)
+leaving-spec = tie.close (tie.spec (λ c. search needs) returns returns-2)

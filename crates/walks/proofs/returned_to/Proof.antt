@@ -3,9 +3,6 @@ use borrow.Author.Needs.{needs}
 use Rattle.walks.proofs.returned_to.Statement.{statement}
 use Rattle.walks.proofs.returned_to.Tie as tie
 
-add-after : tie.Need-add-after
-add-after c = search needs
-
 after-requires : tie.Need-after-requires
 after-requires c κs = tt
 
@@ -22,6 +19,4 @@ returns-2 : tie.Need-returns-2
 returns-2 c = returned-stands _ _ _ _ _ (c .before .before .after .ensures) (c .before .if1 .left) (c .standing .ensures)
 
 pub returned-to-spec : {M : Type 1} → statement M
-returned-to-spec =
-    tie.close
-    (tie.spec add-after after-requires taking-requires standing-requires returns returns-2)
+returned-to-spec = tie.close (tie.spec (λ c. search needs) after-requires taking-requires standing-requires returns returns-2)

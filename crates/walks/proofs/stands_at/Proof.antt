@@ -13,12 +13,6 @@ returns c = stands-not _ _ _ (c .before .takes-part .ensures) (not-true _ (c .if
 returns-2 : tie.Need-returns-2
 returns-2 c = stands-met _ _ _ (c .before .before .takes-part .ensures) (not-false _ (c .before .if1 .left)) (c .if2 .taken)
 
-sub-task : tie.Need-sub-task
-sub-task c = search needs
-
-add-task : tie.Need-add-task
-add-task c = search needs
-
 task-requires : tie.Need-task-requires
 task-requires c κs = tt
 
@@ -26,12 +20,6 @@ returns-3 : tie.Need-returns-3
 returns-3 c =
     stands-head _ _ _ (c .before .before .before .before .takes-part .ensures) (not-false _ (c .before .before .before .if1 .left)) (c .before .task .ensures)
     (c .if3 .taken)
-
-sub-task-2 : tie.Need-sub-task-2
-sub-task-2 c = search needs
-
-add-task-2 : tie.Need-add-task-2
-add-task-2 c = search needs
 
 task-requires-2 : tie.Need-task-requires-2
 task-requires-2 c κs = tt
@@ -44,15 +32,5 @@ returns-4 c =
 pub stands-at-spec : {M : Type 1} → statement M
 stands-at-spec =
     tie.close
-    (tie.spec
-    takes-part-requires
-    returns
-    returns-2
-    sub-task
-    add-task
-    task-requires
-    returns-3
-    sub-task-2
-    add-task-2
-    task-requires-2
-    returns-4)
+    (tie.spec takes-part-requires returns returns-2 (λ c. search needs) (λ c. search needs) task-requires returns-3 (λ c. search needs)
+    (λ c. search needs) task-requires-2 returns-4)
