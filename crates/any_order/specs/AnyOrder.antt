@@ -9,7 +9,7 @@ use borrow.Author.Tests.{lt-leb, le-leb}
 use Rattle.words.specs.Words.{size, pass, halt}
 use Rattle.layout.specs.Layout.{WORDS}
 use Rattle.runner.specs.Words.{RUNNER}
-use Rattle.gaps.specs.Maps.{All}
+use Rattle.lists.specs.Maps.{All}
 use Rattle.answers.specs.declared.Answer.the-variants.{Moved, Refused as NoSuch}
 use Rattle.answers.specs.Answers.{answerOf as coreAnswer}
 use Rattle.answers.specs.Calls.{left-call}

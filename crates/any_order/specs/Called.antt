@@ -4,7 +4,7 @@ use mathlib.Core.Bool.{true, false, not}
 use mathlib.Core.List.{List, [], _∷_, _++_}
 use Prim.Native.Nat.{ℕ, suc}
 use Rattle.words.specs.Words.{halt}
-use Rattle.gaps.specs.Maps.{All}
+use Rattle.lists.specs.Maps.{All}
 use Rattle.answers.specs.declared.Answer.the-variants.{Moved}
 use Rattle.order.specs.Steps.{Item as Mark}
 use Rattle.order.specs.Waits.{unfinished}

@@ -6,7 +6,7 @@ use mathlib.Core.List.{List, _∷_, _++_}
 use mathlib.Core.Option.{Option, some}
 use Prim.Native.Nat.{ℕ}
 use Rattle.words.specs.Words.{pass, halt}
-use Rattle.gaps.specs.Maps.{All, all-behind}
+use Rattle.lists.specs.Maps.{All, all-behind}
 use Rattle.answers.specs.declared.Answer.{Answer}
 use Rattle.answers.specs.declared.Answer.the-variants.{Moved}
 use Rattle.answers.specs.Answers.{Outcome as CoreOutcome, outcome as core-outcome, wordsOf, answerOf as coreAnswer}

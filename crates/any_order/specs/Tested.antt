@@ -6,7 +6,7 @@ use Prim.Native.Nat.{ℕ, _<_}
 use borrow.Author.Tests.{eq-eqb, lt-ltb}
 use Rattle.words.specs.Words.{pass, halt, true-both}
 use Rattle.lists.specs.Tests.{says-upto}
-use Rattle.gaps.specs.Maps.{All, all-behind}
+use Rattle.lists.specs.Maps.{All, all-behind}
 use Rattle.answers.specs.declared.Answer.the-variants.{Moved}
 use Rattle.calls.specs.Waits.{rightsOf as rightsIn, unfinished as unfinishedIn}
 use Rattle.order.specs.Steps.{Item as Mark, numberOf, rightsOf as rightsWith}

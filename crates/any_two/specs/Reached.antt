@@ -9,7 +9,7 @@ use Rattle.words.specs.Words.{size}
 use Rattle.layout.specs.Layout.{WORDS}
 use Rattle.answers.specs.declared.Answer.the-variants.{Moved}
 use Rattle.rules.specs.Test.{rulesHold}
-use Rattle.gaps.specs.Maps.{All, all-behind}
+use Rattle.lists.specs.Maps.{All, all-behind}
 use Rattle.order.specs.Waits.{unfinished as unfinishedBy}
 use Rattle.in_order.specs.State.{state-rules, state-size}
 use Rattle.job.specs.Test.{jobAnswer}

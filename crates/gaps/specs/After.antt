@@ -4,7 +4,7 @@ use mathlib.Core.Bool.{Bool}
 use mathlib.Core.List.{List, [], _∷_, _++_}
 use Prim.Native.Nat.{ℕ}
 use Rattle.order_queue.specs.Points.{Point}
-use Rattle.gaps.specs.Maps.{All}
+use Rattle.lists.specs.Maps.{All}
 use Rattle.gaps.specs.Line.{Mark, base, left, met, pass, Line, marks, Fits}
 use Rattle.gaps.specs.Store.{Store, Closed, Memory, Laid, timeline}
 use Rattle.gaps.specs.Outline.{outline, same-marks, same-fits}

@@ -6,7 +6,7 @@ use Prim.Native.Nat.{ℕ, _+_, _≤_}
 use native.Mathlib.Omega.{arith}
 use lib.Dec.{eqb}
 use Rattle.lists.specs.Counting.{one, occurrences, occurs-append}
-use Rattle.gaps.specs.Maps.{All, Agree, all-front, all-behind}
+use Rattle.lists.specs.Maps.{All, Agree, all-front, all-behind}
 use Rattle.gaps.specs.Line.{base, left, met, pass, Line, segments, firstChain}
 use Rattle.gaps.specs.Store.{LinkedFrom, Linked, Filled, Start, sole, full, Chain}
 use Rattle.gaps.specs.Places.{grow}

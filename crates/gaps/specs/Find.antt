@@ -2,7 +2,7 @@
 use mathlib.Core.Path.{_≡_, ap, sym, _∙_, subst}
 use mathlib.Core.List.{List, _∷_}
 use Prim.Native.Nat.{ℕ}
-use Rattle.gaps.specs.Maps.{lastOf}
+use Rattle.lists.specs.Maps.{lastOf}
 use Rattle.gaps.specs.Line.{End, nonlocal, local, Extent, vacant, extent, left, met, pass, Line, Mode, settled, awaiting, rest, mid, close, bare, whole}
 use Rattle.gaps.specs.Line.{begun, Views, queue, leaving, meeting, passing}
 use Rattle.gaps.specs.Frames.{clash}

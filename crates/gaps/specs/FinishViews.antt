@@ -3,7 +3,7 @@
 use mathlib.Core.Path.{_≡_, sym, _∙_, subst}
 use mathlib.Core.List.{List, [], _∷_, _++_, append-assoc}
 use Prim.Native.Nat.{ℕ}
-use Rattle.gaps.specs.Maps.{agree-refl, lastOf, all-front}
+use Rattle.lists.specs.Maps.{agree-refl, lastOf, all-front}
 use Rattle.gaps.specs.Line.{End, nonlocal, local, Extent, vacant, extent, left, met, Line, lefts, mets, Mode, settled, Inside, rest, close, Begins, bare}
 use Rattle.gaps.specs.Line.{Views, leaving, meeting}
 use Rattle.gaps.specs.Store.{Once}

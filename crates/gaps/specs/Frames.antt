@@ -3,7 +3,7 @@ use mathlib.Core.Path.{_≡_, refl, ap, _∙_}
 use mathlib.Core.List.{List, [], _∷_, _++_, cons-ne-nil, append-ne-nil-of-right-ne-nil}
 use Prim.Native.Nat.{ℕ}
 use native.Mathlib.Omega.{arith}
-use Rattle.gaps.specs.Maps.{put, off, Agree, agree-refl, agree-put}
+use Rattle.lists.specs.Maps.{put, off, Agree, agree-refl, agree-put}
 use Rattle.gaps.specs.Line.{Extent, vacant, extent, End, Mark, base, left, met, pass, Line, lefts, mets, Mode, Views, queue, leaving, meeting, passing}
 use Rattle.gaps.specs.Lines.{New, NoBase}
 

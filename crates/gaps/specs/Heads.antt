@@ -4,7 +4,7 @@ use mathlib.Core.Logic.{⊎-elim}
 use mathlib.Core.Option.{Option, none}
 use Prim.Native.Nat.{ℕ}
 use Rattle.lists.specs.Counting.{equal?}
-use Rattle.gaps.specs.Maps.{put, put-same, put-other}
+use Rattle.lists.specs.Maps.{put, put-same, put-other}
 use Rattle.gaps.specs.Moves.{headMoved}
 
 -- the holder's queue head is o, and nobody else has one

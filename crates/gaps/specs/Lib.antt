@@ -1,4 +1,3 @@
-pub mod Maps
 pub mod Line
 pub mod Store
 pub mod Lines

@@ -6,7 +6,7 @@ use mathlib.Core.List.{List, [], _∷_, _++_}
 use Prim.Native.Nat.{ℕ, _+_, _-_}
 use lib.Dec.{ltb}
 use Rattle.words.specs.Words.{pick}
-use Rattle.gaps.specs.Maps.{lastOf}
+use Rattle.lists.specs.Maps.{lastOf}
 
 -- An end of a view: "non-local", or a segment.
 pub data End : Type 0 where

@@ -5,7 +5,7 @@ use mathlib.Core.List.{List, [], _∷_, _++_, append-assoc}
 use Prim.Native.Nat.{ℕ, _+_}
 use native.Mathlib.Omega.{arith}
 use Rattle.lists.specs.Counting.{one-yes, occurrences, occurs-append}
-use Rattle.gaps.specs.Maps.{Off, off}
+use Rattle.lists.specs.Maps.{Off, off}
 use Rattle.gaps.specs.Line.{base, left, met, pass, Line, marks, lefts, mets, segments, firstChain}
 use Rattle.gaps.specs.Store.{Once}
 

@@ -3,7 +3,7 @@
 use mathlib.Core.Option.{Option, none, some}
 use mathlib.Core.List.{List, [], _∷_, _++_}
 use Prim.Native.Nat.{ℕ}
-use Rattle.gaps.specs.Maps.{put}
+use Rattle.lists.specs.Maps.{put}
 use Rattle.gaps.specs.Line.{End, nonlocal, local, Extent, vacant, extent}
 use Rattle.gaps.specs.Store.{Store, Memory}
 

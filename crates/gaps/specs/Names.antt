@@ -7,7 +7,7 @@ use mathlib.Core.List.{List, [], _∷_, _++_}
 use Prim.Native.Nat.{ℕ, _+_, _≤_}
 use native.Mathlib.Omega.{arith}
 use Rattle.lists.specs.Counting.{one-yes, occurrences, occurs-append, equal?}
-use Rattle.gaps.specs.Maps.{All, put, put-same, put-other, Off, off, all-front, all-behind}
+use Rattle.lists.specs.Maps.{All, put, put-same, put-other, Off, off, all-front, all-behind}
 use Rattle.gaps.specs.Line.{End, nonlocal, local, Extent, extent, base, left, met, pass, Line, lefts, mets, segments, firstChain, Mode, Inside, rest, mid}
 use Rattle.gaps.specs.Line.{close, Begins, bare, whole, begun, Views, queue, leaving, meeting, passing}
 use Rattle.gaps.specs.Store.{headOf, Memory, Laid}

@@ -4,7 +4,7 @@ use mathlib.Core.List.{List, [], _∷_, _++_}
 use Prim.Native.Nat.{ℕ, _≤_}
 use native.Mathlib.Omega.{arith}
 use Rattle.lists.specs.Counting.{occurrences, occurs-first}
-use Rattle.gaps.specs.Maps.{off, Agree, agree-refl, agree-put}
+use Rattle.lists.specs.Maps.{off, Agree, agree-refl, agree-put}
 use Rattle.gaps.specs.Line.{End, nonlocal, local, Extent, vacant, extent, base, left, met, pass, Line, lefts, mets}
 use Rattle.gaps.specs.Store.{Once}
 use Rattle.gaps.specs.Lines.{count-lefts, count-mets}

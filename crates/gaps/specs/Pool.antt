@@ -5,7 +5,7 @@ use mathlib.Core.List.{List, [], _∷_, _++_}
 use Prim.Native.Nat.{ℕ, _+_, _≤_}
 use native.Mathlib.Omega.{arith}
 use Rattle.lists.specs.Counting.{one-yes, occurrences, occurs-append}
-use Rattle.gaps.specs.Maps.{All, Agree, all-append, all-front, all-behind}
+use Rattle.lists.specs.Maps.{All, Agree, all-append, all-front, all-behind}
 use Rattle.gaps.specs.Line.{Extent, Line, segments}
 use Rattle.gaps.specs.Store.{Store, Chain, Segments, Memory, Laid, timeline}
 use Rattle.gaps.specs.Chains.{chain-keep}

@@ -6,7 +6,7 @@ use Prim.Native.Nat.{ℕ, _≤_}
 use native.Mathlib.Omega.{arith}
 use Rattle.lists.specs.Counting.{one-yes, occurrences, occurs-append}
 use Rattle.order_queue.specs.Points.{Point, value, values}
-use Rattle.gaps.specs.Maps.{All, put, put-same, put-other, agree-put, all-behind}
+use Rattle.lists.specs.Maps.{All, put, put-same, put-other, agree-put, all-behind}
 use Rattle.gaps.specs.Line.{base, Line, segments}
 use Rattle.gaps.specs.Store.{Store, Linked, Chain, Segments, Memory, Laid, valuesIn, timeline}
 use Rattle.gaps.specs.Lines.{count-segments, first-behind}

@@ -6,7 +6,7 @@ use Prim.Native.Nat.{ℕ, _+_, _≤_}
 use native.Mathlib.Omega.{arith}
 use Rattle.lists.specs.Counting.{one-yes, occurrences, occurs-append}
 use Rattle.order_queue.specs.Points.{Point, value, user}
-use Rattle.gaps.specs.Maps.{put, put-same, put-other, off, agree-put, lastOf, last-in}
+use Rattle.lists.specs.Maps.{put, put-same, put-other, off, agree-put, lastOf, last-in}
 use Rattle.gaps.specs.Line.{End, nonlocal, local, vacant, extent, met, Line, segments, Mode, settled, Views}
 use Rattle.gaps.specs.Store.{Store, Segments, Held, Memory, Laid, valuesIn, timeline}
 use Rattle.gaps.specs.Lines.{count-segments, NoBase, no-base-append}

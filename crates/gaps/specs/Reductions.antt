@@ -2,7 +2,7 @@
 use mathlib.Core.Path.{_≡_, refl, ap, sym, _∙_}
 use mathlib.Core.List.{List, [], _∷_, _++_}
 use Prim.Native.Nat.{ℕ}
-use Rattle.gaps.specs.Maps.{put, put-same, put-other, Off, agree-refl, agree-put, lastOf, last-append}
+use Rattle.lists.specs.Maps.{put, put-same, put-other, Off, agree-refl, agree-put, lastOf, last-append}
 use Rattle.gaps.specs.Line.{End, nonlocal, local, Extent, vacant, extent, left, Line, lefts, mets, Mode, settled, awaiting, Inside, rest, mid, close}
 use Rattle.gaps.specs.Line.{Begins, bare, whole, begun, Views, queue, leaving, meeting, passing}
 use Rattle.gaps.specs.Store.{Once}

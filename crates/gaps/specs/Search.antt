@@ -10,7 +10,7 @@ use borrow.Author.Tests.{eq-eqb, ne-eqb, lt-ltb, le-ltb}
 use Rattle.words.specs.Words.{pick, halt, both, either, both-on, both-off, true-both, true-left, true-right}
 use Rattle.lists.specs.Counting.{equal?}
 use Rattle.tree.specs.Tour.{END}
-use Rattle.gaps.specs.Maps.{All}
+use Rattle.lists.specs.Maps.{All}
 use Rattle.gaps.specs.Line.{Extent, vacant, extent, base, left, met, pass, Line, marks, mets, Fits, Mode, Views, queue, leaving, meeting, passing}
 use Rattle.gaps.specs.Moves.{Place, childrenOf, rightOf}
 use Rattle.gaps.specs.Places.{Latest, Target}

@@ -4,7 +4,7 @@ use mathlib.Core.Bool.{Bool, true, false, false≢true}
 use mathlib.Core.List.{List, [], _∷_, _++_, head-eq-of-cons-eq, tail-eq-of-cons-eq}
 use Prim.Native.Nat.{ℕ, _+_, _<_}
 use native.Mathlib.Omega.{arith}
-use Rattle.gaps.specs.Maps.{All, all-behind}
+use Rattle.lists.specs.Maps.{All, all-behind}
 use Rattle.gaps.specs.Line.{Extent, Mark, base, left, met, pass, Line, marks, mets, Fits, Mode, Views, queue, leaving, meeting, passing}
 use Rattle.gaps.specs.Frames.{split}
 use Rattle.gaps.specs.Search.{taskAt, task-met, task-left}

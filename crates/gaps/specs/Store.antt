@@ -5,7 +5,7 @@ use mathlib.Core.List.{List, [], _∷_, _++_}
 use Prim.Native.Nat.{ℕ, _+_, _≤_}
 use Rattle.lists.specs.Counting.{occurrences}
 use Rattle.order_queue.specs.Points.{Point, user, values}
-use Rattle.gaps.specs.Maps.{All, put}
+use Rattle.lists.specs.Maps.{All, put}
 use Rattle.gaps.specs.Line.{Extent, Mark, base, left, met, pass, Line, lefts, mets, segments, firstChain, settled, Views}
 
 -- as maps by segment and by task

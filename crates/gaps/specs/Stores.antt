@@ -5,7 +5,7 @@ use mathlib.Core.List.{List, [], _∷_, _++_}
 use Prim.Native.Nat.{ℕ, _≤_}
 use native.Mathlib.Omega.{arith}
 use Rattle.lists.specs.Counting.{occurs-append}
-use Rattle.gaps.specs.Maps.{All, put-other, lastOf, last-append, all-behind, last-in}
+use Rattle.lists.specs.Maps.{All, put-other, lastOf, last-append, all-behind, last-in}
 use Rattle.gaps.specs.Line.{End, local, Extent, extent, met, Line, segments, firstChain, settled, awaiting, Views}
 use Rattle.gaps.specs.Store.{Store, Chain, Segments, headOf, Held, valuesIn, timeline}
 use Rattle.gaps.specs.Lines.{count-segments, NoBase, first-behind}

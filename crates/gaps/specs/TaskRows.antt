@@ -8,7 +8,7 @@ use native.Mathlib.Omega.{arith}
 use lib.Dec.{eqb}
 use Rattle.lists.specs.Counting.{one, one-yes, one-no, occurrences, equal?}
 use Rattle.order_queue.specs.Points.{Point, user}
-use Rattle.gaps.specs.Maps.{All, agree-refl}
+use Rattle.lists.specs.Maps.{All, agree-refl}
 use Rattle.gaps.specs.Line.{nonlocal, local, vacant, extent, base, left, met, pass, Line, lefts, mets, segments, firstChain, settled, rest, close, bare}
 use Rattle.gaps.specs.Line.{Views, queue, leaving, meeting}
 use Rattle.gaps.specs.Store.{Chain, Once, Closed, Memory, Laid, valuesIn, timeline}

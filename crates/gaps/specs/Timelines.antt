@@ -5,7 +5,7 @@ use Prim.Native.Nat.{ℕ, _≤_}
 use native.Mathlib.Omega.{arith}
 use Rattle.lists.specs.Counting.{one-yes, occurrences, occurs-append}
 use Rattle.order_queue.specs.Points.{Point, value, user, values}
-use Rattle.gaps.specs.Maps.{put-same, put-other, off, Agree, agree-put, lastOf, all-front, all-behind, last-off, last-in}
+use Rattle.lists.specs.Maps.{put-same, put-other, off, Agree, agree-put, lastOf, all-front, all-behind, last-off, last-in}
 use Rattle.gaps.specs.Line.{base, left, met, pass, Line, segments}
 use Rattle.gaps.specs.Store.{valuesIn, timeline}
 use Rattle.gaps.specs.Moves.{stored}

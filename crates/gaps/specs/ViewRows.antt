@@ -5,7 +5,7 @@ use Prim.Native.Nat.{ℕ, _+_}
 use native.Mathlib.Omega.{arith}
 use lib.Dec.{eqb}
 use Rattle.lists.specs.Counting.{one, one-yes, occurrences}
-use Rattle.gaps.specs.Maps.{put, put-same, put-other, Off, off, Agree, agree-refl, agree-put, agree-trans, lastOf, all-front, all-behind}
+use Rattle.lists.specs.Maps.{put, put-same, put-other, Off, off, Agree, agree-refl, agree-put, agree-trans, lastOf, all-front, all-behind}
 use Rattle.gaps.specs.Line.{End, nonlocal, local, Extent, vacant, extent, base, left, met, pass, Line, lefts, mets, Mode, rest, close, bare, begun, Views}
 use Rattle.gaps.specs.Line.{queue, leaving, meeting, passing}
 use Rattle.gaps.specs.Store.{Once}

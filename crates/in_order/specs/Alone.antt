@@ -10,7 +10,7 @@ use Rattle.layout.specs.Layout.{NONE, YOUNGEST, task, read}
 use Rattle.tree.specs.Tour.{after, entering, leaving}
 use Rattle.rules.specs.Contents.{Contents, decode, word}
 use Rattle.order.specs.Steps.{Item}
-use Rattle.gaps.specs.Maps.{All}
+use Rattle.lists.specs.Maps.{All}
 use Rattle.gaps.specs.Line.{base, left, met, Line, marks, Fits, Mode, Views, queue, meeting, passing}
 use Rattle.gaps.specs.Line.Views.{leaving as leaves}
 use Rattle.gaps.specs.Store.{Closed}

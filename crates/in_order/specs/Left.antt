@@ -24,7 +24,7 @@ use Rattle.order.specs.Waits.{unfinished}
 use Rattle.order.specs.Finding.{leftOver}
 use Rattle.order.specs.Ordered.{forTask, leftAnswer}
 use Rattle.order_queue.specs.Finds.{nthValue, leaves}
-use Rattle.gaps.specs.Maps.{All, put-same}
+use Rattle.lists.specs.Maps.{All, put-same}
 use Rattle.gaps.specs.Line.{Line, base, left, met, segments, firstChain}
 use Rattle.gaps.specs.Store.{Laid, LinkedFrom, Chain, valuesIn, timeline, headOf}
 use Rattle.gaps.specs.Pool.{mine}

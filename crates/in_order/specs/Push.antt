@@ -26,7 +26,7 @@ use Rattle.order.specs.Ordered.{rightsAt, forTask, forQueue}
 use Rattle.order_laws.specs.Reached.{Fresh}
 use Rattle.order_waits.specs.Spots.{says-unfinished}
 use Rattle.order_waits.specs.Played.{Asked, Played, plays}
-use Rattle.gaps.specs.Maps.{lastOf, last-in}
+use Rattle.lists.specs.Maps.{lastOf, last-in}
 use Rattle.gaps.specs.Line.{End, nonlocal, local, Extent, vacant, extent, Line, met, segments, Mode, Views}
 use Rattle.gaps.specs.Chains.{count-gap}
 use Rattle.gaps.specs.Find.{awaited, user-awaits}

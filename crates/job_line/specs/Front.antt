@@ -10,7 +10,7 @@ use lib.Dec.{eqb}
 use borrow.Author.Tests.{eq-eqb, ne-eqb}
 use Rattle.words.specs.Words.{pick, halt, pass}
 use Rattle.lists.specs.Counting.{equal?}
-use Rattle.gaps.specs.Maps.{All}
+use Rattle.lists.specs.Maps.{All}
 use Rattle.plain.specs.Machine.{front}
 use Rattle.line.specs.Line.{Item, value, spot, finished, gave, looks, Search, seeking, found, NoSpot, leave}
 pub use Rattle.line.specs.Line.{foundBy}

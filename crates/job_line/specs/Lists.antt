@@ -11,7 +11,7 @@ use lib.Seq.{getD-set-same, getD-set-other}
 use borrow.Author.Tests.{eq-eqb, ne-eqb}
 use Rattle.words.specs.Words.{pick, halt, pass}
 use Rattle.lists.specs.Counting.{equal?}
-use Rattle.gaps.specs.Maps.{All, put, put-same, put-other}
+use Rattle.lists.specs.Maps.{All, put, put-same, put-other}
 use Rattle.plain.specs.Machine.{queue}
 use Rattle.line.specs.Line.{Item, value, spot, finished, gave, NoSpot}
 use Rattle.line.specs.Fronts.{Fronts}

@@ -5,7 +5,7 @@ use mathlib.Core.Logic.{_⊎_, inl, inr, ⊎-elim}
 use mathlib.Core.List.{List, [], _∷_, _++_, append-assoc, append-nil}
 use Prim.Native.Nat.{ℕ}
 use Rattle.words.specs.Words.{halt, pass}
-use Rattle.gaps.specs.Maps.{All}
+use Rattle.lists.specs.Maps.{All}
 use Rattle.order.specs.Steps.{Name}
 use Rattle.order_laws.specs.Names.{same?, same-yes, same-no}
 use Rattle.job.specs.Accepted.{Accepted}

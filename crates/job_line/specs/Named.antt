@@ -4,7 +4,7 @@ use mathlib.Core.Path.{_≡_, refl, sym, _∙_}
 use mathlib.Core.List.{List, [], _∷_, _++_, tail-eq-of-cons-eq}
 use Prim.Native.Nat.{ℕ, _<_}
 use native.Mathlib.Omega.{arith}
-use Rattle.gaps.specs.Maps.{All, all-append, all-map}
+use Rattle.lists.specs.Maps.{All, all-append, all-map}
 use Rattle.order.specs.Steps.{Name}
 use Rattle.order_laws.specs.Names.{Under, under-self, under-parent, not-under-child, one-branch}
 use Rattle.job.specs.Effects.{Effect}

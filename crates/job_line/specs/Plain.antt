@@ -9,7 +9,7 @@ use native.Mathlib.Omega.{arith}
 use lib.ListN.{set, drop}
 use borrow.Author.Tests.{ltb-true}
 use Rattle.words.specs.Words.{halt, both-true}
-use Rattle.gaps.specs.Maps.{All, all-append}
+use Rattle.lists.specs.Maps.{All, all-append}
 use Rattle.job.specs.declared.Instruction.{Instruction}
 use Rattle.job.specs.Operations.{rowOf, operationOf, operationAt}
 use Rattle.job.specs.Effects.{Effect, effect}

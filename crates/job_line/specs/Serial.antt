@@ -4,7 +4,7 @@ use mathlib.Core.Path.{_≡_, ap, sym, _∙_, subst}
 use mathlib.Core.List.{List, [], _∷_, _++_, append-nil, nil≢cons}
 use Prim.Native.Nat.{ℕ, zero, suc, _+_}
 use native.Mathlib.Omega.{arith}
-use Rattle.gaps.specs.Maps.{All}
+use Rattle.lists.specs.Maps.{All}
 use Rattle.job.specs.Accepted.{Accepted}
 use Rattle.plain.specs.Machine.{State, state, Event, step}
 use Rattle.plain.specs.Run.{queuesOf, stackOf, stepsOf, eventIn, runFrom, eventsFrom}

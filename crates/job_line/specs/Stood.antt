@@ -4,7 +4,7 @@ use mathlib.Core.Path.{sym, subst}
 use mathlib.Core.Bool.{Bool, true, false}
 use mathlib.Core.List.{List, _∷_, _++_}
 use Prim.Native.Nat.{ℕ}
-use Rattle.gaps.specs.Maps.{All, all-append}
+use Rattle.lists.specs.Maps.{All, all-append}
 use Rattle.job.specs.Accepted.{Accepted}
 use Rattle.plain.specs.Machine.{Event, begin}
 use Rattle.plain.specs.Run.{stackOf}

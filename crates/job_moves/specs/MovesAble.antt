@@ -21,7 +21,7 @@ use Rattle.order_waits.specs.Played.{Played, played-reached}
 use Rattle.order_waits.specs.Changes.{in-right}
 use Rattle.order_queue.specs.Found.{firstOf}
 use Rattle.order_queue.specs.Finds.{finds}
-use Rattle.gaps.specs.Maps.{All}
+use Rattle.lists.specs.Maps.{All}
 use Rattle.plain.specs.Stack.{rightsOf as jobRights}
 use Rattle.line.specs.Line.{Item, value, spot, finished, gave, Action, puts, looks, returns, Search, seeking, found}
 use Rattle.line.specs.Rights.{Passes}

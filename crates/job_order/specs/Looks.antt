@@ -7,7 +7,7 @@ use Prim.Native.Nat.{ℕ}
 use Rattle.words.specs.Words.{both-true}
 use Rattle.tree.specs.Rights.{pushes as mayPush, pops as mayPop}
 use Rattle.order.specs.Steps.{Item as Mark, rightsOf}
-use Rattle.gaps.specs.Maps.{All}
+use Rattle.lists.specs.Maps.{All}
 use Rattle.plain.specs.Stack.{rightsOf as jobRights}
 use Rattle.line.specs.Line.{Item, value, spot, finished, gave, looks, seeking, found, leave}
 use Rattle.job_line.specs.Tasks.{canPush, canPop, Runner, action}

@@ -16,7 +16,7 @@ use Rattle.order.specs.Steps.{Task, Item as Mark, step, spot as place, numberOf
 use Rattle.order_laws.specs.Items.{In}
 use Rattle.order_queue.specs.Points.{Point, user}
 use Rattle.order_queue.specs.Found.{firstOf}
-use Rattle.gaps.specs.Maps.{All}
+use Rattle.lists.specs.Maps.{All}
 use Rattle.line.specs.Line.{Item, value, spot, finished, gave}
 use Rattle.job_order.specs.Beside.{Numbered, standing, places, taskOf, pointsOf}
 use Rattle.job_order.specs.Points.{point-is, value-here, value-past, finished-past, gave-past}

@@ -4,7 +4,7 @@ use mathlib.Core.Bool.{Bool}
 use mathlib.Core.Option.{Option, none, some}
 use mathlib.Core.List.{List, [], _∷_, _++_, append-nil, nil≢cons, head-eq-of-cons-eq, tail-eq-of-cons-eq}
 use Prim.Native.Nat.{ℕ}
-use Rattle.gaps.specs.Maps.{All}
+use Rattle.lists.specs.Maps.{All}
 use Rattle.order.specs.Steps.{Item as Mark}
 use Rattle.line.specs.Line.{Item, value, spot, Action, puts, looks, Search, free, seeking, found, Acts, leave}
 use Rattle.line.specs.Rights.{Passes}

@@ -4,7 +4,7 @@ use mathlib.Core.Bool.{Bool}
 use mathlib.Core.List.{List, [], _∷_}
 use mathlib.Core.Logic.{inl, inr}
 use Prim.Native.Nat.{ℕ}
-use Rattle.gaps.specs.Maps.{All}
+use Rattle.lists.specs.Maps.{All}
 use Rattle.tree.specs.Rights.{sharesPop}
 use Rattle.order.specs.Steps.{Name}
 use Rattle.job.specs.declared.Instruction.{Instruction}

@@ -14,7 +14,7 @@ use Rattle.order_laws.specs.Reached.{Reached}
 use Rattle.order_waits.specs.Spots.{same-spot, child-says, older-says}
 use Rattle.order_waits.specs.Changes.{in-right}
 use Rattle.order_waits.specs.Order.{Precedes, precedes}
-use Rattle.gaps.specs.Maps.{All}
+use Rattle.lists.specs.Maps.{All}
 use Rattle.line.specs.Line.{Item, value, spot, finished, gave}
 use Rattle.job_order.specs.Beside.{Numbered, standing, places, taskOf}
 use Rattle.job_order.specs.Searches.{Spots}

@@ -15,7 +15,7 @@ use Rattle.order_waits.specs.Spots.{some-says, says-some, pair-is}
 use Rattle.order_waits.specs.Played.{Played, played-reached}
 use Rattle.order_waits.specs.Changes.{in-left, in-right}
 use Rattle.order_waits.specs.Kinship.{says-blocked, blocked-says}
-use Rattle.gaps.specs.Maps.{All}
+use Rattle.lists.specs.Maps.{All}
 use Rattle.job.specs.Operations.{operationAt}
 use Rattle.plain.specs.Stack.{rightsOf as jobRights}
 use Rattle.line.specs.Line.{Item, value, spot, finished, gave}

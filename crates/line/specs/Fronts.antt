@@ -8,7 +8,7 @@ use lib.ListN.{drop}
 use lib.Dec.{eqb}
 use borrow.Author.Tests.{eqb-true}
 use Rattle.words.specs.Words.{pick}
-use Rattle.gaps.specs.Maps.{put, put-other}
+use Rattle.lists.specs.Maps.{put, put-other}
 use Rattle.line.specs.Line.{Search, free, seeking, found, putting, About, Apart}
 
 abbrev pub Fronts : Type 0

@@ -3,3 +3,4 @@ pub mod Sums
 pub mod Tests
 pub mod Marks
 pub mod Distinct
+pub mod Maps

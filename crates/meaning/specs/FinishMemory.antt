@@ -7,7 +7,7 @@ use lib.Dec.{ltb}
 use Rattle.words.specs.Words.{pick}
 use Rattle.layout.specs.Layout.{CHILDREN, USER, RIGHT}
 use Rattle.calls.specs.Views.{taskAt, kindAt}
-use Rattle.gaps.specs.Maps.{put}
+use Rattle.lists.specs.Maps.{put}
 use Rattle.gaps.specs.Line.{End, nonlocal, local, Extent, vacant, extent}
 use Rattle.gaps.specs.Store.{Store, Memory}
 use Rattle.gaps.specs.Moves.{Place, childrenOf, rightOf, viewAt, reduced, childrenWith, rightsWith, joined as storeJoined, finished, finishedWith}

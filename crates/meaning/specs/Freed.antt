@@ -17,7 +17,7 @@ use Rattle.layout.specs.Layout.{freeTasks, freeTask, task, address, read, write
 use Rattle.rules.specs.Views.{view}
 use Rattle.calls.specs.Views.{viewOf}
 use Rattle.calls.specs.Finish.{recordFreed}
-use Rattle.gaps.specs.Maps.{put}
+use Rattle.lists.specs.Maps.{put}
 use Rattle.gaps.specs.Line.{Extent, local, extent}
 use Rattle.meaning.specs.Meaning.{Meaning, optional, extentOf, headsIn, viewIn, meaningOf, Sized}
 use Rattle.meaning.specs.Maps.{put-path}

@@ -3,7 +3,7 @@ use mathlib.Core.Path.{_≡_, refl, ap, sym, _∙_, fun-ext}
 use mathlib.Core.Logic.{⊎-elim}
 use Prim.Native.Nat.{ℕ}
 use Rattle.lists.specs.Counting.{equal?}
-use Rattle.gaps.specs.Maps.{put, put-same, put-other}
+use Rattle.lists.specs.Maps.{put, put-same, put-other}
 
 -- a map that differs at one place only
 pub put-path : {A : Type 0} (f g : ℕ → A) (k : ℕ) (x : A) → g k ≡ x → ((j : ℕ) → (j ≡ k → ⊥) → g j ≡ f j) → g ≡ put f k x

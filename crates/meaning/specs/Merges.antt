@@ -3,7 +3,7 @@ use mathlib.Core.Path.{_≡_, ap, _∙_}
 use Prim.Native.Nat.{ℕ}
 use native.Mathlib.Omega.{arith}
 use Rattle.layout.specs.Layout.{CHILDREN, USER, RIGHT}
-use Rattle.gaps.specs.Maps.{put, put-same}
+use Rattle.lists.specs.Maps.{put, put-same}
 use Rattle.gaps.specs.Line.{Extent, vacant}
 use Rattle.gaps.specs.Store.{Store}
 use Rattle.gaps.specs.Moves.{reduced, joined as storeJoined}

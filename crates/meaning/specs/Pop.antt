@@ -12,7 +12,7 @@ use Rattle.words.specs.Words.{pick, either, true-left, true-right, pass, halt, 
 use Rattle.layout.specs.Layout.{NONE, numberWord, count, next, queueHead, read, write}
 use Rattle.calls.specs.Segments.{dropped, released}
 use Rattle.calls.specs.Find.{popped}
-use Rattle.gaps.specs.Maps.{put, put-same}
+use Rattle.lists.specs.Maps.{put, put-same}
 use Rattle.gaps.specs.Moves.{poppedTo, popped as memoryPopped}
 use Rattle.meaning.specs.Meaning.{Meaning, optional, nextIn, contentsIn, freeIn, headsIn, meaningOf, storeOf, memoryOf, Sized}
 use Rattle.meaning.specs.Maps.{put-self, put-twice}

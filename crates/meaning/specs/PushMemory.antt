@@ -9,7 +9,7 @@ use lib.Dec.{ltb}
 use Rattle.words.specs.Words.{pick}
 use Rattle.layout.specs.Layout.{CHILDREN, USER, RIGHT}
 use Rattle.calls.specs.Views.{taskAt, kindAt}
-use Rattle.gaps.specs.Maps.{put, put-other}
+use Rattle.lists.specs.Maps.{put, put-other}
 use Rattle.gaps.specs.Line.{End, nonlocal, local, Extent, extent}
 use Rattle.gaps.specs.Store.{Store}
 use Rattle.gaps.specs.Moves.{childrenOf, rightOf, reduced, joined as storeJoined, taken as storeTaken, linkedHolding, pushedBehind, pushedApart}

@@ -7,7 +7,7 @@ use borrow.Author.Tests.{eq-eqb, ne-eqb}
 use Rattle.words.specs.Words.{pass, halt}
 use Rattle.layout.specs.Layout.{NONE, queueHead, read, write}
 use Rattle.calls.specs.Finish.{heir, queueReturned}
-use Rattle.gaps.specs.Maps.{put, put-same}
+use Rattle.lists.specs.Maps.{put, put-same}
 use Rattle.gaps.specs.Moves.{headMoved, queuePassed}
 use Rattle.meaning.specs.Meaning.{Meaning, optional, headsIn, meaningOf, memoryOf, Sized}
 use Rattle.meaning.specs.Maps.{put-swap}

@@ -11,7 +11,7 @@ use Rattle.lists.specs.Counting.{below?}
 use Rattle.layout.specs.Layout.{lengthWord, value, first, count, address, read, write}
 use Rattle.calls.specs.Segments.{place, valueAt}
 use Rattle.calls.specs.Places.{place-low, place-high, place-below}
-use Rattle.gaps.specs.Maps.{put}
+use Rattle.lists.specs.Maps.{put}
 use Rattle.meaning.specs.Meaning.{listed, contentsIn}
 use Rattle.meaning.specs.Maps.{put-path}
 use Rattle.meaning.specs.Reads.{contents-at, contents-same-at}

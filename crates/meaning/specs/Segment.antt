@@ -9,7 +9,7 @@ use native.Mathlib.Nat.{mul-le-mul-left}
 use Rattle.lists.specs.Counting.{equal?}
 use Rattle.layout.specs.Layout.{lengthWord, numberWord, freeSegments, freeSegment, segment, value, first, count, next, address, read, write}
 use Rattle.layout.specs.Frame.{read-same}
-use Rattle.gaps.specs.Maps.{put}
+use Rattle.lists.specs.Maps.{put}
 use Rattle.meaning.specs.Meaning.{optional, nextIn, contentsIn, freeIn, meaningOf, Sized}
 use Rattle.meaning.specs.Update.{withNext}
 use Rattle.meaning.specs.Maps.{put-path}

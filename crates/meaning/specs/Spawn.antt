@@ -15,7 +15,7 @@ use Rattle.tree.specs.Rights.{pops, uses}
 use Rattle.rules.specs.Views.{view}
 use Rattle.calls.specs.Views.{viewOf}
 use Rattle.calls.specs.Spawn.{passedUser, passedQueue, keptUser, keptQueue, childViews, childMade}
-use Rattle.gaps.specs.Maps.{put, put-same, put-other}
+use Rattle.lists.specs.Maps.{put, put-same, put-other}
 use Rattle.gaps.specs.Line.{Extent, vacant}
 use Rattle.meaning.specs.Meaning.{Meaning, optional, extentOf, headsIn, viewIn, meaningOf, Sized}
 use Rattle.meaning.specs.Maps.{put-path, three-path}

@@ -8,7 +8,7 @@ use borrow.Author.Tests.{lt-ltb}
 use Rattle.words.specs.Words.{pick, halt}
 use Rattle.layout.specs.Layout.{CHILDREN, USER, RIGHT}
 use Rattle.tree.specs.Rights.{pops, uses}
-use Rattle.gaps.specs.Maps.{put, put-same, put-other}
+use Rattle.lists.specs.Maps.{put, put-same, put-other}
 use Rattle.gaps.specs.Line.{Extent, vacant}
 use Rattle.gaps.specs.Store.{Memory}
 use Rattle.gaps.specs.Moves.{spawned, queuePassed}

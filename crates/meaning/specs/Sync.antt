@@ -6,7 +6,7 @@ use native.Mathlib.Omega.{arith}
 use Rattle.layout.specs.Layout.{CHILDREN, USER, RIGHT}
 use Rattle.calls.specs.Views.{viewOf, setView, merged}
 use Rattle.calls.specs.Sync.{syncs, syncedQueue}
-use Rattle.gaps.specs.Maps.{put, put-same}
+use Rattle.lists.specs.Maps.{put, put-same}
 use Rattle.gaps.specs.Line.{Extent, vacant}
 use Rattle.gaps.specs.Store.{Store}
 use Rattle.gaps.specs.Moves.{reduced, joined as storeJoined, synced as memorySynced}

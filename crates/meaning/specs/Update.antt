@@ -7,7 +7,7 @@ use Prim.Native.Nat.{ℕ}
 use native.Mathlib.Omega.{arith}
 use Rattle.lists.specs.Counting.{equal?}
 use Rattle.layout.specs.Layout.{CHILDREN, USER, RIGHT}
-use Rattle.gaps.specs.Maps.{put, put-same, put-other}
+use Rattle.lists.specs.Maps.{put, put-same, put-other}
 use Rattle.gaps.specs.Line.{Extent}
 use Rattle.gaps.specs.Store.{Store, Memory}
 use Rattle.meaning.specs.Meaning.{Meaning, storeOf, memoryOf}

@@ -8,7 +8,7 @@ use Rattle.layout.specs.Layout.{task, head, tail, queueHead, address, read, wri
 use Rattle.layout.specs.Frame.{read-same, size-write}
 use Rattle.rules.specs.Views.{View, view}
 use Rattle.calls.specs.Views.{viewOf, setView}
-use Rattle.gaps.specs.Maps.{put}
+use Rattle.lists.specs.Maps.{put}
 use Rattle.gaps.specs.Line.{Extent}
 use Rattle.meaning.specs.Meaning.{optional, extentOf, headsIn, viewIn, meaningOf, Sized}
 use Rattle.meaning.specs.Update.{withHead, withView}

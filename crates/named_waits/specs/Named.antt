@@ -5,7 +5,7 @@ use mathlib.Core.List.{List, [], _∷_}
 use mathlib.Core.Logic.{_⊎_, inl, inr, ⊎-elim}
 use Prim.Native.Nat.{ℕ}
 use Rattle.words.specs.Words.{both, either, both-true, either-true, neither, neither-true, refuted, true-left, true-right}
-use Rattle.gaps.specs.Maps.{All}
+use Rattle.lists.specs.Maps.{All}
 use Rattle.order.specs.Steps.{Name}
 use Rattle.order.specs.Waits.{isChild, isOlder}
 use Rattle.line.specs.Line.{Item, value, spot, finished, gave, Action, Search, free, seeking, found, putting, Acts}

@@ -6,7 +6,7 @@ use Prim.Native.Nat.{ℕ, _+_, _*_, _<_, _≤_}
 use native.Mathlib.Omega.{arith}
 use lib.ListN.{length}
 use Rattle.lists.specs.Counting.{occurrences, occurs-nil, occurs-past, equal?}
-use Rattle.gaps.specs.Maps.{All, all-behind}
+use Rattle.lists.specs.Maps.{All, all-behind}
 use Rattle.gaps.specs.Line.{base, left, met, pass, Line, marks, lefts, mets}
 use Rattle.paper_rules.specs.Order.{ViewName, children, user, right, behind, placeIn, behind-at}
 use Rattle.paper_rules.specs.Slots.{Slot, slot, slots}

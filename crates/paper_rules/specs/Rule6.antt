@@ -8,7 +8,7 @@ use Prim.Native.Nat.{ℕ, _<_}
 use native.Mathlib.Omega.{arith}
 use Rattle.lists.specs.Counting.{occurrences, occurs-here, equal?, below?}
 use Rattle.order.specs.Steps.{Item}
-use Rattle.gaps.specs.Maps.{All, all-append}
+use Rattle.lists.specs.Maps.{All, all-append}
 use Rattle.gaps.specs.Line.{End, local, extent, firstChain, segments}
 use Rattle.gaps.specs.Store.{Memory}
 use Rattle.meaning.specs.Meaning.{headsIn, storeIn}

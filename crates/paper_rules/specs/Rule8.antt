@@ -15,7 +15,7 @@ use Rattle.rules.specs.Contents.{decode}
 use Rattle.rules.specs.Rules.{Holder}
 use Rattle.calls.specs.Waits.{rightsOf as rightsIn}
 use Rattle.order.specs.Steps.{Item}
-use Rattle.gaps.specs.Maps.{All, lastOf, all-append}
+use Rattle.lists.specs.Maps.{All, lastOf, all-append}
 use Rattle.gaps.specs.Line.{local, extent, Line, firstChain, base, left, met, pass}
 use Rattle.gaps.specs.Store.{Linked, Chain}
 use Rattle.meaning.specs.Meaning.{headsIn, nextIn, contentsIn}

@@ -19,7 +19,7 @@ use Rattle.order_laws.specs.Items.{In, in-split}
 use Rattle.order_waits.specs.Played.{Played}
 use Rattle.order_waits.specs.Popper.{firstPopper}
 use Rattle.order_waits.specs.Poppers.{popper-says, free-first}
-use Rattle.gaps.specs.Maps.{put, put-same, put-other}
+use Rattle.lists.specs.Maps.{put, put-same, put-other}
 use Rattle.gaps.specs.Line.{nonlocal, local, vacant, extent, firstChain}
 use Rattle.gaps.specs.Store.{headOf}
 use Rattle.gaps.specs.Names.{count-parts}

@@ -8,7 +8,7 @@ use mathlib.Core.Logic.{_⊎_, inl, inr, ⊎-elim}
 use Prim.Native.Nat.{ℕ, _<_}
 use native.Mathlib.Omega.{arith}
 use Rattle.order.specs.Steps.{Item}
-use Rattle.gaps.specs.Maps.{All, lastOf, all-append}
+use Rattle.lists.specs.Maps.{All, lastOf, all-append}
 use Rattle.gaps.specs.Line.{End, nonlocal, local, vacant, extent}
 use Rattle.meaning.specs.Meaning.{headsIn}
 use Rattle.represents.specs.Represents.{Represents}

@@ -7,7 +7,7 @@ use mathlib.Core.Option.{Option}
 use Prim.Native.Nat.{ℕ, _<_, _≤_}
 use native.Mathlib.Omega.{arith}
 use Rattle.lists.specs.Counting.{occurrences, occurs-append}
-use Rattle.gaps.specs.Maps.{All, lastOf, last-in}
+use Rattle.lists.specs.Maps.{All, lastOf, last-in}
 use Rattle.gaps.specs.Line.{End, nonlocal, local, Extent, vacant, extent, base, left, met, pass, Line, firstChain, Mode, settled, awaiting, Inside, rest, mid}
 use Rattle.gaps.specs.Line.{close, Begins, bare, whole, begun, Views, leaving, meeting, passing}
 use Rattle.gaps.specs.Line.Views.{queue as beginning}

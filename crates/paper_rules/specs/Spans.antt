@@ -6,7 +6,7 @@ use mathlib.Core.Logic.{_⊎_, inl, inr, ⊎-elim}
 use Prim.Native.Nat.{ℕ, _<_, _≤_}
 use native.Mathlib.Omega.{arith}
 use Rattle.lists.specs.Counting.{occurrences}
-use Rattle.gaps.specs.Maps.{All, lastOf}
+use Rattle.lists.specs.Maps.{All, lastOf}
 use Rattle.gaps.specs.Line.{End, local, extent, firstChain}
 use Rattle.gaps.specs.Store.{LinkedFrom, Linked, Memory}
 use Rattle.gaps.specs.Frames.{clash}

@@ -5,7 +5,7 @@ use mathlib.Core.Logic.{inl, inr, ⊎-elim}
 use Prim.Native.Nat.{ℕ, _+_, _≤_}
 use native.Mathlib.Omega.{arith}
 use Rattle.lists.specs.Counting.{occurrences, occurs-append}
-use Rattle.gaps.specs.Maps.{All}
+use Rattle.lists.specs.Maps.{All}
 use Rattle.gaps.specs.Line.{End, nonlocal, local, Extent, extent, Line, firstChain, Mode, settled, awaiting, Inside, rest, mid, close, Begins, bare, whole}
 use Rattle.gaps.specs.Line.{begun, Views, leaving, meeting, passing}
 use Rattle.gaps.specs.Line.Views.{queue as beginning}

@@ -14,7 +14,7 @@ use Rattle.rules.specs.Contents.{decode}
 use Rattle.rules.specs.Rules.{Unfinished, Holder}
 use Rattle.order.specs.Steps.{Item}
 use Rattle.gaps.specs.Line.{End, nonlocal, local, Extent, vacant, extent, firstChain}
-use Rattle.gaps.specs.Maps.{lastOf}
+use Rattle.lists.specs.Maps.{lastOf}
 use Rattle.gaps.specs.Store.{LinkedFrom, Memory}
 use Rattle.gaps.specs.Names.{count-parts}
 use Rattle.gaps.specs.Splits.{small-mets}

@@ -16,7 +16,7 @@ use Rattle.order_laws.specs.Laws.{one-spot}
 use Rattle.order_waits.specs.Played.{played-reached}
 use Rattle.order_waits.specs.Changes.{in-right}
 use Rattle.order_queue.specs.Points.{Point, user, Timeline}
-use Rattle.gaps.specs.Maps.{All}
+use Rattle.lists.specs.Maps.{All}
 use Rattle.gaps.specs.Line.{Line, met, marks}
 use Rattle.gaps.specs.Store.{Laid, valuesIn, timeline}
 use Rattle.gaps.specs.Timelines.{timeline-at}

@@ -5,7 +5,7 @@ use mathlib.Core.List.{List}
 use mathlib.Core.Logic.{_⊎_, inl, inr}
 use Prim.Native.Nat.{ℕ, _+_, _<_}
 use Rattle.lists.specs.Counting.{occurrences}
-use Rattle.gaps.specs.Maps.{All}
+use Rattle.lists.specs.Maps.{All}
 use Rattle.gaps.specs.Line.{vacant, Line, marks, lefts, mets, Fits}
 use Rattle.gaps.specs.Store.{Memory}
 use Rattle.gaps.specs.Splits.{small-mets}

@@ -8,7 +8,7 @@ use Prim.Native.Nat.{ℕ, zero, suc, _<_, _≤_}
 use native.Mathlib.Omega.{arith}
 use Rattle.lists.specs.Counting.{occurrences, equal?, occurs-here, occurs-append}
 use Rattle.layout.specs.Layout.{CHILDREN, USER, RIGHT}
-use Rattle.gaps.specs.Maps.{All, put-other, all-at}
+use Rattle.lists.specs.Maps.{All, put-other, all-at}
 use Rattle.gaps.specs.Line.{End, nonlocal, local, extent, Line, lefts, mets, firstChain, base, left, met, pass, segments}
 use Rattle.gaps.specs.Store.{headOf}
 use Rattle.gaps.specs.Names.{OnlyHead, only-head, Unnamed, unnamed}

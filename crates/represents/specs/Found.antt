@@ -13,7 +13,7 @@ use Rattle.rules.specs.Contents.{decode}
 use Rattle.rules.specs.Rules.{Unfinished}
 use Rattle.calls.specs.Views.{taskAt, kindAt}
 use Rattle.order.specs.Steps.{Item}
-use Rattle.gaps.specs.Maps.{All, put-other}
+use Rattle.lists.specs.Maps.{All, put-other}
 use Rattle.gaps.specs.Line.{Extent, vacant, extent, Line, base, left, met, pass, lefts, mets, Fits}
 use Rattle.gaps.specs.Moves.{Place, childrenOf, rightOf, viewAt, reduced, childrenWith, rightsWith}
 use Rattle.gaps.specs.Places.{In}

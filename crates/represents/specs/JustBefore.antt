@@ -10,7 +10,7 @@ use Rattle.lists.specs.Counting.{occurrences, occurs-append, occurs-here, occur
 use Rattle.tree.specs.Tour.{tour}
 use Rattle.calls.specs.Views.{standsAt, justBefore}
 use Rattle.order.specs.Steps.{Task, Item, spot, numberOf}
-use Rattle.gaps.specs.Maps.{All, all-behind}
+use Rattle.lists.specs.Maps.{All, all-behind}
 use Rattle.gaps.specs.Line.{vacant, Line, met, Fits, settled, Views}
 use Rattle.gaps.specs.Store.{Laid}
 use Rattle.gaps.specs.Places.{Target, target-in}

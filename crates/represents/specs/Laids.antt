@@ -7,7 +7,7 @@ use native.Mathlib.Omega.{arith}
 use Rattle.words.specs.Words.{pick}
 use Rattle.lists.specs.Counting.{occurrences, equal?, occurs-append}
 use Rattle.tree.specs.Queues.{by-four}
-use Rattle.gaps.specs.Maps.{All, put, put-same, put-other, all-in}
+use Rattle.lists.specs.Maps.{All, put, put-same, put-other, all-in}
 use Rattle.gaps.specs.Line.{Line, segments}
 use Rattle.gaps.specs.Store.{Store, Memory, Laid, Segments, timeline}
 use Rattle.gaps.specs.Stores.{Kept}

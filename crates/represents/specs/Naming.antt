@@ -8,7 +8,7 @@ use native.Mathlib.Omega.{arith}
 use Rattle.lists.specs.Counting.{occurrences, equal?, below?}
 use Rattle.layout.specs.Layout.{NL, task, head, tail, queueHead, read}
 use Rattle.calls.specs.Views.{viewOf, not-empty}
-use Rattle.gaps.specs.Maps.{put, put-same, put-other}
+use Rattle.lists.specs.Maps.{put, put-same, put-other}
 use Rattle.gaps.specs.Line.{End, local, Extent, extent}
 use Rattle.order.specs.Steps.{Item}
 use Rattle.links.specs.Linked.{Linked, tour-is}

@@ -11,7 +11,7 @@ use Rattle.layout.specs.Layout.{NONE, numberWord, task, address, read, write, r
 use Rattle.tree.specs.Tour.{MARKS, tour}
 use Rattle.calls.specs.Segments.{taken, nextFree}
 use Rattle.order.specs.Steps.{Task, Item, spot, numberOf}
-use Rattle.gaps.specs.Maps.{put-other, lastOf, last-in, all-behind}
+use Rattle.lists.specs.Maps.{put-other, lastOf, last-in, all-behind}
 use Rattle.gaps.specs.Line.{Line, met, segments, firstChain}
 use Rattle.gaps.specs.Store.{Chain, Laid}
 use Rattle.gaps.specs.Chains.{Gap, count-gap, sole-first}

@@ -7,7 +7,7 @@ use Prim.Native.Nat.{ℕ, _<_}
 use native.Mathlib.Omega.{arith}
 use Rattle.lists.specs.Counting.{equal?}
 use Rattle.layout.specs.Layout.{NONE, numberWord, next, read}
-use Rattle.gaps.specs.Maps.{put, put-same, put-other}
+use Rattle.lists.specs.Maps.{put, put-same, put-other}
 use Rattle.gaps.specs.Line.{nonlocal, local, Extent, vacant, extent}
 use Rattle.gaps.specs.Store.{Store}
 use Rattle.gaps.specs.Moves.{taken, linkedHolding, joined, poppedTo}

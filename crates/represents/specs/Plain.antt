@@ -20,7 +20,7 @@ use Rattle.order_waits.specs.Popper.{firstPopper}
 use Rattle.order_waits.specs.Heirs.{plain-popper}
 use Rattle.order_queue.specs.Points.{Point, added, takes, Timeline}
 use Rattle.order_queue.specs.Laws.{plain-line}
-use Rattle.gaps.specs.Maps.{All, put, put-same, put-other}
+use Rattle.lists.specs.Maps.{All, put, put-same, put-other}
 use Rattle.gaps.specs.Line.{vacant, Line, marks, Fits}
 use Rattle.gaps.specs.Store.{Store, Memory, Laid, timeline}
 use Rattle.gaps.specs.After.{After, after-marks, after-fits}

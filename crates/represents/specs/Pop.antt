@@ -26,7 +26,7 @@ use Rattle.order_queue.specs.Points.{Point, value, user, values, added, takes, 
 use Rattle.order_queue.specs.Found.{firstOf}
 use Rattle.order_queue.specs.Laws.{pop-line}
 use Rattle.order_queue.specs.Finds.{finds, NoValueFirst, finds-none}
-use Rattle.gaps.specs.Maps.{put-same, all-behind}
+use Rattle.lists.specs.Maps.{put-same, all-behind}
 use Rattle.gaps.specs.Line.{vacant, Line, base, left, met, pass, firstChain}
 use Rattle.gaps.specs.Store.{Memory, Chain, Start, sole, full, headOf, Laid, valuesIn, timeline}
 use Rattle.gaps.specs.Lines.{NoBase, first-behind}

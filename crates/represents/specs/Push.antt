@@ -13,7 +13,7 @@ use Rattle.order_laws.specs.Moves.{plain-push}
 use Rattle.order_waits.specs.Played.{Played}
 use Rattle.order_queue.specs.Points.{Point, value, user, added, takes, Timeline}
 use Rattle.order_queue.specs.Laws.{push-line}
-use Rattle.gaps.specs.Maps.{put, put-other}
+use Rattle.lists.specs.Maps.{put, put-other}
 use Rattle.gaps.specs.Line.{End, local, Extent, vacant, extent, Line, met}
 use Rattle.gaps.specs.Store.{Memory, timeline}
 use Rattle.gaps.specs.Moves.{pushedInto, taken as taken-store, pushedBehind}

@@ -13,7 +13,7 @@ use Rattle.calls.specs.Segments.{taken, nextFree}
 use Rattle.calls.specs.Views.{viewOf, taskAt, kindAt, reducible, setView, joined, justBefore}
 use Rattle.order.specs.Steps.{Task, Item, spot, pushes, numberOf, rightsOf, advance}
 use Rattle.order_waits.specs.Played.{Played}
-use Rattle.gaps.specs.Maps.{lastOf, last-in}
+use Rattle.lists.specs.Maps.{lastOf, last-in}
 use Rattle.gaps.specs.Line.{nonlocal, local, Extent, vacant, extent, Line}
 use Rattle.gaps.specs.Store.{Memory}
 use Rattle.gaps.specs.Chains.{count-gap}

@@ -15,7 +15,7 @@ use Rattle.order.specs.Steps.{Item}
 use Rattle.order_waits.specs.Played.{Played}
 use Rattle.order_waits.specs.Popper.{firstPopper}
 use Rattle.order_queue.specs.Points.{Timeline}
-use Rattle.gaps.specs.Maps.{All}
+use Rattle.lists.specs.Maps.{All}
 use Rattle.gaps.specs.Line.{vacant, Line, marks, Fits}
 use Rattle.gaps.specs.Store.{Memory, Laid, timeline}
 use Rattle.gaps.specs.Pool.{Pool, mine}

@@ -11,7 +11,7 @@ use Rattle.lists.specs.Counting.{occurrences, occurs-nil, occurs-here, occurs-p
 use Rattle.layout.specs.Layout.{FREE, STATUS, task, read, CHILDREN, USER, RIGHT}
 use Rattle.rules.specs.Contents.{decode}
 use Rattle.rules.specs.Rules.{Unfinished}
-use Rattle.gaps.specs.Maps.{All}
+use Rattle.lists.specs.Maps.{All}
 use Rattle.gaps.specs.Line.{base, left, met, pass, Line, marks, lefts, mets, Fits}
 use Rattle.gaps.specs.Search.{taskAt, task-met, task-left}
 use Rattle.links.specs.Linked.{word-is}

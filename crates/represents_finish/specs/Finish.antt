@@ -19,7 +19,7 @@ use Rattle.order_laws.specs.Numbers.{advance-at}
 use Rattle.order_waits.specs.Played.{Played}
 use Rattle.order_waits.specs.Poppers.{popper-says}
 use Rattle.order_queue.specs.Points.{Timeline}
-use Rattle.gaps.specs.Maps.{put, put-other}
+use Rattle.lists.specs.Maps.{put, put-other}
 use Rattle.gaps.specs.Line.{Line, firstChain}
 use Rattle.gaps.specs.Store.{Memory, headOf, timeline}
 use Rattle.links.specs.Marks.{mark-once}

@@ -11,7 +11,7 @@ use Rattle.calls.specs.Finish.{finishes, viewsReturned, finishedQueue}
 use Rattle.order.specs.Steps.{Task, Item, spot, finishes as finishStep, numberOf, rightsOf, advance}
 use Rattle.order_queue.specs.Points.{Timeline}
 use Rattle.order_queue.specs.Laws.{finish-past}
-use Rattle.gaps.specs.Maps.{All, put-other, all-append, all-front, all-behind}
+use Rattle.lists.specs.Maps.{All, put-other, all-append, all-front, all-behind}
 use Rattle.gaps.specs.Line.{Extent, vacant, pass, Line, marks, Fits, firstChain}
 use Rattle.gaps.specs.Store.{Memory, Laid, headOf, timeline}
 use Rattle.gaps.specs.Lines.{marks-append}

@@ -12,7 +12,7 @@ use Rattle.calls.specs.Finish.{viewsReturned}
 use Rattle.order.specs.Steps.{Task, Item, spot, finishes, numberOf, rightsOf, advance}
 use Rattle.order_queue.specs.Points.{Point, user, Timeline}
 use Rattle.order_queue.specs.Laws.{finish-line}
-use Rattle.gaps.specs.Maps.{All, put-same, put-other, all-append, all-front, all-behind}
+use Rattle.lists.specs.Maps.{All, put-same, put-other, all-append, all-front, all-behind}
 use Rattle.gaps.specs.Line.{Extent, vacant, Mark, left, met, Line, marks, segments, Fits}
 use Rattle.gaps.specs.Store.{Memory, Laid, valuesIn, timeline}
 use Rattle.gaps.specs.Lines.{marks-append, count-segments}

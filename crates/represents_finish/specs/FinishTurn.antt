@@ -14,7 +14,7 @@ use Rattle.calls.specs.Finish.{finishes as allows, finishedQueue}
 use Rattle.order.specs.Steps.{Task, Item, spot, finishes, numberOf, rightsOf, advance}
 use Rattle.order.specs.Waits.{blocked}
 use Rattle.order_waits.specs.Played.{Played}
-use Rattle.gaps.specs.Maps.{put, put-same, put-other}
+use Rattle.lists.specs.Maps.{put, put-same, put-other}
 use Rattle.gaps.specs.Line.{Line, marks}
 use Rattle.links.specs.Waits.{same-rights}
 use Rattle.represents.specs.Represents.{queueMemory, usesIn, Represents}

@@ -14,7 +14,7 @@ use Rattle.layout.specs.Layout.{FREE, STATUS, RIGHTS, CHILDREN, USER, RIGHT, nu
 use Rattle.tree.specs.Rights.{uses}
 use Rattle.calls.specs.Waits.{rightsOf as rightsIn}
 use Rattle.calls.specs.Finish.{unlinked, recordFreed}
-use Rattle.gaps.specs.Maps.{All}
+use Rattle.lists.specs.Maps.{All}
 use Rattle.gaps.specs.Line.{vacant, base, left, met, pass, Line, marks, Fits}
 use Rattle.links.specs.Finish.{Finished}
 use Rattle.meaning.specs.Meaning.{Meaning, meaningOf, nextIn, contentsIn, freeIn, headsIn, viewIn, Sized}

@@ -7,7 +7,7 @@ use borrow.Author.Tests.{eqb-true, not-false}
 use Rattle.layout.specs.Layout.{NONE, YOUNGEST, task, read}
 use Rattle.calls.specs.Waits.{hasChild}
 use Rattle.order.specs.Steps.{Task, Item, spot, numberOf}
-use Rattle.gaps.specs.Maps.{All}
+use Rattle.lists.specs.Maps.{All}
 use Rattle.gaps.specs.Line.{Extent, left, met, pass, Line, marks, Fits, Mode, Views}
 use Rattle.gaps.specs.Splits.{all-proper, small-mets, met-leaf, pass-leaf}
 use Rattle.tree.specs.Tour.{met as metIn}

@@ -4,7 +4,7 @@ use mathlib.Core.Bool.{Bool, true}
 use mathlib.Core.Option.{none}
 use Prim.Native.Nat.{ℕ}
 use Rattle.words.specs.Words.{pick, halt}
-use Rattle.gaps.specs.Maps.{put}
+use Rattle.lists.specs.Maps.{put}
 use Rattle.gaps.specs.Line.{Extent, vacant}
 use Rattle.gaps.specs.Store.{Store, Memory}
 use Rattle.gaps.specs.Moves.{Place, viewAt, reduced, childrenWith, rightsWith, joined, queuePassed, finishedWith, finished}

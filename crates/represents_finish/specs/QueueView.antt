@@ -15,7 +15,7 @@ use Rattle.order_laws.specs.Numbers.{advance-at}
 use Rattle.order_waits.specs.Played.{Played}
 use Rattle.order_waits.specs.Popper.{firstPopper}
 use Rattle.order_queue.specs.Points.{Timeline}
-use Rattle.gaps.specs.Maps.{put, put-same, put-other}
+use Rattle.lists.specs.Maps.{put, put-same, put-other}
 use Rattle.gaps.specs.Line.{Line, firstChain}
 use Rattle.gaps.specs.Store.{Memory, Laid, headOf, timeline}
 use Rattle.gaps.specs.Moves.{headMoved, queuePassed}

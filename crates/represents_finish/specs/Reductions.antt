@@ -5,7 +5,7 @@ use mathlib.Core.List.{List, [], _∷_, _++_}
 use Prim.Native.Nat.{ℕ, _+_, _<_, _≤_}
 use native.Mathlib.Omega.{arith}
 use Rattle.lists.specs.Counting.{occurrences, occurs-append, occurs-here}
-use Rattle.gaps.specs.Maps.{lastOf, last-in, all-behind}
+use Rattle.lists.specs.Maps.{lastOf, last-in, all-behind}
 use Rattle.gaps.specs.Line.{End, nonlocal, local, Extent, extent, left, met, Line, segments, firstChain, Mode, settled, awaiting, Inside, rest, mid, close}
 use Rattle.gaps.specs.Line.{Begins, bare, whole, begun, Views, leaving, meeting, passing}
 use Rattle.gaps.specs.Store.{Chain, Memory, Laid}

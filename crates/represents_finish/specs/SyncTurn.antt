@@ -9,7 +9,7 @@ use Rattle.layout.specs.Layout.{CHILDREN, USER, numberWord, read}
 use Rattle.calls.specs.Waits.{hasChild}
 use Rattle.calls.specs.Sync.{syncs, syncedQueue}
 use Rattle.order.specs.Steps.{Task, Item, spot, numberOf}
-use Rattle.gaps.specs.Maps.{put-other}
+use Rattle.lists.specs.Maps.{put-other}
 use Rattle.gaps.specs.Line.{Extent, vacant, left, met, Line, segments}
 use Rattle.gaps.specs.Store.{Memory, Laid, timeline}
 use Rattle.gaps.specs.Moves.{reduced, joined, synced}

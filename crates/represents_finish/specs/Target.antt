@@ -14,7 +14,7 @@ use Rattle.rules.specs.Views.{View}
 use Rattle.calls.specs.Waits.{hasChild}
 use Rattle.calls.specs.Views.{taskAt, kindAt, returnedTo}
 use Rattle.order.specs.Steps.{Task, Item, spot, numberOf}
-use Rattle.gaps.specs.Maps.{All, put-other, all-behind, all-at}
+use Rattle.lists.specs.Maps.{All, put-other, all-behind, all-at}
 use Rattle.gaps.specs.Line.{nonlocal, local, Extent, vacant, extent, base, left, met, pass, Line, marks, lefts, mets, Fits, Mode, Views, leaving, meeting}
 use Rattle.gaps.specs.Store.{Memory, Laid}
 use Rattle.gaps.specs.Lines.{count-lefts, count-mets}

@@ -11,7 +11,7 @@ use Rattle.layout.specs.Layout.{numberWord, read}
 use Rattle.order.specs.Steps.{Item}
 use Rattle.order_waits.specs.Popper.{firstPopper}
 use Rattle.order_queue.specs.Points.{Timeline}
-use Rattle.gaps.specs.Maps.{All, put, put-same, put-other}
+use Rattle.lists.specs.Maps.{All, put, put-same, put-other}
 use Rattle.gaps.specs.Line.{Line, marks, Fits}
 use Rattle.gaps.specs.Store.{Store, Chain, Memory, Laid, timeline}
 use Rattle.gaps.specs.Stores.{Kept as StoreKept}

@@ -13,7 +13,7 @@ use Rattle.layout.specs.Layout.{NONE, next, read}
 use Rattle.rules.specs.Contents.{Contents, decode, part, part-word}
 use Rattle.rules.specs.Test.{chain}
 use Rattle.rules_segments.specs.Chains.{chain-last, chain-more}
-use Rattle.gaps.specs.Maps.{All, lastOf, all-front, all-behind, all-append, all-map}
+use Rattle.lists.specs.Maps.{All, lastOf, all-front, all-behind, all-append, all-map}
 use Rattle.gaps.specs.Line.{base, left, met, pass as past, Line, segments}
 use Rattle.gaps.specs.Store.{LinkedFrom, Linked, Filled, Start, sole, full, Chain}
 use Rattle.meaning.specs.Meaning.{nextIn, contentsIn}

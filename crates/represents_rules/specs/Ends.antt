@@ -11,7 +11,7 @@ use Rattle.words.specs.Words.{pass, halt}
 use Rattle.lists.specs.Counting.{one, occurrences, occurs-cons}
 use Rattle.layout.specs.Layout.{NONE, NL}
 use Rattle.view_laws.specs.Counts.{names}
-use Rattle.gaps.specs.Maps.{All, lastOf}
+use Rattle.lists.specs.Maps.{All, lastOf}
 use Rattle.gaps.specs.Line.{Extent, base, left, met, pass as past, Line, Mode, settled, awaiting, Inside, rest, mid, close, Begins, bare, whole, begun}
 use Rattle.represents_rules.specs.Words.{ViewWords}
 use Rattle.represents_rules.specs.Modes.{Plain, PlainMode, all-last}

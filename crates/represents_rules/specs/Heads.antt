@@ -24,7 +24,7 @@ use Rattle.rules_tasks.specs.Holders.{holder-once as task-once}
 use Rattle.rules_views.specs.Toured.{over-owners}
 use Rattle.order.specs.Steps.{Item, numberOf}
 use Rattle.order_waits.specs.Poppers.{popper-says}
-use Rattle.gaps.specs.Maps.{put, put-same, put-other}
+use Rattle.lists.specs.Maps.{put, put-same, put-other}
 use Rattle.gaps.specs.Line.{firstChain}
 use Rattle.gaps.specs.Store.{headOf}
 use Rattle.gaps.specs.Names.{first-chain, count-parts}

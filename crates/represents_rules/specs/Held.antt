@@ -17,7 +17,7 @@ use Rattle.rules.specs.Test.{chain, chains, heldTest}
 use Rattle.rules_segments.specs.Chains.{chains-nil, chains-parts}
 use Rattle.rules_segments.specs.Tested.{tested-held}
 use Rattle.order.specs.Steps.{Item}
-use Rattle.gaps.specs.Maps.{All, all-map, all-at}
+use Rattle.lists.specs.Maps.{All, all-map, all-at}
 use Rattle.gaps.specs.Line.{segments}
 use Rattle.gaps.specs.Store.{Chain}
 use Rattle.meaning.specs.Meaning.{nextIn, contentsIn}

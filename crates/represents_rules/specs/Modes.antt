@@ -7,7 +7,7 @@ use native.Mathlib.Omega.{arith}
 use Rattle.layout.specs.Layout.{NL}
 use Rattle.rules.specs.Test.{passed}
 use Rattle.rules.specs.Passed.{marked-yes, marked-no, passed-none, passed-fit}
-use Rattle.gaps.specs.Maps.{All, lastOf, all-front}
+use Rattle.lists.specs.Maps.{All, lastOf, all-front}
 use Rattle.gaps.specs.Line.{Extent, Line, segments, Mode, settled, awaiting, Inside, rest, mid, close, Begins, bare, whole, begun, Views, queue, leaving}
 use Rattle.gaps.specs.Line.{meeting, passing}
 use Rattle.represents_rules.specs.Words.{ViewWords}

@@ -18,7 +18,7 @@ use Rattle.rules.specs.Rules.{Unfinished}
 use Rattle.rules_views.specs.Toured.{over-heads, over-tails}
 use Rattle.view_laws.specs.Counts.{names, namesAt, heads-count, tails-count}
 use Rattle.order.specs.Steps.{Item}
-use Rattle.gaps.specs.Maps.{All, lastOf, all-front, all-behind}
+use Rattle.lists.specs.Maps.{All, lastOf, all-front, all-behind}
 use Rattle.gaps.specs.Line.{Mark, Line, marks, segments, firstChain, Mode, Views, queue, leaving, meeting, passing}
 use Rattle.gaps.specs.Store.{Memory}
 use Rattle.represents.specs.Represents.{Represents, queueMemory}

@@ -16,7 +16,7 @@ use Rattle.rules.specs.Rules.{Unfinished}
 use Rattle.rules.specs.Test.{passedAt, orderAt, orderOf, orderTest}
 use Rattle.rules_views.specs.Marks.{at-met, at-met-none, at-left, at-left-none}
 use Rattle.order.specs.Steps.{Item}
-use Rattle.gaps.specs.Maps.{All, all-map, all-front, all-behind}
+use Rattle.lists.specs.Maps.{All, all-map, all-front, all-behind}
 use Rattle.gaps.specs.Line.{Extent, Line, marks, segments, Mark, Mode, settled, Inside, Begins, Views, queue, leaving, meeting, passing}
 use Rattle.gaps.specs.Store.{Memory}
 use Rattle.represents.specs.Represents.{Represents, queueMemory}

@@ -16,7 +16,7 @@ use Rattle.rules.specs.Contents.{decode, part-word}
 use Rattle.rules.specs.Test.{segmentTest}
 use Rattle.rules_segments.specs.Tested.{Sound, sound-segments}
 use Rattle.order.specs.Steps.{Item}
-use Rattle.gaps.specs.Maps.{All, all-in}
+use Rattle.lists.specs.Maps.{All, all-in}
 use Rattle.gaps.specs.Line.{segments}
 use Rattle.meaning.specs.Meaning.{freeIn}
 use Rattle.represents.specs.Represents.{Represents, opened}

@@ -20,7 +20,7 @@ use Rattle.rules_same.specs.Passed.{toured}
 use Rattle.rules_same.specs.Same.{whole-tour}
 use Rattle.calls.specs.Waits.{rightsOf}
 use Rattle.order.specs.Steps.{Item}
-use Rattle.gaps.specs.Maps.{All}
+use Rattle.lists.specs.Maps.{All}
 use Rattle.gaps.specs.Line.{Extent, Mark, base, left, pass as past, Line, marks, Fits}
 use Rattle.gaps.specs.Line.Mark.{met as meeting}
 use Rattle.links.specs.Linked.{tree, tour-is, word-is, holder-unfinished}

@@ -24,7 +24,7 @@ use Rattle.order_laws.specs.Reached.{Fresh}
 use Rattle.order_laws.specs.Numbers.{advance-at}
 use Rattle.order_waits.specs.Spots.{unfinished-says, says-unfinished, rights-at}
 use Rattle.order_waits.specs.Played.{Asked, Played, plays, played-reached}
-use Rattle.gaps.specs.Maps.{put}
+use Rattle.lists.specs.Maps.{put}
 use Rattle.links.specs.Linked.{Linked, word-is, rules, spot-unfinished}
 use Rattle.links.specs.Idle.{idle-height, idle-last}
 use Rattle.links.specs.Places.{Place}

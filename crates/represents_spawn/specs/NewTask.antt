@@ -14,7 +14,7 @@ use Rattle.order.specs.Steps.{Task, Item, spot, task, spawns, numberOf, rightsO
 use Rattle.order_laws.specs.Count.{count, spotNumbered}
 use Rattle.order_queue.specs.Points.{Point, user, Timeline}
 use Rattle.order_queue.specs.Laws.{spawn-line, spawn-past}
-use Rattle.gaps.specs.Maps.{All, put, put-other, all-append, all-front, all-behind}
+use Rattle.lists.specs.Maps.{All, put, put-other, all-append, all-front, all-behind}
 use Rattle.gaps.specs.Line.{base, left, met, pass, Line, marks, Fits}
 
 -- a line fits still where a task of none of its marks gets rights

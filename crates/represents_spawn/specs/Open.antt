@@ -21,7 +21,7 @@ use Rattle.order_waits.specs.Played.{opens}
 use Rattle.order_waits.specs.Popper.{firstPopper}
 use Rattle.order_queue.specs.Points.{user, Timeline}
 use Rattle.order_queue.specs.Laws.{begins}
-use Rattle.gaps.specs.Maps.{put, put-same, put-other}
+use Rattle.lists.specs.Maps.{put, put-same, put-other}
 use Rattle.gaps.specs.Line.{nonlocal, local, Extent, vacant, extent, base, left, met, Line}
 use Rattle.gaps.specs.Store.{Memory}
 use Rattle.gaps.specs.After.{After, after-marks, after-fits}

@@ -5,7 +5,7 @@ use mathlib.Core.Option.{none}
 use Prim.Native.Nat.{ℕ, _<_}
 use Rattle.words.specs.Words.{pick, pass as skip, halt}
 use Rattle.tree.specs.Rights.{pops, uses}
-use Rattle.gaps.specs.Maps.{put, put-same, put-other}
+use Rattle.lists.specs.Maps.{put, put-same, put-other}
 use Rattle.gaps.specs.Line.{vacant}
 use Rattle.gaps.specs.Store.{Memory}
 use Rattle.gaps.specs.Moves.{spawned, queuePassed}

@@ -9,7 +9,7 @@ use Rattle.lists.specs.Counting.{equal?}
 use Rattle.layout.specs.Layout.{freeTasks, read}
 use Rattle.tree.specs.Rights.{pops as mayPop, uses, subset}
 use Rattle.order.specs.Steps.{Task, Item, spot, numberOf, rightsOf}
-use Rattle.gaps.specs.Maps.{put, put-same, put-other}
+use Rattle.lists.specs.Maps.{put, put-same, put-other}
 use Rattle.gaps.specs.Line.{vacant}
 use Rattle.gaps.specs.Store.{Memory}
 use Rattle.gaps.specs.Moves.{spawned, queuePassed}

@@ -16,7 +16,7 @@ use Rattle.order_waits.specs.Played.{played-reached}
 use Rattle.order_waits.specs.Popper.{firstPopper}
 use Rattle.order_waits.specs.Heirs.{spawn-first, spawn-kept, spawn-other}
 use Rattle.order_queue.specs.Points.{Point, user, Timeline}
-use Rattle.gaps.specs.Maps.{All, put, put-same}
+use Rattle.lists.specs.Maps.{All, put, put-same}
 use Rattle.gaps.specs.Line.{Mark, left, met, pass, Line, marks, segments, Fits}
 use Rattle.gaps.specs.Store.{Memory, Laid, timeline}
 use Rattle.gaps.specs.Lines.{marks-append}

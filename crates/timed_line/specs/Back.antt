@@ -8,7 +8,7 @@ use Prim.Native.Nat.{ℕ, _+_, _≤_}
 use native.Mathlib.Omega.{arith}
 use lib.Dec.{eqb}
 use Rattle.words.specs.Words.{halt}
-use Rattle.gaps.specs.Maps.{All}
+use Rattle.lists.specs.Maps.{All}
 use Rattle.line.specs.Line.{Item, value, spot, finished, gave, Search, free, seeking, found, putting, About, Apart, Acts}
 use Rattle.line.specs.Fronts.{Fronts}
 use borrow.Author.Tests.{eq-eqb}

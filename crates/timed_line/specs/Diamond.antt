@@ -5,7 +5,7 @@ use mathlib.Core.Bool.{Bool, true, false}
 use mathlib.Core.List.{List, [], _∷_, _++_}
 use Prim.Native.Nat.{ℕ}
 use Rattle.words.specs.Words.{pass}
-use Rattle.gaps.specs.Maps.{All}
+use Rattle.lists.specs.Maps.{All}
 use Rattle.line.specs.Line.{Item, value, spot, finished, gave, Search, free, seeking, found, putting, Apart, Acts}
 use Rattle.line.specs.Rights.{looks-alone, Tasks, Passing, put-passes}
 use Rattle.timed_line.specs.Times.{Timed, at, later, stamp, leaveAt}

@@ -10,7 +10,7 @@ use mathlib.Core.Logic.{_⊎_}
 use Prim.Native.Nat.{ℕ, _+_}
 use lib.Dec.{eqb}
 use Rattle.words.specs.Words.{pick}
-use Rattle.gaps.specs.Maps.{All}
+use Rattle.lists.specs.Maps.{All}
 use Rattle.line.specs.Line.{Item, value, spot, finished, gave, Search, free, seeking, found, putting, Acts}
 use Rattle.line.specs.Rights.{Passes, Tasks}
 use Rattle.timed_line.specs.Times.{Timed, at, later, Some, stamp, leaveAt}
