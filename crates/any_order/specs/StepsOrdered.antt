@@ -44,7 +44,8 @@ module _ (j : List ℕ) (ticks : ℕ → ℕ) (e : jobAnswer j ≡ Moved 0) (s :
   unfolding makes byCall done goneOn answerOf
   made none = refl
   made (some c) =
-      ap (λ (o : CoreOutcome). answerOf (repliedTo t (instructionFor j (s .runner) t) o (s .core) (s .runner))) (behind-test (s .core) (s .order) (run .state) c)
+      ap (λ (o : CoreOutcome). answerOf (repliedTo t (instructionFor j (s .runner) t) o (s .core) (s .runner)))
+      (behind-test (s .core) (s .order) (run .state) c)
       ∙ told (outcomeOf c (s .core))
       ∙ ap (λ (a : Answer). bySaid j s t (replyOf a)) (call-does c (s .core) (s .order) (run .state) .answer)
 

@@ -12,7 +12,8 @@ returns c = turned-down _ _ _ (c .before .refusal .ensures) (c .if1 .taken)
 returns-2 : tie.Need-returns-2
 unfolding testOutcome
 returns-2 c =
-    c .before .before .test .ensures ∙ goes-on _ _ _ (c .before .before .before .before .before .refusal .ensures) (c .before .before .before .before .if1 .left)
+    c .before .before .test .ensures
+    ∙ goes-on _ _ _ (c .before .before .before .before .before .refusal .ensures) (c .before .before .before .before .if1 .left)
 
 pub test-spec : {M : Type 1} → statement M
 test-spec = tie.close (tie.spec (λ c κs. search needs) (λ c. search needs) returns (λ c κs. search needs) (λ c. search needs) returns-2)
