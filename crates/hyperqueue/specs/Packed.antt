@@ -6,13 +6,13 @@ use Prim.Native.Nat.{ℕ, _+_, _*_}
 use native.Mathlib.Omega.{arith}
 use lib.Dec.{eqb}
 use borrow.Author.Tests.{eqb-true, eq-eqb, ne-eqb, not-false}
-use Rattle.words.specs.Words.{size, pick, halt, pass, rung}
-use Rattle.layout.specs.Layout.{WORDS}
-use Rattle.answers.specs.declared.Answer.{Answer}
-use Rattle.answers.specs.declared.Answer.the-variants.{Moved, Empty, NotEmpty, Waits, Refused}
-use Rattle.answers.specs.Answers.{Outcome, outcome, answerOf, wordsOf, statusOf, valueOf}
-use Rattle.rules.specs.Test.{rulesHold}
-use Rattle.calls.specs.Waits.{tested, test-passes}
+use Rattle.spec_words.specs.Words.{size, pick, halt, pass, rung}
+use Rattle.spec_layout.specs.Layout.{WORDS}
+use Rattle.spec_answers.specs.declared.Answer.{Answer}
+use Rattle.spec_answers.specs.declared.Answer.the-variants.{Moved, Empty, NotEmpty, Waits, Refused}
+use Rattle.spec_answers.specs.Answers.{Outcome, outcome, answerOf, wordsOf, statusOf, valueOf}
+use Rattle.spec_rules.specs.Test.{rulesHold}
+use Rattle.spec_outcomes.specs.Waits.{tested, test-passes}
 
 -- an answer as one number of 64 bits: the status in the high half, the value in the low half
 abbrev pub packed : Answer → ℕ

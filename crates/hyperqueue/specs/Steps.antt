@@ -2,10 +2,10 @@
 use mathlib.Core.Path.{_≡_, refl, ap, _∙_, subst}
 use mathlib.Core.List.{List}
 use Prim.Native.Nat.{ℕ, _+_, _*_}
-use Rattle.runner.specs.declared.StepAnswer.{StepAnswer}
-use Rattle.runner.specs.declared.StepAnswer.the-variants.{Spawned, Pushed, Took, Finished, Moved, Empty, NotEmpty, Waits, Refused}
-use Rattle.runner.specs.Ready.{Mapped, mapped}
-use Rattle.runner.specs.Answers.{statusOf, valueOf, Outcome, outcome, answerOf, coreOf, runnerOf}
+use Rattle.spec_runner.specs.declared.StepAnswer.{StepAnswer}
+use Rattle.spec_runner.specs.declared.StepAnswer.the-variants.{Spawned, Pushed, Took, Finished, Moved, Empty, NotEmpty, Waits, Refused}
+use Rattle.spec_runner.specs.Ready.{Mapped, mapped}
+use Rattle.spec_runner.specs.Answers.{statusOf, valueOf, Outcome, outcome, answerOf, coreOf, runnerOf}
 
 -- an answer as one number of 64 bits: the status in the high half, the value in the low half
 abbrev pub packedStep : StepAnswer → ℕ

@@ -1,8 +1,8 @@
 // Jobs, for hosts in other languages: the job test and the serial runner.
 ghost use mathlib.Core.Path.{_≡_};
-ghost use Rattle.job.specs.Test.{jobAnswer};
-ghost use Rattle.serial.specs.Working.{lists};
-ghost use Rattle.serial.specs.Outcome.{serialOutcome};
+ghost use Rattle.spec_job.specs.Test.{jobAnswer};
+ghost use Rattle.spec_serial.specs.Working.{lists};
+ghost use Rattle.spec_serial.specs.Outcome.{serialOutcome};
 ghost use Rattle.serial_runner.specs.Handed.{Handed};
 ghost use Rattle.hyperqueue.specs.Packed.{packed};
 

@@ -3,16 +3,17 @@ pub mod jobs;
 pub mod runs;
 
 ghost use mathlib.Core.Path.{_≡_};
-ghost use Rattle.answers.specs.Answers.{Outcome};
-ghost use Rattle.answers.specs.Answers.Outcome.{outcome};
-ghost use Rattle.calls.specs.Open.{openOutcome};
-ghost use Rattle.calls.specs.Spawn.{spawnOutcome};
-ghost use Rattle.calls.specs.Push.{pushOutcome};
-ghost use Rattle.calls.specs.Find.{popOutcome, testOutcome};
-ghost use Rattle.calls.specs.Sync.{syncOutcome};
-ghost use Rattle.calls.specs.Finish.{finishOutcome};
-ghost use Rattle.calls.specs.Left.{leftOutcome};
+ghost use Rattle.spec_answers.specs.Answers.{Outcome};
+ghost use Rattle.spec_answers.specs.Answers.Outcome.{outcome};
+ghost use Rattle.spec_outcomes.specs.Open.{openOutcome};
+ghost use Rattle.spec_outcomes.specs.Spawn.{spawnOutcome};
+ghost use Rattle.spec_outcomes.specs.Push.{pushOutcome};
+ghost use Rattle.spec_outcomes.specs.Find.{popOutcome, testOutcome};
+ghost use Rattle.spec_outcomes.specs.Sync.{syncOutcome};
+ghost use Rattle.spec_outcomes.specs.Finish.{finishOutcome};
+ghost use Rattle.spec_outcomes.specs.Left.{leftOutcome};
 ghost use Rattle.hyperqueue.specs.Packed.{memoryRefusal, packed, Handed};
+use spec_answers::Answer;
 
 // 1 "a lent memory has another length", 2 "the memory rules fail"; 0 where a call may be made.
 fn refusal(m: &[u32]) -> u32
@@ -27,80 +28,80 @@ fn refusal(m: &[u32]) -> u32
     0
 }
 
-pub fn open(m: &mut [u32], length: u32, segments: u32) -> answers::Answer
+pub fn open(m: &mut [u32], length: u32, segments: u32) -> Answer
     ensures { λ a. ⌜ outcome a (now (m .exit)) ≡ openOutcome (now (m .entry)) length segments ⌝ }
 {
-    opening::open(m, length, segments)
+    core_open::open(m, length, segments)
 }
 
-pub fn spawn(m: &mut [u32], t: u32, r: u32) -> answers::Answer
+pub fn spawn(m: &mut [u32], t: u32, r: u32) -> Answer
     ensures { λ a. ⌜ outcome a (now (m .exit)) ≡ spawnOutcome (now (m .entry)) t r ⌝ }
 {
     let k = refusal(m);
     if k != 0 {
-        return answers::Answer::Refused(k);
+        return Answer::Refused(k);
     }
-    spawning::spawn(m, t, r)
+    core_spawn::spawn(m, t, r)
 }
 
-pub fn push(m: &mut [u32], t: u32, q: u32, v: u32) -> answers::Answer
+pub fn push(m: &mut [u32], t: u32, q: u32, v: u32) -> Answer
     ensures { λ a. ⌜ outcome a (now (m .exit)) ≡ pushOutcome (now (m .entry)) t q v ⌝ }
 {
     let k = refusal(m);
     if k != 0 {
-        return answers::Answer::Refused(k);
+        return Answer::Refused(k);
     }
-    pushing::push(m, t, q, v)
+    core_push::push(m, t, q, v)
 }
 
-pub fn pop(m: &mut [u32], t: u32, q: u32) -> answers::Answer
+pub fn pop(m: &mut [u32], t: u32, q: u32) -> Answer
     ensures { λ a. ⌜ outcome a (now (m .exit)) ≡ popOutcome (now (m .entry)) t q ⌝ }
 {
     let k = refusal(m);
     if k != 0 {
-        return answers::Answer::Refused(k);
+        return Answer::Refused(k);
     }
-    finding::pop(m, t, q)
+    core_pop::pop(m, t, q)
 }
 
-pub fn test(m: &mut [u32], t: u32, q: u32) -> answers::Answer
+pub fn test(m: &mut [u32], t: u32, q: u32) -> Answer
     ensures { λ a. ⌜ outcome a (now (m .exit)) ≡ testOutcome (now (m .entry)) t q ⌝ }
 {
     let k = refusal(m);
     if k != 0 {
-        return answers::Answer::Refused(k);
+        return Answer::Refused(k);
     }
-    finding::test(m, t, q)
+    core_pop::test(m, t, q)
 }
 
-pub fn sync(m: &mut [u32], t: u32) -> answers::Answer
+pub fn sync(m: &mut [u32], t: u32) -> Answer
     ensures { λ a. ⌜ outcome a (now (m .exit)) ≡ syncOutcome (now (m .entry)) t ⌝ }
 {
     let k = refusal(m);
     if k != 0 {
-        return answers::Answer::Refused(k);
+        return Answer::Refused(k);
     }
-    finishing::sync(m, t)
+    core_finish::sync(m, t)
 }
 
-pub fn finish(m: &mut [u32], t: u32) -> answers::Answer
+pub fn finish(m: &mut [u32], t: u32) -> Answer
     ensures { λ a. ⌜ outcome a (now (m .exit)) ≡ finishOutcome (now (m .entry)) t ⌝ }
 {
     let k = refusal(m);
     if k != 0 {
-        return answers::Answer::Refused(k);
+        return Answer::Refused(k);
     }
-    finishing::finish(m, t)
+    core_finish::finish(m, t)
 }
 
-pub fn left(m: &mut [u32], q: u32, i: u32) -> answers::Answer
+pub fn left(m: &mut [u32], q: u32, i: u32) -> Answer
     ensures { λ a. ⌜ outcome a (now (m .exit)) ≡ leftOutcome (now (m .entry)) q i ⌝ }
 {
     let k = refusal(m);
     if k != 0 {
-        return answers::Answer::Refused(k);
+        return Answer::Refused(k);
     }
-    leaving::left(m, q, i)
+    core_left::left(m, q, i)
 }
 
 // FOR HOSTS IN OTHER LANGUAGES: a slice is a pointer and a length, an answer one number (include/hyperqueue.h).
@@ -112,15 +113,15 @@ fn wide(x: u32) -> u64
 }
 
 // An answer as one number: the status in the high half, the value in the low half.
-pub fn pack(a: answers::Answer) -> u64
+pub fn pack(a: Answer) -> u64
     ensures { λ r. ⌜ r ≡ packed a ⌝ }
 {
     match a {
-        answers::Answer::Moved(v) => wide(v),
-        answers::Answer::Empty => 141733920768,
-        answers::Answer::NotEmpty => 146028888064,
-        answers::Answer::Waits => 137438953472,
-        answers::Answer::Refused(k) => wide(k) * 4294967296,
+        Answer::Moved(v) => wide(v),
+        Answer::Empty => 141733920768,
+        Answer::NotEmpty => 146028888064,
+        Answer::Waits => 137438953472,
+        Answer::Refused(k) => wide(k) * 4294967296,
     }
 }
 

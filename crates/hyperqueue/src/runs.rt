@@ -1,11 +1,11 @@
 // Jobs with overlap, for hosts in other languages: opening a job, a step of a task, the ready map.
 ghost use mathlib.Core.Path.{_≡_};
 ghost use Prim.Native.Nat.{_+_, _*_};
-ghost use Rattle.runner.specs.Open.{openOutcome};
-ghost use Rattle.runner.specs.Step.{stepOutcome};
-ghost use Rattle.runner.specs.Ready.{readyOutcome};
+ghost use Rattle.spec_runner.specs.Open.{openOutcome};
+ghost use Rattle.spec_runner.specs.Step.{stepOutcome};
+ghost use Rattle.spec_runner.specs.Ready.{readyOutcome};
 ghost use Rattle.hyperqueue.specs.Steps.{packedStep, StepHanded, MapHanded};
-use runner::StepAnswer;
+use spec_runner::StepAnswer;
 
 // The number of a case with a value, packed.
 fn with_value(status: u32, value: u32) -> u64
@@ -35,14 +35,14 @@ pub fn pack_step(a: StepAnswer) -> u64
 pub extern "C" fn hq_job_open(job: &[u8], words: &mut [u32], runner: &mut [u32]) -> u64
     ensures { λ r. ⌜ StepHanded r (now (words .exit)) (now (runner .exit)) (openOutcome (now (job .entry)) (now (words .entry)) (now (runner .entry))) ⌝ }
 {
-    pack_step(job_opening::open(job, words, runner))
+    pack_step(runner_open::open(job, words, runner))
 }
 
 #[no_mangle]
 pub extern "C" fn hq_job_step(job: &[u8], words: &mut [u32], runner: &mut [u32], task: u32) -> u64
     ensures { λ r. ⌜ StepHanded r (now (words .exit)) (now (runner .exit)) (stepOutcome (now (job .entry)) (now (words .entry)) (now (runner .entry)) task) ⌝ }
 {
-    pack_step(stepping::step(job, words, runner, task))
+    pack_step(runner_step::step(job, words, runner, task))
 }
 
 // The ready map: four words, the number of set bits, the lowest ready task or 4294967295.
@@ -50,5 +50,5 @@ pub extern "C" fn hq_job_step(job: &[u8], words: &mut [u32], runner: &mut [u32],
 pub extern "C" fn hq_job_ready(job: &[u8], words: &[u32], runner: &[u32], out: &mut [u32; 6]) -> u64
     ensures { λ r. ⌜ MapHanded r (now (out .exit)) (readyOutcome (now (job .entry)) (now (words .entry)) (now (runner .entry)) (now (out .entry))) ⌝ }
 {
-    pack_step(ready_map::ready(job, words, runner, out))
+    pack_step(runner_ready::ready(job, words, runner, out))
 }

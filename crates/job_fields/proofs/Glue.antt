@@ -2,9 +2,9 @@
 use mathlib.Core.Path.{_≡_, ap, ap₂, _∙_}
 use mathlib.Core.List.{List}
 use Prim.Native.Nat.{ℕ, _+_}
-use Rattle.words.specs.Words.{load}
-use Rattle.job.specs.Fields.{bytes4, instructionFrom}
-use Rattle.job.specs.declared.Instruction.{Instruction}
+use Rattle.spec_words.specs.Words.{load}
+use Rattle.spec_job.specs.Fields.{bytes4, instructionFrom}
+use Rattle.spec_job.specs.declared.Instruction.{Instruction}
 
 abbrev fields : ℕ → ℕ → ℕ → Instruction
 fields k w v = record { operation = k; which = w; operand = v }

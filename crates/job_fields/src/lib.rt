@@ -1,9 +1,9 @@
 // Reading the fields of a job. A byte past the end is read as 0, so no function asks anything of the job.
 ghost use mathlib.Core.Path.{_≡_};
 ghost use Prim.Native.Nat.{_^_, _<_};
-ghost use Rattle.words.specs.Words.{load};
-ghost use Rattle.job.specs.Fields.{bytes2, bytes4, procedures, segmentLength, offset, count, rights, reserved, instructionFrom, instructionAt};
-use job::Instruction;
+ghost use Rattle.spec_words.specs.Words.{load};
+ghost use Rattle.spec_job.specs.Fields.{bytes2, bytes4, procedures, segmentLength, offset, count, rights, reserved, instructionFrom, instructionAt};
+use spec_job::Instruction;
 
 pub fn byte(job: &[u8], a: usize) -> u8
     ensures { λ r. ⌜ r ≡ load (now (job .entry)) a ⌝ }

@@ -7,13 +7,13 @@ use Prim.Native.Nat.{ℕ, _+_, _-_, _*_, _<_, _≤_}
 use native.Mathlib.Omega.{arith}
 use lib.Dec.{eqb}
 use borrow.Author.Tests.{eq-eqb, ne-eqb}
-use Rattle.words.specs.Words.{either, true-left, true-right, pass, both-on, both-off}
-use Rattle.lists.specs.Tests.{upto}
-use Rattle.job.specs.declared.Instruction.{Instruction}
-use Rattle.job.specs.Fields.{procedures, offset, count, rights, instructionFrom, instructionAt}
-use Rattle.job.specs.Operations.{rowOf}
-use Rattle.job.specs.Test.{between, entryHolds, contentsHold, whichHolds, operandHolds, fitting, instructionHolds, lastHolds, bodyHolds}
-use Rattle.job.specs.Accepted.{entry-says, contents-say}
+use Rattle.spec_words.specs.Words.{either, true-left, true-right, pass, both-on, both-off}
+use Rattle.spec_lists.specs.Tests.{upto}
+use Rattle.spec_job.specs.declared.Instruction.{Instruction}
+use Rattle.spec_job.specs.Fields.{procedures, offset, count, rights, instructionFrom, instructionAt}
+use Rattle.spec_job.specs.Operations.{rowOf}
+use Rattle.spec_job.specs.Test.{between, entryHolds, contentsHold, whichHolds, operandHolds, fitting, instructionHolds, lastHolds, bodyHolds}
+use Rattle.spec_job.specs.Accepted.{entry-says, contents-say}
 
 -- a range test of a field that was read
 pub in-range : (a z : ℕ) {n x : ℕ} {b : Bool} → n ≡ x → b ≡ between a n z → between a x z ≡ b

@@ -5,10 +5,10 @@ use mathlib.Core.List.{List}
 use Prim.Native.Nat.{ℕ, _+_, _-_, _*_, _<_, _≤_}
 use native.Mathlib.Omega.{arith}
 use lib.Dec.{eqb}
-use Rattle.words.specs.Words.{size, both-on, both-off}
-use Rattle.lists.specs.Tests.{upto, turn-left, turns-over}
-use Rattle.job.specs.Fields.{count}
-use Rattle.job.specs.Test.{entryHolds, entriesHold}
+use Rattle.spec_words.specs.Words.{size, both-on, both-off}
+use Rattle.spec_lists.specs.Tests.{upto, turn-left, turns-over}
+use Rattle.spec_job.specs.Fields.{count}
+use Rattle.spec_job.specs.Test.{entryHolds, entriesHold}
 
 module _ (f : ℕ → Bool) (n i : ℕ) where
   pub upto-next : i < n → f i ≡ true → upto f (n - (i + 1)) (i + 1) ≡ upto f (n - i) i

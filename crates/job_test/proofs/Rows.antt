@@ -6,12 +6,12 @@ use mathlib.Core.Logic.{_⊎_, ⊎-elim}
 use Prim.Native.Nat.{ℕ, _+_, _<_, _≤_}
 use native.Mathlib.Omega.{arith}
 use lib.Dec.{ltb, eqb}
-use Rattle.words.specs.Words.{both}
-use Rattle.tree.specs.Rights.{pushes, pops, subset}
-use Rattle.job.specs.Fields.{procedures, rights}
-use Rattle.job.specs.Operations.{rowOf}
-use Rattle.job.specs.Rows.{from, row-past}
-use Rattle.job.specs.Test.{whichHolds, operandHolds}
+use Rattle.spec_words.specs.Words.{both}
+use Rattle.spec_tree.specs.Rights.{pushes, pops, subset}
+use Rattle.spec_job.specs.Fields.{procedures, rights}
+use Rattle.spec_job.specs.Operations.{rowOf}
+use Rattle.spec_job.specs.Rows.{from, row-past}
+use Rattle.spec_job.specs.Test.{whichHolds, operandHolds}
 
 -- a fact of two numbers from a on, and of three
 two : (P : ℕ → Type 0) (a : ℕ) → P a → P (a + 1) → (k : ℕ) → a ≤ k → k < a + 2 → P k

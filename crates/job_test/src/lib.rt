@@ -3,13 +3,13 @@ ghost use mathlib.Core.Path.{_≡_};
 ghost use mathlib.Core.Bool.{true};
 ghost use Prim.Native.Nat.{_<_, _^_};
 ghost use lib.Dec.{ltb};
-ghost use Rattle.words.specs.Words.{both};
-ghost use Rattle.lists.specs.Tests.{upto};
-ghost use Rattle.tree.specs.Rights.{pushes, pops, subset};
-ghost use Rattle.job.specs.Fields.{procedures, entryAt, count, rights, instructionFrom};
-ghost use Rattle.job.specs.Operations.{rowOf};
-ghost use Rattle.job.specs.Test.{between, headHolds, entryHolds, entriesHold, contentsHold, whichHolds, operandHolds, fitting, lastHolds, bodyHolds, jobAnswer};
-use answers::Answer;
+ghost use Rattle.spec_words.specs.Words.{both};
+ghost use Rattle.spec_lists.specs.Tests.{upto};
+ghost use Rattle.spec_tree.specs.Rights.{pushes, pops, subset};
+ghost use Rattle.spec_job.specs.Fields.{procedures, entryAt, count, rights, instructionFrom};
+ghost use Rattle.spec_job.specs.Operations.{rowOf};
+ghost use Rattle.spec_job.specs.Test.{between, headHolds, entryHolds, entriesHold, contentsHold, whichHolds, operandHolds, fitting, lastHolds, bodyHolds, jobAnswer};
+use spec_answers::Answer;
 
 fn between(a: u32, x: u32, b: u32) -> bool
     ensures { λ r. ⌜ r ≡ between a x b ⌝ }

@@ -3,9 +3,9 @@
 ghost use mathlib.Core.Path.{_≡_};
 ghost use mathlib.Core.List.{[], _∷_};
 ghost use lib.ListN.{length, replicate};
-ghost use Rattle.words.specs.Words.{load, store, pick};
-ghost use Rattle.words.specs.Blocks.{storeAll};
-ghost use Rattle.layout.specs.Layout.{read, write, header, freeSegment, freeTask, segment, task, value};
+ghost use Rattle.spec_words.specs.Words.{load, store, pick};
+ghost use Rattle.spec_words.specs.Blocks.{storeAll};
+ghost use Rattle.spec_layout.specs.Layout.{read, write, header, freeSegment, freeTask, segment, task, value};
 
 pub fn get(m: &[u32], a: usize) -> u32
     ensures { λ r. ⌜ r ≡ load (now (m .entry)) a ⌝ }

@@ -7,13 +7,13 @@ use native.Mathlib.Omega.{arith}
 use lib.Dec.{leb}
 use lib.ListN.{length, take, drop, length-take, length-drop}
 use borrow.Author.Tests.{leb-true, not-false, not-true}
-use Rattle.words.specs.Words.{size, both-on, both-off, both-true}
-use Rattle.layout.specs.Layout.{lengthWord, numberWord, freeSegments, freeTasks, read, recordOf}
-use Rattle.tree.specs.Tour.{tour}
-use Rattle.rules.specs.Contents.{Contents, decode, scan-decodes}
-use Rattle.rules.specs.Test.{within, inRange, topTest, idleTest, treeTest, viewTests, test, rulesHold}
-use Rattle.view_laws.specs.Whole.{marks}
-use Rattle.view_laws.specs.Begun.{Begun}
+use Rattle.spec_words.specs.Words.{size, both-on, both-off, both-true}
+use Rattle.spec_layout.specs.Layout.{lengthWord, numberWord, freeSegments, freeTasks, read, recordOf}
+use Rattle.spec_tree.specs.Tour.{tour}
+use Rattle.spec_rules.specs.Contents.{Contents, decode, scan-decodes}
+use Rattle.spec_rules.specs.Test.{within, inRange, topTest, idleTest, treeTest, viewTests, test, rulesHold}
+use Rattle.law_view_events.specs.Whole.{marks}
+use Rattle.law_view_events.specs.Begun.{Begun}
 
 module _ (m : List ℕ) where
   -- the test of the decoded memory

@@ -1,7 +1,7 @@
 // The memory test: all memory rules.
 ghost use mathlib.Core.Path.{_≡_};
 ghost use lib.ListN.{length};
-ghost use Rattle.rules.specs.Test.{rulesHold};
+ghost use Rattle.spec_rules.specs.Test.{rulesHold};
 
 pub fn rules_hold(m: &[u32]) -> bool
     requires { ⌜ length (now m) ≡ 16384 ⌝ }

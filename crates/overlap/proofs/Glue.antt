@@ -4,9 +4,9 @@ use mathlib.Core.List.{List}
 use Prim.Native.Nat.{ℕ, _≤_}
 use native.Mathlib.Omega.{arith}
 use lib.ListN.{length, take}
-use Rattle.reading.specs.Inside.{Inside, read-counts}
-use Rattle.reading.specs.declared.Bytes.{Bytes}
-use Rattle.reading.specs.declared.Bytes.the-variants.{Read}
+use Rattle.read_file.specs.Inside.{Inside, read-counts}
+use Rattle.read_file.specs.declared.Bytes.{Bytes}
+use Rattle.read_file.specs.declared.Bytes.the-variants.{Read}
 
 pub read-few : (r : Bytes) (k : ℕ) (ys : List ℕ) {l n : ℕ} → Inside r ys → r ≡ Read k → length ys ≡ l → l ≡ n → n ≤ 1024
     → (k ≤ 1024) × (length (take k ys) ≤ 1024)

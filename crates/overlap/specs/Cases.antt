@@ -2,47 +2,47 @@
 use mathlib.Core.Path.{_≡_, refl}
 use mathlib.Core.List.{List, [], _∷_, _++_}
 use Prim.Native.Nat.{ℕ}
-use Rattle.words.specs.Words.{load, store, size, pick, both, either}
-use Rattle.words.specs.Blocks.{storeAll, rows}
-use Rattle.lists.specs.Counting.{one, occurrences, total}
-use Rattle.lists.specs.Tests.{each, upto, eachWord}
-use Rattle.lists.specs.Distinct.{fresh, distinct}
-use Rattle.layout.specs.Layout.{address, read, write, recordOf}
-use Rattle.answers.specs.Answers.{answerOf as coreAnswer, wordsOf, statusOf as coreStatus, valueOf as coreValue}
-use Rattle.tree.specs.Rights.{bits, pushes, pops, uses, eachQueue, someQueue, sharesPop, subset}
-use Rattle.tree.specs.Tour.{leaving, entering, after, tour, met, seek, sibling, oldest}
-use Rattle.rules.specs.Contents.{segmentOf, tables, look, scan, word, part, locals, heads, tails, owners}
-use Rattle.rules.specs.Test.{within, inRange, topTest, idleTest, kin, linkTest, treeTest, viewWord, viewsTest, marked, passed, passedAt, orderAt, orderOf}
-use Rattle.rules.specs.Test.{orderTest, ownersTest, segmentTest, chain, chains, heldTest, viewTests, test, rulesHold}
-use Rattle.calls.specs.Open.{down, stacked, segmented, topped, opened}
-use Rattle.calls.specs.Segments.{place, valueAt, stored, dropped, noneFree, nextFree, taken, released, indexOf, headIndex, linkedBy, renamed, linked}
-use Rattle.calls.specs.Views.{viewOf, isEmpty, headOf, tailOf, reducible, frees, behind, reduced, setView, joined, merged, taskAt, kindAt, takesPart}
-use Rattle.calls.specs.Views.{standsAt, justBefore, returnedTo}
-use Rattle.calls.specs.Waits.{tested as coreTested, rightsOf, unfinished, blocked, childPops, hasChild, pusherBefore}
-use Rattle.calls.specs.Spawn.{forQueues, passedUser, passedQueue, keptUser, keptQueue, childViews, passedOn, childMade, spawned, spawnTested}
-use Rattle.calls.specs.Push.{pushedApart, pushedBehind, pushed, pushTested}
-use Rattle.calls.specs.Find.{hasValue, finding, popped, popGives, testGives, popAllowed, popTested, testTested}
-use Rattle.calls.specs.Sync.{syncs, syncedQueue, synced, whenReduced, syncTested}
-use Rattle.calls.specs.Finish.{returned, finishes, viewsReturned, heir, queueReturned, finishedQueue, unlinked, recordFreed, finished, topFinished}
-use Rattle.calls.specs.Finish.{finishTested}
-use Rattle.calls.specs.Left.{queued, leftTested}
-use Rattle.job.specs.Fields.{bytes2, bytes4, procedures, segmentLength, offset, count, rights, reserved, instructionFrom, instructionAt}
-use Rattle.job.specs.Operations.{rowOf, operationOf, operationAt}
-use Rattle.job.specs.Effects.{sum, effect}
-use Rattle.job.specs.Test.{between, headHolds, refusal10, entryHolds, entriesHold, contentsHold, refusal11, whichHolds, operandHolds, fitting}
-use Rattle.job.specs.Test.{instructionHolds, lastHolds, bodyHolds, refusal12}
-use Rattle.runner.specs.Words.{procedureOf, positionOf, registerOf, put, instructionFor}
-use Rattle.runner.specs.Answers.{answerWith, valueOf, statusOf, hasMoved, wordOf, answerOf, coreOf, runnerOf}
-use Rattle.runner.specs.Rules.{taskHolds, zeros, recordHolds, runnerHolds, refused, jobTested, tested}
-use Rattle.runner.specs.Open.{segmentsFor, jobOpened, openOutcome}
-use Rattle.runner.specs.Step.{callOf, replyOf, runnerAfter, done, replied, coreOutcome, repliedTo, makes, stepTested, stepOutcome}
-use Rattle.runner.specs.Run.{stepsFrom}
-use Rattle.job.specs.Examples.{fullRun}
-use Rattle.serial.specs.Answers.{numberOf}
+use Rattle.spec_words.specs.Words.{load, store, size, pick, both, either}
+use Rattle.spec_words.specs.Blocks.{storeAll, rows}
+use Rattle.spec_lists.specs.Counting.{one, occurrences, total}
+use Rattle.spec_lists.specs.Tests.{each, upto, eachWord}
+use Rattle.spec_lists.specs.Distinct.{fresh, distinct}
+use Rattle.spec_layout.specs.Layout.{address, read, write, recordOf}
+use Rattle.spec_answers.specs.Answers.{answerOf as coreAnswer, wordsOf, statusOf as coreStatus, valueOf as coreValue}
+use Rattle.spec_tree.specs.Rights.{bits, pushes, pops, uses, eachQueue, someQueue, sharesPop, subset}
+use Rattle.spec_tree.specs.Tour.{leaving, entering, after, tour, met, seek, sibling, oldest}
+use Rattle.spec_rules.specs.Contents.{segmentOf, tables, look, scan, word, part, locals, heads, tails, owners}
+use Rattle.spec_rules.specs.Test.{within, inRange, topTest, idleTest, kin, linkTest, treeTest, viewWord, viewsTest, marked, passed, passedAt, orderAt, orderOf}
+use Rattle.spec_rules.specs.Test.{orderTest, ownersTest, segmentTest, chain, chains, heldTest, viewTests, test, rulesHold}
+use Rattle.spec_outcomes.specs.Open.{down, stacked, segmented, topped, opened}
+use Rattle.spec_outcomes.specs.Segments.{place, valueAt, stored, dropped, noneFree, nextFree, taken, released, indexOf, headIndex, linkedBy, renamed, linked}
+use Rattle.spec_outcomes.specs.Views.{viewOf, isEmpty, headOf, tailOf, reducible, frees, behind, reduced, setView, joined, merged, taskAt, kindAt, takesPart}
+use Rattle.spec_outcomes.specs.Views.{standsAt, justBefore, returnedTo}
+use Rattle.spec_outcomes.specs.Waits.{tested as coreTested, rightsOf, unfinished, blocked, childPops, hasChild, pusherBefore}
+use Rattle.spec_outcomes.specs.Spawn.{forQueues, passedUser, passedQueue, keptUser, keptQueue, childViews, passedOn, childMade, spawned, spawnTested}
+use Rattle.spec_outcomes.specs.Push.{pushedApart, pushedBehind, pushed, pushTested}
+use Rattle.spec_outcomes.specs.Find.{hasValue, finding, popped, popGives, testGives, popAllowed, popTested, testTested}
+use Rattle.spec_outcomes.specs.Sync.{syncs, syncedQueue, synced, whenReduced, syncTested}
+use Rattle.spec_outcomes.specs.Finish.{returned, finishes, viewsReturned, heir, queueReturned, finishedQueue, unlinked, recordFreed, finished, topFinished}
+use Rattle.spec_outcomes.specs.Finish.{finishTested}
+use Rattle.spec_outcomes.specs.Left.{queued, leftTested}
+use Rattle.spec_job.specs.Fields.{bytes2, bytes4, procedures, segmentLength, offset, count, rights, reserved, instructionFrom, instructionAt}
+use Rattle.spec_job.specs.Operations.{rowOf, operationOf, operationAt}
+use Rattle.spec_job.specs.Effects.{sum, effect}
+use Rattle.spec_job.specs.Test.{between, headHolds, refusal10, entryHolds, entriesHold, contentsHold, refusal11, whichHolds, operandHolds, fitting}
+use Rattle.spec_job.specs.Test.{instructionHolds, lastHolds, bodyHolds, refusal12}
+use Rattle.spec_runner.specs.Words.{procedureOf, positionOf, registerOf, put, instructionFor}
+use Rattle.spec_runner.specs.Answers.{answerWith, valueOf, statusOf, hasMoved, wordOf, answerOf, coreOf, runnerOf}
+use Rattle.spec_runner.specs.Rules.{taskHolds, zeros, recordHolds, runnerHolds, refused, jobTested, tested}
+use Rattle.spec_runner.specs.Open.{segmentsFor, jobOpened, openOutcome}
+use Rattle.spec_runner.specs.Step.{callOf, replyOf, runnerAfter, done, replied, coreOutcome, repliedTo, makes, stepTested, stepOutcome}
+use Rattle.spec_runner.specs.Run.{stepsFrom}
+use Rattle.spec_job.specs.Examples.{fullRun}
+use Rattle.spec_serial.specs.Answers.{numberOf}
 use Rattle.text.specs.Text.{ascii, digits, decimal}
 use Rattle.run_text.specs.Lines.{answerText, hasValue as printsValue, valueText, spaced, ended, line, leftLine, openLine, endLine}
 use Rattle.serial_text.specs.Whole.{linesFrom}
-use Rattle.running.specs.Rows.{numbered, printed}
+use Rattle.runner_run.specs.Rows.{numbered, printed}
 use Rattle.overlap_text.specs.Whole.{callLines, leftAt, isValue, leftFrom, leftIn, valueLine, queueLines, unfinishedIn, endText, textFrom, overlapText}
 
 -- "Bytes 0 0 0 3 2 1 2 1 2 3 0 0"

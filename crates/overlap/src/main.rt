@@ -6,9 +6,9 @@ ghost use lib.ListN.{length};
 use libc::STDERR_FILENO;
 use libc::STDIN_FILENO;
 use libc::STDOUT_FILENO;
-use reading::Bytes;
-use runner::StepAnswer;
-use serial::End;
+use read_file::Bytes;
+use spec_runner::StepAnswer;
+use spec_serial::End;
 
 // Makes the calls of the tasks and prints their lines; `before` calls were made before.
 fn print_block(job: &[u8], tasks: &[u8], m: &mut [u32], r: &mut [u32], before: u64) -> bool
@@ -26,7 +26,7 @@ fn print_calls(job: &[u8], tasks: &mut [u8], m: &mut [u32], r: &mut [u32]) -> bo
     let mut before: u64 = 0;
     // No run gets to the bound. It keeps the number of a call within 64 bits.
     while before < 9223372036854775808 {
-        let some = reading::read_some(STDIN_FILENO, tasks);
+        let some = read_file::read_some(STDIN_FILENO, tasks);
         let Bytes::Read(k) = some else {
             os::fail(b"standard input");
             return false;
@@ -113,7 +113,7 @@ fn run_open(job: &[u8], m: &mut [u32], r: &mut [u32]) {
 fn run(job: &[u8]) {
     let mut m = [0u32; 16384];
     let mut r = [0u32; 384];
-    let a = job_opening::open(job, &mut m, &mut r);
+    let a = runner_open::open(job, &mut m, &mut r);
     let StepAnswer::Refused(k) = a else {
         run_open(job, &mut m, &mut r);
         return;
@@ -140,7 +140,7 @@ fn main() {
     }
     // The largest job has 49,540 bytes. A longer file is none, and is refused by its first 49,541 bytes as by all of them.
     let mut file = [0u8; 49541];
-    match reading::read_start(fd, &mut file) {
+    match read_file::read_start(fd, &mut file) {
         Bytes::Read(n) => run(&file[..n]),
         Bytes::Unread => os::fail(&path[..length]),
     }

@@ -10,15 +10,15 @@ use lib.Dec.{ltb}
 use lib.ListN.{length, take}
 use lib.Seq.{take-all}
 use borrow.Author.Tests.{ltb-false}
-use Rattle.words.specs.Words.{load, size, pick, halt, pass}
-use Rattle.lists.specs.Counting.{one, total}
-use Rattle.lists.specs.Tests.{turn-left, turns-over}
-use Rattle.answers.specs.declared.Answer.{Answer}
-use Rattle.answers.specs.Answers.{outcome, answerOf, valueOf}
-use Rattle.calls.specs.Waits.{unfinished}
-use Rattle.calls.specs.Left.{leftTested}
-use Rattle.runner.specs.Run.{stepsFrom, as-many}
-use Rattle.running.specs.Made.{fitting, Made, Ran}
+use Rattle.spec_words.specs.Words.{load, size, pick, halt, pass}
+use Rattle.spec_lists.specs.Counting.{one, total}
+use Rattle.spec_lists.specs.Tests.{turn-left, turns-over}
+use Rattle.spec_answers.specs.declared.Answer.{Answer}
+use Rattle.spec_answers.specs.Answers.{outcome, answerOf, valueOf}
+use Rattle.spec_outcomes.specs.Waits.{unfinished}
+use Rattle.spec_outcomes.specs.Left.{leftTested}
+use Rattle.spec_runner.specs.Run.{stepsFrom, as-many}
+use Rattle.runner_run.specs.Made.{fitting, Made, Ran}
 use Rattle.text.specs.Puts.{Puts}
 use Rattle.run_text.specs.Lines.{line, leftLine, openLine}
 use Rattle.serial_text.specs.Whole.{linesFrom}

@@ -5,13 +5,13 @@ use Prim.Native.Nat.{ℕ, suc, _+_, _*_, _<_, _≤_}
 use native.Mathlib.Nat.{add-zero}
 use native.Mathlib.Omega.{arith}
 use lib.ListN.{length}
-use Rattle.words.specs.Words.{load, size}
-use Rattle.words.specs.Blocks.{storeAll, block-same}
-use Rattle.runner.specs.declared.StepAnswer.{StepAnswer}
-use Rattle.runner.specs.Run.{Steps, stepsFrom, steps-append, as-many}
+use Rattle.spec_words.specs.Words.{load, size}
+use Rattle.spec_words.specs.Blocks.{storeAll, block-same}
+use Rattle.spec_runner.specs.declared.StepAnswer.{StepAnswer}
+use Rattle.spec_runner.specs.Run.{Steps, stepsFrom, steps-append, as-many}
 use Rattle.run_text.specs.Lines.{line}
 use Rattle.serial_text.specs.Whole.{linesFrom}
-use Rattle.running.specs.Rows.{numbered, printed, rowsOf, rows-length}
+use Rattle.runner_run.specs.Rows.{numbered, printed, rowsOf, rows-length}
 use Rattle.overlap_text.specs.Whole.{callLines}
 
 -- the line of row i of the words a, where c calls were made before row 0

@@ -11,20 +11,20 @@ use native.Mathlib.Omega.{arith}
 use lib.Dec.{ltb, leb, eqb}
 use lib.ListN.{length, getD, getElem?}
 use borrow.Author.Tests.{ltb-true, ltb-false, leb-false, eqb-true, le-ltb}
-use Rattle.words.specs.Words.{size, pick, halt, pass}
-use Rattle.layout.specs.Layout.{WORDS, NL, FINISHED, STATUS, numberWord, count, next, task, queueHead, read}
-use Rattle.answers.specs.declared.Answer.{Answer}
-use Rattle.answers.specs.declared.Answer.the-variants.{Moved, Waits, Refused}
-use Rattle.answers.specs.Answers.{outcome, answerOf, statusOf, valueOf}
-use Rattle.order.specs.Ordered.{leftAnswer}
-use Rattle.rules.specs.Test.{rulesHold}
-use Rattle.sound.specs.Sound.{Sound, rules-sound}
-use Rattle.calls.specs.Segments.{valueAt}
-use Rattle.calls.specs.Waits.{tested, unfinished}
-use Rattle.calls.specs.Left.{queued, leftTested, leftOutcome}
-use Rattle.plain.specs.Machine.{queue}
+use Rattle.spec_words.specs.Words.{size, pick, halt, pass}
+use Rattle.spec_layout.specs.Layout.{WORDS, NL, FINISHED, STATUS, numberWord, count, next, task, queueHead, read}
+use Rattle.spec_answers.specs.declared.Answer.{Answer}
+use Rattle.spec_answers.specs.declared.Answer.the-variants.{Moved, Waits, Refused}
+use Rattle.spec_answers.specs.Answers.{outcome, answerOf, statusOf, valueOf}
+use Rattle.spec_order.specs.Ordered.{leftAnswer}
+use Rattle.spec_rules.specs.Test.{rulesHold}
+use Rattle.law_in_range.specs.Sound.{Sound, rules-sound}
+use Rattle.spec_outcomes.specs.Segments.{valueAt}
+use Rattle.spec_outcomes.specs.Waits.{tested, unfinished}
+use Rattle.spec_outcomes.specs.Left.{queued, leftTested, leftOutcome}
+use Rattle.spec_plain.specs.Machine.{queue}
 use Rattle.run_text.specs.Lines.{leftLine}
-use Rattle.serial.specs.declared.End.the-variants.{Ended}
+use Rattle.spec_serial.specs.declared.End.the-variants.{Ended}
 use Rattle.serial_text.specs.Whole.{linesFrom, valueLine as lineOf, queueLines as linesOf, endText as lastLines}
 use Rattle.overlap_text.specs.Whole.{leftAt, isValue, leftFrom, leftIn, valueLine, queueLines, endText}
 

@@ -4,23 +4,23 @@ use mathlib.Core.Bool.{Bool, true, false}
 use mathlib.Core.List.{List, [], _∷_, _++_}
 use Prim.Native.Nat.{ℕ, zero, suc, _+_}
 use lib.ListN.{replicate}
-use Rattle.words.specs.Words.{pick}
-use Rattle.lists.specs.Counting.{one, total}
-use Rattle.layout.specs.Layout.{WORDS}
-use Rattle.answers.specs.declared.Answer.{Answer}
-use Rattle.answers.specs.declared.Answer.the-variants.{Moved, Empty, NotEmpty, Waits, Refused}
-use Rattle.answers.specs.Answers.{answerOf as coreAnswer, valueOf}
-use Rattle.calls.specs.Waits.{unfinished}
-use Rattle.calls.specs.Left.{leftTested}
-use Rattle.runner.specs.declared.StepAnswer.{StepAnswer}
-use Rattle.runner.specs.Words.{RUNNER}
-use Rattle.runner.specs.Answers.{hasMoved, statusOf, Outcome, answerOf, coreOf, runnerOf}
-use Rattle.runner.specs.Open.{openOutcome}
-use Rattle.runner.specs.Run.{stepsFrom}
-use Rattle.serial.specs.declared.End.the-variants.{Refused as TurnedDown}
+use Rattle.spec_words.specs.Words.{pick}
+use Rattle.spec_lists.specs.Counting.{one, total}
+use Rattle.spec_layout.specs.Layout.{WORDS}
+use Rattle.spec_answers.specs.declared.Answer.{Answer}
+use Rattle.spec_answers.specs.declared.Answer.the-variants.{Moved, Empty, NotEmpty, Waits, Refused}
+use Rattle.spec_answers.specs.Answers.{answerOf as coreAnswer, valueOf}
+use Rattle.spec_outcomes.specs.Waits.{unfinished}
+use Rattle.spec_outcomes.specs.Left.{leftTested}
+use Rattle.spec_runner.specs.declared.StepAnswer.{StepAnswer}
+use Rattle.spec_runner.specs.Words.{RUNNER}
+use Rattle.spec_runner.specs.Answers.{hasMoved, statusOf, Outcome, answerOf, coreOf, runnerOf}
+use Rattle.spec_runner.specs.Open.{openOutcome}
+use Rattle.spec_runner.specs.Run.{stepsFrom}
+use Rattle.spec_serial.specs.declared.End.the-variants.{Refused as TurnedDown}
 use Rattle.run_text.specs.Lines.{line, leftLine, openLine, endLine}
 use Rattle.serial_text.specs.Whole.{linesFrom}
-use Rattle.running.specs.Rows.{numbered, printed}
+use Rattle.runner_run.specs.Rows.{numbered, printed}
 
 -- "the call's number from 1, task, answer, value or "-"": the calls of tasks ts, where c calls were made before
 unfoldable pub callLines : ℕ → List ℕ → List StepAnswer → List ℕ

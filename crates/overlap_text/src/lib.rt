@@ -3,8 +3,8 @@
 ghost use mathlib.Core.Path.{_≡_};
 ghost use Prim.Native.Nat.{_+_, _^_, _<_, _≤_};
 ghost use lib.ListN.{length};
-ghost use Rattle.lists.specs.Counting.{one};
-ghost use Rattle.answers.specs.Answers.{valueOf};
+ghost use Rattle.spec_lists.specs.Counting.{one};
+ghost use Rattle.spec_answers.specs.Answers.{valueOf};
 ghost use Rattle.text.specs.Puts.{Puts};
 ghost use Rattle.run_text.specs.Lines.{openLine};
 ghost use Rattle.serial_text.specs.Whole.{linesFrom};
@@ -12,7 +12,7 @@ ghost use Rattle.serial_text.specs.Blocks.{Block};
 ghost use Rattle.overlap_text.specs.Whole.{leftAt, isValue, leftIn, valueLine, unfinishedIn};
 ghost use Rattle.overlap_text.specs.Laws.{rowLine};
 ghost use Rattle.overlap_text.specs.Blocks.{Called};
-use answers::Answer;
+use spec_answers::Answer;
 
 // The line of row i, where `before` calls were made before row 0.
 fn row_line(out: &mut [u8], at: usize, a: &[u32], before: u64, i: usize) -> usize
@@ -54,7 +54,7 @@ pub fn call_lines(
         (now (out .exit)) n (now (m .exit)) (now (r .exit)) ⌝ }
 {
     let mut a = [0u32; 3072];
-    let n = running::run(job, tasks, m, r, &mut a);
+    let n = runner_run::run(job, tasks, m, r, &mut a);
     row_lines(out, &a, before, n)
 }
 
@@ -62,7 +62,7 @@ pub fn call_lines(
 fn is_left(m: &[u32], q: u32, i: u32) -> bool
     ensures { λ b. ⌜ b ≡ isValue (leftAt (now (m .entry)) q i) ⌝ }
 {
-    let a = leaving::left_at(m, q, i);
+    let a = core_left::left_at(m, q, i);
     match a {
         Answer::Moved(_) => true,
         Answer::Empty => false,
@@ -90,7 +90,7 @@ pub fn left_count(m: &[u32], q: u32) -> u32
 fn left_value(m: &[u32], q: u32, i: u32) -> u32
     ensures { λ v. ⌜ v ≡ valueOf (leftAt (now (m .entry)) q i) ⌝ }
 {
-    let a = leaving::left_at(m, q, i);
+    let a = core_left::left_at(m, q, i);
     match a {
         Answer::Moved(v) => v,
         Answer::Empty => 0,

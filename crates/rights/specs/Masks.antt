@@ -6,9 +6,9 @@ use native.Mathlib.Omega.{arith}
 use lib.Dec.{eqb}
 use lib.Bits.{bitAnd, and-zero-r, and-lt, and-block, and-shr, and-mod}
 use borrow.Author.Tests.{lt-ltb, le-ltb, eq-eqb, ne-eqb, eqb-true, eqb-false}
-use Rattle.words.specs.Words.{pick, both, both-right-on, either, pass, both-on}
-use Rattle.tree.specs.Rights.{bits, pushes, pops, eachQueue, someQueue, sharesPop, subset}
-use Rattle.tree.specs.Queues.{by-four}
+use Rattle.spec_words.specs.Words.{pick, both, both-right-on, either, pass, both-on}
+use Rattle.spec_tree.specs.Rights.{bits, pushes, pops, eachQueue, someQueue, sharesPop, subset}
+use Rattle.spec_tree.specs.Queues.{by-four}
 
 -- a fact of the numbers below 4 by its four cases
 -- the shift by 2q

@@ -1,7 +1,7 @@
 // Tests of a rights word.
 ghost use mathlib.Core.Path.{_≡_};
 ghost use Prim.Native.Nat.{_<_};
-ghost use Rattle.tree.specs.Rights.{pushes, pops, uses, sharesPop, subset};
+ghost use Rattle.spec_tree.specs.Rights.{pushes, pops, uses, sharesPop, subset};
 
 pub fn pushes(r: u32, q: u32) -> bool
     requires { ⌜ q < 4 ⌝ }

@@ -5,13 +5,13 @@ use Prim.Native.Nat.{ℕ, _+_, _^_, _<_, _≤_}
 use native.Mathlib.Omega.{arith}
 use lib.ListN.{length, List·getD-eq-default}
 use borrow.Author.Tests.{lt-ltb, le-ltb, le-leb, lt-leb}
-use Rattle.words.specs.Words.{either, halt, pass}
+use Rattle.spec_words.specs.Words.{either, halt, pass}
 use Rattle.text.specs.Text.{ascii, decimal}
 use Rattle.text.specs.Puts.{Puts, puts-then, puts-first}
 use Rattle.run_text.specs.Few.{number-ends, long-ends}
 use Rattle.run_text.specs.Lines.{answerTexts, answerText, hasValue, valueText, spaced, ended, line, leftLine, openLine, refusedLine, endLine}
-use Rattle.serial.specs.declared.End.{End}
-use Rattle.serial.specs.declared.End.the-variants.{Ended, Spent, Refused}
+use Rattle.spec_serial.specs.declared.End.{End}
+use Rattle.spec_serial.specs.declared.End.the-variants.{Ended, Spent, Refused}
 
 -- text that is put under another name
 pub named : {m ws m1 us : List ℕ} {a r : ℕ} → ws ≡ us → Puts m a ws m1 r → Puts m a us m1 r

@@ -1,7 +1,7 @@
 -- Lines of document 01's run in full, and of each way to stop, established by computation.
 use mathlib.Core.Path.{_≡_, refl}
-use Rattle.words.specs.Words.{pick, either}
-use Rattle.serial.specs.declared.End.the-variants.{Spent, Refused}
+use Rattle.spec_words.specs.Words.{pick, either}
+use Rattle.spec_serial.specs.declared.End.the-variants.{Spent, Refused}
 use Rattle.text.specs.Text.{ascii, digits, decimal}
 use Rattle.run_text.specs.Lines.{answerText, hasValue, valueText, spaced, ended, line, leftLine, openLine, refusedLine, endLine}
 

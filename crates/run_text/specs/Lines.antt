@@ -6,11 +6,11 @@ use mathlib.Core.List.{List, [], _∷_, _++_}
 use Prim.Native.Nat.{ℕ}
 use lib.Dec.{ltb, leb}
 use lib.ListN.{getD}
-use Rattle.words.specs.Words.{pick, either}
-use Rattle.job.specs.Effects.{Word, spawned, pushed, took, moved, finished, empty, notEmpty, waits, refused}
-use Rattle.serial.specs.Answers.{numberOf}
-use Rattle.serial.specs.declared.End.{End}
-use Rattle.serial.specs.declared.End.the-variants.{Ended, Spent, Refused}
+use Rattle.spec_words.specs.Words.{pick, either}
+use Rattle.spec_job.specs.Effects.{Word, spawned, pushed, took, moved, finished, empty, notEmpty, waits, refused}
+use Rattle.spec_serial.specs.Answers.{numberOf}
+use Rattle.spec_serial.specs.declared.End.{End}
+use Rattle.spec_serial.specs.declared.End.the-variants.{Ended, Spent, Refused}
 use Rattle.text.specs.Text.{ascii, decimal}
 
 -- how an answer is printed

@@ -5,7 +5,7 @@ ghost use Prim.Native.Nat.{_+_, _^_, _<_, _≤_};
 ghost use Rattle.text.specs.Text.{decimal};
 ghost use Rattle.text.specs.Puts.{Puts};
 ghost use Rattle.run_text.specs.Lines.{answerText, valueText, spaced, ended, line, leftLine, openLine, refusedLine, endLine};
-use serial::End;
+use spec_serial::End;
 
 // A number and a space behind it.
 fn spaced_number(out: &mut [u8], at: usize, n: u32) -> usize

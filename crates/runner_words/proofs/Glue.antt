@@ -6,16 +6,16 @@ use Prim.Native.Nat.{ℕ, _+_, _*_, _<_, _≤_}
 use lib.Dec.{ltb, eqb}
 use lib.ListN.{length}
 use borrow.Author.Tests.{lt-ltb, le-ltb, eq-eqb, ne-eqb}
-use Rattle.words.specs.Words.{store, size, halt, pass, both-off}
-use Rattle.words.specs.Blocks.{store-three}
-use Rattle.layout.specs.Layout.{task, read}
-use Rattle.answers.specs.declared.Answer.{Answer}
-use Rattle.calls.specs.Waits.{rightsOf, unfinished}
-use Rattle.job.specs.declared.Instruction.{Instruction}
-use Rattle.job.specs.Fields.{procedures, count, rights, instructionAt}
-use Rattle.job.specs.Test.{jobAnswer}
-use Rattle.runner.specs.Words.{RUNNER, procedureOf, positionOf, registerOf, put, instructionFor}
-use Rattle.runner.specs.Rules.{taskHolds, zeros, recordHolds}
+use Rattle.spec_words.specs.Words.{store, size, halt, pass, both-off}
+use Rattle.spec_words.specs.Blocks.{store-three}
+use Rattle.spec_layout.specs.Layout.{task, read}
+use Rattle.spec_answers.specs.declared.Answer.{Answer}
+use Rattle.spec_outcomes.specs.Waits.{rightsOf, unfinished}
+use Rattle.spec_job.specs.declared.Instruction.{Instruction}
+use Rattle.spec_job.specs.Fields.{procedures, count, rights, instructionAt}
+use Rattle.spec_job.specs.Test.{jobAnswer}
+use Rattle.spec_runner.specs.Words.{RUNNER, procedureOf, positionOf, registerOf, put, instructionFor}
+use Rattle.spec_runner.specs.Rules.{taskHolds, zeros, recordHolds}
 use Rattle.walks.proofs.Glue.{both-so}
 use Rattle.runner_words.specs.Refusals.{refusalIn, jobRefusal}
 

@@ -6,14 +6,14 @@ use Prim.Native.Nat.{ℕ}
 use native.Mathlib.Omega.{arith}
 use lib.Dec.{eqb}
 use borrow.Author.Tests.{eqb-true, not-false}
-use Rattle.words.specs.Words.{size, pick}
-use Rattle.layout.specs.Layout.{WORDS}
-use Rattle.answers.specs.declared.Answer.{Answer}
-use Rattle.answers.specs.declared.Answer.the-variants.{Moved, Empty, NotEmpty, Waits, Refused}
-use Rattle.job.specs.Test.{refusal10, refusal11, refusal12, jobAnswer}
-use Rattle.runner.specs.Words.{RUNNER}
-use Rattle.runner.specs.Answers.{Outcome}
-use Rattle.runner.specs.Rules.{refused, jobTested}
+use Rattle.spec_words.specs.Words.{size, pick}
+use Rattle.spec_layout.specs.Layout.{WORDS}
+use Rattle.spec_answers.specs.declared.Answer.{Answer}
+use Rattle.spec_answers.specs.declared.Answer.the-variants.{Moved, Empty, NotEmpty, Waits, Refused}
+use Rattle.spec_job.specs.Test.{refusal10, refusal11, refusal12, jobAnswer}
+use Rattle.spec_runner.specs.Words.{RUNNER}
+use Rattle.spec_runner.specs.Answers.{Outcome}
+use Rattle.spec_runner.specs.Rules.{refused, jobTested}
 
 -- the number of a refusal, 0 for any other answer
 unfoldable pub refusalIn : Answer → ℕ

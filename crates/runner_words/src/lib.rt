@@ -1,11 +1,11 @@
 // The runner's words: reading and writing them, whether they keep their rules, and what every call of the runner tests first.
 // Every function is total: past the end a read gives 0 and a write does nothing.
 ghost use mathlib.Core.Path.{_≡_};
-ghost use Rattle.runner.specs.Words.{procedureOf, positionOf, registerOf, put, instructionFor};
-ghost use Rattle.runner.specs.Rules.{taskHolds, zeros, recordHolds, runnerHolds};
+ghost use Rattle.spec_runner.specs.Words.{procedureOf, positionOf, registerOf, put, instructionFor};
+ghost use Rattle.spec_runner.specs.Rules.{taskHolds, zeros, recordHolds, runnerHolds};
 ghost use Rattle.runner_words.specs.Refusals.{refusalIn, jobRefusal};
-use answers::Answer;
-use job::Instruction;
+use spec_answers::Answer;
+use spec_job::Instruction;
 
 // The procedure of task t.
 pub fn procedure(r: &[u32], t: u32) -> u32

@@ -6,13 +6,13 @@ use Prim.Native.Nat.{ℕ, suc, _+_, _-_, _*_, _<_, _≤_}
 use native.Mathlib.Omega.{arith}
 use lib.Dec.{leb, ltb, eqb}
 use lib.ListN.{getD}
-use Rattle.words.specs.Words.{pick, both, either}
-use Rattle.lists.specs.Tests.{upto}
-use Rattle.layout.specs.Layout.{NONE}
-use Rattle.rules.specs.Contents.{decode}
-use Rattle.rules.specs.Test.{segmentTest}
-use Rattle.view_events.specs.Both.{grouped}
-use Rattle.view_events.specs.Parts.{part-at, length-at, number-at}
+use Rattle.spec_words.specs.Words.{pick, both, either}
+use Rattle.spec_lists.specs.Tests.{upto}
+use Rattle.spec_layout.specs.Layout.{NONE}
+use Rattle.spec_rules.specs.Contents.{decode}
+use Rattle.spec_rules.specs.Test.{segmentTest}
+use Rattle.spec_view_events.specs.Both.{grouped}
+use Rattle.spec_view_events.specs.Parts.{part-at, length-at, number-at}
 
 -- the code computes both sides
 and-both : (a b : Bool) → a && b ≡ both a b

@@ -5,13 +5,13 @@ use mathlib.Core.List.{List}
 use Prim.Native.Nat.{ℕ, _+_, _<_, _≤_}
 use lib.ListN.{length, getD, set}
 use borrow.Author.Tests.{lt-ltb, le-ltb, eq-eqb, ne-eqb}
-use Rattle.words.specs.Words.{load, store, both-on, both-off}
-use Rattle.lists.specs.Distinct.{fresh}
-use Rattle.lists.specs.Marks.{marking}
-use Rattle.layout.specs.Layout.{read, address}
-use Rattle.rules.specs.Contents.{decode}
-use Rattle.rules.specs.Stack.{rest, rest-start, rest-next, rest-end}
-use Rattle.view_events.specs.Parts.{number-at}
+use Rattle.spec_words.specs.Words.{load, store, both-on, both-off}
+use Rattle.spec_lists.specs.Distinct.{fresh}
+use Rattle.spec_lists.specs.Marks.{marking}
+use Rattle.spec_layout.specs.Layout.{read, address}
+use Rattle.spec_rules.specs.Contents.{decode}
+use Rattle.spec_rules.specs.Stack.{rest, rest-start, rest-next, rest-end}
+use Rattle.spec_view_events.specs.Parts.{number-at}
 
 pub rest-all : (m : List ℕ) → rest m (getD m 2 0) 0 ≡ decode m .free
 unfolding read address load

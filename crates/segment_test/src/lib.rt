@@ -3,12 +3,12 @@ ghost use mathlib.Core.Path.{_≡_};
 ghost use mathlib.Core.Bool.{true};
 ghost use Prim.Native.Nat.{_<_, _≤_};
 ghost use lib.ListN.{length, getD};
-ghost use Rattle.lists.specs.Tests.{upto};
-ghost use Rattle.lists.specs.Distinct.{fresh};
-ghost use Rattle.lists.specs.Marks.{marking};
-ghost use Rattle.rules.specs.Contents.{decode};
-ghost use Rattle.rules.specs.Test.{segmentTest};
-ghost use Rattle.view_events.specs.Does.{Ready};
+ghost use Rattle.spec_lists.specs.Tests.{upto};
+ghost use Rattle.spec_lists.specs.Distinct.{fresh};
+ghost use Rattle.spec_lists.specs.Marks.{marking};
+ghost use Rattle.spec_rules.specs.Contents.{decode};
+ghost use Rattle.spec_rules.specs.Test.{segmentTest};
+ghost use Rattle.spec_view_events.specs.Does.{Ready};
 
 const NONE: u32 = 4294967295;
 

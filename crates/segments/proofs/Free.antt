@@ -8,11 +8,11 @@ use lib.Dec.{eqb}
 use lib.ListN.{length, take, drop, getD, drop-of-length-le}
 use lib.Seq.{take-nil}
 use borrow.Author.Tests.{eq-eqb, ne-eqb}
-use Rattle.words.specs.Words.{load, store}
-use Rattle.lists.specs.Counting.{occurrences, occurs-nil, occurs-here, occurs-past}
-use Rattle.lists.specs.Marks.{marking, marked-occurs}
-use Rattle.layout.specs.Layout.{freeSegments, freeSegment, address, read}
-use Rattle.rules.specs.Stack.{rest, rest-start, rest-next}
+use Rattle.spec_words.specs.Words.{load, store}
+use Rattle.spec_lists.specs.Counting.{occurrences, occurs-nil, occurs-here, occurs-past}
+use Rattle.spec_lists.specs.Marks.{marking, marked-occurs}
+use Rattle.spec_layout.specs.Layout.{freeSegments, freeSegment, address, read}
+use Rattle.spec_rules.specs.Stack.{rest, rest-start, rest-next}
 use Rattle.segments.specs.Names.{freeStack, held, freeMarks}
 
 module _ (m : List ℕ) (h : ℕ) where

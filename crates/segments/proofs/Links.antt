@@ -8,11 +8,11 @@ use lib.Dec.{ltb, eqb}
 use lib.ListN.{drop, getD}
 use lib.Seq.{drop-drop, getD-drop}
 use borrow.Author.Tests.{eq-eqb, ne-eqb, lt-ltb, le-ltb}
-use Rattle.words.specs.Words.{load, pick, both, pass, halt}
-use Rattle.lists.specs.Tests.{turn-left, turns-over}
-use Rattle.layout.specs.Layout.{numberWord, segment, task, address, read, write, recordOf}
-use Rattle.tree.specs.Tour.{MARKS, seek}
-use Rattle.calls.specs.Segments.{indexOf, headIndex, linkedBy, renamed, released, linked}
+use Rattle.spec_words.specs.Words.{load, pick, both, pass, halt}
+use Rattle.spec_lists.specs.Tests.{turn-left, turns-over}
+use Rattle.spec_layout.specs.Layout.{numberWord, segment, task, address, read, write, recordOf}
+use Rattle.spec_tree.specs.Tour.{MARKS, seek}
+use Rattle.spec_outcomes.specs.Segments.{indexOf, headIndex, linkedBy, renamed, released, linked}
 use Rattle.segments.specs.Names.{held, nextIs, headHere}
 
 -- THE HEADS of a task: the place of s, where the first i are others

@@ -6,12 +6,12 @@ use native.Mathlib.Omega.{arith}
 use native.Mathlib.Nat.{mul-le-mul, mul-le-mul-left, mul-suc, mul-comm}
 use lib.ListN.{length}
 use borrow.Rule.Slice.PartMut.{putMid, midOf, mid-len, set-mid-at}
-use Rattle.words.specs.Words.{load, store, size}
-use Rattle.layout.specs.Layout.{lengthWord, numberWord, segment, value, first, count, next, address, read, write}
+use Rattle.spec_words.specs.Words.{load, store, size}
+use Rattle.spec_layout.specs.Layout.{lengthWord, numberWord, segment, value, first, count, next, address, read, write}
 use Rattle.segment_record.specs.Ring.{oneMore, oneLess}
 use Rattle.segment_record.specs.declared.Record.{Record}
-use Rattle.calls.specs.Segments.{place, valueAt, stored, dropped}
-use Rattle.calls.specs.Places.{place-below}
+use Rattle.spec_outcomes.specs.Segments.{place, valueAt, stored, dropped}
+use Rattle.spec_outcomes.specs.Places.{place-below}
 
 -- no address of a value wraps
 pub product-fits : (s l : ℕ) → s < 2 ^ 32 → l < 2 ^ 32 → s * l ≤ 4294967295 * 4294967295

@@ -6,10 +6,10 @@ use Prim.Native.Nat.{ℕ, suc, _+_, _-_, _*_, _<_, _≤_}
 use native.Mathlib.Omega.{arith}
 use lib.Dec.{eqb}
 use borrow.Author.Tests.{eqb-false, lt-ltb, le-ltb}
-use Rattle.words.specs.Words.{store, pass, halt}
-use Rattle.words.specs.Blocks.{storeAll, store-more, store-none}
-use Rattle.layout.specs.Layout.{NONE, lengthWord, freeSegments, freeSegment, segment, value, address, read, write}
-use Rattle.calls.specs.Segments.{noneFree, nextFree, taken, released}
+use Rattle.spec_words.specs.Words.{store, pass, halt}
+use Rattle.spec_words.specs.Blocks.{storeAll, store-more, store-none}
+use Rattle.spec_layout.specs.Layout.{NONE, lengthWord, freeSegments, freeSegment, segment, value, address, read, write}
+use Rattle.spec_outcomes.specs.Segments.{noneFree, nextFree, taken, released}
 
 pub three-words : (m m1 m2 m3 : List ℕ) (s f n x : ℕ) → m1 ≡ write m (segment s 0) f → m2 ≡ write m1 (segment s 1) n → m3 ≡ write m2 (segment s 2) x
     → m3 ≡ storeAll m (address (segment s 0)) (f ∷ n ∷ x ∷ [])

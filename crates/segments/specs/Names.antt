@@ -4,11 +4,11 @@ use mathlib.Core.List.{List}
 use Prim.Native.Nat.{ℕ}
 use lib.Dec.{ltb, eqb}
 use lib.ListN.{replicate, take, drop}
-use Rattle.words.specs.Words.{both}
-use Rattle.lists.specs.Counting.{occurrences}
-use Rattle.lists.specs.Marks.{marking}
-use Rattle.layout.specs.Layout.{freeSegments, next, read}
-use Rattle.calls.specs.Segments.{headIndex}
+use Rattle.spec_words.specs.Words.{both}
+use Rattle.spec_lists.specs.Counting.{occurrences}
+use Rattle.spec_lists.specs.Marks.{marking}
+use Rattle.spec_layout.specs.Layout.{freeSegments, next, read}
+use Rattle.spec_outcomes.specs.Segments.{headIndex}
 
 -- the stack of free segments
 abbrev pub freeStack : List ℕ → List ℕ

@@ -4,13 +4,13 @@ ghost use mathlib.Core.Path.{_≡_};
 ghost use mathlib.Core.List.{[], _∷_};
 ghost use Prim.Native.Nat.{_+_, _*_, _<_, _≤_};
 ghost use lib.ListN.{length};
-ghost use Rattle.words.specs.Words.{store, size};
-ghost use Rattle.words.specs.Blocks.{storeAll};
-ghost use Rattle.lists.specs.Marks.{marking};
-ghost use Rattle.layout.specs.Layout.{recordOf, lengthWord, numberWord, freeSegments, segment, value, first, count, next, address, read, write};
-ghost use Rattle.tree.specs.Tour.{MARKS, seek};
-ghost use Rattle.calls.specs.Segments.{place, valueAt, stored, dropped, noneFree, nextFree, taken, released};
-ghost use Rattle.calls.specs.Segments.{headIndex, linkedBy, renamed, linked};
+ghost use Rattle.spec_words.specs.Words.{store, size};
+ghost use Rattle.spec_words.specs.Blocks.{storeAll};
+ghost use Rattle.spec_lists.specs.Marks.{marking};
+ghost use Rattle.spec_layout.specs.Layout.{recordOf, lengthWord, numberWord, freeSegments, segment, value, first, count, next, address, read, write};
+ghost use Rattle.spec_tree.specs.Tour.{MARKS, seek};
+ghost use Rattle.spec_outcomes.specs.Segments.{place, valueAt, stored, dropped, noneFree, nextFree, taken, released};
+ghost use Rattle.spec_outcomes.specs.Segments.{headIndex, linkedBy, renamed, linked};
 ghost use Rattle.segments.specs.Names.{freeStack, held, freeMarks, nextIs, headHere};
 
 // The place of value number k in a ring of l places, the first value at place f.

@@ -8,11 +8,11 @@ use lib.Dec.{leb}
 use lib.ListN.{take}
 use lib.Seq.{getD-take, length-take-le}
 use borrow.Author.Tests.{le-leb, leb-true, eqb-true}
-use Rattle.words.specs.Words.{load, size, pick, both, both-true, both-on, both-off, both-right-on, halt, pass, refuted}
-use Rattle.answers.specs.declared.Answer.the-variants.{Refused}
-use Rattle.job.specs.Fields.{bytes2, procedures, segmentLength, entryAt, count}
-use Rattle.job.specs.Test.{between, headHolds, refusal10, entriesHold, contentsHold, refusal11, jobAnswer}
-use Rattle.job.specs.Accepted.{entry-says}
+use Rattle.spec_words.specs.Words.{load, size, pick, both, both-true, both-on, both-off, both-right-on, halt, pass, refuted}
+use Rattle.spec_answers.specs.declared.Answer.the-variants.{Refused}
+use Rattle.spec_job.specs.Fields.{bytes2, procedures, segmentLength, entryAt, count}
+use Rattle.spec_job.specs.Test.{between, headHolds, refusal10, entriesHold, contentsHold, refusal11, jobAnswer}
+use Rattle.spec_job.specs.Accepted.{entry-says}
 
 -- n and L in range
 unfoldable inRange : List ℕ → Bool

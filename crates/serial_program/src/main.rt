@@ -3,8 +3,8 @@
 ghost use Prim.Native.Nat.{_+_, _^_, _<_, _≤_};
 use libc::STDERR_FILENO;
 use libc::STDOUT_FILENO;
-use reading::Bytes;
-use serial::End;
+use read_file::Bytes;
+use spec_serial::End;
 
 // Prints the lines of n steps from step `first` on.
 fn print_step_block(a: &[u32], first: u32, n: u32) -> bool
@@ -105,7 +105,7 @@ fn main() {
     }
     // The largest job has 49,540 bytes. A longer file is none, and is refused by its first 49,541 bytes as by all of them.
     let mut file = [0u8; 49541];
-    match reading::read_start(fd, &mut file) {
+    match read_file::read_start(fd, &mut file) {
         Bytes::Read(n) => run(&file[..n]),
         Bytes::Unread => os::fail(&path[..length]),
     }

@@ -6,9 +6,9 @@ use Prim.Native.Nat.{ℕ, _+_, _<_, _≤_}
 use native.Mathlib.Omega.{arith}
 use lib.ListN.{length, getD, set, List·getD-eq-default}
 use lib.Seq.{set-out}
-use Rattle.words.specs.Words.{load}
-use Rattle.plain.specs.Machine.{queue, front}
-use Rattle.serial.specs.Working.{placeAt, firstAt, countAt, ring, lists}
+use Rattle.spec_words.specs.Words.{load}
+use Rattle.spec_plain.specs.Machine.{queue, front}
+use Rattle.spec_serial.specs.Working.{placeAt, firstAt, countAt, ring, lists}
 use Rattle.serial_queues.specs.Rings.{queue-ring, queue-length, queue-there, ring-at, front-there}
 
 -- the count of a queue that is not empty

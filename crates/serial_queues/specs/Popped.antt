@@ -5,9 +5,9 @@ use Prim.Native.Nat.{ℕ, zero, suc, _+_, _-_, _%_, _<_}
 use native.Mathlib.Omega.{arith}
 use lib.ListN.{length, set, drop}
 use lib.Seq.{set-getD}
-use Rattle.words.specs.Words.{load, store, size, size-store, load-same, load-other}
-use Rattle.plain.specs.Machine.{queue}
-use Rattle.serial.specs.Working.{WORKING, placeAt, firstAt, countAt, ringFrom, ring, lists}
+use Rattle.spec_words.specs.Words.{load, store, size, size-store, load-same, load-other}
+use Rattle.spec_plain.specs.Machine.{queue}
+use Rattle.spec_serial.specs.Working.{WORKING, placeAt, firstAt, countAt, ringFrom, ring, lists}
 use Rattle.serial_queues.specs.Rings.{queue-ring, ring-same, rings-set, ring-kept}
 
 -- A POP of an empty queue, of which there may be none, changes nothing

@@ -5,9 +5,9 @@ use Prim.Native.Nat.{ℕ, _+_, _<_}
 use native.Mathlib.Numerals.{add-one}
 use native.Mathlib.Omega.{arith}
 use lib.ListN.{set}
-use Rattle.words.specs.Words.{load, store, size, size-store, load-same, load-other}
-use Rattle.plain.specs.Machine.{queue}
-use Rattle.serial.specs.Working.{WORKING, placeAt, firstAt, countAt, ringFrom, ring, lists}
+use Rattle.spec_words.specs.Words.{load, store, size, size-store, load-same, load-other}
+use Rattle.spec_plain.specs.Machine.{queue}
+use Rattle.spec_serial.specs.Working.{WORKING, placeAt, firstAt, countAt, ringFrom, ring, lists}
 use Rattle.serial_queues.specs.Rings.{queue-ring, ring-same, ring-more, rings-set, ring-kept}
 
 module _ (w w1 w2 : List ℕ) (q v : ℕ) {h n : ℕ} (s : size w ≡ WORKING) (l : q < 4) (eh : h ≡ load w (firstAt q)) (en : n ≡ load w (countAt q)) (few : n < 4096)

@@ -8,10 +8,10 @@ use native.Mathlib.Nat.{add-zero, le-of-suc-le-suc}
 use native.Mathlib.Omega.{arith}
 use lib.ListN.{length, getD, set, length-set, List·getD-eq-default}
 use lib.Seq.{getD-set-same, getD-set-other, ext-getD}
-use Rattle.words.specs.Words.{load}
-use Rattle.lists.specs.Counting.{equal?}
-use Rattle.plain.specs.Machine.{queue, front}
-use Rattle.serial.specs.Working.{placeAt, firstAt, countAt, ringFrom, ring, lists}
+use Rattle.spec_words.specs.Words.{load}
+use Rattle.spec_lists.specs.Counting.{equal?}
+use Rattle.spec_plain.specs.Machine.{queue, front}
+use Rattle.spec_serial.specs.Working.{placeAt, firstAt, countAt, ringFrom, ring, lists}
 
 -- THE LIST OF A QUEUE
 list-at : (w : List ℕ) (q : ℕ) → q < 4 → getD (lists w) q [] ≡ ring w q

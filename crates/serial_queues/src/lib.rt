@@ -3,9 +3,9 @@ ghost use mathlib.Core.Path.{_≡_};
 ghost use mathlib.Core.List.{[], _∷_, _++_};
 ghost use Prim.Native.Nat.{_<_};
 ghost use lib.ListN.{length, getD, set, drop};
-ghost use Rattle.words.specs.Words.{size};
-ghost use Rattle.plain.specs.Machine.{queue, front};
-ghost use Rattle.serial.specs.Working.{WORKING, lists};
+ghost use Rattle.spec_words.specs.Words.{size};
+ghost use Rattle.spec_plain.specs.Machine.{queue, front};
+ghost use Rattle.spec_serial.specs.Working.{WORKING, lists};
 ghost use Rattle.serial_queues.specs.Front.{frontOf};
 
 // The front of a list.

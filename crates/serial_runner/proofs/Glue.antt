@@ -5,7 +5,7 @@ use mathlib.Core.Logic.{_⊎_, inl, inr}
 use Prim.Native.Nat.{ℕ, _+_, _-_, _<_, _≤_}
 use native.Mathlib.Omega.{arith}
 use lib.ListN.{length, replicate, length-replicate}
-use Rattle.words.specs.Words.{size}
+use Rattle.spec_words.specs.Words.{size}
 use Rattle.serial_steps.specs.Steps.{Inner}
 
 -- the arm of 1 to 7 and 9

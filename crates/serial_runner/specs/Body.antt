@@ -9,19 +9,19 @@ use native.Mathlib.Omega.{arith}
 use lib.ListN.{length, List·getD-eq-default}
 use types.Run.{OneOf}
 use denote.Enum.Declared.{tagOf}
-use Rattle.words.specs.Words.{load, size}
-use Rattle.words.specs.Blocks.{storeAll}
-use Rattle.order.specs.Steps.{Name}
-use Rattle.job.specs.declared.Instruction.{Instruction}
-use Rattle.job.specs.Fields.{offset, instructionFrom, instructionAt}
-use Rattle.job.specs.Effects.{sum}
-use Rattle.plain.specs.Machine.{Task, state, queue}
-use Rattle.serial.specs.Serial.{STEPS, full}
-use Rattle.serial.specs.Answers.{FINISHED}
-use Rattle.serial.specs.Outcome.{Outcome}
-use Rattle.serial.specs.declared.End.{End}
-use Rattle.serial.specs.declared.End.the-variants.{Ended, Spent, Refused}
-use Rattle.serial.proofs.End.{the-type}
+use Rattle.spec_words.specs.Words.{load, size}
+use Rattle.spec_words.specs.Blocks.{storeAll}
+use Rattle.spec_order.specs.Steps.{Name}
+use Rattle.spec_job.specs.declared.Instruction.{Instruction}
+use Rattle.spec_job.specs.Fields.{offset, instructionFrom, instructionAt}
+use Rattle.spec_job.specs.Effects.{sum}
+use Rattle.spec_plain.specs.Machine.{Task, state, queue}
+use Rattle.spec_serial.specs.Serial.{STEPS, full}
+use Rattle.spec_serial.specs.Answers.{FINISHED}
+use Rattle.spec_serial.specs.Outcome.{Outcome}
+use Rattle.spec_serial.specs.declared.End.{End}
+use Rattle.spec_serial.specs.declared.End.the-variants.{Ended, Spent, Refused}
+use Rattle.spec_serial.proofs.End.{the-type}
 use Rattle.serial_steps.specs.declared.Made.{Made}
 use Rattle.serial_steps.specs.Steps.{Inner, Does}
 use Rattle.serial_runner.specs.declared.Ran.{Ran}

@@ -4,15 +4,15 @@ use mathlib.Core.List.{List, [], _∷_}
 use Prim.Native.Nat.{ℕ, suc, _+_, _-_, _*_, _<_, _≤_}
 use native.Mathlib.Omega.{arith}
 use lib.ListN.{length}
-use Rattle.words.specs.Blocks.{storeAll}
-use Rattle.order.specs.Steps.{Name}
-use Rattle.job.specs.declared.Instruction.{Instruction}
-use Rattle.job.specs.Fields.{instructionAt}
-use Rattle.job.specs.Effects.{sum}
-use Rattle.plain.specs.Machine.{Task, State, state}
-use Rattle.serial.specs.Serial.{STEPS}
-use Rattle.serial.specs.Answers.{SPAWNED}
-use Rattle.serial.specs.declared.End.the-variants.{Ended, Refused}
+use Rattle.spec_words.specs.Blocks.{storeAll}
+use Rattle.spec_order.specs.Steps.{Name}
+use Rattle.spec_job.specs.declared.Instruction.{Instruction}
+use Rattle.spec_job.specs.Fields.{instructionAt}
+use Rattle.spec_job.specs.Effects.{sum}
+use Rattle.spec_plain.specs.Machine.{Task, State, state}
+use Rattle.spec_serial.specs.Serial.{STEPS}
+use Rattle.spec_serial.specs.Answers.{SPAWNED}
+use Rattle.spec_serial.specs.declared.End.the-variants.{Ended, Refused}
 use Rattle.serial_runner.specs.declared.Ran.{Ran}
 use Rattle.serial_runner.specs.Onward.{onward}
 use Rattle.serial_runner.specs.Turns.{task, too-deep, spawn-turn}

@@ -2,9 +2,9 @@
 use mathlib.Core.Path.{_≡_, ap, ap₂, _∙_}
 use mathlib.Core.List.{List}
 use Prim.Native.Nat.{ℕ, _+_, _*_}
-use Rattle.serial.specs.Answers.{statusOf}
-use Rattle.serial.specs.Outcome.{Outcome, outcome}
-use Rattle.serial.specs.declared.End.{End}
+use Rattle.spec_serial.specs.Answers.{statusOf}
+use Rattle.spec_serial.specs.Outcome.{Outcome, outcome}
+use Rattle.spec_serial.specs.declared.End.{End}
 
 -- one number of 64 bits: the status in the high half, the steps in the low half
 unfoldable pub packed : Outcome → ℕ

@@ -5,13 +5,13 @@ use mathlib.Core.Option.{Option, none, some}
 use Prim.Native.Nat.{ℕ, zero, suc, _+_, _*_}
 use native.Mathlib.Omega.{arith}
 use lib.ListN.{length}
-use Rattle.words.specs.Blocks.{storeAll, store-none, store-append}
-use Rattle.plain.specs.Machine.{State, state, Event, Step, made, step}
-use Rattle.plain.specs.Run.{queuesOf, stepsOf, after, eventIn, next}
-use Rattle.serial.specs.Serial.{stopOf, Run, stopped, goesOn, serialFrom}
-use Rattle.serial.specs.Answers.{numbersAfter, madeAfter, row, written}
-use Rattle.serial.specs.Outcome.{Outcome, outcome, shown}
-use Rattle.serial.specs.declared.End.{End}
+use Rattle.spec_words.specs.Blocks.{storeAll, store-none, store-append}
+use Rattle.spec_plain.specs.Machine.{State, state, Event, Step, made, step}
+use Rattle.spec_plain.specs.Run.{queuesOf, stepsOf, after, eventIn, next}
+use Rattle.spec_serial.specs.Serial.{stopOf, Run, stopped, goesOn, serialFrom}
+use Rattle.spec_serial.specs.Answers.{numbersAfter, madeAfter, row, written}
+use Rattle.spec_serial.specs.Outcome.{Outcome, outcome, shown}
+use Rattle.spec_serial.specs.declared.End.{End}
 
 -- from state s on, where n steps remain, c tasks have been made and ms are the numbers of those on the stack
 unfoldable pub onward : List ℕ → ℕ → ℕ → List ℕ → State → List ℕ → Outcome

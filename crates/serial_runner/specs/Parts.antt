@@ -4,15 +4,15 @@ use mathlib.Core.Path.{_≡_}
 use mathlib.Core.List.{List, _∷_}
 use Prim.Native.Nat.{ℕ, _+_, _-_, _<_, _≤_}
 use lib.ListN.{length}
-use Rattle.order.specs.Steps.{Name}
-use Rattle.job.specs.declared.Instruction.{Instruction}
-use Rattle.job.specs.Fields.{instructionAt}
-use Rattle.job.specs.Effects.{sum}
-use Rattle.plain.specs.Machine.{Task, state}
-use Rattle.serial.specs.Serial.{STEPS}
-use Rattle.serial.specs.Outcome.{Outcome, outcome}
-use Rattle.serial.specs.declared.End.{End}
-use Rattle.serial.specs.declared.End.the-variants.{Ended, Spent, Refused}
+use Rattle.spec_order.specs.Steps.{Name}
+use Rattle.spec_job.specs.declared.Instruction.{Instruction}
+use Rattle.spec_job.specs.Fields.{instructionAt}
+use Rattle.spec_job.specs.Effects.{sum}
+use Rattle.spec_plain.specs.Machine.{Task, state}
+use Rattle.spec_serial.specs.Serial.{STEPS}
+use Rattle.spec_serial.specs.Outcome.{Outcome, outcome}
+use Rattle.spec_serial.specs.declared.End.{End}
+use Rattle.spec_serial.specs.declared.End.the-variants.{Ended, Spent, Refused}
 use Rattle.serial_runner.specs.declared.Ran.{Ran}
 use Rattle.serial_runner.specs.Onward.{onward}
 use Rattle.serial_runner.specs.Turns.{task}

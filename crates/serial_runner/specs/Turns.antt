@@ -10,22 +10,22 @@ use native.Mathlib.Omega.{arith}
 use lib.Dec.{leb, eqb}
 use lib.ListN.{length}
 use borrow.Author.Tests.{eq-eqb, ne-eqb, le-leb, lt-leb, leb-true}
-use Rattle.words.specs.Words.{pick, both, both-on, both-off, halt, pass}
-use Rattle.words.specs.Blocks.{storeAll}
-use Rattle.order.specs.Steps.{Name}
-use Rattle.job.specs.declared.Instruction.{Instruction}
-use Rattle.job.specs.Fields.{instructionAt}
-use Rattle.job.specs.Operations.{Operation, return, push, pushSum, pop, goIfEmpty, go, goIfZero, add, spawn, sync, rowOf, operationOf, operationAt}
-use Rattle.job.specs.Rows.{from, returns-at}
-use Rattle.job.specs.Effects.{Effect, sum, effect}
-use Rattle.job.specs.Test.{between}
-use Rattle.plain.specs.Machine.{Task, State, state, made, queue, front, queuesAfter, advanced, parent, child, stackAfter, effectOn, eventOf, does, step}
-use Rattle.plain.specs.Run.{queuesOf, stepsOf}
-use Rattle.serial.specs.Serial.{tooDeep, full, boundOn, stopOf}
-use Rattle.serial.specs.Answers.{SPAWNED, FINISHED, numberOf, numbersAfter, madeAfter, row}
-use Rattle.serial.specs.Outcome.{Outcome, outcome}
-use Rattle.serial.specs.declared.End.{End}
-use Rattle.serial.specs.declared.End.the-variants.{Spent, Refused}
+use Rattle.spec_words.specs.Words.{pick, both, both-on, both-off, halt, pass}
+use Rattle.spec_words.specs.Blocks.{storeAll}
+use Rattle.spec_order.specs.Steps.{Name}
+use Rattle.spec_job.specs.declared.Instruction.{Instruction}
+use Rattle.spec_job.specs.Fields.{instructionAt}
+use Rattle.spec_job.specs.Operations.{Operation, return, push, pushSum, pop, goIfEmpty, go, goIfZero, add, spawn, sync, rowOf, operationOf, operationAt}
+use Rattle.spec_job.specs.Rows.{from, returns-at}
+use Rattle.spec_job.specs.Effects.{Effect, sum, effect}
+use Rattle.spec_job.specs.Test.{between}
+use Rattle.spec_plain.specs.Machine.{Task, State, state, made, queue, front, queuesAfter, advanced, parent, child, stackAfter, effectOn, eventOf, does, step}
+use Rattle.spec_plain.specs.Run.{queuesOf, stepsOf}
+use Rattle.spec_serial.specs.Serial.{tooDeep, full, boundOn, stopOf}
+use Rattle.spec_serial.specs.Answers.{SPAWNED, FINISHED, numberOf, numbersAfter, madeAfter, row}
+use Rattle.spec_serial.specs.Outcome.{Outcome, outcome}
+use Rattle.spec_serial.specs.declared.End.{End}
+use Rattle.spec_serial.specs.declared.End.the-variants.{Spent, Refused}
 use Rattle.serial_steps.specs.declared.Made.{Made}
 use Rattle.serial_steps.specs.Steps.{Inner, coded, Does}
 use Rattle.serial_runner.specs.Onward.{onward, onward-stops, onward-goes}

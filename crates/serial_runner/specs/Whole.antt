@@ -9,21 +9,21 @@ use lib.ListN.{length, replicate}
 use types.Run.{OneOf}
 use denote.Enum.Declared.{tagOf}
 use borrow.Author.Tests.{eqb-true, not-false, eq-eqb, ne-eqb}
-use Rattle.words.specs.Words.{load, size, pick, halt, pass, both-true}
-use Rattle.lists.specs.Marks.{zeros}
-use Rattle.answers.specs.declared.Answer.{Answer}
-use Rattle.answers.specs.declared.Answer.the-variants.{Moved, Empty, NotEmpty, Waits, Refused}
-use Rattle.answers.proofs.Answer.{the-type}
-use Rattle.job.specs.Fields.{procedures, entryAt, count}
-use Rattle.job.specs.Test.{refusal10, refusal11, refusal12, entriesHold, contentsHold, jobAnswer}
-use Rattle.job.specs.Accepted.{entry-says, accepted}
-use Rattle.plain.specs.Machine.{state, begin}
-use Rattle.plain.specs.Run.{queuesOf, stepsOf}
-use Rattle.serial.specs.Serial.{STEPS, stopOf, serial}
-use Rattle.serial.specs.Working.{WORKING, firstAt, countAt, ringFrom, ring, lists}
-use Rattle.serial.specs.Outcome.{ANSWERS, Outcome, outcome, shown, turnedDown, serialOutcome}
-use Rattle.serial.specs.declared.End.{End}
-use Rattle.serial.specs.declared.End.the-variants.{Ended, Spent, Refused as Stopped}
+use Rattle.spec_words.specs.Words.{load, size, pick, halt, pass, both-true}
+use Rattle.spec_lists.specs.Marks.{zeros}
+use Rattle.spec_answers.specs.declared.Answer.{Answer}
+use Rattle.spec_answers.specs.declared.Answer.the-variants.{Moved, Empty, NotEmpty, Waits, Refused}
+use Rattle.spec_answers.proofs.Answer.{the-type}
+use Rattle.spec_job.specs.Fields.{procedures, entryAt, count}
+use Rattle.spec_job.specs.Test.{refusal10, refusal11, refusal12, entriesHold, contentsHold, jobAnswer}
+use Rattle.spec_job.specs.Accepted.{entry-says, accepted}
+use Rattle.spec_plain.specs.Machine.{state, begin}
+use Rattle.spec_plain.specs.Run.{queuesOf, stepsOf}
+use Rattle.spec_serial.specs.Serial.{STEPS, stopOf, serial}
+use Rattle.spec_serial.specs.Working.{WORKING, firstAt, countAt, ringFrom, ring, lists}
+use Rattle.spec_serial.specs.Outcome.{ANSWERS, Outcome, outcome, shown, turnedDown, serialOutcome}
+use Rattle.spec_serial.specs.declared.End.{End}
+use Rattle.spec_serial.specs.declared.End.the-variants.{Ended, Spent, Refused as Stopped}
 use Rattle.serial_runner.specs.declared.Ran.{Ran}
 use Rattle.serial_runner.specs.Onward.{onward, onward-stops}
 use Rattle.serial_runner.specs.Turns.{task}

@@ -3,15 +3,15 @@
 // hold the four lists, and the words a for the answers.
 ghost use mathlib.Core.Path.{_≡_};
 ghost use Prim.Native.Nat.{_+_, _^_, _<_, _≤_};
-ghost use Rattle.words.specs.Words.{size};
-ghost use Rattle.serial.specs.Serial.{STEPS, DEPTH};
-ghost use Rattle.serial.specs.Working.{WORKING, lists};
-ghost use Rattle.serial.specs.Answers.{statusOf};
-ghost use Rattle.serial.specs.Outcome.{outcome, serialOutcome};
+ghost use Rattle.spec_words.specs.Words.{size};
+ghost use Rattle.spec_serial.specs.Serial.{STEPS, DEPTH};
+ghost use Rattle.spec_serial.specs.Working.{WORKING, lists};
+ghost use Rattle.spec_serial.specs.Answers.{statusOf};
+ghost use Rattle.spec_serial.specs.Outcome.{outcome, serialOutcome};
 ghost use Rattle.serial_runner.specs.Parts.{BodyRuns, ChildRuns};
 ghost use Rattle.serial_runner.specs.Handed.{Handed};
-use answers::Answer;
-use serial::End;
+use spec_answers::Answer;
+use spec_serial::End;
 
 const SPAWNED: u32 = 0;
 

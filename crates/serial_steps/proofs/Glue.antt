@@ -10,14 +10,14 @@ use lib.ListN.{length, set, drop}
 use types.Run.{OneOf}
 use denote.Enum.Declared.{tagOf}
 use borrow.Author.Tests.{eq-eqb, ne-eqb, le-leb, lt-leb, leb-false}
-use Rattle.words.specs.Words.{pick, both-on, both-off, halt, pass}
-use Rattle.job.specs.declared.Instruction.{Instruction}
-use Rattle.job.specs.Operations.{rowOf, operationOf, operationAt}
-use Rattle.job.specs.Effects.{sum, effect}
-use Rattle.job.specs.Test.{between}
-use Rattle.plain.specs.Machine.{queue, front, queuesAfter}
-use Rattle.serial.specs.Serial.{full}
-use Rattle.serial.specs.Answers.{numberOf}
+use Rattle.spec_words.specs.Words.{pick, both-on, both-off, halt, pass}
+use Rattle.spec_job.specs.declared.Instruction.{Instruction}
+use Rattle.spec_job.specs.Operations.{rowOf, operationOf, operationAt}
+use Rattle.spec_job.specs.Effects.{sum, effect}
+use Rattle.spec_job.specs.Test.{between}
+use Rattle.spec_plain.specs.Machine.{queue, front, queuesAfter}
+use Rattle.spec_serial.specs.Serial.{full}
+use Rattle.spec_serial.specs.Answers.{numberOf}
 use Rattle.serial_queues.specs.declared.Front.{Front}
 use Rattle.serial_queues.specs.declared.Front.the-variants.{Value, Nothing}
 use Rattle.serial_queues.proofs.Front.{the-type}

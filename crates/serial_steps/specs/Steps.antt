@@ -2,10 +2,10 @@
 use mathlib.Core.Path.{_≡_}
 use mathlib.Core.List.{List}
 use Prim.Native.Nat.{ℕ, _≤_}
-use Rattle.job.specs.Operations.{operationAt}
-use Rattle.job.specs.Effects.{Effect, effect}
-use Rattle.plain.specs.Machine.{queue, front, queuesAfter}
-use Rattle.serial.specs.Answers.{numberOf}
+use Rattle.spec_job.specs.Operations.{operationAt}
+use Rattle.spec_job.specs.Effects.{Effect, effect}
+use Rattle.spec_plain.specs.Machine.{queue, front, queuesAfter}
+use Rattle.spec_serial.specs.Answers.{numberOf}
 use Rattle.serial_steps.specs.declared.Made.{Made}
 
 -- an operation that neither spawns nor returns

@@ -5,14 +5,14 @@ ghost use mathlib.Core.Bool.{false};
 ghost use mathlib.Core.List.{[], _∷_};
 ghost use Prim.Native.Nat.{_*_, _^_, _<_, _≤_};
 ghost use lib.ListN.{length};
-ghost use Rattle.words.specs.Words.{size};
-ghost use Rattle.words.specs.Blocks.{storeAll};
-ghost use Rattle.plain.specs.Machine.{queue};
-ghost use Rattle.serial.specs.Serial.{VALUES, full};
-ghost use Rattle.serial.specs.Working.{WORKING, lists};
+ghost use Rattle.spec_words.specs.Words.{size};
+ghost use Rattle.spec_words.specs.Blocks.{storeAll};
+ghost use Rattle.spec_plain.specs.Machine.{queue};
+ghost use Rattle.spec_serial.specs.Serial.{VALUES, full};
+ghost use Rattle.spec_serial.specs.Working.{WORKING, lists};
 ghost use Rattle.serial_steps.specs.Steps.{Inner, Moves, Does};
-use job::Instruction;
 use serial_queues::Front;
+use spec_job::Instruction;
 
 const PUSHED: u32 = 1;
 

@@ -6,8 +6,8 @@ use native.Mathlib.Nat.{le-antisymm}
 use native.Mathlib.Omega.{arith}
 use lib.ListN.{length, getD, take}
 use lib.Seq.{length-take-le}
-use Rattle.words.specs.Words.{load}
-use Rattle.plain.specs.Machine.{queue}
+use Rattle.spec_words.specs.Words.{load}
+use Rattle.spec_plain.specs.Machine.{queue}
 use Rattle.text.specs.Puts.{Puts, puts-then, puts-first, puts-whole}
 use Rattle.run_text.specs.Lines.{line, leftLine}
 use Rattle.serial_text.specs.Whole.{linesFrom, stepLine, valueLine}

@@ -1,21 +1,21 @@
 -- The text of document 01's job without overlap, established by computation.
 use mathlib.Core.Path.{_≡_, refl}
 use mathlib.Core.List.{_++_}
-use Rattle.words.specs.Words.{load, pick, both, either, size}
-use Rattle.words.specs.Blocks.{storeAll}
-use Rattle.lists.specs.Tests.{upto}
-use Rattle.tree.specs.Rights.{bits, pushes, pops, eachQueue, subset}
-use Rattle.job.specs.Fields.{bytes2, bytes4, procedures, segmentLength, offset, count, rights, reserved, instructionFrom, instructionAt}
-use Rattle.job.specs.Operations.{rowOf, operationOf, operationAt}
-use Rattle.job.specs.Effects.{sum, effect}
-use Rattle.job.specs.Test.{between, headHolds, refusal10, entryHolds, entriesHold, contentsHold, refusal11, whichHolds, operandHolds, fitting, instructionHolds}
-use Rattle.job.specs.Test.{lastHolds, bodyHolds, refusal12}
-use Rattle.job.specs.Examples.{fullRun}
-use Rattle.plain.specs.Machine.{begin, queue, front, queuesAfter, advanced, parent, child, stackAfter, effectOn, eventOf, does, step}
-use Rattle.plain.specs.Run.{after, eventIn, next}
-use Rattle.serial.specs.Serial.{tooDeep, full, boundOn, stopOf, stopped, goesOn, serialFrom, serial}
-use Rattle.serial.specs.Answers.{numberOf, numbersAfter, madeAfter, row, written}
-use Rattle.serial.specs.Outcome.{shown, turnedDown, serialOutcome}
+use Rattle.spec_words.specs.Words.{load, pick, both, either, size}
+use Rattle.spec_words.specs.Blocks.{storeAll}
+use Rattle.spec_lists.specs.Tests.{upto}
+use Rattle.spec_tree.specs.Rights.{bits, pushes, pops, eachQueue, subset}
+use Rattle.spec_job.specs.Fields.{bytes2, bytes4, procedures, segmentLength, offset, count, rights, reserved, instructionFrom, instructionAt}
+use Rattle.spec_job.specs.Operations.{rowOf, operationOf, operationAt}
+use Rattle.spec_job.specs.Effects.{sum, effect}
+use Rattle.spec_job.specs.Test.{between, headHolds, refusal10, entryHolds, entriesHold, contentsHold, refusal11, whichHolds, operandHolds, fitting, instructionHolds}
+use Rattle.spec_job.specs.Test.{lastHolds, bodyHolds, refusal12}
+use Rattle.spec_job.specs.Examples.{fullRun}
+use Rattle.spec_plain.specs.Machine.{begin, queue, front, queuesAfter, advanced, parent, child, stackAfter, effectOn, eventOf, does, step}
+use Rattle.spec_plain.specs.Run.{after, eventIn, next}
+use Rattle.spec_serial.specs.Serial.{tooDeep, full, boundOn, stopOf, stopped, goesOn, serialFrom, serial}
+use Rattle.spec_serial.specs.Answers.{numberOf, numbersAfter, madeAfter, row, written}
+use Rattle.spec_serial.specs.Outcome.{shown, turnedDown, serialOutcome}
 use Rattle.text.specs.Text.{ascii, digits, decimal}
 use Rattle.run_text.specs.Lines.{answerText, hasValue, valueText, spaced, ended, line, leftLine}
 use Rattle.serial_text.specs.Whole.{linesFrom, stepLine, valueLine, queueLines, endText, textOf, serialText}

@@ -2,12 +2,12 @@
 use mathlib.Core.List.{List, [], _++_}
 use Prim.Native.Nat.{ℕ, zero, suc, _+_, _*_}
 use lib.ListN.{length, getD, replicate}
-use Rattle.words.specs.Words.{load}
-use Rattle.plain.specs.Machine.{queue}
-use Rattle.serial.specs.Working.{WORKING}
-use Rattle.serial.specs.Outcome.{ANSWERS, Outcome, outcome, serialOutcome}
-use Rattle.serial.specs.declared.End.{End}
-use Rattle.serial.specs.declared.End.the-variants.{Ended, Spent, Refused}
+use Rattle.spec_words.specs.Words.{load}
+use Rattle.spec_plain.specs.Machine.{queue}
+use Rattle.spec_serial.specs.Working.{WORKING}
+use Rattle.spec_serial.specs.Outcome.{ANSWERS, Outcome, outcome, serialOutcome}
+use Rattle.spec_serial.specs.declared.End.{End}
+use Rattle.spec_serial.specs.declared.End.the-variants.{Ended, Spent, Refused}
 use Rattle.run_text.specs.Lines.{line, leftLine, endLine}
 
 -- lines f of n numbers from i on, one behind the other

@@ -3,12 +3,12 @@
 ghost use mathlib.Core.Path.{_≡_};
 ghost use Prim.Native.Nat.{_+_, _^_, _<_, _≤_};
 ghost use lib.ListN.{length};
-ghost use Rattle.serial.specs.Working.{lists};
+ghost use Rattle.spec_serial.specs.Working.{lists};
 ghost use Rattle.text.specs.Puts.{Puts};
 ghost use Rattle.run_text.specs.Lines.{endLine};
 ghost use Rattle.serial_text.specs.Whole.{linesFrom, stepLine, valueLine};
 ghost use Rattle.serial_text.specs.Blocks.{Block};
-use serial::End;
+use spec_serial::End;
 
 // How many of n lines stand in the block that begins with line `first`: at most 1,024, and one at least.
 pub fn part(n: u32, first: u32) -> u32

@@ -8,7 +8,7 @@ use native.Mathlib.Omega.{arith}
 use lib.Dec.{ltb}
 use lib.ListN.{length, length-append}
 use borrow.Author.Tests.{lt-ltb, le-ltb, ltb-false}
-use Rattle.words.specs.Words.{pick-true, pick-false, halt, pass}
+use Rattle.spec_words.specs.Words.{pick-true, pick-false, halt, pass}
 use Rattle.text.specs.Text.{digits, decimal}
 
 tenth-less : (n f : ℕ) → 10 ≤ n → n < suc f → n / 10 < f

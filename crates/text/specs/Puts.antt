@@ -7,8 +7,8 @@ use native.Mathlib.Numerals.{add-one}
 use native.Mathlib.Omega.{arith}
 use lib.ListN.{length, take, getD, length-append}
 use lib.Seq.{take-suc, take-all, length-take-le}
-use Rattle.words.specs.Words.{store}
-use Rattle.words.specs.Blocks.{storeAll, store-none, store-more, store-append}
+use Rattle.spec_words.specs.Words.{store}
+use Rattle.spec_words.specs.Blocks.{storeAll, store-none, store-more, store-append}
 
 -- m' has the text ws from position a on and is m elsewhere; r is the position behind the text. Past the end of m nothing
 -- is stored.

@@ -5,7 +5,7 @@ use Prim.Native.Char.{code}
 use Prim.Native.Nat.{ℕ, zero, suc, _+_, _/_, _%_}
 use Prim.Native.String.{String, [] as nothing, _∷_ as _then_}
 use lib.Dec.{ltb}
-use Rattle.words.specs.Words.{pick}
+use Rattle.spec_words.specs.Words.{pick}
 
 -- the codes of a text's characters, which are its bytes where each is below 128
 unfoldable pub ascii : String → List ℕ

@@ -4,9 +4,9 @@ use mathlib.Core.List.{List}
 use Prim.Native.Nat.{ℕ, _+_, _-_, _*_, _/_, _%_, _<_, _≤_}
 use native.Mathlib.Omega.{arith}
 use native.Mathlib.Numerals.{add-one}
-use Rattle.words.specs.Words.{load, store}
-use Rattle.lists.specs.Counting.{total}
-use Rattle.lists.specs.Tests.{turn-left, turns-over}
+use Rattle.spec_words.specs.Words.{load, store}
+use Rattle.spec_lists.specs.Counting.{total}
+use Rattle.spec_lists.specs.Tests.{turn-left, turns-over}
 use Rattle.tree_test.specs.Counted.{faultsFrom, nearFrom}
 
 module _ (m : List ℕ) (h i : ℕ) where

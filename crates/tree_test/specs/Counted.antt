@@ -9,14 +9,14 @@ use native.Mathlib.Omega.{arith}
 use lib.Dec.{leb, eqb}
 use lib.ListN.{replicate}
 use borrow.Author.Tests.{leb-true, leb-false, eqb-true, eqb-false, le-leb, ne-eqb, eq-eqb}
-use Rattle.words.specs.Words.{load, store, size, size-store, load-same, load-other, pick, both, both-on, both-off, both-right-off, both-true, true-both}
-use Rattle.words.specs.Words.{same-test}
-use Rattle.lists.specs.Counting.{one, total, equal?, one-yes, one-no, total-ext, total-zero, total-plus, total-at}
-use Rattle.lists.specs.Sums.{total-le}
-use Rattle.lists.specs.Marks.{zeros}
-use Rattle.layout.specs.Layout.{freeTasks, read}
-use Rattle.rules.specs.Contents.{decode}
-use Rattle.rules.specs.Test.{idleTest}
+use Rattle.spec_words.specs.Words.{load, store, size, size-store, load-same, load-other, pick, both, both-on, both-off, both-right-off, both-true, true-both}
+use Rattle.spec_words.specs.Words.{same-test}
+use Rattle.spec_lists.specs.Counting.{one, total, equal?, one-yes, one-no, total-ext, total-zero, total-plus, total-at}
+use Rattle.spec_lists.specs.Sums.{total-le}
+use Rattle.spec_lists.specs.Marks.{zeros}
+use Rattle.spec_layout.specs.Layout.{freeTasks, read}
+use Rattle.spec_rules.specs.Contents.{decode}
+use Rattle.spec_rules.specs.Test.{idleTest}
 use Rattle.tree_test.specs.Idle.{idleFrom, idle-same}
 
 -- the k records from place i of the stack on are records of tasks, with the status of a free one

@@ -7,13 +7,13 @@ use native.Mathlib.Omega.{arith}
 use lib.Dec.{leb, ltb, eqb}
 use lib.ListN.{length, drop, take, replicate, length-drop}
 use borrow.Author.Tests.{ltb-true, lt-ltb, leb-true, le-leb, lt-leb}
-use Rattle.words.specs.Words.{load, store, size, pick, both, both-on, both-off, same-test}
-use Rattle.words.specs.Blocks.{take-more}
-use Rattle.lists.specs.Tests.{each}
-use Rattle.lists.specs.Distinct.{fresh, distinct}
-use Rattle.layout.specs.Layout.{FREE, STATUS, freeTasks, read}
-use Rattle.rules.specs.Contents.{decode, word}
-use Rattle.rules.specs.Test.{idleTest}
+use Rattle.spec_words.specs.Words.{load, store, size, pick, both, both-on, both-off, same-test}
+use Rattle.spec_words.specs.Blocks.{take-more}
+use Rattle.spec_lists.specs.Tests.{each}
+use Rattle.spec_lists.specs.Distinct.{fresh, distinct}
+use Rattle.spec_layout.specs.Layout.{FREE, STATUS, freeTasks, read}
+use Rattle.spec_rules.specs.Contents.{decode, word}
+use Rattle.spec_rules.specs.Test.{idleTest}
 use Rattle.tree_test.specs.Records.{status-at}
 use Rattle.tree_test.specs.Stacks.{take-few, take-many}
 

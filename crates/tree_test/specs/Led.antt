@@ -8,11 +8,11 @@ use native.Mathlib.Nat.{le-of-suc-le-suc}
 use lib.Dec.{eqb}
 use lib.ListN.{length, set, take}
 use borrow.Author.Tests.{le-leb, lt-leb, eqb-true, eq-eqb, ne-eqb}
-use Rattle.words.specs.Words.{pass, halt, same-test}
-use Rattle.lists.specs.Tests.{turn-left}
-use Rattle.tree.specs.Tour.{END, tour}
-use Rattle.rules.specs.Contents.{Contents}
-use Rattle.rules.specs.Test.{treeTest}
+use Rattle.spec_words.specs.Words.{pass, halt, same-test}
+use Rattle.spec_lists.specs.Tests.{turn-left}
+use Rattle.spec_tree.specs.Tour.{END, tour}
+use Rattle.spec_rules.specs.Contents.{Contents}
+use Rattle.spec_rules.specs.Test.{treeTest}
 use Rattle.tree_test.specs.Walk.{nextMark, walkTest, path, walk-same, path-tour}
 
 last-one : (n i : ℕ) → i < n → eqb (n - (i + 1)) 0 ≡ eqb (i + 1) n

@@ -5,11 +5,11 @@ use Prim.Native.Nat.{ℕ, _<_, _≤_}
 use native.Mathlib.Omega.{arith}
 use lib.Dec.{leb, eqb}
 use borrow.Author.Tests.{leb-true, le-leb, lt-leb, eqb-true, ne-eqb, eq-eqb}
-use Rattle.words.specs.Words.{both, both-on, both-off, both-true, true-both}
-use Rattle.layout.specs.Layout.{UNFINISHED, STATUS, RIGHTS, PARENT, YOUNGER}
-use Rattle.tree.specs.Rights.{subset}
-use Rattle.rules.specs.Contents.{Contents, word}
-use Rattle.rules_tasks.specs.Marks.{Kin}
+use Rattle.spec_words.specs.Words.{both, both-on, both-off, both-true, true-both}
+use Rattle.spec_layout.specs.Layout.{UNFINISHED, STATUS, RIGHTS, PARENT, YOUNGER}
+use Rattle.spec_tree.specs.Rights.{subset}
+use Rattle.spec_rules.specs.Contents.{Contents, word}
+use Rattle.law_rules_tasks.specs.Marks.{Kin}
 
 module _ (c : Contents) where
   -- t is an unfinished task other than the top with parent p and younger sibling y, and no right that b lacks

@@ -5,9 +5,9 @@ use Prim.Native.Nat.{ℕ, _+_, _*_}
 use native.Mathlib.Omega.{arith}
 use lib.ListN.{getD}
 use lib.Seq.{getD-drop}
-use Rattle.words.specs.Words.{load}
-use Rattle.layout.specs.Layout.{recordOf}
-use Rattle.rules.specs.Contents.{decode, word}
+use Rattle.spec_words.specs.Words.{load}
+use Rattle.spec_layout.specs.Layout.{recordOf}
+use Rattle.spec_rules.specs.Contents.{decode, word}
 
 module _ (m : List ℕ) (t : ℕ) where
   pub word-at : (k : ℕ) → getD m (1472 + t * 48 + k) 0 ≡ word (decode m) t k

@@ -8,9 +8,9 @@ use native.Mathlib.Nat.{le-of-suc-le-suc}
 use lib.Dec.{leb}
 use lib.ListN.{length, drop, take, length-drop}
 use borrow.Author.Tests.{leb-true, le-leb, leb-false}
-use Rattle.words.specs.Words.{size, same-test}
-use Rattle.layout.specs.Layout.{numberWord, freeSegments, read}
-use Rattle.rules.specs.Contents.{decode}
+use Rattle.spec_words.specs.Words.{size, same-test}
+use Rattle.spec_layout.specs.Layout.{numberWord, freeSegments, read}
+use Rattle.spec_rules.specs.Contents.{decode}
 
 pub take-few : (k : ℕ) (l : List ℕ) → length (take k l) ≤ k
 take-few zero l = omega arith

@@ -6,11 +6,11 @@ use Prim.Native.Nat.{ℕ, _<_, _≤_, _*_}
 use native.Mathlib.Nat.{mul-le-mul}
 use lib.Dec.{leb, eqb}
 use borrow.Author.Tests.{le-leb, lt-leb, ne-eqb, eq-eqb}
-use Rattle.words.specs.Words.{both, both-on, both-off, both-right-off, true-left, true-right, neither}
-use Rattle.layout.specs.Layout.{NONE, UNFINISHED, FINISHED, STATUS, RIGHTS, PARENT, OLDER, YOUNGER, YOUNGEST, task, read}
-use Rattle.layout.specs.Frame.{record-word}
-use Rattle.rules.specs.Contents.{decode, word}
-use Rattle.rules.specs.Test.{within, inRange, topTest}
+use Rattle.spec_words.specs.Words.{both, both-on, both-off, both-right-off, true-left, true-right, neither}
+use Rattle.spec_layout.specs.Layout.{NONE, UNFINISHED, FINISHED, STATUS, RIGHTS, PARENT, OLDER, YOUNGER, YOUNGEST, task, read}
+use Rattle.spec_layout.specs.Frame.{record-word}
+use Rattle.spec_rules.specs.Contents.{decode, word}
+use Rattle.spec_rules.specs.Test.{within, inRange, topTest}
 
 module _ (l n : ℕ) where
   pub short : l < 1 → false ≡ inRange l n

@@ -7,15 +7,15 @@ use Prim.Native.Nat.{ℕ, zero, suc, _+_, _-_, _<_, _≤_}
 use native.Mathlib.Omega.{arith}
 use lib.Dec.{leb, ltb, eqb}
 use borrow.Author.Tests.{ltb-true, ltb-false, lt-ltb, le-ltb, leb-true, leb-false, le-leb, lt-leb, eqb-true, ne-eqb, eq-eqb}
-use Rattle.words.specs.Words.{pick, pick-true, pick-false, pass, halt, same-test}
-use Rattle.lists.specs.Counting.{equal?}
-use Rattle.layout.specs.Layout.{NONE, RIGHTS, PARENT, OLDER, YOUNGEST}
-use Rattle.tree.specs.Tour.{END, after, tour}
-use Rattle.rules.specs.Contents.{Contents, word}
-use Rattle.rules.specs.Test.{treeTest}
-use Rattle.rules_tasks.specs.Marks.{Kin, tree-none, tree-last, last-tree, tree-rest, met-on, met-none, met-child, left-on, left-none, left-older, tour-cons}
-use Rattle.rules_tasks.specs.Marks.{tour-none}
-use Rattle.rules_tasks.specs.Reached.{Reached, top, reached-below, reached-parent, Standing, standing-range, standing-next}
+use Rattle.spec_words.specs.Words.{pick, pick-true, pick-false, pass, halt, same-test}
+use Rattle.spec_lists.specs.Counting.{equal?}
+use Rattle.spec_layout.specs.Layout.{NONE, RIGHTS, PARENT, OLDER, YOUNGEST}
+use Rattle.spec_tree.specs.Tour.{END, after, tour}
+use Rattle.spec_rules.specs.Contents.{Contents, word}
+use Rattle.spec_rules.specs.Test.{treeTest}
+use Rattle.law_rules_tasks.specs.Marks.{Kin, tree-none, tree-last, last-tree, tree-rest, met-on, met-none, met-child, left-on, left-none, left-older, tour-cons}
+use Rattle.law_rules_tasks.specs.Marks.{tour-none}
+use Rattle.law_rules_tasks.specs.Reached.{Reached, top, reached-below, reached-parent, Standing, standing-range, standing-next}
 use Rattle.tree_test.specs.Links.{fitting, fit-says, says-fit}
 
 module _ (c : Contents) where

@@ -5,12 +5,12 @@ ghost use mathlib.Core.Bool.{not};
 ghost use Prim.Native.Nat.{_+_, _<_, _%_};
 ghost use lib.Dec.{eqb};
 ghost use lib.ListN.{length, getD};
-ghost use Rattle.rules.specs.Contents.{decode, part};
-ghost use Rattle.rules.specs.Test.{marked, passed};
-ghost use Rattle.view_events.specs.Events.{queueOf, viewOf};
-ghost use Rattle.view_events.specs.Events.Event.{tail, head};
-ghost use Rattle.view_events.specs.Place.{placing, answered};
-ghost use Rattle.view_events.specs.Does.{Ready, Does, DoesHeads, DoesTails};
+ghost use Rattle.spec_rules.specs.Contents.{decode, part};
+ghost use Rattle.spec_rules.specs.Test.{marked, passed};
+ghost use Rattle.spec_view_events.specs.Events.{queueOf, viewOf};
+ghost use Rattle.spec_view_events.specs.Events.Event.{tail, head};
+ghost use Rattle.spec_view_events.specs.Place.{placing, answered};
+ghost use Rattle.spec_view_events.specs.Does.{Ready, Does, DoesHeads, DoesTails};
 
 const NONE: u32 = 4294967295;
 

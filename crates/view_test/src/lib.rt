@@ -3,15 +3,15 @@ ghost use mathlib.Core.Path.{_≡_};
 ghost use mathlib.Core.Bool.{true};
 ghost use Prim.Native.Nat.{_+_, _*_, _<_, _≤_};
 ghost use lib.ListN.{length, getD};
-ghost use Rattle.layout.specs.Layout.{NONE, CHILDREN, USER, RIGHT};
-ghost use Rattle.rules.specs.Contents.{decode};
-ghost use Rattle.rules.specs.Test.{viewTests};
-ghost use Rattle.view_events.specs.Events.{queuesAt, kindAt, eventsAt, events};
-ghost use Rattle.view_events.specs.Run.{fourOnes, whole, run};
-ghost use Rattle.view_events.specs.Walk.{Marks};
-ghost use Rattle.view_events.specs.Groups.{Blank};
-ghost use Rattle.view_events.specs.Does.{Ready, Does, DoesHeads};
-ghost use Rattle.view_laws.specs.Begun.{Begun};
+ghost use Rattle.spec_layout.specs.Layout.{NONE, CHILDREN, USER, RIGHT};
+ghost use Rattle.spec_rules.specs.Contents.{decode};
+ghost use Rattle.spec_rules.specs.Test.{viewTests};
+ghost use Rattle.spec_view_events.specs.Events.{queuesAt, kindAt, eventsAt, events};
+ghost use Rattle.spec_view_events.specs.Run.{fourOnes, whole, run};
+ghost use Rattle.spec_view_events.specs.Walk.{Marks};
+ghost use Rattle.spec_view_events.specs.Groups.{Blank};
+ghost use Rattle.spec_view_events.specs.Does.{Ready, Does, DoesHeads};
+ghost use Rattle.law_view_events.specs.Begun.{Begun};
 
 const NONE: u32 = 4294967295;
 

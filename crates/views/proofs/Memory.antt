@@ -4,12 +4,12 @@ use mathlib.Core.Bool.{Bool, true, false}
 use mathlib.Core.List.{List}
 use Prim.Native.Nat.{ℕ}
 use lib.Dec.{ltb}
-use Rattle.words.specs.Words.{both, pass, halt}
-use Rattle.layout.specs.Layout.{NONE, NL, CHILDREN, USER, head, tail, read, write}
-use Rattle.rules.specs.Views.{view}
-use Rattle.calls.specs.Segments.{linked}
-use Rattle.calls.specs.Views.{viewOf, isEmpty, headOf, tailOf, reducible, setView, joined, merged}
-use Rattle.calls.specs.Sync.{syncs, syncedQueue, synced}
+use Rattle.spec_words.specs.Words.{both, pass, halt}
+use Rattle.spec_layout.specs.Layout.{NONE, NL, CHILDREN, USER, head, tail, read, write}
+use Rattle.spec_rules.specs.Views.{view}
+use Rattle.spec_outcomes.specs.Segments.{linked}
+use Rattle.spec_outcomes.specs.Views.{viewOf, isEmpty, headOf, tailOf, reducible, setView, joined, merged}
+use Rattle.spec_outcomes.specs.Sync.{syncs, syncedQueue, synced}
 
 pub view-set : (m m1 m2 : List ℕ) (q t k h e : ℕ) → m1 ≡ write m (head k t q) h → m2 ≡ write m1 (tail k t q) e → m2 ≡ setView m q t k (view h e)
 unfolding setView

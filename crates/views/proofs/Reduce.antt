@@ -5,10 +5,10 @@ use mathlib.Core.List.{List}
 use Prim.Native.Nat.{ℕ, _<_, _≤_}
 use lib.Dec.{ltb, eqb}
 use borrow.Author.Tests.{eq-eqb, ne-eqb, lt-ltb, le-ltb}
-use Rattle.words.specs.Words.{both, either, pass, halt, true-both, both-on, both-off, both-right-off}
-use Rattle.layout.specs.Layout.{NONE, NL, segment, read}
-use Rattle.rules.specs.Views.{View, view}
-use Rattle.calls.specs.Views.{isEmpty, headOf, tailOf, reducible, frees, behind, reduced}
+use Rattle.spec_words.specs.Words.{both, either, pass, halt, true-both, both-on, both-off, both-right-off}
+use Rattle.spec_layout.specs.Layout.{NONE, NL, segment, read}
+use Rattle.spec_rules.specs.Views.{View, view}
+use Rattle.spec_outcomes.specs.Views.{isEmpty, headOf, tailOf, reducible, frees, behind, reduced}
 
 pub empty-tail : (h e : ℕ) → h ≡ NONE → eqb e NONE ≡ isEmpty (view h e)
 unfolding isEmpty both

@@ -2,12 +2,12 @@
 ghost use mathlib.Core.Path.{_≡_};
 ghost use mathlib.Core.List.{List};
 ghost use Prim.Native.Nat.{ℕ};
-ghost use Rattle.words.specs.Words.{both};
+ghost use Rattle.spec_words.specs.Words.{both};
 ghost use lib.Dec.{ltb};
-ghost use Rattle.layout.specs.Layout.{NONE, NL, head, tail, read, write};
-ghost use Rattle.rules.specs.Views.View.{view};
-ghost use Rattle.calls.specs.Views.{isEmpty, headOf, tailOf, reducible, frees, behind, reduced, setView, joined, merged};
-ghost use Rattle.calls.specs.Sync.{syncs, syncedQueue, synced};
+ghost use Rattle.spec_layout.specs.Layout.{NONE, NL, head, tail, read, write};
+ghost use Rattle.spec_rules.specs.Views.View.{view};
+ghost use Rattle.spec_outcomes.specs.Views.{isEmpty, headOf, tailOf, reducible, frees, behind, reduced, setView, joined, merged};
+ghost use Rattle.spec_outcomes.specs.Sync.{syncs, syncedQueue, synced};
 
 // The marks of the layout.
 const NONE: u32 = 4294967295;

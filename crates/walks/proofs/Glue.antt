@@ -6,15 +6,15 @@ use Prim.Native.Nat.{ℕ, _+_, _-_, _<_, _≤_}
 use native.Mathlib.Omega.{arith}
 use lib.Dec.{ltb, eqb}
 use borrow.Author.Tests.{lt-ltb, le-ltb, eq-eqb, ne-eqb}
-use Rattle.words.specs.Words.{pick, both, either, pass, halt, true-left, true-right, both-on, both-off}
-use Rattle.layout.specs.Layout.{NONE, NL, PARENT, OLDER, YOUNGEST, RIGHTS, task, read, recordOf}
-use Rattle.layout.specs.Frame.{record-word}
-use Rattle.tree.specs.Rights.{pushes, pops, uses, sharesPop}
-use Rattle.tree.specs.Tour.{END, MARKS, entering, after, seek, sibling, oldest}
-use Rattle.rules.specs.Views.{view}
-use Rattle.calls.specs.Waits.{rightsOf, blocked, childPops, pusherBefore}
-use Rattle.calls.specs.Views.{viewOf, isEmpty, headOf, taskAt, takesPart, standsAt, justBefore, returnedTo}
-use Rattle.calls.specs.Finish.{heir}
+use Rattle.spec_words.specs.Words.{pick, both, either, pass, halt, true-left, true-right, both-on, both-off}
+use Rattle.spec_layout.specs.Layout.{NONE, NL, PARENT, OLDER, YOUNGEST, RIGHTS, task, read, recordOf}
+use Rattle.spec_layout.specs.Frame.{record-word}
+use Rattle.spec_tree.specs.Rights.{pushes, pops, uses, sharesPop}
+use Rattle.spec_tree.specs.Tour.{END, MARKS, entering, after, seek, sibling, oldest}
+use Rattle.spec_rules.specs.Views.{view}
+use Rattle.spec_outcomes.specs.Waits.{rightsOf, blocked, childPops, pusherBefore}
+use Rattle.spec_outcomes.specs.Views.{viewOf, isEmpty, headOf, taskAt, takesPart, standsAt, justBefore, returnedTo}
+use Rattle.spec_outcomes.specs.Finish.{heir}
 
 -- the first of two tests decides, or the second does
 pub both-so : {a x b : Bool} → a ≡ true → x ≡ b → x ≡ both a b

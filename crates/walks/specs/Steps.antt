@@ -7,10 +7,10 @@ use Prim.Native.Nat.{ℕ, zero, suc, _-_, _<_, _≤_}
 use native.Mathlib.Omega.{arith}
 use lib.Dec.{leb}
 use borrow.Author.Tests.{le-leb, lt-leb}
-use Rattle.words.specs.Words.{load, pick, pass, halt}
-use Rattle.layout.specs.Layout.{NONE, OLDER, task, read, recordOf}
-use Rattle.layout.specs.Frame.{record-word}
-use Rattle.tree.specs.Tour.{END, after, seek, sibling, oldest}
+use Rattle.spec_words.specs.Words.{load, pick, pass, halt}
+use Rattle.spec_layout.specs.Layout.{NONE, OLDER, task, read, recordOf}
+use Rattle.spec_layout.specs.Frame.{record-word}
+use Rattle.spec_tree.specs.Tour.{END, after, seek, sibling, oldest}
 
 one-less : (n : ℕ) → n ≡ suc n - 1
 one-less n = omega arith

@@ -4,14 +4,14 @@ ghost use mathlib.Core.Path.{_≡_};
 ghost use mathlib.Core.Bool.{not};
 ghost use Prim.Native.Nat.{_<_};
 ghost use lib.Dec.{ltb, eqb};
-ghost use Rattle.words.specs.Words.{pick, both};
-ghost use Rattle.layout.specs.Layout.{recordOf};
-ghost use Rattle.tree.specs.Rights.{pushes, pops, sharesPop};
-ghost use Rattle.tree.specs.Tour.{MARKS, leaving, entering, after, seek, sibling, oldest};
-ghost use Rattle.rules.specs.Views.{view};
-ghost use Rattle.calls.specs.Waits.{rightsOf, unfinished, blocked, childPops, hasChild, pusherBefore};
-ghost use Rattle.calls.specs.Views.{taskAt, takesPart, standsAt, justBefore, returnedTo};
-ghost use Rattle.calls.specs.Finish.{heir};
+ghost use Rattle.spec_words.specs.Words.{pick, both};
+ghost use Rattle.spec_layout.specs.Layout.{recordOf};
+ghost use Rattle.spec_tree.specs.Rights.{pushes, pops, sharesPop};
+ghost use Rattle.spec_tree.specs.Tour.{MARKS, leaving, entering, after, seek, sibling, oldest};
+ghost use Rattle.spec_rules.specs.Views.{view};
+ghost use Rattle.spec_outcomes.specs.Waits.{rightsOf, unfinished, blocked, childPops, hasChild, pusherBefore};
+ghost use Rattle.spec_outcomes.specs.Views.{taskAt, takesPart, standsAt, justBefore, returnedTo};
+ghost use Rattle.spec_outcomes.specs.Finish.{heir};
 
 const NONE: u32 = 4294967295;
 

@@ -1,6 +1,6 @@
 use Rattle.hyperqueue.specs.Packed.{turned-down, goes-on, passes}
-use Rattle.calls.specs.Push.{pushOutcome}
-use Rattle.words.specs.Words.{size}
+use Rattle.spec_outcomes.specs.Push.{pushOutcome}
+use Rattle.spec_words.specs.Words.{size}
 use mathlib.Core.Path.{_∙_}
 use borrow.Author.Needs.{needs}
 use Rattle.hyperqueue.proofs.push.Statement.{statement}

@@ -1,5 +1,5 @@
 use Rattle.hyperqueue.specs.Packed.{other-length, rules-fail, may-call}
-use Rattle.words.specs.Words.{size}
+use Rattle.spec_words.specs.Words.{size}
 use borrow.Author.Needs.{needs}
 use Rattle.hyperqueue.proofs.refusal.Statement.{statement}
 use Rattle.hyperqueue.proofs.refusal.Tie as tie

@@ -1,6 +1,6 @@
 use mathlib.Core.Path.{sym}
 use lib.ListN.{List·getD-eq-default}
-use Rattle.words.specs.Words.{load}
+use Rattle.spec_words.specs.Words.{load}
 use borrow.Author.Needs.{needs}
 use Rattle.job_fields.proofs.byte.Statement.{statement}
 use Rattle.job_fields.proofs.byte.Tie as tie

@@ -1,6 +1,6 @@
 use mathlib.Core.Path.{ap₂}
 use Prim.Native.Nat.{ℕ, _+_, _*_}
-use Rattle.job.specs.Fields.{bytes4}
+use Rattle.spec_job.specs.Fields.{bytes4}
 use borrow.Author.Needs.{needs}
 use Rattle.job_fields.proofs.bytes4.Statement.{statement}
 use Rattle.job_fields.proofs.bytes4.Tie as tie

@@ -1,4 +1,4 @@
-use Rattle.job.specs.Fields.{count}
+use Rattle.spec_job.specs.Fields.{count}
 use borrow.Author.Needs.{needs}
 use Rattle.job_fields.proofs.count.Statement.{statement}
 use Rattle.job_fields.proofs.count.Tie as tie

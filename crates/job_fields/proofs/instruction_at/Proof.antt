@@ -1,6 +1,6 @@
 use mathlib.Core.Path.{ap, _∙_}
 use Prim.Native.Nat.{ℕ, _+_, _*_}
-use Rattle.job.specs.Fields.{instructionFrom, instructionAt}
+use Rattle.spec_job.specs.Fields.{instructionFrom, instructionAt}
 use borrow.Author.Needs.{needs}
 use Rattle.job_fields.proofs.instruction_at.Statement.{statement}
 use Rattle.job_fields.proofs.instruction_at.Tie as tie

@@ -1,4 +1,4 @@
-use Rattle.job.specs.Fields.{offset}
+use Rattle.spec_job.specs.Fields.{offset}
 use borrow.Author.Needs.{needs}
 use Rattle.job_fields.proofs.offset.Statement.{statement}
 use Rattle.job_fields.proofs.offset.Tie as tie

@@ -1,4 +1,4 @@
-use Rattle.job.specs.Fields.{procedures}
+use Rattle.spec_job.specs.Fields.{procedures}
 use borrow.Author.Needs.{needs}
 use Rattle.job_fields.proofs.procedures.Statement.{statement}
 use Rattle.job_fields.proofs.procedures.Tie as tie

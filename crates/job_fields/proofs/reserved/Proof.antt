@@ -1,4 +1,4 @@
-use Rattle.job.specs.Fields.{reserved}
+use Rattle.spec_job.specs.Fields.{reserved}
 use borrow.Author.Needs.{needs}
 use Rattle.job_fields.proofs.reserved.Statement.{statement}
 use Rattle.job_fields.proofs.reserved.Tie as tie

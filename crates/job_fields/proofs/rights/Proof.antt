@@ -1,4 +1,4 @@
-use Rattle.job.specs.Fields.{rights}
+use Rattle.spec_job.specs.Fields.{rights}
 use borrow.Author.Needs.{needs}
 use Rattle.job_fields.proofs.rights.Statement.{statement}
 use Rattle.job_fields.proofs.rights.Tie as tie

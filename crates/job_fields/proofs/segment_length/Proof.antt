@@ -1,4 +1,4 @@
-use Rattle.job.specs.Fields.{segmentLength}
+use Rattle.spec_job.specs.Fields.{segmentLength}
 use borrow.Author.Needs.{needs}
 use Rattle.job_fields.proofs.segment_length.Statement.{statement}
 use Rattle.job_fields.proofs.segment_length.Tie as tie

@@ -1,5 +1,5 @@
-use Rattle.job.specs.Test.{between}
-use Rattle.words.specs.Words.{both-on, both-off}
+use Rattle.spec_job.specs.Test.{between}
+use Rattle.spec_words.specs.Words.{both-on, both-off}
 use borrow.Author.Tests.{le-leb, lt-leb}
 use mathlib.Core.Path.{sym}
 use Rattle.job_test.proofs.between.Statement.{statement}

@@ -3,9 +3,9 @@ use Prim.Native.Nat.{_≤_, _-_}
 use native.Mathlib.Omega.{arith}
 use borrow.Author.Tests.{not-true, not-false}
 use borrow.Author.Needs.{needs}
-use Rattle.words.specs.Words.{both-off}
-use Rattle.lists.specs.Tests.{upto}
-use Rattle.job.specs.Test.{instructionHolds, bodyHolds}
+use Rattle.spec_words.specs.Words.{both-off}
+use Rattle.spec_lists.specs.Tests.{upto}
+use Rattle.spec_job.specs.Test.{instructionHolds, bodyHolds}
 use Rattle.job_test.proofs.Glue.{instruction-says, body-says}
 use Rattle.job_test.proofs.Loops.{upto-start, upto-next, upto-stop, upto-end}
 use Rattle.job_test.proofs.body_holds.Statement.{statement}

@@ -1,6 +1,6 @@
-use Rattle.job.specs.Test.{entriesHold, contentsHold}
-use Rattle.job.specs.Fields.{entryAt}
-use Rattle.words.specs.Words.{both-on, both-off}
+use Rattle.spec_job.specs.Test.{entriesHold, contentsHold}
+use Rattle.spec_job.specs.Fields.{entryAt}
+use Rattle.spec_words.specs.Words.{both-on, both-off}
 use borrow.Author.Tests.{eq-eqb, ne-eqb}
 use Prim.Native.Nat.{ℕ}
 use mathlib.Core.Path.{ap, sym, _∙_}

@@ -3,9 +3,9 @@ use Prim.Native.Nat.{ℕ, _≤_, _+_, _*_, _-_}
 use native.Mathlib.Omega.{arith}
 use borrow.Author.Tests.{not-true, not-false}
 use borrow.Author.Needs.{needs}
-use Rattle.words.specs.Words.{size}
-use Rattle.job.specs.Fields.{entryAt}
-use Rattle.job.specs.Test.{entriesHold}
+use Rattle.spec_words.specs.Words.{size}
+use Rattle.spec_job.specs.Fields.{entryAt}
+use Rattle.spec_job.specs.Test.{entriesHold}
 use Rattle.job_test.proofs.Glue.{few}
 use Rattle.job_test.proofs.Loops.{entries-start, entries-next, entries-stop, entries-end}
 use Rattle.job_test.proofs.entries_hold.Statement.{statement}

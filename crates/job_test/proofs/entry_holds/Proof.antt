@@ -1,5 +1,5 @@
-use Rattle.job.specs.Test.{between, entryHolds}
-use Rattle.words.specs.Words.{both-on, both-off}
+use Rattle.spec_job.specs.Test.{between, entryHolds}
+use Rattle.spec_words.specs.Words.{both-on, both-off}
 use borrow.Author.Tests.{eq-eqb, ne-eqb, not-true, not-false}
 use lib.Dec.{eqb}
 use Prim.Native.Nat.{ℕ}

@@ -1,6 +1,6 @@
-use Rattle.job.specs.Test.{between, headHolds}
-use Rattle.job.specs.Fields.{entryAt}
-use Rattle.words.specs.Words.{size, both-on, both-off}
+use Rattle.spec_job.specs.Test.{between, headHolds}
+use Rattle.spec_job.specs.Fields.{entryAt}
+use Rattle.spec_words.specs.Words.{size, both-on, both-off}
 use borrow.Author.Tests.{le-leb, lt-leb, not-true, not-false}
 use lib.Dec.{leb}
 use Prim.Native.Nat.{ℕ}

@@ -1,5 +1,5 @@
-use Rattle.job.specs.Test.{refusal10, refusal11, refusal12, jobAnswer}
-use Rattle.words.specs.Words.{pass, halt}
+use Rattle.spec_job.specs.Test.{refusal10, refusal11, refusal12, jobAnswer}
+use Rattle.spec_words.specs.Words.{pass, halt}
 use borrow.Author.Tests.{not-false}
 use mathlib.Core.Bool.{not}
 use mathlib.Core.Path.{refl, ap, sym, _∙_}

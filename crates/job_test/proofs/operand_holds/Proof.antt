@@ -1,4 +1,4 @@
-use Rattle.job.specs.Rows.{above}
+use Rattle.spec_job.specs.Rows.{above}
 use Rattle.job_test.proofs.Rows.{operand-zero, operand-target, operand-pushed, operand-number, operand-past}
 use Prim.Native.Nat.{zero-le}
 use mathlib.Core.Logic.{inl, inr}

@@ -1,5 +1,5 @@
-use Rattle.words.specs.Words.{both-on, both-off}
-use Rattle.tree.specs.Rights.{subset}
+use Rattle.spec_words.specs.Words.{both-on, both-off}
+use Rattle.spec_tree.specs.Rights.{subset}
 use borrow.Author.Tests.{lt-ltb, le-ltb}
 use lib.Dec.{ltb}
 use Prim.Native.Nat.{ℕ}

@@ -2,7 +2,7 @@ use Rattle.job_test.proofs.Rows.{which-pushed, which-popped, which-proc
 use Prim.Native.Nat.{zero-le}
 use mathlib.Core.Logic.{inl, inr, ⊎-elim}
 use mathlib.Core.Path.{_∙_}
-use Rattle.job.specs.Rows.{above}
+use Rattle.spec_job.specs.Rows.{above}
 use borrow.Author.Needs.{needs}
 use Rattle.job_test.proofs.which_holds.Statement.{statement}
 use Rattle.job_test.proofs.which_holds.Tie as tie

@@ -1,6 +1,6 @@
 use mathlib.Core.Path.{sym}
 use lib.ListN.{List·getD-eq-default}
-use Rattle.words.specs.Words.{load}
+use Rattle.spec_words.specs.Words.{load}
 use borrow.Author.Needs.{needs}
 use Rattle.memory.proofs.get.Statement.{statement}
 use Rattle.memory.proofs.get.Tie as tie

@@ -1,6 +1,6 @@
 use mathlib.Core.Path.{sym}
 use lib.Seq.{set-out}
-use Rattle.words.specs.Words.{store}
+use Rattle.spec_words.specs.Words.{store}
 use borrow.Author.Needs.{needs}
 use Rattle.memory.proofs.put.Statement.{statement}
 use Rattle.memory.proofs.put.Tie as tie

@@ -1,4 +1,4 @@
-use Rattle.words.specs.Blocks.{store-four}
+use Rattle.spec_words.specs.Blocks.{store-four}
 use borrow.Author.Needs.{needs}
 use Rattle.memory.proofs.put4.Statement.{statement}
 use Rattle.memory.proofs.put4.Tie as tie

@@ -1,4 +1,4 @@
-use Rattle.layout.specs.Layout.{read, address}
+use Rattle.spec_layout.specs.Layout.{read, address}
 use borrow.Author.Needs.{needs}
 use Rattle.memory.proofs.segment.Statement.{statement}
 use Rattle.memory.proofs.segment.Tie as tie

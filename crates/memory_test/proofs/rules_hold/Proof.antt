@@ -1,7 +1,7 @@
 use Prim.Native.Nat.{_-_, _*_}
 use Rattle.memory_test.specs.Stages.{in-range-at, from-zero, out-of-range, number-small, too-many, top-wrong, idle-wrong, tree-wrong, begun, passed}
 use Rattle.memory_test.specs.Stages.{marks-number}
-use Rattle.words.specs.Words.{size}
+use Rattle.spec_words.specs.Words.{size}
 use borrow.Author.Tests.{not-false}
 use native.Mathlib.Omega.{arith}
 use mathlib.Core.Path.{sym, _∙_}

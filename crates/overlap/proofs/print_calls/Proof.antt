@@ -1,5 +1,5 @@
 use Rattle.overlap.proofs.Glue.{read-few}
-use Rattle.reading.specs.Inside.{read-counts}
+use Rattle.read_file.specs.Inside.{read-counts}
 use Prim.Native.Nat.{_-_, _+_, _<_}
 use mathlib.Core.Path.{_≡_, refl, _∙_}
 use lib.ListN.{length}

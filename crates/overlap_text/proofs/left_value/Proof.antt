@@ -1,4 +1,4 @@
-use Rattle.answers.specs.Answers.{valueOf}
+use Rattle.spec_answers.specs.Answers.{valueOf}
 use Rattle.overlap_text.specs.Blocks.{left-says}
 use mathlib.Core.Path.{ap, sym, _∙_}
 use borrow.Author.Needs.{needs}

@@ -1,5 +1,5 @@
-use Rattle.lists.specs.Counting.{one}
-use Rattle.words.specs.Words.{halt, pass}
+use Rattle.spec_lists.specs.Counting.{one}
+use Rattle.spec_words.specs.Words.{halt, pass}
 use mathlib.Core.Path.{refl, sym}
 use Rattle.overlap_text.proofs.one.Statement.{statement}
 use Rattle.overlap_text.proofs.one.Tie as tie

@@ -1,7 +1,7 @@
 use mathlib.Core.Path.{ap}
 use Prim.Native.Nat.{ℕ, _/_}
 use lib.Dec.{eqb}
-use Rattle.tree.specs.Rights.{pops}
+use Rattle.spec_tree.specs.Rights.{pops}
 use Rattle.rights.specs.Masks.{shift}
 use borrow.Author.Needs.{needs}
 use Rattle.rights.proofs.pops.Statement.{statement}

@@ -1,7 +1,7 @@
 use mathlib.Core.Path.{ap}
 use Prim.Native.Nat.{ℕ, _%_}
 use lib.Dec.{eqb}
-use Rattle.tree.specs.Rights.{pushes}
+use Rattle.spec_tree.specs.Rights.{pushes}
 use Rattle.rights.specs.Masks.{shift}
 use borrow.Author.Needs.{needs}
 use Rattle.rights.proofs.pushes.Statement.{statement}

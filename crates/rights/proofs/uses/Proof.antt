@@ -2,7 +2,7 @@ use mathlib.Core.Path.{ap}
 use mathlib.Core.Bool.{not}
 use Prim.Native.Nat.{ℕ}
 use lib.Dec.{eqb}
-use Rattle.tree.specs.Rights.{uses}
+use Rattle.spec_tree.specs.Rights.{uses}
 use Rattle.rights.specs.Masks.{shift}
 use borrow.Author.Needs.{needs}
 use Rattle.rights.proofs.uses.Statement.{statement}

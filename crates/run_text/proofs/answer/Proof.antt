@@ -6,7 +6,7 @@ use Rattle.run_text.specs.Lines.{answerText, spaced}
 use borrow.Author.Needs.{needs}
 use Rattle.run_text.proofs.answer.Statement.{statement}
 use Rattle.run_text.proofs.answer.Tie as tie
-use Rattle.job.specs.Rows.{above}
+use Rattle.spec_job.specs.Rows.{above}
 
 returns : tie.Need-returns
 unfolding answerText spaced ascii

@@ -3,8 +3,8 @@ use Prim.Native.Nat.{_≤_, _-_}
 use native.Mathlib.Omega.{arith}
 use borrow.Author.Needs.{needs}
 use borrow.Author.Tests.{not-true, not-false}
-use Rattle.lists.specs.Tests.{upto}
-use Rattle.runner.specs.Rules.{recordHolds, runnerHolds}
+use Rattle.spec_lists.specs.Tests.{upto}
+use Rattle.spec_runner.specs.Rules.{recordHolds, runnerHolds}
 use Rattle.job_test.proofs.Loops.{upto-next, upto-stop, upto-end}
 use Rattle.runner_words.proofs.holds.Statement.{statement}
 use Rattle.runner_words.proofs.holds.Tie as tie

@@ -1,4 +1,4 @@
-use Rattle.runner.specs.Words.{positionOf}
+use Rattle.spec_runner.specs.Words.{positionOf}
 use borrow.Author.Needs.{needs}
 use Rattle.runner_words.proofs.position.Statement.{statement}
 use Rattle.runner_words.proofs.position.Tie as tie

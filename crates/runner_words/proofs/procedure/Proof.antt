@@ -1,4 +1,4 @@
-use Rattle.runner.specs.Words.{procedureOf}
+use Rattle.spec_runner.specs.Words.{procedureOf}
 use borrow.Author.Needs.{needs}
 use Rattle.runner_words.proofs.procedure.Statement.{statement}
 use Rattle.runner_words.proofs.procedure.Tie as tie

@@ -1,4 +1,4 @@
-use Rattle.runner.specs.Words.{registerOf}
+use Rattle.spec_runner.specs.Words.{registerOf}
 use borrow.Author.Needs.{needs}
 use Rattle.runner_words.proofs.register.Statement.{statement}
 use Rattle.runner_words.proofs.register.Tie as tie

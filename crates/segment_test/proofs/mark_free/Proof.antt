@@ -1,14 +1,14 @@
 use Rattle.segment_test.specs.Stack.{rest-all, free-far, free-again, free-more, marking-more, free-done, marking-done}
-use Rattle.rules.specs.Contents.{decode}
-use Rattle.lists.specs.Distinct.{fresh}
-use Rattle.lists.specs.Marks.{marking}
+use Rattle.spec_rules.specs.Contents.{decode}
+use Rattle.spec_lists.specs.Distinct.{fresh}
+use Rattle.spec_lists.specs.Marks.{marking}
 use Prim.Native.Nat.{ℕ, _≤_, _-_}
 use mathlib.Core.List.{List}
 use mathlib.Core.Bool.{false≢true}
 use mathlib.Core.Path.{_≡_, ap, _∙_}
 use borrow.Author.Needs.{needs}
 use native.Mathlib.Omega.{arith}
-use Rattle.rules.specs.Stack.{rest}
+use Rattle.spec_rules.specs.Stack.{rest}
 use Rattle.segment_test.proofs.mark_free.Statement.{statement}
 use Rattle.segment_test.proofs.mark_free.Tie as tie
 

@@ -1,8 +1,8 @@
 use Rattle.segment_test.specs.Records.{upto-more, upto-done, upto-start}
-use Rattle.rules.specs.Test.{segmentTest}
-use Rattle.rules.specs.Contents.{decode}
-use Rattle.lists.specs.Tests.{upto}
-use Rattle.words.specs.Words.{both}
+use Rattle.spec_rules.specs.Test.{segmentTest}
+use Rattle.spec_rules.specs.Contents.{decode}
+use Rattle.spec_lists.specs.Tests.{upto}
+use Rattle.spec_words.specs.Words.{both}
 use Prim.Native.Nat.{_≤_, _-_}
 use mathlib.Core.Path.{_≡_, _∙_}
 use borrow.Author.Needs.{needs}

@@ -2,7 +2,7 @@ use mathlib.Core.Path.{_≡_, _∙_}
 use Prim.Native.Nat.{_≤_, _-_}
 use native.Mathlib.Omega.{arith}
 use borrow.Author.Needs.{needs}
-use Rattle.calls.specs.Segments.{headIndex}
+use Rattle.spec_outcomes.specs.Segments.{headIndex}
 use Rattle.segments.proofs.Links.{headFrom, head-start, head-found, head-next, head-none}
 use Rattle.segments.proofs.head_index.Statement.{statement}
 use Rattle.segments.proofs.head_index.Tie as tie

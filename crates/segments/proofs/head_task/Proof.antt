@@ -2,8 +2,8 @@ use mathlib.Core.Path.{_≡_, refl, sym, _∙_}
 use Prim.Native.Nat.{_<_, _^_}
 use native.Mathlib.Omega.{arith}
 use borrow.Author.Needs.{needs}
-use Rattle.layout.specs.Layout.{recordOf}
-use Rattle.tree.specs.Tour.{MARKS, seek}
+use Rattle.spec_layout.specs.Layout.{recordOf}
+use Rattle.spec_tree.specs.Tour.{MARKS, seek}
 use Rattle.segments.specs.Names.{headHere}
 use Rattle.walks.specs.Steps.{seek-none, seek-end, seek-here, seek-on}
 use Rattle.segments.proofs.head_task.Statement.{statement}

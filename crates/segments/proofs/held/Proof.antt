@@ -3,8 +3,8 @@ use Prim.Native.Nat.{_≤_, _<_, _-_, _^_}
 use native.Mathlib.Omega.{arith}
 use borrow.Author.Needs.{needs}
 use lib.Dec.{eqb}
-use Rattle.lists.specs.Counting.{occurrences}
-use Rattle.rules.specs.Stack.{rest, rest-end}
+use Rattle.spec_lists.specs.Counting.{occurrences}
+use Rattle.spec_rules.specs.Stack.{rest, rest-end}
 use Rattle.segments.specs.Names.{held}
 use Rattle.segments.proofs.Free.{rest-out, held-start, held-found, held-next, held-none}
 use Rattle.segments.proofs.held.Statement.{statement}

@@ -2,8 +2,8 @@ use mathlib.Core.Path.{_≡_, refl, sym, _∙_}
 use Prim.Native.Nat.{_≤_, _<_, _-_, _^_}
 use native.Mathlib.Omega.{arith}
 use borrow.Author.Needs.{needs}
-use Rattle.layout.specs.Layout.{numberWord, read}
-use Rattle.calls.specs.Segments.{linkedBy}
+use Rattle.spec_layout.specs.Layout.{numberWord, read}
+use Rattle.spec_outcomes.specs.Segments.{linkedBy}
 use Rattle.segments.specs.Names.{freeMarks}
 use Rattle.segments.proofs.Links.{by-start, by-found, by-next, by-end}
 use Rattle.segments.proofs.linked_by.Statement.{statement}

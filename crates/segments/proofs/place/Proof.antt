@@ -1,5 +1,5 @@
 use mathlib.Core.Path.{sym}
-use Rattle.calls.specs.Places.{place-low, place-high, place-past}
+use Rattle.spec_outcomes.specs.Places.{place-low, place-high, place-past}
 use borrow.Author.Needs.{needs}
 use Rattle.segments.proofs.place.Statement.{statement}
 use Rattle.segments.proofs.place.Tie as tie

@@ -2,7 +2,7 @@ use Rattle.serial_runner.proofs.Glue.{inner-nine, inner-low, inner-some
 use Rattle.serial_runner.specs.Child.{child-too-deep, child-runs}
 use Rattle.serial_runner.specs.Body.{position-small, Goes, goes-start, body-spent, body-full, body-returns, body-stops, goes-inner, child-less}
 use Rattle.serial_runner.specs.Body.{goes-child}
-use Rattle.serial.specs.Working.{lists}
+use Rattle.spec_serial.specs.Working.{lists}
 use mathlib.Core.Path.{_≡_, refl, sym, _∙_}
 use mathlib.Core.Logic.{⊎-elim}
 use lib.ListN.{length}

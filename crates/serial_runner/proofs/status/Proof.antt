@@ -1,4 +1,4 @@
-use Rattle.serial.specs.Answers.{statusOf}
+use Rattle.spec_serial.specs.Answers.{statusOf}
 use mathlib.Core.Path.{ap, sym}
 use borrow.Author.Needs.{needs}
 use Rattle.serial_runner.proofs.status.Statement.{statement}

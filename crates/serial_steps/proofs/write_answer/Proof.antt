@@ -1,4 +1,4 @@
-use Rattle.words.specs.Blocks.{store-three}
+use Rattle.spec_words.specs.Blocks.{store-three}
 use borrow.Author.Needs.{needs}
 use Rattle.serial_steps.proofs.write_answer.Statement.{statement}
 use Rattle.serial_steps.proofs.write_answer.Tie as tie

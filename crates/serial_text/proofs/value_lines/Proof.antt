@@ -1,4 +1,4 @@
-use Rattle.serial.specs.Working.{lists}
+use Rattle.spec_serial.specs.Working.{lists}
 use borrow.Author.Needs.{needs}
 use mathlib.Core.Path.{_≡_, refl, _∙_}
 use lib.ListN.{length}

@@ -1,6 +1,6 @@
 use lib.Seq.{set-out}
 use mathlib.Core.Path.{refl, sym}
-use Rattle.words.specs.Words.{store}
+use Rattle.spec_words.specs.Words.{store}
 use borrow.Author.Needs.{needs}
 use Rattle.text.proofs.put_byte.Statement.{statement}
 use Rattle.text.proofs.put_byte.Tie as tie

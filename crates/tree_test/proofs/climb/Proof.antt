@@ -1,6 +1,6 @@
 use Rattle.tree_test.specs.Led.{Same, same-here, same-on, same-step, led-here, led-wrong, walk-none, walk-wrong}
 use Rattle.tree_test.specs.Walk.{next-up}
-use Rattle.rules.specs.Contents.{decode}
+use Rattle.spec_rules.specs.Contents.{decode}
 use lib.ListN.{length, length-set}
 use Prim.Native.Nat.{ℕ, _≤_, _<_, _-_, _+_}
 use native.Mathlib.Omega.{arith}

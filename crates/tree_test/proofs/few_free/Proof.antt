@@ -1,5 +1,5 @@
 use Rattle.tree_test.specs.Stacks.{free-few}
-use Rattle.words.specs.Words.{size}
+use Rattle.spec_words.specs.Words.{size}
 use lib.Dec.{leb}
 use mathlib.Core.Path.{ap₂, _∙_}
 use Rattle.tree_test.proofs.few_free.Statement.{statement}

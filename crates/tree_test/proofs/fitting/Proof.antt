@@ -1,6 +1,6 @@
 use Rattle.tree_test.specs.Links.{fit-top, fit-far, fit-free, fit-parent, fit-younger, fit-rights}
 use Rattle.tree_test.specs.Records.{word-at, status-at}
-use Rattle.tree.specs.Rights.{subset}
+use Rattle.spec_tree.specs.Rights.{subset}
 use Prim.Native.Nat.{ℕ}
 use mathlib.Core.Path.{ap, sym, _∙_}
 use borrow.Author.Needs.{needs}

@@ -1,6 +1,6 @@
 use Rattle.tree_test.specs.Idle.{idle-many}
 use Rattle.tree_test.specs.Counted.{idle-wrong, idle-top, idle-count}
-use Rattle.words.specs.Words.{load, size}
+use Rattle.spec_words.specs.Words.{load, size}
 use native.Mathlib.Omega.{arith}
 use lib.Dec.{eqb}
 use Prim.Native.Nat.{ℕ}

@@ -1,7 +1,7 @@
 use Rattle.tree_test.specs.Walk.{left-out, left-up, left-over, left-wrong}
 use Rattle.tree_test.specs.Links.{fitting}
 use Rattle.tree_test.specs.Records.{word-at}
-use Rattle.rules.specs.Contents.{decode}
+use Rattle.spec_rules.specs.Contents.{decode}
 use lib.ListN.{getD}
 use Prim.Native.Nat.{_+_, _*_}
 use mathlib.Core.Path.{ap, sym, _∙_}

@@ -1,6 +1,6 @@
 use Rattle.tree_test.proofs.Turns.{faults-more, near-more, faults-done, near-done, faults-first}
 use Rattle.tree_test.specs.Counted.{faultsFrom, nearFrom}
-use Rattle.words.specs.Words.{load, store}
+use Rattle.spec_words.specs.Words.{load, store}
 use lib.ListN.{length, length-set, getD}
 use Prim.Native.Nat.{_≤_, _-_, _+_, _*_, _%_}
 use native.Mathlib.Omega.{arith}

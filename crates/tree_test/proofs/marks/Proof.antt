@@ -1,7 +1,7 @@
 use Rattle.tree_test.proofs.Turns.{sum-more}
-use Rattle.lists.specs.Counting.{total}
+use Rattle.spec_lists.specs.Counting.{total}
 use Rattle.tree_test.specs.Counted.{marks}
-use Rattle.words.specs.Words.{load}
+use Rattle.spec_words.specs.Words.{load}
 use Prim.Native.Nat.{ℕ, _≤_, _-_, _*_}
 use native.Mathlib.Omega.{arith}
 use native.Mathlib.Nat.{le-antisymm}

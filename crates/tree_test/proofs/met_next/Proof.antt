@@ -1,8 +1,8 @@
 use Rattle.tree_test.specs.Walk.{met-leaf, met-down, met-wrong}
 use Rattle.tree_test.specs.Links.{fitting}
 use Rattle.tree_test.specs.Records.{word-at}
-use Rattle.rules.specs.Contents.{decode}
-use Rattle.layout.specs.Layout.{NONE}
+use Rattle.spec_rules.specs.Contents.{decode}
+use Rattle.spec_layout.specs.Layout.{NONE}
 use mathlib.Core.Path.{ap, sym, _∙_}
 use borrow.Author.Needs.{needs}
 use Rattle.tree_test.proofs.met_next.Statement.{statement}

@@ -1,6 +1,6 @@
 use Rattle.tree_test.specs.Led.{same-step, led-on, led-here, led-wrong, walk-wrong}
 use Rattle.tree_test.specs.Walk.{next-met}
-use Rattle.rules.specs.Contents.{decode}
+use Rattle.spec_rules.specs.Contents.{decode}
 use lib.ListN.{length-set}
 use Prim.Native.Nat.{_-_, _+_}
 use native.Mathlib.Omega.{arith}

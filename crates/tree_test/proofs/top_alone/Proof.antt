@@ -1,6 +1,6 @@
 use Rattle.tree_test.specs.Top.{topAlone}
-use Rattle.words.specs.Words.{both-on, both-off}
-use Rattle.layout.specs.Layout.{NONE}
+use Rattle.spec_words.specs.Words.{both-on, both-off}
+use Rattle.spec_layout.specs.Layout.{NONE}
 use lib.Dec.{eqb}
 use Prim.Native.Nat.{ℕ}
 use borrow.Author.Tests.{eq-eqb, ne-eqb}

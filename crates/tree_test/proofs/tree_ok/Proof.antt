@@ -1,5 +1,5 @@
 use Rattle.tree_test.specs.Led.{Same, same-here, same-on, walk-none, walk-fails, walk-ends}
-use Rattle.rules.specs.Contents.{decode}
+use Rattle.spec_rules.specs.Contents.{decode}
 use lib.ListN.{length, length-set}
 use Prim.Native.Nat.{_<_, _-_}
 use native.Mathlib.Omega.{arith}

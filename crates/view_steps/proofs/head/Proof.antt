@@ -1,4 +1,4 @@
-use Rattle.view_events.specs.Steps.{head-far, head-wrong, head-right}
+use Rattle.spec_view_events.specs.Steps.{head-far, head-wrong, head-right}
 use borrow.Author.Needs.{needs}
 use Rattle.view_steps.proofs.head.Statement.{statement}
 use Rattle.view_steps.proofs.head.Tie as tie

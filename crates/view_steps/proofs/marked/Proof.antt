@@ -1,5 +1,5 @@
 use mathlib.Core.Path.{sym}
-use Rattle.rules.specs.Passed.{marked-yes, marked-no}
+use Rattle.spec_rules.specs.Passed.{marked-yes, marked-no}
 use Rattle.view_steps.proofs.marked.Statement.{statement}
 use Rattle.view_steps.proofs.marked.Tie as tie
 

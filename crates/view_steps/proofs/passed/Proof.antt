@@ -1,4 +1,4 @@
-use Rattle.rules.specs.Passed.{passed-none, passed-half, passed-open, passed-odd, passed-fit}
+use Rattle.spec_rules.specs.Passed.{passed-none, passed-half, passed-open, passed-odd, passed-fit}
 use mathlib.Core.Path.{sym, _∙_}
 use borrow.Author.Needs.{needs}
 use Rattle.view_steps.proofs.passed.Statement.{statement}

@@ -1,7 +1,7 @@
-use Rattle.view_events.specs.Placing.{place-start}
-use Rattle.view_events.specs.Placing.{place-far, place-again, place-last, place-empty, place-more, place-out}
-use Rattle.view_events.specs.Place.{placing}
-use Rattle.rules.specs.Contents.{decode}
+use Rattle.spec_view_events.specs.Placing.{place-start}
+use Rattle.spec_view_events.specs.Placing.{place-far, place-again, place-last, place-empty, place-more, place-out}
+use Rattle.spec_view_events.specs.Place.{placing}
+use Rattle.spec_rules.specs.Contents.{decode}
 use Prim.Native.Nat.{_≤_, _<_, _-_, _^_}
 use mathlib.Core.Path.{_≡_, sym, _∙_}
 use borrow.Author.Needs.{needs}

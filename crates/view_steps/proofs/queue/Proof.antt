@@ -1,4 +1,4 @@
-use Rattle.view_events.specs.Open.{queue-none, queue-refused, queue-far, queue-twice, queue-open}
+use Rattle.spec_view_events.specs.Open.{queue-none, queue-refused, queue-far, queue-twice, queue-open}
 use borrow.Author.Tests.{eq-eqb, ne-eqb}
 use mathlib.Core.Bool.{not}
 use mathlib.Core.Path.{ap, _∙_}

@@ -1,4 +1,4 @@
-use Rattle.view_events.specs.Steps.{tail-far, tail-out, tail-again, tail-inner, tail-right}
+use Rattle.spec_view_events.specs.Steps.{tail-far, tail-out, tail-again, tail-inner, tail-right}
 use mathlib.Core.Path.{sym, _∙_}
 use borrow.Author.Needs.{needs}
 use Rattle.view_steps.proofs.tail.Statement.{statement}

@@ -1,5 +1,5 @@
 use Prim.Native.Nat.{_+_}
-use Rattle.view_events.specs.Open.{stops, goes, and-none, and-some, view-none, view-refused, view-open}
+use Rattle.spec_view_events.specs.Open.{stops, goes, and-none, and-some, view-none, view-refused, view-open}
 use borrow.Author.Tests.{eq-eqb, ne-eqb, not-true, not-false}
 use native.Mathlib.Omega.{arith}
 use mathlib.Core.Bool.{not}

@@ -1,4 +1,4 @@
-use Rattle.view_events.specs.Groups.{both-full}
+use Rattle.spec_view_events.specs.Groups.{both-full}
 use borrow.Author.Tests.{eqb-true}
 use borrow.Author.Needs.{needs}
 use Rattle.view_test.proofs.empty.Statement.{statement}

@@ -1,4 +1,4 @@
-use Rattle.view_events.specs.Kinds.{Left, next-rights, left-start, left-more, left-stop, left-done}
+use Rattle.spec_view_events.specs.Kinds.{Left, next-rights, left-start, left-more, left-stop, left-done}
 use lib.ListN.{getD}
 use Prim.Native.Nat.{_+_, _-_, _*_, _/_, _^_, _<_, _≤_}
 use mathlib.Core.Path.{_≡_}

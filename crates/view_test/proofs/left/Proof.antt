@@ -1,4 +1,4 @@
-use Rattle.view_events.specs.Chain.{kind-none}
+use Rattle.spec_view_events.specs.Chain.{kind-none}
 use borrow.Author.Needs.{needs}
 use Rattle.view_test.proofs.left.Statement.{statement}
 use Rattle.view_test.proofs.left.Tie as tie

@@ -1,4 +1,4 @@
-use Rattle.view_events.specs.Chain.{mark-met, mark-left}
+use Rattle.spec_view_events.specs.Chain.{mark-met, mark-left}
 use borrow.Author.Needs.{needs}
 use Rattle.view_test.proofs.mark.Statement.{statement}
 use Rattle.view_test.proofs.mark.Tie as tie

@@ -1,4 +1,4 @@
-use Rattle.view_events.specs.Chain.{follow, end, queues-none}
+use Rattle.spec_view_events.specs.Chain.{follow, end, queues-none}
 use borrow.Author.Tests.{not-true, not-false}
 use native.Mathlib.Omega.{arith}
 use mathlib.Core.Path.{refl}

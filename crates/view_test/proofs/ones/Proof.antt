@@ -1,5 +1,5 @@
-use Rattle.view_events.specs.Run.{fourOnes}
-use Rattle.words.specs.Words.{load, both-on, both-off}
+use Rattle.spec_view_events.specs.Run.{fourOnes}
+use Rattle.spec_words.specs.Words.{load, both-on, both-off}
 use borrow.Author.Tests.{eq-eqb, ne-eqb}
 use mathlib.Core.Path.{sym, _∙_}
 use borrow.Author.Needs.{needs}

@@ -1,5 +1,5 @@
-use Rattle.view_events.specs.Events.{queuesAt}
-use Rattle.view_events.specs.Chain.{follow, end, queue-first, queue-later}
+use Rattle.spec_view_events.specs.Events.{queuesAt}
+use Rattle.spec_view_events.specs.Chain.{follow, end, queue-first, queue-later}
 use borrow.Author.Tests.{not-true, not-false}
 use borrow.Author.Needs.{needs}
 use Rattle.view_test.proofs.queues.Statement.{statement}

@@ -1,4 +1,4 @@
-use Rattle.view_events.specs.Chain.{follow, end, kind-none}
+use Rattle.spec_view_events.specs.Chain.{follow, end, kind-none}
 use borrow.Author.Tests.{not-true, not-false}
 use mathlib.Core.Path.{refl}
 use borrow.Author.Needs.{needs}

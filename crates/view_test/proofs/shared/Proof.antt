@@ -1,4 +1,4 @@
-use Rattle.view_events.specs.Groups.{full-blank}
+use Rattle.spec_view_events.specs.Groups.{full-blank}
 use Prim.Native.Nat.{_+_}
 use native.Mathlib.Omega.{arith}
 use borrow.Author.Needs.{needs}

@@ -1,4 +1,4 @@
-use Rattle.view_laws.specs.Begun.{ready, height, below, no-segments, no-free, all-views}
+use Rattle.law_view_events.specs.Begun.{ready, height, below, no-segments, no-free, all-views}
 use borrow.Author.Tests.{not-true, not-false}
 use mathlib.Core.Path.{_∙_}
 use native.Mathlib.Omega.{arith}

@@ -1,7 +1,7 @@
-use Rattle.view_events.specs.Walk.{walk-stop, walk-more, walk-done}
-use Rattle.view_events.specs.Run.{run}
-use Rattle.view_events.specs.Events.{events}
-use Rattle.rules.specs.Contents.{decode}
+use Rattle.spec_view_events.specs.Walk.{walk-stop, walk-more, walk-done}
+use Rattle.spec_view_events.specs.Run.{run}
+use Rattle.spec_view_events.specs.Events.{events}
+use Rattle.spec_rules.specs.Contents.{decode}
 use lib.ListN.{length, drop}
 use Prim.Native.Nat.{_≤_, _-_}
 use mathlib.Core.Path.{_≡_, refl, _∙_}

@@ -1,6 +1,6 @@
-use Rattle.view_events.specs.Run.{whole}
-use Rattle.layout.specs.Layout.{read, address}
-use Rattle.words.specs.Words.{load, both-on, both-off}
+use Rattle.spec_view_events.specs.Run.{whole}
+use Rattle.spec_layout.specs.Layout.{read, address}
+use Rattle.spec_words.specs.Words.{load, both-on, both-off}
 use borrow.Author.Tests.{eq-eqb, ne-eqb, not-true, not-false}
 use mathlib.Core.Path.{sym, _∙_}
 use borrow.Author.Needs.{needs}

@@ -1,5 +1,5 @@
 use mathlib.Core.Path.{sym}
-use Rattle.calls.specs.Views.{not-empty}
+use Rattle.spec_outcomes.specs.Views.{not-empty}
 use Rattle.views.proofs.Reduce.{empty-tail}
 use Rattle.views.proofs.is_empty.Statement.{statement}
 use Rattle.views.proofs.is_empty.Tie as tie

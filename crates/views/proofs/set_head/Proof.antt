@@ -1,4 +1,4 @@
-use Rattle.layout.specs.Layout.{write, address}
+use Rattle.spec_layout.specs.Layout.{write, address}
 use borrow.Author.Needs.{needs}
 use Rattle.views.proofs.set_head.Statement.{statement}
 use Rattle.views.proofs.set_head.Tie as tie

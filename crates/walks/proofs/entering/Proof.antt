@@ -1,7 +1,7 @@
 use mathlib.Core.Path.{refl, sym, _∙_}
 use borrow.Author.Tests.{lt-ltb, le-ltb}
-use Rattle.words.specs.Words.{pass, halt}
-use Rattle.tree.specs.Tour.{entering}
+use Rattle.spec_words.specs.Words.{pass, halt}
+use Rattle.spec_tree.specs.Tour.{entering}
 use Rattle.walks.proofs.entering.Statement.{statement}
 use Rattle.walks.proofs.entering.Tie as tie
 

@@ -2,8 +2,8 @@ use lib.Dec.{eqb}
 use Prim.Native.Nat.{ℕ}
 use mathlib.Core.Bool.{not}
 use mathlib.Core.Path.{ap}
-use Rattle.layout.specs.Layout.{NONE}
-use Rattle.calls.specs.Waits.{hasChild}
+use Rattle.spec_layout.specs.Layout.{NONE}
+use Rattle.spec_outcomes.specs.Waits.{hasChild}
 use Rattle.walks.proofs.has_child.Statement.{statement}
 use Rattle.walks.proofs.has_child.Tie as tie
 

@@ -1,7 +1,7 @@
 use mathlib.Core.Path.{refl, sym}
 use borrow.Author.Tests.{lt-ltb, le-ltb}
-use Rattle.words.specs.Words.{pass, halt}
-use Rattle.tree.specs.Tour.{leaving}
+use Rattle.spec_words.specs.Words.{pass, halt}
+use Rattle.spec_tree.specs.Tour.{leaving}
 use borrow.Author.Needs.{needs}
 use Rattle.walks.proofs.leaving.Statement.{statement}
 use Rattle.walks.proofs.leaving.Tie as tie

@@ -1,9 +1,9 @@
 use Prim.Native.Nat.{ℕ}
 use mathlib.Core.Path.{ap, _∙_, sym}
 use borrow.Author.Tests.{lt-ltb, le-ltb}
-use Rattle.words.specs.Words.{both-off}
-use Rattle.tree.specs.Rights.{pushes}
-use Rattle.calls.specs.Waits.{rightsOf}
+use Rattle.spec_words.specs.Words.{both-off}
+use Rattle.spec_tree.specs.Rights.{pushes}
+use Rattle.spec_outcomes.specs.Waits.{rightsOf}
 use Rattle.walks.proofs.Glue.{both-so}
 use Rattle.walks.proofs.meets_pusher.Statement.{statement}
 use Rattle.walks.proofs.meets_pusher.Tie as tie

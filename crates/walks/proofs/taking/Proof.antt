@@ -1,8 +1,8 @@
 use mathlib.Core.Path.{_≡_, refl, sym, _∙_}
 use native.Mathlib.Omega.{arith}
-use Rattle.layout.specs.Layout.{recordOf}
-use Rattle.tree.specs.Tour.{MARKS, seek}
-use Rattle.calls.specs.Views.{takesPart}
+use Rattle.spec_layout.specs.Layout.{recordOf}
+use Rattle.spec_tree.specs.Tour.{MARKS, seek}
+use Rattle.spec_outcomes.specs.Views.{takesPart}
 use Rattle.walks.specs.Steps.{seek-none, seek-end, seek-here, seek-on}
 use Rattle.walks.proofs.taking.Statement.{statement}
 use Rattle.walks.proofs.taking.Tie as tie

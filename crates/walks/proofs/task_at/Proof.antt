@@ -1,7 +1,7 @@
 use mathlib.Core.Path.{refl, sym}
 use borrow.Author.Tests.{lt-ltb, le-ltb}
-use Rattle.words.specs.Words.{pass, halt}
-use Rattle.calls.specs.Views.{taskAt}
+use Rattle.spec_words.specs.Words.{pass, halt}
+use Rattle.spec_outcomes.specs.Views.{taskAt}
 use Rattle.walks.proofs.task_at.Statement.{statement}
 use Rattle.walks.proofs.task_at.Tie as tie
 

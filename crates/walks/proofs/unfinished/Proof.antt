@@ -2,8 +2,8 @@ use lib.Dec.{eqb}
 use Prim.Native.Nat.{ℕ}
 use mathlib.Core.Path.{ap, sym}
 use borrow.Author.Tests.{lt-ltb, le-ltb}
-use Rattle.words.specs.Words.{both-off}
-use Rattle.calls.specs.Waits.{unfinished}
+use Rattle.spec_words.specs.Words.{both-off}
+use Rattle.spec_outcomes.specs.Waits.{unfinished}
 use Rattle.walks.proofs.Glue.{both-so}
 use Rattle.walks.proofs.unfinished.Statement.{statement}
 use Rattle.walks.proofs.unfinished.Tie as tie

@@ -1,0 +1,40 @@
+use Rattle.spec_answers.specs.declared.Answer.the-variants.{Waits}
+use Rattle.spec_answers.specs.Answers.{outcome}
+use Rattle.core_pop.proofs.Glue.{pop-refused, pop-given, none-popped, value-popped, value-there, may-pop}
+use mathlib.Core.Path.{_∙_}
+use mathlib.Core.List.{[]}
+use borrow.Author.Needs.{needs}
+use Rattle.core_pop.proofs.pop.Statement.{statement}
+use Rattle.core_pop.proofs.pop.Tie as tie
+
+returns : tie.Need-returns
+returns c = pop-refused _ _ _ _ (c .before .refusal .ensures) (c .if1 .taken)
+
+find-requires : tie.Need-find-requires
+find-requires c κs = may-pop _ _ _ (outcome Waits []) (c .before .before .refusal .ensures) (c .before .if1 .left) .1
+
+returns-2 : tie.Need-returns-2
+returns-2 c =
+    none-popped _ _ _ _ _ (c .before .match .keys2) (c .pop-nothing .ensures)
+    ∙ pop-given _ _ _ _ (c .before .before .before .before .before .refusal .ensures) (c .before .before .before .before .if1 .left)
+    (c .before .before .find .ensures)
+
+take-first-requires : tie.Need-take-first-requires
+take-first-requires c κs = (
+  may-pop _ _ _ (outcome Waits []) (c .before .before .before .before .before .before .before .refusal .ensures)
+      (c .before .before .before .before .before .before .if1 .left) .1,
+  value-there _ _ _ _ (c .before .before .before .before .find .ensures) (c .before .before .f .given .1),
+)
+
+returns-3 : tie.Need-returns-3
+returns-3 c =
+    value-popped _ _ _ _ _ (c .before .before .before .before .before .f .given .1) (c .before .before .take-first .ensures)
+    ∙ pop-given _ _ _ _ (c .before .before .before .before .before .before .before .before .before .before .refusal .ensures)
+    (c .before .before .before .before .before .before .before .before .before .if1 .left)
+    (c .before .before .before .before .before .before .before .find .ensures)
+
+pub pop-spec : {M : Type 1} → statement M
+pop-spec =
+    tie.close
+    (tie.spec (λ c κs. search needs) (λ c. search needs) returns find-requires (λ c. search needs) (λ c κs. search needs) (λ c. search needs)
+    returns-2 take-first-requires (λ c. search needs) returns-3)

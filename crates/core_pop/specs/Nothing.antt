@@ -1,0 +1,27 @@
+-- What pop and test answer where they may not pop, and where no value is found.
+use mathlib.Core.Bool.{not}
+use mathlib.Core.List.{List}
+use Prim.Native.Nat.{ℕ}
+use lib.Dec.{leb}
+use Rattle.spec_words.specs.Words.{pick}
+use Rattle.spec_answers.specs.declared.Answer.{Answer}
+use Rattle.spec_answers.specs.declared.Answer.the-variants.{Empty, Waits, Refused}
+use Rattle.spec_answers.specs.declared.Finding.{Finding}
+use Rattle.spec_answers.specs.declared.Finding.the-variants.{Value as Found, Empty as Nothing, Waits as Later}
+use Rattle.spec_tree.specs.Rights.{pops}
+use Rattle.spec_outcomes.specs.Waits.{rightsOf, unfinished}
+
+abbrev pub popNothing : Finding → Answer
+popNothing (Found v) = Waits
+popNothing Nothing = Refused 7
+popNothing Later = Waits
+
+abbrev pub testNothing : Finding → Answer
+testNothing (Found v) = Waits
+testNothing Nothing = Empty
+testNothing Later = Waits
+
+-- why task t may not pop from queue q, 0 where it may
+unfoldable pub popRefusal : List ℕ → ℕ → ℕ → ℕ
+popRefusal m t q =
+    pick (not (unfinished m t)) 4 (pick (leb 4 q) 5 (pick (not (pops (rightsOf m t) q)) 6 0))

@@ -1,0 +1,131 @@
+// pop (task, queue) and test (task, queue): one finding
+ghost use mathlib.Core.Path.{_≡_};
+ghost use mathlib.Core.Bool.{true};
+ghost use Prim.Native.Nat.{_<_};
+ghost use lib.ListN.{length};
+ghost use Rattle.spec_layout.specs.Layout.{count, queueHead, read};
+ghost use Rattle.spec_rules.specs.Test.{rulesHold};
+ghost use Rattle.spec_answers.specs.Answers.{Outcome};
+ghost use Rattle.spec_answers.specs.Answers.Outcome.{outcome};
+ghost use Rattle.core_pop.specs.Nothing.{popNothing, testNothing, popRefusal};
+ghost use Rattle.spec_outcomes.specs.Find.{hasValue, finding, popped, popGives, testGives, popTested, testTested};
+use spec_answers::Answer;
+use spec_answers::Finding;
+
+// The chain from the queue head of task t holds a value.
+fn has_value(m: &[u32], t: u32, q: u32) -> bool
+    requires { ⌜ q < 4 ⌝ }
+    ensures { λ b. ⌜ b ≡ hasValue (now (m .entry)) t q ⌝ }
+{
+    let s = memory::task(m, t, 16 + q);
+    if s >= 4294967294 {
+        return false;
+    }
+    memory::segment(m, s, 1) != 0
+}
+
+// What a pop or a test by task t finds in queue q.
+pub fn find(m: &[u32], t: u32, q: u32) -> Finding
+    requires { ⌜ q < 4 ⌝ }
+    ensures { λ f. ⌜ f ≡ finding (now (m .entry)) t q ⌝ }
+{
+    if walks::blocked(m, t) {
+        return Finding::Waits;
+    }
+    if walks::child_pops(m, t, q) {
+        return Finding::Waits;
+    }
+    if has_value(m, t, q) {
+        return Finding::Value(segments::value_at(m, memory::task(m, t, 16 + q), 0));
+    }
+    if walks::pusher_before(m, t, q) {
+        return Finding::Waits;
+    }
+    Finding::Empty
+}
+
+// The first value of queue q is gone; a segment that it leaves empty and that has a next is freed.
+fn take_first(m: &mut [u32], t: u32, q: u32)
+    requires { ⌜ (q < 4) × (0 < read (now m) (count (read (now m) (queueHead t q)))) ⌝ }
+    ensures { λ _. ⌜ now (m .exit) ≡ popped (now (m .entry)) t q ⌝ }
+{
+    let s = memory::task(m, t, 16 + q);
+    let n = memory::segment(m, s, 2);
+    segments::drop_one(m, s);
+    if n == 4294967295 {
+        return;
+    }
+    if memory::segment(m, s, 1) != 0 {
+        return;
+    }
+    memory::set_task(m, t, 16 + q, n);
+    segments::release(m, s);
+}
+
+// Pop where nothing is to be taken.
+fn pop_nothing(f: Finding) -> Answer
+    ensures { λ a. ⌜ a ≡ popNothing f ⌝ }
+{
+    match f {
+        Finding::Value(_) => Answer::Waits,
+        Finding::Empty => Answer::Refused(7),
+        Finding::Waits => Answer::Waits,
+    }
+}
+
+fn test_nothing(f: Finding) -> Answer
+    ensures { λ a. ⌜ a ≡ testNothing f ⌝ }
+{
+    match f {
+        Finding::Value(_) => Answer::Waits,
+        Finding::Empty => Answer::Empty,
+        Finding::Waits => Answer::Waits,
+    }
+}
+
+// Why task t may not pop from queue q: 4, 5 or 6; 0 where it may.
+fn refusal(m: &[u32], t: u32, q: u32) -> u32
+    ensures { λ k. ⌜ k ≡ popRefusal (now (m .entry)) t q ⌝ }
+{
+    if !walks::unfinished(m, t) {
+        return 4;
+    }
+    if q >= 4 {
+        return 5;
+    }
+    if !rights::pops(memory::task(m, t, 1), q) {
+        return 6;
+    }
+    0
+}
+
+// Pop on memory that passes the rules.
+pub fn pop(m: &mut [u32], t: u32, q: u32) -> Answer
+    ensures { λ a. ⌜ outcome a (now (m .exit)) ≡ popTested (now (m .entry)) t q ⌝ }
+{
+    let k = refusal(m, t, q);
+    if k != 0 {
+        return Answer::Refused(k);
+    }
+    let f = find(m, t, q);
+    let Finding::Value(v) = f else {
+        return pop_nothing(f);
+    };
+    take_first(m, t, q);
+    Answer::Moved(v)
+}
+
+// Test on memory that passes the rules.
+pub fn test(m: &mut [u32], t: u32, q: u32) -> Answer
+    ensures { λ a. ⌜ outcome a (now (m .exit)) ≡ testTested (now (m .entry)) t q ⌝ }
+{
+    let k = refusal(m, t, q);
+    if k != 0 {
+        return Answer::Refused(k);
+    }
+    let f = find(m, t, q);
+    let Finding::Value(_) = f else {
+        return test_nothing(f);
+    };
+    Answer::NotEmpty
+}

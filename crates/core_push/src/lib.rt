@@ -1,0 +1,103 @@
+// push (task, queue, value)
+ghost use mathlib.Core.Path.{_≡_};
+ghost use mathlib.Core.Bool.{true};
+ghost use Prim.Native.Nat.{_*_, _<_, _≤_};
+ghost use lib.ListN.{length};
+ghost use Rattle.spec_words.specs.Words.{size};
+ghost use Rattle.spec_layout.specs.Layout.{lengthWord, numberWord, freeSegments, read};
+ghost use Rattle.spec_rules.specs.Test.{rulesHold};
+ghost use Rattle.spec_answers.specs.Answers.{Outcome};
+ghost use Rattle.spec_answers.specs.Answers.Outcome.{outcome};
+ghost use Rattle.spec_outcomes.specs.Segments.{nextFree};
+ghost use Rattle.spec_outcomes.specs.Views.{kindAt};
+ghost use Rattle.spec_outcomes.specs.Waits.{unfinished};
+ghost use Rattle.spec_outcomes.specs.Push.{pushedApart, pushedBehind, pushed, pushTested};
+use spec_answers::Answer;
+
+// Which view stands at mark x of the tour.
+pub fn kind_at(x: u32) -> u32
+    ensures { λ k. ⌜ k ≡ kindAt x ⌝ }
+{
+    if x < 128 { 2 } else { 0 }
+}
+
+// The user view is empty: the new segment's head goes into the view at mark x.
+fn push_apart(m: &mut [u32], t: u32, q: u32, v: u32, x: u32) -> Answer
+    requires { ⌜ (size (now m) ≡ 16384) × (0 < read (now m) freeSegments) × (nextFree (now m) < read (now m) numberWord)
+        × (0 < read (now m) lengthWord) × (read (now m) lengthWord * read (now m) numberWord ≤ 8192) ⌝ }
+    ensures { λ a. ⌜ outcome a (now (m .exit)) ≡ pushedApart (now (m .entry)) t q v x ⌝ }
+{
+    let s = segments::next_free(m);
+    let y = walks::task_at(x);
+    let k = kind_at(x);
+    if !views::reducible(
+        views::head(m, k, y, q),
+        views::tail(m, k, y, q),
+        s,
+        4294967294,
+    ) {
+        return Answer::Refused(2);
+    }
+    segments::take(m, v);
+    views::join(m, q, y, k, s, 4294967294);
+    views::set_view(m, q, t, 1, 4294967294, s);
+    Answer::Moved(v)
+}
+
+// The tail segment e is full: the new segment becomes its next.
+fn push_behind(m: &mut [u32], t: u32, q: u32, v: u32, e: u32) -> Answer
+    requires { ⌜ (size (now m) ≡ 16384) × (0 < read (now m) freeSegments) × (nextFree (now m) < read (now m) numberWord)
+        × (0 < read (now m) lengthWord) × (read (now m) lengthWord * read (now m) numberWord ≤ 8192) ⌝ }
+    ensures { λ a. ⌜ outcome a (now (m .exit)) ≡ pushedBehind (now (m .entry)) t q v e ⌝ }
+{
+    let s = segments::next_free(m);
+    segments::take(m, v);
+    memory::set_segment(m, e, 2, s);
+    views::set_tail(m, 1, t, q, s);
+    Answer::Moved(v)
+}
+
+// The value goes to the tail segment, or to a new one.
+fn push_value(m: &mut [u32], t: u32, q: u32, v: u32) -> Answer
+    requires { ⌜ (length (now m) ≡ 16384) × (rulesHold (now m) ≡ true) × (unfinished (now m) t ≡ true) × (q < 4) ⌝ }
+    ensures { λ a. ⌜ outcome a (now (m .exit)) ≡ pushed (now (m .entry)) t q v ⌝ }
+{
+    let e = views::tail(m, 1, t, q);
+    if views::is_empty(views::head(m, 1, t, q), e) {
+        if segments::none_free(m) {
+            return Answer::Refused(9);
+        }
+        return push_apart(m, t, q, v, walks::just_before(m, q, t));
+    }
+    if e >= 4294967294 {
+        return Answer::Refused(2);
+    }
+    if memory::segment(m, e, 1) < memory::header(m, 0) {
+        segments::store_one(m, e, v);
+        return Answer::Moved(v);
+    }
+    if segments::none_free(m) {
+        return Answer::Refused(9);
+    }
+    push_behind(m, t, q, v, e)
+}
+
+// Push on memory that passes the rules.
+pub fn push(m: &mut [u32], t: u32, q: u32, v: u32) -> Answer
+    requires { ⌜ (length (now m) ≡ 16384) × (rulesHold (now m) ≡ true) ⌝ }
+    ensures { λ a. ⌜ outcome a (now (m .exit)) ≡ pushTested (now (m .entry)) t q v ⌝ }
+{
+    if !walks::unfinished(m, t) {
+        return Answer::Refused(4);
+    }
+    if q >= 4 {
+        return Answer::Refused(5);
+    }
+    if !rights::pushes(memory::task(m, t, 1), q) {
+        return Answer::Refused(6);
+    }
+    if walks::blocked(m, t) {
+        return Answer::Waits;
+    }
+    push_value(m, t, q, v)
+}

@@ -1,0 +1,26 @@
+// Opening a job: the core for its segment length, and the top at its first instruction.
+ghost use mathlib.Core.Path.{_≡_};
+ghost use Rattle.spec_runner.specs.Answers.{outcome};
+ghost use Rattle.spec_runner.specs.Open.{segmentsFor, openOutcome};
+use spec_runner::StepAnswer;
+
+// "The runner opens with segments the smaller of 256 and 8,192 divided by L, rounded down."
+fn segments_for(l: u32) -> u32
+    ensures { λ n. ⌜ n ≡ segmentsFor l ⌝ }
+{
+    if l <= 32 { 256 } else { 8192 / l }
+}
+
+// Opens a job, on any words.
+pub fn open(job: &[u8], m: &mut [u32], r: &mut [u32]) -> StepAnswer
+    ensures { λ a. ⌜ outcome a (now (m .exit)) (now (r .exit)) ≡ openOutcome (now (job .entry)) (now (m .entry)) (now (r .entry)) ⌝ }
+{
+    let k = runner_words::refusal(job, m, r);
+    if k != 0 {
+        return StepAnswer::Refused(k);
+    }
+    let l = job_fields::segment_length(job);
+    core_open::open(m, l, segments_for(l));
+    memory::clear(r);
+    StepAnswer::Moved
+}

@@ -1,0 +1,74 @@
+-- Whether a step would move, by ranges of operation numbers.
+use mathlib.Core.Path.{_≡_, refl, ap, sym, _∙_}
+use mathlib.Core.Bool.{Bool, true, false, not}
+use mathlib.Core.List.{List}
+use mathlib.Core.Logic.{_⊎_, ⊎-elim}
+use Prim.Native.Nat.{ℕ, _<_, _≤_}
+use native.Mathlib.Omega.{arith}
+use Rattle.spec_words.specs.Words.{both-on, both-off}
+use Rattle.spec_outcomes.specs.Waits.{unfinished, blocked}
+use Rattle.spec_job.specs.declared.Instruction.{Instruction}
+use Rattle.spec_job.specs.Fields.{rights}
+use Rattle.spec_job.specs.Operations.{rowOf, operationOf, operationAt}
+use Rattle.spec_job.specs.Rows.{from, row-past}
+use Rattle.core_return.proofs.Deciding.{stop, on}
+use Rattle.spec_runner.specs.Words.{instructionFor}
+use Rattle.spec_runner.specs.Moves.{pushMoves, spawnMoves, findMoves, syncMoves, finishMoves, instructionMoves, stepMoves}
+
+module _ (j m : List ℕ) (t : ℕ) (s : Instruction) where
+  abbrev Says : Bool → ℕ → Type 0
+  Says b k = b ≡ instructionMoves (operationAt k) j m t s
+
+  pub pushing : (k : ℕ) → 1 ≤ k → k < 3 → Says (pushMoves m t (s .which)) k
+  unfolding instructionMoves operationAt operationOf rowOf
+  pushing =
+      from (λ k. k < 3 → Says (pushMoves m t (s .which)) k) 1 (λ l. refl)
+      (from (λ k. k < 3 → Says (pushMoves m t (s .which)) k) 2 (λ l. refl) (λ k h l. let z : ⊥ = omega arith in absurd z))
+
+  pub finding : (k : ℕ) → 3 ≤ k → k < 5 → Says (findMoves m t (s .which)) k
+  unfolding instructionMoves operationAt operationOf rowOf
+  finding =
+      from (λ k. k < 5 → Says (findMoves m t (s .which)) k) 3 (λ l. refl)
+      (from (λ k. k < 5 → Says (findMoves m t (s .which)) k) 4 (λ l. refl) (λ k h l. let z : ⊥ = omega arith in absurd z))
+
+  pub going : (k : ℕ) → 5 ≤ k → k < 8 → Says true k
+  unfolding instructionMoves operationAt operationOf rowOf
+  going =
+      from (λ k. k < 8 → Says true k) 5 (λ l. refl)
+      (from (λ k. k < 8 → Says true k) 6 (λ l. refl)
+      (from (λ k. k < 8 → Says true k) 7 (λ l. refl) (λ k h l. let z : ⊥ = omega arith in absurd z)))
+
+  pub spawning : {k a : ℕ} → k ≡ 8 → a ≡ rights j (s .which) → Says (spawnMoves m t a) k
+  unfolding instructionMoves operationAt operationOf rowOf
+  spawning e ea = ap (spawnMoves m t) ea ∙ rw e refl
+
+  pub syncing : {k : ℕ} → k ≡ 9 → Says (syncMoves m t) k
+  unfolding instructionMoves operationAt operationOf rowOf
+  syncing e = rw e refl
+
+  finish-past : (k : ℕ) → 10 ≤ k → Says (finishMoves m t) k
+  unfolding instructionMoves operationAt operationOf
+  finish-past k h = rw (row-past k h) refl
+
+  finish-first : (k : ℕ) → k < 1 → Says (finishMoves m t) k
+  unfolding instructionMoves operationAt operationOf rowOf
+  finish-first k h = let e : k ≡ 0 = omega arith in rw e refl
+
+  pub finishing : (k : ℕ) → (k ≡ 8 → ⊥) → (k ≡ 9 → ⊥) → (k < 1) ⊎ (8 ≤ k) → Says (finishMoves m t) k
+  finishing k n8 n9 c = ⊎-elim (λ h. finish-first k h) (λ h. finish-past k (omega (arith, h, n8, n9))) c
+
+module _ (j m r : List ℕ) (t : ℕ) {b1 : Bool} (e1 : b1 ≡ unfinished m t) where
+  pub not-unfinished : not b1 ≡ true → false ≡ stepMoves j m r t
+  unfolding stepMoves
+  not-unfinished f = stop _ e1 f
+
+  module _ {b2 : Bool} (f1 : not b1 ≡ false) (e2 : b2 ≡ blocked m t) where
+    pub is-blocked : b2 ≡ true → false ≡ stepMoves j m r t
+    unfolding stepMoves
+    is-blocked f = on e1 f1 (sym (both-off _ (ap not (sym e2 ∙ f))))
+
+    pub goes-by : {s : Instruction} (x : Bool) → b2 ≡ false → s ≡ instructionFor j r t → x ≡ instructionMoves (operationAt (s .operation)) j m t s
+        → x ≡ stepMoves j m r t
+    unfolding stepMoves
+    goes-by x f es ex =
+        on e1 f1 (ex ∙ ap (λ (s : Instruction). instructionMoves (operationAt (s .operation)) j m t s) es ∙ sym (both-on (ap not (sym e2 ∙ f))))

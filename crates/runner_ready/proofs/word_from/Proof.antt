@@ -1,0 +1,55 @@
+use borrow.Author.Needs.{needs}
+use native.Mathlib.Omega.{arith}
+use Prim.Native.Nat.{_-_, _≤_}
+use mathlib.Core.Path.{_≡_, sym}
+use Rattle.spec_runner.specs.ReadyLaws.{bits-none}
+use Rattle.spec_runner.specs.Ready.{bitsFrom}
+use Rattle.spec_runner.specs.Moves.{stepMoves}
+use Rattle.runner_ready.proofs.Bits.{below, one-more, whole}
+use Rattle.runner_ready.proofs.word_from.Statement.{statement}
+use Rattle.runner_ready.proofs.word_from.Tie as tie
+
+abbrev Inv-loop : tie.InvT-loop
+Inv-loop job m r i w₀ k₀ w k = (k ≤ 32) × (w ≡ bitsFrom (stepMoves job m r) k i)
+
+abbrev μ-loop : tie.MeasureT-loop
+μ-loop job m r i w₀ k₀ w k = 32 - k
+
+loop-holds : tie.Need-loop-holds Inv-loop μ-loop
+loop-holds c = (omega arith, sym (bits-none _ _))
+
+add-step-moves : tie.Need-add-step-moves Inv-loop μ-loop
+add-step-moves c = omega arith
+
+step-moves-requires : tie.Need-step-moves-requires Inv-loop μ-loop
+step-moves-requires c κs = search needs
+
+with-bit-requires : tie.Need-with-bit-requires Inv-loop μ-loop
+with-bit-requires c κs = (below _ _ _ (c .before .before .loop .inv .1), c .before .loop-test .taken)
+
+add-k : tie.Need-add-k Inv-loop μ-loop
+add-k c = omega arith
+
+loop-less : tie.Need-loop-less Inv-loop μ-loop
+loop-less c = omega arith
+
+loop-again : tie.Need-loop-again Inv-loop μ-loop
+loop-again c = (omega arith, one-more _ _ _ (c .before .before .before .loop .inv .1) (c .before .step-moves .ensures) (c .with-bit .ensures))
+
+returns : tie.Need-returns Inv-loop μ-loop
+returns c = whole _ _ _ (c .before .loop .inv .1) (c .before .loop .inv .0) (c .loop-test .left)
+
+pub word-from-spec : {M : Type 1} → statement M
+word-from-spec =
+    tie.close
+    (tie.spec
+    Inv-loop
+    μ-loop
+    loop-holds
+    add-step-moves
+    step-moves-requires
+    with-bit-requires
+    add-k
+    loop-less
+    loop-again
+    returns)

@@ -1,0 +1,48 @@
+-- What each part of a step has to give.
+use mathlib.Core.Path.{_≡_}
+use mathlib.Core.Bool.{Bool, true, false}
+use mathlib.Core.List.{List}
+use mathlib.Core.Option.{Option, none, some}
+use Prim.Native.Nat.{ℕ}
+use Rattle.spec_answers.specs.declared.Answer.the-variants.{Empty}
+use Rattle.spec_answers.specs.Answers.{Outcome as CoreOutcome, outcome as answered}
+use Rattle.spec_answers.specs.Calls.{Call}
+use Rattle.spec_job.specs.declared.Instruction.{Instruction}
+use Rattle.spec_job.specs.Operations.{operationAt}
+use Rattle.spec_job.specs.Effects.{Effect}
+use Rattle.spec_runner.specs.declared.StepAnswer.{StepAnswer}
+use Rattle.spec_runner.specs.Words.{registerOf, instructionFor}
+use Rattle.spec_runner.specs.Answers.{answerWith, Outcome, outcome}
+use Rattle.spec_runner.specs.Step.{callOf, runnerAfter, done, coreOutcome, makes}
+use Rattle.runner_step.specs.declared.Made.{Made}
+
+abbrev pub gives : StepAnswer → ℕ → ℕ → Made
+gives a r i = record { answer = a; register = r; next = i }
+
+-- what was found: the value v, or nothing
+unfoldable pub foundWith : Bool → ℕ → Option ℕ
+foundWith true v = some v
+foundWith false v = none
+
+-- an effect with the answer to it; c is the number of a new task
+unfoldable pub coded : Effect → ℕ → Made
+coded e c = gives (answerWith (e .word) (e .value) c) (e .register) (e .next)
+
+-- What the core gives. A step without a call goes on as one that found nothing.
+unfoldable pub called : Option Call → List ℕ → CoreOutcome
+called (some c) m = coreOutcome c m
+called none m = answered Empty m
+
+-- what task t does where no test stops it
+unfoldable pub acted : List ℕ → List ℕ → List ℕ → ℕ → Outcome
+acted j m r t =
+    let s = instructionFor j r t in
+    makes t s (callOf (operationAt (s .operation)) j t (registerOf r t) s) m r
+
+-- From the runner's words r instruction s of task t, which goes on at instruction i with register x, makes u.
+pub record Writes (t : ℕ) (s : Instruction) (c i x : ℕ) (r u : List ℕ) : Type 0 where
+  pub writes : (e : Effect) → e .next ≡ i → e .register ≡ x → u ≡ runnerAfter (operationAt (s .operation)) t c s e r
+
+-- From the runner's words r instruction s of task t makes u, with answer a, whatever the core's words are.
+pub record Does (t : ℕ) (s : Instruction) (f : Option ℕ) (c : ℕ) (r : List ℕ) (a : StepAnswer) (u : List ℕ) : Type 0 where
+  pub does : (n : List ℕ) → outcome a n u ≡ done t s f c n r

@@ -1,0 +1,215 @@
+// One step of a job's task: the tests, the core call of its instruction, and where the task goes on.
+ghost use mathlib.Core.Path.{_≡_};
+ghost use mathlib.Core.Bool.{true};
+ghost use mathlib.Core.List.{[]};
+ghost use mathlib.Core.Option.{none};
+ghost use Prim.Native.Nat.{_^_, _<_, _≤_};
+ghost use lib.ListN.{length};
+ghost use Rattle.spec_rules.specs.Test.{rulesHold};
+ghost use Rattle.spec_answers.specs.Answers.{outcome as answered};
+ghost use Rattle.spec_job.specs.Operations.{pop, goIfEmpty, operationAt};
+ghost use Rattle.spec_job.specs.Effects.{effect};
+ghost use Rattle.spec_runner.specs.Words.{positionOf};
+ghost use Rattle.spec_runner.specs.Answers.{outcome};
+ghost use Rattle.spec_runner.specs.Step.{callOf, stepOutcome};
+ghost use Rattle.runner_step.specs.Parts.{gives, foundWith, coded, called, acted, Writes, Does};
+use spec_answers::Answer;
+use spec_job::Instruction;
+use spec_runner::StepAnswer;
+
+// What a step gives: its answer, and the register and the next instruction after it.
+pub struct Made {
+    pub answer: StepAnswer,
+    pub register: u32,
+    pub next: u32,
+}
+
+fn gives(answer: StepAnswer, register: u32, next: u32) -> Made
+    ensures { λ e. ⌜ e ≡ gives answer register next ⌝ }
+{
+    Made {
+        answer,
+        register,
+        next,
+    }
+}
+
+// A pop at instruction i with register r: of value v, or where nothing was found.
+fn pop_effect(i: u32, r: u32, found: bool, v: u32) -> Made
+    requires { ⌜ i < 2 ^ 31 ⌝ }
+    ensures { λ e. ⌜ e ≡ coded (effect pop i r 0 (foundWith found v)) v ⌝ }
+{
+    if found {
+        gives(StepAnswer::Took(v), v, i + 1)
+    } else {
+        gives(StepAnswer::Empty, r, i + 1)
+    }
+}
+
+// Goes to instruction x where nothing was found.
+fn test_effect(x: u32, i: u32, r: u32, found: bool) -> Made
+    requires { ⌜ i < 2 ^ 31 ⌝ }
+    ensures { λ e. ⌜ e ≡ coded (effect goIfEmpty i r x (foundWith found 0)) 0 ⌝ }
+{
+    if found {
+        gives(StepAnswer::NotEmpty, r, i + 1)
+    } else {
+        gives(StepAnswer::Empty, r, x)
+    }
+}
+
+// An operation that uses a queue.
+fn queue_effect(k: u32, x: u32, i: u32, r: u32, found: bool, v: u32) -> Made
+    requires { ⌜ (1 ≤ k) × (k ≤ 4) × (i < 2 ^ 31) ⌝ }
+    ensures { λ e. ⌜ e ≡ coded (effect (operationAt k) i r x (foundWith found v)) v ⌝ }
+{
+    let sum = std::num::wrapping_add_u32(r, x);
+    let next = i + 1;
+    match k {
+        1 => gives(StepAnswer::Pushed(x), r, next),
+        2 => gives(StepAnswer::Pushed(sum), r, next),
+        3 => pop_effect(i, r, found, v),
+        _ => test_effect(x, i, r, found),
+    }
+}
+
+// Goes to instruction x: operation 5 always, operation 6 where the register is zero.
+fn go_effect(k: u32, x: u32, i: u32, r: u32) -> Made
+    requires { ⌜ (5 ≤ k) × (k ≤ 6) × (i < 2 ^ 31) ⌝ }
+    ensures { λ e. ⌜ e ≡ coded (effect (operationAt k) i r x none) 0 ⌝ }
+{
+    let next = i + 1;
+    match k {
+        5 => gives(StepAnswer::Moved, r, x),
+        _ => {
+            if r == 0 {
+                gives(StepAnswer::Moved, r, x)
+            } else {
+                gives(StepAnswer::Moved, r, next)
+            }
+        }
+    }
+}
+
+// Operation k with operand x, by a task at instruction i with register r. v is what was found, or the number of a new task.
+fn effect(k: u32, x: u32, i: u32, r: u32, found: bool, v: u32) -> Made
+    requires { ⌜ i < 2 ^ 31 ⌝ }
+    ensures { λ e. ⌜ e ≡ coded (effect (operationAt k) i r x (foundWith found v)) v ⌝ }
+{
+    let next = i + 1;
+    match k {
+        1..=4 => queue_effect(k, x, i, r, found, v),
+        5..=6 => go_effect(k, x, i, r),
+        7 => gives(StepAnswer::Moved, std::num::wrapping_add_u32(r, x), next),
+        8 => gives(StepAnswer::Spawned(v), r, next),
+        9 => gives(StepAnswer::Moved, r, next),
+        _ => gives(StepAnswer::Finished, r, i),
+    }
+}
+
+// The runner's words after instruction s of task t: it goes on at instruction i with register x; v is the number of a new task.
+fn write(r: &mut [u32], t: u32, s: Instruction, v: u32, i: u32, x: u32)
+    ensures { λ _. ⌜ Writes t s v i x (now (r .entry)) (now (r .exit)) ⌝ }
+{
+    let p = runner_words::procedure(r, t);
+    let y = std::num::wrapping_add_u32(runner_words::register(r, t), s.operand);
+    let k = s.operation;
+    match k {
+        8 => {
+            runner_words::put(r, t, p, i, x);
+            runner_words::put(r, v, s.which, 0, y);
+        }
+        1..=9 => {
+            runner_words::put(r, t, p, i, x);
+        }
+        _ => {
+            runner_words::put(r, t, 0, 0, 0);
+        }
+    }
+}
+
+// Task t does instruction s, with what was found.
+fn done(r: &mut [u32], t: u32, s: Instruction, found: bool, v: u32) -> StepAnswer
+    requires { ⌜ positionOf (now r) t < 2 ^ 31 ⌝ }
+    ensures { λ a. ⌜ Does t s (foundWith found v) v (now (r .entry)) a (now (r .exit)) ⌝ }
+{
+    let i = runner_words::position(r, t);
+    let x = runner_words::register(r, t);
+    let e = effect(s.operation, s.operand, i, x, found, v);
+    write(r, t, s, v, e.next, e.register);
+    e.answer
+}
+
+// The core call of an instruction s that uses a queue. No job has a part in it, so the contract has the empty one.
+fn queue_call(m: &mut [u32], t: u32, s: Instruction, x: u32) -> Answer
+    requires { ⌜ (length (now m) ≡ 16384) × (rulesHold (now m) ≡ true) × (1 ≤ s .operation) × (s .operation ≤ 4) ⌝ }
+    ensures { λ a. ⌜ answered a (now (m .exit)) ≡ called (callOf (operationAt (s .operation)) [] t x s) (now (m .entry)) ⌝ }
+{
+    let k = s.operation;
+    let q = s.which;
+    match k {
+        1 => core_push::push(m, t, q, s.operand),
+        2 => core_push::push(m, t, q, std::num::wrapping_add_u32(x, s.operand)),
+        3 => core_pop::pop(m, t, q),
+        _ => core_pop::test(m, t, q),
+    }
+}
+
+// The core call of instruction s. Operations 5, 6 and 7 make none: they go on as one that found nothing.
+fn core_call(job: &[u8], m: &mut [u32], t: u32, s: Instruction, x: u32) -> Answer
+    requires { ⌜ (length (now m) ≡ 16384) × (rulesHold (now m) ≡ true) ⌝ }
+    ensures { λ a. ⌜ answered a (now (m .exit)) ≡ called (callOf (operationAt (s .operation)) (now (job .entry)) t x s) (now (m .entry)) ⌝ }
+{
+    let k = s.operation;
+    match k {
+        1..=4 => queue_call(m, t, s, x),
+        5..=7 => Answer::Empty,
+        8 => core_spawn::spawn(m, t, job_fields::rights(job, s.which)),
+        9 => core_finish::sync(m, t),
+        _ => core_finish::finish(m, t),
+    }
+}
+
+// The instruction that task t is at.
+fn act(job: &[u8], m: &mut [u32], r: &mut [u32], t: u32) -> StepAnswer
+    requires { ⌜ (length (now m) ≡ 16384) × (rulesHold (now m) ≡ true) × (positionOf (now r) t < 2 ^ 31) ⌝ }
+    ensures { λ a. ⌜ outcome a (now (m .exit)) (now (r .exit)) ≡ acted (now (job .entry)) (now (m .entry)) (now (r .entry)) t ⌝ }
+{
+    let s = runner_words::instruction_for(job, r, t);
+    let a = core_call(job, m, t, s, runner_words::register(r, t));
+    match a {
+        Answer::Moved(v) => done(r, t, s, true, v),
+        Answer::Empty => done(r, t, s, false, 0),
+        Answer::NotEmpty => done(r, t, s, true, 0),
+        Answer::Waits => StepAnswer::Waits,
+        Answer::Refused(k) => {
+            if k == 7 {
+                return done(r, t, s, false, 0);
+            }
+            StepAnswer::Refused(k)
+        }
+    }
+}
+
+// A step of task t, on any words. A step that is refused or waits changes none.
+pub fn step(job: &[u8], m: &mut [u32], r: &mut [u32], t: u32) -> StepAnswer
+    ensures { λ a. ⌜ outcome a (now (m .exit)) (now (r .exit)) ≡ stepOutcome (now (job .entry)) (now (m .entry)) (now (r .entry)) t ⌝ }
+{
+    let k = runner_words::refusal(job, m, r);
+    if k != 0 {
+        return StepAnswer::Refused(k);
+    }
+    if !memory_test::rules_hold(m) {
+        return StepAnswer::Refused(2);
+    }
+    if !runner_words::holds(job, m, r) {
+        return StepAnswer::Refused(2);
+    }
+    if !walks::unfinished(m, t) {
+        return StepAnswer::Refused(4);
+    }
+    if walks::blocked(m, t) {
+        return StepAnswer::Waits;
+    }
+    act(job, m, r, t)
+}

@@ -1,0 +1,39 @@
+-- Document 01's number and value for each case of an answer.
+use mathlib.Core.Bool.{Bool}
+use mathlib.Core.List.{List}
+use Prim.Native.Nat.{ℕ}
+use lib.Dec.{eqb}
+use Rattle.spec_words.specs.Words.{both}
+use Rattle.spec_answers.specs.declared.Answer.{Answer}
+use Rattle.spec_answers.specs.declared.Answer.the-variants.{Moved, Empty, NotEmpty, Waits, Refused}
+
+-- What a call gives: its answer, and the words as it leaves them.
+pub data Outcome : Type 0 where
+  outcome : Answer → List ℕ → Outcome
+
+unfoldable pub answerOf : Outcome → Answer
+answerOf (outcome a m) = a
+
+unfoldable pub wordsOf : Outcome → List ℕ
+wordsOf (outcome a m) = m
+
+-- The status of an answer: 0 moved, "a refusal .. returns its number"; 32 waits, 33 empty and 34 not empty are
+-- numbers that no refusal has.
+unfoldable pub statusOf : Answer → ℕ
+statusOf (Moved v) = 0
+statusOf Empty = 33
+statusOf NotEmpty = 34
+statusOf Waits = 32
+statusOf (Refused k) = k
+
+-- "Spawn returns the child's number, push, pop and left the value, the others and a waiting call 0", "a refusal .. value 0"
+unfoldable pub valueOf : Answer → ℕ
+valueOf (Moved v) = v
+valueOf Empty = 0
+valueOf NotEmpty = 0
+valueOf Waits = 0
+valueOf (Refused k) = 0
+
+-- two answers have the same number and the same value
+unfoldable pub sameAnswer : Answer → Answer → Bool
+sameAnswer a b = both (eqb (statusOf a) (statusOf b)) (eqb (valueOf a) (valueOf b))

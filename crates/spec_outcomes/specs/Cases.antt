@@ -1,0 +1,47 @@
+-- Cases that show what opens, where views go, when left answers and in which order calls are turned down. The whole table is a crate
+-- of its own.
+use mathlib.Core.Path.{_≡_, refl}
+use mathlib.Core.Bool.{true}
+use mathlib.Core.List.{List, [], _∷_}
+use Rattle.spec_cases.specs.Starred.{longest, noPush}
+use Rattle.spec_cases.specs.Traps.{parentPush, hidden}
+use Rattle.spec_cases.specs.Waiting.{leftLater}
+use Rattle.spec_cases.specs.Refused.{notAllowed}
+use Rattle.spec_cases.specs.Joining.{localHead, lastFreed}
+use Rattle.spec_outcomes.specs.Table.{lent, right, Placed, placed, leaves}
+
+pub parent-push-right : right lent parentPush ≡ true
+unfolding right
+parent-push-right = refl
+
+pub hidden-right : right lent hidden ≡ true
+unfolding right
+hidden-right = refl
+
+pub local-head-right : right lent localHead ≡ true
+unfolding right
+local-head-right = refl
+
+pub no-push-right : right lent noPush ≡ true
+unfolding right
+no-push-right = refl
+
+pub not-allowed-right : right lent notAllowed ≡ true
+unfolding right
+not-allowed-right = refl
+
+pub longest-right : right lent longest ≡ true
+unfolding right
+longest-right = refl
+
+pub left-later-right : right lent leftLater ≡ true
+unfolding right
+left-later-right = refl
+
+-- 4 and 5 go to segments 4 and 0: the last freed first
+abbrev pub lastFreedPlaces : List Placed
+lastFreedPlaces = placed 0 5 ∷ placed 4 4 ∷ placed 5 3 ∷ []
+
+pub last-freed-right : leaves lent lastFreed lastFreedPlaces ≡ true
+unfolding leaves
+last-freed-right = refl

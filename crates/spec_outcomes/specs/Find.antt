@@ -1,0 +1,64 @@
+-- pop (task, queue) and test (task, queue): one finding
+use mathlib.Core.Bool.{Bool, not}
+use mathlib.Core.List.{List}
+use Prim.Native.Nat.{ℕ}
+use lib.Dec.{leb, ltb, eqb}
+use Rattle.spec_words.specs.Words.{pick, both, either}
+use Rattle.spec_layout.specs.Layout.{NONE, NL, count, next, queueHead, read, write}
+use Rattle.spec_answers.specs.declared.Answer.the-variants.{Moved, Empty, NotEmpty, Waits, Refused}
+use Rattle.spec_answers.specs.declared.Finding.{Finding}
+use Rattle.spec_answers.specs.declared.Finding.the-variants.{Value as Found, Empty as Nothing, Waits as Later}
+use Rattle.spec_answers.specs.Answers.{Outcome, outcome}
+use Rattle.spec_tree.specs.Rights.{pops}
+use Rattle.spec_outcomes.specs.Segments.{valueAt, dropped, released}
+use Rattle.spec_outcomes.specs.Waits.{tested, rightsOf, unfinished, blocked, childPops, pusherBefore}
+
+-- "pending means what the chain from the caller's queue head holds .. and nothing without a head": a segment with a next
+-- is never empty, so the chain holds a value where its first segment does
+unfoldable pub hasValue : List ℕ → ℕ → ℕ → Bool
+hasValue m t q = both (ltb (read m (queueHead t q)) NL) (not (eqb (read m (count (read m (queueHead t q)))) 0))
+
+-- the three waits, a value, "empty when nothing is pending and no pusher's spot stands before the caller's", else a wait
+unfoldable pub finding : List ℕ → ℕ → ℕ → Finding
+finding m t q =
+    pick (either (blocked m t) (childPops m t q)) Later
+    (pick (hasValue m t q) (Found (valueAt m (read m (queueHead t q)) 0))
+    (pick (pusherBefore m t q) Later Nothing))
+
+-- the first value of queue q is gone; a segment that it leaves empty and that has a next is freed
+unfoldable pub popped : List ℕ → ℕ → ℕ → List ℕ
+popped m t q =
+    let s = read m (queueHead t q) in
+    let m1 = dropped m s in
+    pick (either (eqb (read m (next s)) NONE) (not (eqb (read m1 (count s)) 0))) m1
+    (released (write m1 (queueHead t q) (read m (next s))) s)
+
+-- "Pop takes it"; "pop is refused with 7"
+unfoldable pub popGives : List ℕ → ℕ → ℕ → Finding → Outcome
+popGives m t q (Found v) = outcome (Moved v) (popped m t q)
+popGives m t q Nothing = outcome (Refused 7) m
+popGives m t q Later = outcome Waits m
+
+unfoldable pub testGives : List ℕ → Finding → Outcome
+testGives m (Found v) = outcome NotEmpty m
+testGives m Nothing = outcome Empty m
+testGives m Later = outcome Waits m
+
+-- 4, 5, 6 "right not held (for test, pop)", else o
+unfoldable pub popAllowed : List ℕ → ℕ → ℕ → Outcome → Outcome
+popAllowed m t q o =
+    pick (not (unfinished m t)) (outcome (Refused 4) m)
+    (pick (leb 4 q) (outcome (Refused 5) m)
+    (pick (not (pops (rightsOf m t) q)) (outcome (Refused 6) m) o))
+
+unfoldable pub popTested : List ℕ → ℕ → ℕ → Outcome
+popTested m t q = popAllowed m t q (popGives m t q (finding m t q))
+
+unfoldable pub testTested : List ℕ → ℕ → ℕ → Outcome
+testTested m t q = popAllowed m t q (testGives m (finding m t q))
+
+unfoldable pub popOutcome : List ℕ → ℕ → ℕ → Outcome
+popOutcome m t q = tested m (popTested m t q)
+
+unfoldable pub testOutcome : List ℕ → ℕ → ℕ → Outcome
+testOutcome m t q = tested m (testTested m t q)

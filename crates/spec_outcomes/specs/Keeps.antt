@@ -1,0 +1,135 @@
+-- "no refused or waiting call changes a word": only a call that moves leaves other words, and a test or a left never does.
+use mathlib.Core.Path.{_≡_, refl}
+use mathlib.Core.Bool.{Bool, true, false}
+use mathlib.Core.List.{List}
+use Prim.Native.Nat.{ℕ}
+use Rattle.spec_words.specs.Words.{pick}
+use Rattle.spec_layout.specs.Layout.{queueHead, read}
+use Rattle.spec_answers.specs.declared.Answer.{Answer}
+use Rattle.spec_answers.specs.declared.Answer.the-variants.{Moved, Empty, NotEmpty, Waits, Refused}
+use Rattle.spec_answers.specs.declared.Finding.{Finding}
+use Rattle.spec_answers.specs.declared.Finding.the-variants.{Value as Found, Empty as Nothing, Waits as Later}
+use Rattle.spec_answers.specs.Answers.{Outcome, outcome, wordsOf}
+use Rattle.spec_answers.specs.Calls.{Call, open-call, spawn-call, push-call, pop-call, test-call, sync-call, finish-call, left-call}
+use Rattle.spec_outcomes.specs.Waits.{tested}
+use Rattle.spec_outcomes.specs.Open.{openOutcome}
+use Rattle.spec_outcomes.specs.Spawn.{spawned, spawnTested, spawnOutcome}
+use Rattle.spec_outcomes.specs.Push.{pushedApart, pushedBehind, pushed, pushTested, pushOutcome}
+use Rattle.spec_outcomes.specs.Find.{popGives, testGives, popAllowed, popTested, testTested, popOutcome, testOutcome}
+use Rattle.spec_outcomes.specs.Sync.{whenReduced, syncTested, syncOutcome}
+use Rattle.spec_outcomes.specs.Finish.{finishTested, finishOutcome}
+use Rattle.spec_outcomes.specs.Left.{queued, leftTested, leftOutcome}
+use Rattle.spec_outcomes.specs.Outcomes.{outcomeOf}
+
+-- the outcome is a move, or leaves the words m as they were
+abbrev pub Keeps : List ℕ → Outcome → Type 0
+Keeps m (outcome (Moved v) n) = Unit
+Keeps m (outcome Empty n) = n ≡ m
+Keeps m (outcome NotEmpty n) = n ≡ m
+Keeps m (outcome Waits n) = n ≡ m
+Keeps m (outcome (Refused k) n) = n ≡ m
+
+keeps-pick : (m : List ℕ) (b : Bool) (x y : Outcome) → Keeps m x → Keeps m y → Keeps m (pick b x y)
+unfolding pick
+keeps-pick m true x y p q = p
+keeps-pick m false x y p q = q
+
+keeps-any : (m : List ℕ) (a : Answer) → Keeps m (outcome a m)
+keeps-any m (Moved v) = tt
+keeps-any m Empty = refl
+keeps-any m NotEmpty = refl
+keeps-any m Waits = refl
+keeps-any m (Refused k) = refl
+
+keeps-tested : (m : List ℕ) (o : Outcome) → Keeps m o → Keeps m (tested m o)
+unfolding tested
+keeps-tested m o p = keeps-pick m _ _ _ refl (keeps-pick m _ _ _ refl p)
+
+keeps-open : (m : List ℕ) (l n : ℕ) → Keeps m (openOutcome m l n)
+unfolding openOutcome
+keeps-open m l n = keeps-pick m _ _ _ refl (keeps-pick m _ _ _ refl tt)
+
+keeps-spawned : (m : List ℕ) (t r : ℕ) → Keeps m (spawned m t r)
+unfolding spawned
+keeps-spawned m t r = tt
+
+keeps-spawn : (m : List ℕ) (t r : ℕ) → Keeps m (spawnOutcome m t r)
+unfolding spawnOutcome spawnTested
+keeps-spawn m t r =
+    keeps-tested m _ (keeps-pick m _ _ _ refl (keeps-pick m _ _ _ refl (keeps-pick m _ _ _ refl (keeps-pick m _ _ _ refl (keeps-spawned m t r)))))
+
+keeps-apart : (m : List ℕ) (t q v x : ℕ) → Keeps m (pushedApart m t q v x)
+unfolding pushedApart
+keeps-apart m t q v x = keeps-pick m _ _ _ refl tt
+
+keeps-behind : (m : List ℕ) (t q v e : ℕ) → Keeps m (pushedBehind m t q v e)
+unfolding pushedBehind
+keeps-behind m t q v e = tt
+
+keeps-pushed : (m : List ℕ) (t q v : ℕ) → Keeps m (pushed m t q v)
+unfolding pushed
+keeps-pushed m t q v =
+    keeps-pick m _ _ _ (keeps-pick m _ _ _ refl (keeps-apart m t q v _))
+    (keeps-pick m _ _ _ refl (keeps-pick m _ _ _ tt (keeps-pick m _ _ _ refl (keeps-behind m t q v _))))
+
+keeps-push : (m : List ℕ) (t q v : ℕ) → Keeps m (pushOutcome m t q v)
+unfolding pushOutcome pushTested
+keeps-push m t q v =
+    keeps-tested m _ (keeps-pick m _ _ _ refl (keeps-pick m _ _ _ refl (keeps-pick m _ _ _ refl (keeps-pick m _ _ _ refl (keeps-pushed m t q v)))))
+
+keeps-allowed : (m : List ℕ) (t q : ℕ) (o : Outcome) → Keeps m o → Keeps m (popAllowed m t q o)
+unfolding popAllowed
+keeps-allowed m t q o p = keeps-pick m _ _ _ refl (keeps-pick m _ _ _ refl (keeps-pick m _ _ _ refl p))
+
+keeps-popped : (m : List ℕ) (t q : ℕ) (f : Finding) → Keeps m (popGives m t q f)
+unfolding popGives
+keeps-popped m t q (Found v) = tt
+keeps-popped m t q Nothing = refl
+keeps-popped m t q Later = refl
+
+keeps-found : (m : List ℕ) (f : Finding) → Keeps m (testGives m f)
+unfolding testGives
+keeps-found m (Found v) = refl
+keeps-found m Nothing = refl
+keeps-found m Later = refl
+
+keeps-reduced : (m : List ℕ) (t : ℕ) (b : Bool) (o : Outcome) → Keeps m o → Keeps m (whenReduced m t b o)
+unfolding whenReduced
+keeps-reduced m t b o p = keeps-pick m _ _ _ refl (keeps-pick m _ _ _ refl (keeps-pick m _ _ _ refl p))
+
+pub keeps : (c : Call) (m : List ℕ) → Keeps m (outcomeOf c m)
+unfolding outcomeOf popOutcome popTested testOutcome testTested syncOutcome syncTested finishOutcome finishTested leftOutcome leftTested
+keeps (open-call l n) m = keeps-open m l n
+keeps (spawn-call t r) m = keeps-spawn m t r
+keeps (push-call t q v) m = keeps-push m t q v
+keeps (pop-call t q) m = keeps-tested m _ (keeps-allowed m t q _ (keeps-popped m t q _))
+keeps (test-call t q) m = keeps-tested m _ (keeps-allowed m t q _ (keeps-found m _))
+keeps (sync-call t) m = keeps-tested m _ (keeps-reduced m t _ _ tt)
+keeps (finish-call t) m = keeps-tested m _ (keeps-pick m _ _ _ (keeps-reduced m t _ _ tt) (keeps-reduced m t _ _ tt))
+keeps (left-call q i) m = keeps-tested m _ (keeps-pick m _ _ _ refl (keeps-pick m _ _ _ refl (keeps-any m (queued 256 m (read m (queueHead 0 q)) i))))
+
+-- the same of outcomes that leave the words whatever is answered
+same-pick : (m : List ℕ) (b : Bool) (x y : Outcome) → wordsOf x ≡ m → wordsOf y ≡ m → wordsOf (pick b x y) ≡ m
+unfolding pick
+same-pick m true x y p q = p
+same-pick m false x y p q = q
+
+same-tested : (m : List ℕ) (o : Outcome) → wordsOf o ≡ m → wordsOf (tested m o) ≡ m
+unfolding tested wordsOf
+same-tested m o p = same-pick m _ _ _ refl (same-pick m _ _ _ refl p)
+
+same-found : (m : List ℕ) (f : Finding) → wordsOf (testGives m f) ≡ m
+unfolding testGives wordsOf
+same-found m (Found v) = refl
+same-found m Nothing = refl
+same-found m Later = refl
+
+-- "Pop takes it; test says "not empty"": a test takes nothing, so it changes no word, whatever it finds.
+pub test-keeps : (t q : ℕ) (m : List ℕ) → wordsOf (outcomeOf (test-call t q) m) ≡ m
+unfolding outcomeOf testOutcome testTested popAllowed wordsOf
+test-keeps t q m = same-tested m _ (same-pick m _ _ _ refl (same-pick m _ _ _ refl (same-pick m _ _ _ refl (same-found m _))))
+
+-- "Left answers value number index (from 0) still queued": the value stays queued, so no word changes, although the call moves.
+pub left-keeps : (q i : ℕ) (m : List ℕ) → wordsOf (outcomeOf (left-call q i) m) ≡ m
+unfolding outcomeOf leftOutcome leftTested wordsOf
+left-keeps q i m = same-tested m _ (same-pick m _ _ _ refl (same-pick m _ _ _ refl refl))

@@ -1,0 +1,111 @@
+-- The table of cases: one test over all of them.
+use mathlib.Core.Path.{_≡_, refl, ap, _∙_}
+use mathlib.Core.Bool.{Bool, true}
+use mathlib.Core.List.{List, [], _∷_}
+use Rattle.spec_words.specs.Words.{both, true-both}
+use Rattle.spec_cases.specs.Rows.{Case}
+use Rattle.spec_cases.specs.Starred.{oneSegment, longest, manyChildren, newQueue, fullRun, noPush, laterPush, moreRights}
+use Rattle.spec_cases.specs.Traps.{parentPush, reachable, hidden}
+use Rattle.spec_cases.specs.Waiting.{olderSibling, waitBeforeNine, childPopping, pushersBefore, farPusher, leftLater}
+use Rattle.spec_cases.specs.Refused.{unopened, notAllowed}
+use Rattle.spec_cases.specs.Joining.{ring, localHead, emptyFreed, stillNine, queueView, numbers, lastFreed}
+use Rattle.spec_outcomes.specs.Table.{lent, isSome, computes, right}
+use Rattle.table_children.specs.Wide.{many-children}
+use Rattle.spec_outcomes.specs.Cases.{parent-push-right, hidden-right, local-head-right, no-push-right, not-allowed-right, longest-right, left-later-right}
+
+abbrev pub table : List Case
+table =
+    oneSegment ∷ longest ∷ manyChildren ∷ newQueue ∷ fullRun ∷ noPush ∷ laterPush ∷ moreRights ∷ parentPush ∷ reachable ∷ hidden ∷ olderSibling ∷
+    waitBeforeNine ∷ childPopping ∷ pushersBefore ∷ farPusher ∷ leftLater ∷ unopened ∷ notAllowed ∷ ring ∷ localHead ∷ emptyFreed ∷ stillNine ∷ queueView ∷
+    numbers ∷ lastFreed ∷ []
+
+unfoldable pub allRight : List Case → Bool
+allRight [] = true
+allRight (c ∷ cs) = both (right lent c) (allRight cs)
+
+-- The checker computes each case; the 127 children in parts.
+pub many-children-right : right lent manyChildren ≡ true
+unfolding right isSome
+many-children-right = ap isSome (computes manyChildren lent ∙ many-children)
+
+pub one-segment-right : right lent oneSegment ≡ true
+unfolding right
+one-segment-right = refl
+
+pub new-queue-right : right lent newQueue ≡ true
+unfolding right
+new-queue-right = refl
+
+full-run-right : right lent fullRun ≡ true
+unfolding right
+full-run-right = refl
+
+pub later-push-right : right lent laterPush ≡ true
+unfolding right
+later-push-right = refl
+
+pub more-rights-right : right lent moreRights ≡ true
+unfolding right
+more-rights-right = refl
+
+reachable-right : right lent reachable ≡ true
+unfolding right
+reachable-right = refl
+
+older-sibling-right : right lent olderSibling ≡ true
+unfolding right
+older-sibling-right = refl
+
+wait-before-nine-right : right lent waitBeforeNine ≡ true
+unfolding right
+wait-before-nine-right = refl
+
+child-popping-right : right lent childPopping ≡ true
+unfolding right
+child-popping-right = refl
+
+pushers-before-right : right lent pushersBefore ≡ true
+unfolding right
+pushers-before-right = refl
+
+far-pusher-right : right lent farPusher ≡ true
+unfolding right
+far-pusher-right = refl
+
+unopened-right : right lent unopened ≡ true
+unfolding right
+unopened-right = refl
+
+ring-right : right lent ring ≡ true
+unfolding right
+ring-right = refl
+
+empty-freed-right : right lent emptyFreed ≡ true
+unfolding right
+empty-freed-right = refl
+
+still-nine-right : right lent stillNine ≡ true
+unfolding right
+still-nine-right = refl
+
+queue-view-right : right lent queueView ≡ true
+unfolding right
+queue-view-right = refl
+
+numbers-right : right lent numbers ≡ true
+unfolding right
+numbers-right = refl
+
+last-freed-right : right lent lastFreed ≡ true
+unfolding right
+last-freed-right = refl
+
+pub table-right : allRight table ≡ true
+unfolding allRight
+table-right =
+    (true-both one-segment-right (true-both longest-right (true-both many-children-right (true-both new-queue-right (true-both full-run-right
+    (true-both no-push-right (true-both later-push-right (true-both more-rights-right (true-both parent-push-right (true-both reachable-right
+    (true-both hidden-right (true-both older-sibling-right (true-both wait-before-nine-right (true-both child-popping-right
+    (true-both pushers-before-right (true-both far-pusher-right (true-both left-later-right (true-both unopened-right (true-both not-allowed-right
+    (true-both ring-right (true-both local-head-right (true-both empty-freed-right (true-both still-nine-right (true-both queue-view-right
+    (true-both numbers-right (true-both last-freed-right refl))))))))))))))))))))))))))
