@@ -19,13 +19,13 @@ use Rattle.spec_outcomes.specs.Waits.{rightsOf, unfinished, blocked}
 use Rattle.spec_outcomes.specs.Push.{pushedApart, pushedBehind, pushed, pushTested}
 use Rattle.law_in_range.specs.Sound.{rules-sound, unfinished-live}
 
-pub at-met : (x : ℕ) → x < 128 → RIGHT ≡ kindAt x
+pub at-entered : (x : ℕ) → x < 128 → RIGHT ≡ kindAt x
 unfolding kindAt
-at-met x h = sym (halt _ _ (lt-ltb x 128 h))
+at-entered x h = sym (halt _ _ (lt-ltb x 128 h))
 
-pub at-left : (x : ℕ) → 128 ≤ x → CHILDREN ≡ kindAt x
+pub at-exited : (x : ℕ) → 128 ≤ x → CHILDREN ≡ kindAt x
 unfolding kindAt
-at-left x h = sym (pass _ (le-ltb x 128 h) refl)
+at-exited x h = sym (pass _ (le-ltb x 128 h) refl)
 
 -- the new segment apart: s is taken, y and k are the task and the kind of the view at mark x
 module _ (m : List ℕ) (t q v x : ℕ) {s y k h e : ℕ} {b : Bool} (es : s ≡ nextFree m) (ey : y ≡ taskAt x) (ek : k ≡ kindAt x)

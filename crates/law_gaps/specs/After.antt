@@ -5,7 +5,7 @@ use mathlib.Core.List.{List, [], _∷_, _++_}
 use Prim.Native.Nat.{ℕ}
 use Rattle.law_order_queue.specs.Points.{Point}
 use Rattle.spec_lists.specs.Maps.{All}
-use Rattle.law_gaps.specs.Line.{Mark, base, left, met, pass, Line, marks, Fits}
+use Rattle.law_gaps.specs.Line.{Mark, base, exited, entered, pass, Line, marks, Fits}
 use Rattle.law_gaps.specs.Store.{Store, Closed, Memory, Laid, timeline}
 use Rattle.law_gaps.specs.Outline.{outline, same-marks, same-fits}
 use Rattle.law_gaps.specs.Stores.{Kept}
@@ -14,8 +14,8 @@ use Rattle.law_gaps.specs.Stores.{Kept}
 pub closed-behind : (b : Line) (x : Mark) (l k : Line) → (Closed (x ∷ l) → Closed k) → Closed (b ++ (x ∷ l)) → Closed (b ++ k)
 closed-behind [] x l k f h = f h
 closed-behind (base c ∷ b) x l k f h = absurd h
-closed-behind (left t ∷ b) x l k f h = absurd h
-closed-behind (met t c ∷ b) x l k f h = h
+closed-behind (exited t ∷ b) x l k f h = absurd h
+closed-behind (entered t c ∷ b) x l k f h = h
 closed-behind (pass y ∷ b) x l k f h = absurd h
 
 -- AFTER A CALL on the queue with the store st: the memory is m, the line has the outline of l, the timeline is ps.

@@ -7,7 +7,7 @@ use native.Mathlib.Omega.{arith}
 use lib.Dec.{eqb}
 use Rattle.spec_lists.specs.Counting.{one, occurrences, occurs-append}
 use Rattle.spec_lists.specs.Maps.{All, Agree, all-front, all-behind}
-use Rattle.law_gaps.specs.Line.{base, left, met, pass, Line, segments, firstChain}
+use Rattle.law_gaps.specs.Line.{base, exited, entered, pass, Line, segments, firstChain}
 use Rattle.law_gaps.specs.Store.{LinkedFrom, Linked, Filled, Start, sole, full, Chain}
 use Rattle.law_gaps.specs.Places.{grow}
 
@@ -37,8 +37,8 @@ module _ (next next′ : ℕ → Option ℕ) (contents contents′ : ℕ → Lis
     (chain-linked next next′ c (all-front _ c (segments l) e) (h .0 .0), start-keep contents contents′ c (all-front _ c (segments l) f) (h .0 .1)),
     chain-keep l (all-behind _ c (segments l) e) (all-behind _ c (segments l) f) (h .1),
   )
-  chain-keep (left t ∷ l) e f h = (tt, chain-keep l e f (h .1))
-  chain-keep (met t c ∷ l) e f h = (
+  chain-keep (exited t ∷ l) e f h = (tt, chain-keep l e f (h .1))
+  chain-keep (entered t c ∷ l) e f h = (
     (chain-linked next next′ c (all-front _ c (segments l) e) (h .0 .0), filled-keep contents contents′ c (all-front _ c (segments l) f) (h .0 .1)),
     chain-keep l (all-behind _ c (segments l) e) (all-behind _ c (segments l) f) (h .1),
   )
@@ -47,24 +47,24 @@ module _ (next next′ : ℕ → Option ℕ) (contents contents′ : ℕ → Lis
 -- THE LATEST GAP OF A LINE: it has the chain p ∷ r; it has none; its chain is one segment of the first gap.
 pub data Gap : Line → ℕ → List ℕ → Type 0 where
   at-base : {p : ℕ} {r : List ℕ} {l : Line} → Gap (base (p ∷ r) ∷ l) p r
-  at-met : {t p : ℕ} {r : List ℕ} {l : Line} → Gap (met t (p ∷ r) ∷ l) p r
-  on-left : {t p : ℕ} {r : List ℕ} {l : Line} → Gap l p r → Gap (left t ∷ l) p r
+  at-entered : {t p : ℕ} {r : List ℕ} {l : Line} → Gap (entered t (p ∷ r) ∷ l) p r
+  on-exited : {t p : ℕ} {r : List ℕ} {l : Line} → Gap l p r → Gap (exited t ∷ l) p r
   on-pass : {x p : ℕ} {r : List ℕ} {l : Line} → Gap l p r → Gap (pass x ∷ l) p r
 
 pub data NoGap : Line → Type 0 where
-  at-met : {t : ℕ} {l : Line} → NoGap (met t [] ∷ l)
-  on-left : {t : ℕ} {l : Line} → NoGap l → NoGap (left t ∷ l)
+  at-entered : {t : ℕ} {l : Line} → NoGap (entered t [] ∷ l)
+  on-exited : {t : ℕ} {l : Line} → NoGap l → NoGap (exited t ∷ l)
   on-pass : {x : ℕ} {l : Line} → NoGap l → NoGap (pass x ∷ l)
 
 pub data Sole : Line → ℕ → Type 0 where
   at-base : {p : ℕ} {l : Line} → Sole (base (p ∷ []) ∷ l) p
-  on-left : {t p : ℕ} {l : Line} → Sole l p → Sole (left t ∷ l) p
+  on-exited : {t p : ℕ} {l : Line} → Sole l p → Sole (exited t ∷ l) p
   on-pass : {x p : ℕ} {l : Line} → Sole l p → Sole (pass x ∷ l) p
 
 -- a segment that is alone is the first
 pub sole-first : {a : Line} {p : ℕ} → Sole a p → firstChain a ≡ p ∷ []
 sole-first Sole.at-base = refl
-sole-first (Sole.on-left g) = sole-first g
+sole-first (Sole.on-exited g) = sole-first g
 sole-first (Sole.on-pass g) = sole-first g
 
 -- how often a segment stands in a line whose latest gap grows by c
@@ -72,25 +72,25 @@ pub count-link : {a : Line} {p : ℕ} {r : List ℕ} (x : ℕ) (c : List ℕ) �
     → occurrences x (segments (grow a c (p ∷ (r ++ c)))) ≡ occurrences x (segments a) + occurrences x c
 unfolding occurrences
 count-link {r = r} x c (Gap.at-base {l = l}) = omega (arith, occurs-append x (r ++ c) (segments l), occurs-append x r c, occurs-append x r (segments l))
-count-link {r = r} x c (Gap.at-met {l = l}) = omega (arith, occurs-append x (r ++ c) (segments l), occurs-append x r c, occurs-append x r (segments l))
-count-link x c (Gap.on-left g) = count-link x c g
+count-link {r = r} x c (Gap.at-entered {l = l}) = omega (arith, occurs-append x (r ++ c) (segments l), occurs-append x r c, occurs-append x r (segments l))
+count-link x c (Gap.on-exited g) = count-link x c g
 count-link x c (Gap.on-pass g) = count-link x c g
 
 pub count-bare : {a : Line} (x : ℕ) (c d : List ℕ) → NoGap a → occurrences x (segments (grow a c d)) ≡ occurrences x (segments a) + occurrences x c
-count-bare x c d (NoGap.at-met {l = l}) = omega (arith, occurs-append x c (segments l))
-count-bare x c d (NoGap.on-left g) = count-bare x c d g
+count-bare x c d (NoGap.at-entered {l = l}) = omega (arith, occurs-append x c (segments l))
+count-bare x c d (NoGap.on-exited g) = count-bare x c d g
 count-bare x c d (NoGap.on-pass g) = count-bare x c d g
 
 pub count-sole : {a : Line} {p : ℕ} (x : ℕ) (c : List ℕ) → Sole a p
     → occurrences x (segments (grow a c c)) + one (eqb p x) ≡ occurrences x (segments a) + occurrences x c
 unfolding occurrences
 count-sole x c (Sole.at-base {l = l}) = omega (arith, occurs-append x c (segments l))
-count-sole x c (Sole.on-left g) = count-sole x c g
+count-sole x c (Sole.on-exited g) = count-sole x c g
 count-sole x c (Sole.on-pass g) = count-sole x c g
 
 pub count-gap : {a : Line} {p : ℕ} {r : List ℕ} (x : ℕ) → Gap a p r → occurrences x (p ∷ r) ≤ occurrences x (segments a)
 unfolding occurrences
 count-gap {r = r} x (Gap.at-base {l = l}) = omega (arith, occurs-append x r (segments l))
-count-gap {r = r} x (Gap.at-met {l = l}) = omega (arith, occurs-append x r (segments l))
-count-gap x (Gap.on-left g) = count-gap x g
+count-gap {r = r} x (Gap.at-entered {l = l}) = omega (arith, occurs-append x r (segments l))
+count-gap x (Gap.on-exited g) = count-gap x g
 count-gap x (Gap.on-pass g) = count-gap x g

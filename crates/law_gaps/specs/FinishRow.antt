@@ -7,11 +7,11 @@ use native.Mathlib.Omega.{arith}
 use lib.Dec.{eqb}
 use Rattle.spec_lists.specs.Counting.{one, one-yes, occurrences}
 use Rattle.law_order_queue.specs.Points.{Point}
-use Rattle.law_gaps.specs.Line.{End, nonlocal, local, Extent, vacant, extent, Mark, base, left, met, pass, Line, lefts, mets, Mode, settled, awaiting, Inside}
-use Rattle.law_gaps.specs.Line.{rest, close, Begins, bare, whole, begun, Views, leaving, meeting}
+use Rattle.law_gaps.specs.Line.{End, nonlocal, local, Extent, vacant, extent, Mark, base, exited, entered, pass, Line, exits, entries, Mode, settled, awaiting, Inside}
+use Rattle.law_gaps.specs.Line.{rest, close, Begins, bare, whole, begun, Views, exiting, entering}
 use Rattle.law_gaps.specs.Store.{Store, Held, Closed, Memory, Laid, valuesIn, timeline}
-use Rattle.law_gaps.specs.Lines.{count-lefts, count-mets, NoBase}
-use Rattle.law_gaps.specs.Outline.{outline, outline-behind, same-lefts, same-mets}
+use Rattle.law_gaps.specs.Lines.{count-exits, count-entries, NoBase}
+use Rattle.law_gaps.specs.Outline.{outline, outline-behind, same-exits, same-entries}
 use Rattle.law_gaps.specs.Frames.{split, no-base, forget}
 use Rattle.law_gaps.specs.Moves.{Place, viewAt, reduced, childrenWith, rightsWith, linked, joined, returned, finishedWith, finished}
 use Rattle.law_gaps.specs.Places.{Latest, Target, Returns, grow, outline-grow}
@@ -38,7 +38,7 @@ module _ (own : ℕ → ℕ) (single : (x : ℕ) → own x ≤ 1) (m : Memory) (
   contents₀ = m .store .contents
 
   abbrev Was : List ℕ → Type 0
-  Was c = Laid own m holder ((y ∷ b) ++ (met t c ∷ (left t ∷ a)))
+  Was c = Laid own m holder ((y ∷ b) ++ (entered t c ∷ (exited t ∷ a)))
 
   -- the three reductions of a finish: v and w are the views to be reduced last in t's own
   abbrev Links : Extent → Extent → Store
@@ -51,25 +51,25 @@ module _ (own : ℕ → ℕ) (single : (x : ℕ) → own x ≤ 1) (m : Memory) (
 
   -- t has left the line
   less : (c : List ℕ) → Was c → (a′ : Line) → outline a′ ≡ outline a → (x : ℕ)
-      → (occurrences x (lefts ((y ∷ b) ++ a′)) + one (eqb t x) ≤ 1) × (occurrences x (mets ((y ∷ b) ++ a′)) + one (eqb t x) ≤ 1)
+      → (occurrences x (exits ((y ∷ b) ++ a′)) + one (eqb t x) ≤ 1) × (occurrences x (entries ((y ∷ b) ++ a′)) + one (eqb t x) ≤ 1)
   unfolding occurrences
   less c r a′ e x =
       let h = r .dist x in
-      let p = count-lefts x (y ∷ b) (met t c ∷ (left t ∷ a)) in
-      let q = count-mets x (y ∷ b) (met t c ∷ (left t ∷ a)) in
-      let p′ = count-lefts x (y ∷ b) a′ in
-      let q′ = count-mets x (y ∷ b) a′ in
-      let i = ap (occurrences x) (same-lefts a′ a e) in
-      let j = ap (occurrences x) (same-mets a′ a e) in
+      let p = count-exits x (y ∷ b) (entered t c ∷ (exited t ∷ a)) in
+      let q = count-entries x (y ∷ b) (entered t c ∷ (exited t ∷ a)) in
+      let p′ = count-exits x (y ∷ b) a′ in
+      let q′ = count-entries x (y ∷ b) a′ in
+      let i = ap (occurrences x) (same-exits a′ a e) in
+      let j = ap (occurrences x) (same-entries a′ a e) in
       (omega (arith, h .0, p, p′, i), omega (arith, h .1, q, q′, j))
 
-  closing : (c : List ℕ) (a′ : Line) → Closed ((y ∷ b) ++ (met t c ∷ (left t ∷ a))) → Closed ((y ∷ b) ++ a′)
+  closing : (c : List ℕ) (a′ : Line) → Closed ((y ∷ b) ++ (entered t c ∷ (exited t ∷ a))) → Closed ((y ∷ b) ++ a′)
   closing c a′ h = go y h
     where
-      go : (y : Mark) → Closed ((y ∷ b) ++ (met t c ∷ (left t ∷ a))) → Closed ((y ∷ b) ++ a′)
+      go : (y : Mark) → Closed ((y ∷ b) ++ (entered t c ∷ (exited t ∷ a))) → Closed ((y ∷ b) ++ a′)
       go (base d) h = absurd h
-      go (left s) h = absurd h
-      go (met s d) h = h
+      go (exited s) h = absurd h
+      go (entered s d) h = h
       go (pass x) h = absurd h
 
   -- from the views and the store to the row
@@ -97,7 +97,7 @@ module _ (own : ℕ → ℕ) (single : (x : ℕ) → own x ≤ 1) (m : Memory) (
   }
 
   later : (c : List ℕ) → Was c → NoBase (y ∷ b)
-  later c r = no-base (y ∷ b) (met t c) (left t ∷ a) (r .views)
+  later c r = no-base (y ∷ b) (entered t c) (exited t ∷ a) (r .views)
 
   idle : (c : List ℕ) → Was c → joined holder (m .children t) (m .user t) (m .store) ≡ m .store
   idle c r = sync-store own m holder (y ∷ b) t c a r
@@ -108,13 +108,13 @@ module _ (own : ℕ → ℕ) (single : (x : ℕ) → own x ≤ 1) (m : Memory) (
       → Ends [] v vacant
   bare-ends v r links views =
       ends [] v vacant a (m .store) r refl links views
-      (held-rearranged own (m .store) holder (y ∷ b) (met t [] ∷ (left t ∷ [])) [] a (later [] r) refl refl (λ h. tt) (r .held))
+      (held-rearranged own (m .store) holder (y ∷ b) (entered t [] ∷ (exited t ∷ [])) [] a (later [] r) refl refl (λ h. tt) (r .held))
       refl (λ x n. (refl, refl)) (sym (append-nil (timeline contents₀ a)))
 
   -- its chain s ∷ c came behind the chain of the gap before
   module _ (s : ℕ) (c : List ℕ) (r : Was (s ∷ c)) where
-    here : Held own (m .store) holder ((y ∷ b) ++ (met t (s ∷ c) ∷ a))
-    here = held-rearranged own (m .store) holder (y ∷ b) (met t (s ∷ c) ∷ (left t ∷ [])) (met t (s ∷ c) ∷ []) a (later (s ∷ c) r) refl refl
+    here : Held own (m .store) holder ((y ∷ b) ++ (entered t (s ∷ c) ∷ a))
+    here = held-rearranged own (m .store) holder (y ∷ b) (entered t (s ∷ c) ∷ (exited t ∷ [])) (entered t (s ∷ c) ∷ []) a (later (s ∷ c) r) refl refl
         (λ h. (h .0, tt)) (r .held)
 
     chain-ends : (v w : Extent) (st : Store) → (j : Joined own (m .store) st holder (y ∷ b) s c a) → Links v w ≡ st
@@ -158,11 +158,11 @@ module _ (own : ℕ → ℕ) (single : (x : ℕ) → own x ≤ 1) (m : Memory) (
   pub finish-row : (c : List ℕ) → Was c → Returns (m .children) a (returned t m) k
       → After own (m .store) (finished holder t k m) holder ((y ∷ b) ++ a) (timeline contents₀ a ++ (valuesIn contents₀ c ++ timeline contents₀ (y ∷ b)))
   unfolding finished
-  finish-row c r o = go (split (y ∷ b) (met t c) (left t ∷ a) (r .views) .1)
+  finish-row c r o = go (split (y ∷ b) (entered t c) (exited t ∷ a) (r .views) .1)
     where
-      go : {n : Mode} → Views (m .children) (m .user) (m .right) (met t c ∷ (left t ∷ a)) n
+      go : {n : Mode} → Views (m .children) (m .user) (m .right) (entered t c ∷ (exited t ∷ a)) n
           → Ends c (reduced (m .children t) (m .user t)) (m .right t)
-      go {n} (meeting v w e i f g (leaving {m = n₀} v′ e′ i′ q)) =
+      go {n} (entering v w e i f g (exiting {m = n₀} v′ e′ i′ q)) =
           let p : reduced (m .children t) (m .user t) ≡ reduced v′ v = rw (e, e′) refl in
           by-case c (reduced (m .children t) (m .user t)) (m .right t) r refl refl
           (subst (λ z. Inside n₀ z settled) (sym p) (fuse i′ i)) (subst (λ z. Begins c z n) (sym f) g) q o

@@ -4,10 +4,10 @@ use mathlib.Core.Path.{_≡_, sym, _∙_, subst}
 use mathlib.Core.List.{List, [], _∷_, _++_, append-assoc}
 use Prim.Native.Nat.{ℕ}
 use Rattle.spec_lists.specs.Maps.{agree-refl, lastOf, all-front}
-use Rattle.law_gaps.specs.Line.{End, nonlocal, local, Extent, vacant, extent, left, met, Line, lefts, mets, Mode, settled, Inside, rest, close, Begins, bare}
-use Rattle.law_gaps.specs.Line.{Views, leaving, meeting}
+use Rattle.law_gaps.specs.Line.{End, nonlocal, local, Extent, vacant, extent, exited, entered, Line, exits, entries, Mode, settled, Inside, rest, close, Begins, bare}
+use Rattle.law_gaps.specs.Line.{Views, exiting, entering}
 use Rattle.law_gaps.specs.Store.{Once}
-use Rattle.law_gaps.specs.Lines.{lefts-append, mets-append, once-behind}
+use Rattle.law_gaps.specs.Lines.{exits-append, entries-append, once-behind}
 use Rattle.law_gaps.specs.Frames.{replace, replace-only}
 use Rattle.law_gaps.specs.Moves.{Place, reduced, childrenWith, rightsWith}
 use Rattle.law_gaps.specs.Places.{Target, Latest, grow, once-grow, latest-grow, In, target-in, latest-in, children-outside, rights-outside}
@@ -15,7 +15,7 @@ use Rattle.law_gaps.specs.Reductions.{fuse, reach, stretch, deposit, set
 
 module _ (children user right : ℕ → Extent) (b : Line) (t : ℕ) (a : Line) where
   abbrev Before : List ℕ → Line
-  Before c = b ++ (met t c ∷ (left t ∷ a))
+  Before c = b ++ (entered t c ∷ (exited t ∷ a))
 
   -- the views when extent h x is put at place k, along the line l
   abbrev With : End → End → Place → Line → Mode → Type 0
@@ -24,35 +24,35 @@ module _ (children user right : ℕ → Extent) (b : Line) (t : ℕ) (a : Line) 
   -- what t's three views do: v, the children view reduced with the user view, is inside the gap before; w, the right view,
   -- begins the next
   parts : {c : List ℕ} {n : Mode} (v w : Extent) → reduced (children t) (user t) ≡ v → right t ≡ w
-      → Views children user right (met t c ∷ (left t ∷ a)) n → (m : Mode) × Inside m v settled × Begins c w n × Views children user right a m
-  parts {c} {n} v w p q (meeting v₁ w₁ e i f g (leaving {m = m} v₂ e′ i′ r)) =
+      → Views children user right (entered t c ∷ (exited t ∷ a)) n → (m : Mode) × Inside m v settled × Begins c w n × Views children user right a m
+  parts {c} {n} v w p q (entering v₁ w₁ e i f g (exiting {m = m} v₂ e′ i′ r)) =
       let z : reduced v₂ v₁ ≡ v = (rw (e, e′) at p) in
       (m, subst (λ u. Inside m u settled) z (fuse i′ i), subst (λ u. Begins c u n) (sym f ∙ q) g, r)
 
   once-earlier : (c : List ℕ) → Once (Before c) → Once a
-  once-earlier c once = once-behind (met t c ∷ (left t ∷ [])) a (once-behind b (met t c ∷ (left t ∷ a)) once)
+  once-earlier c once = once-behind (entered t c ∷ (exited t ∷ [])) a (once-behind b (entered t c ∷ (exited t ∷ a)) once)
 
   -- what is later than t is not written
   later : (c : List ℕ) (h x : End) (k : Place) {l : Line} {n : Mode} → Once (Before c) → In k a
-      → ((m : Mode) → Views children user right (met t c ∷ (left t ∷ a)) m → With h x k l m)
+      → ((m : Mode) → Views children user right (entered t c ∷ (exited t ∷ a)) m → With h x k l m)
       → Views children user right (Before c) n → With h x k (b ++ l) n
   later c h x k {l} once i f r =
-      replace b (met t c) (left t ∷ a) l
-      (all-front _ (lefts b) (lefts T) (rw (lefts-append b T) at (children-outside h x children (b ++ T) a once′ k i)))
-      (agree-refl user (mets b))
-      (all-front _ (mets b) (mets T) (rw (mets-append b T) at (rights-outside h x right (b ++ T) a once′ k i)))
+      replace b (entered t c) (exited t ∷ a) l
+      (all-front _ (exits b) (exits T) (rw (exits-append b T) at (children-outside h x children (b ++ T) a once′ k i)))
+      (agree-refl user (entries b))
+      (all-front _ (entries b) (entries T) (rw (entries-append b T) at (rights-outside h x right (b ++ T) a once′ k i)))
       f r
     where
       T : Line
-      T = met t c ∷ (left t ∷ [])
+      T = entered t c ∷ (exited t ∷ [])
 
-      once′ : Once ((b ++ (met t c ∷ (left t ∷ []))) ++ a)
+      once′ : Once ((b ++ (entered t c ∷ (exited t ∷ []))) ++ a)
       once′ = rw append-assoc once
 
   -- All three views are vacant.
   pub finish-none : (c : List ℕ) {n : Mode} → reduced (children t) (user t) ≡ vacant → right t ≡ vacant
       → Views children user right (Before c) n → Views children user right (b ++ a) n
-  finish-none c p q r = replace-only b (met t c) (left t ∷ a) a (λ m r. let u = parts vacant vacant p q r in none (u .1) (u .2) (u .3)) r
+  finish-none c p q r = replace-only b (entered t c) (exited t ∷ a) a (λ m r. let u = parts vacant vacant p q r in none (u .1) (u .2) (u .3)) r
     where
       none : {c : List ℕ} {m n : Mode} → Inside m vacant settled → Begins c vacant n → Views children user right a m → Views children user right a n
       none rest bare r = r

@@ -6,7 +6,7 @@ use Prim.Native.Nat.{ℕ, _+_, _≤_}
 use native.Mathlib.Omega.{arith}
 use Rattle.spec_lists.specs.Counting.{one-yes, occurrences, occurs-append}
 use Rattle.spec_lists.specs.Maps.{All, put, put-same, put-other, Off, off, agree-refl, agree-put, lastOf, all-append, all-front, all-behind, last-off, last-in}
-use Rattle.law_gaps.specs.Line.{base, met, Line, segments}
+use Rattle.law_gaps.specs.Line.{base, entered, Line, segments}
 use Rattle.law_gaps.specs.Store.{LinkedFrom, Filled, Start, sole, full, Chain, Segments}
 use Rattle.law_gaps.specs.Lines.{count-segments}
 use Rattle.law_gaps.specs.Places.{grow}
@@ -31,8 +31,8 @@ is-sole next contents Gap.at-base h e = go (h .0 .1) e
     go : {l : Line} {p : ℕ} {r : List ℕ} → Start contents (p ∷ r) → contents (lastOf p r) ≡ [] → Sole (base (p ∷ r) ∷ l) p × (r ≡ [])
     go (sole f) e = (Sole.at-base, refl)
     go {p = p} {r = r} (full f) e = filled-not contents (lastOf p r) (filled-last contents p r f) e
-is-sole next contents {p = p} {r = r} Gap.at-met h e = filled-not contents (lastOf p r) (filled-last contents p r (h .0 .1)) e
-is-sole next contents (Gap.on-left g) h e = let r = is-sole next contents g (h .1) e in (Sole.on-left (r .0), r .1)
+is-sole next contents {p = p} {r = r} Gap.at-entered h e = filled-not contents (lastOf p r) (filled-last contents p r (h .0 .1)) e
+is-sole next contents (Gap.on-exited g) h e = let r = is-sole next contents g (h .1) e in (Sole.on-exited (r .0), r .1)
 is-sole next contents (Gap.on-pass g) h e = let r = is-sole next contents g (h .1) e in (Sole.on-pass (r .0), r .1)
 
 -- two chains become one by the next of the first one's last segment
@@ -68,20 +68,20 @@ module _ (next : ℕ → Option ℕ) (contents : ℕ → List ℕ) (s : ℕ) (c 
   link-good {p = p} {r = r} (Gap.at-base {l = l}) u z h =
       let j = both-parts p r l u (h .0 .0) (h .1) in
       ((j .0, full (all-append (Filled contents) (p ∷ r) (s ∷ c) (start-filled contents p r (h .0 .1) z) f)), j .1)
-  link-good {p = p} {r = r} (Gap.at-met {l = l}) u z h =
+  link-good {p = p} {r = r} (Gap.at-entered {l = l}) u z h =
       let j = both-parts p r l u (h .0 .0) (h .1) in
       ((j .0, all-append (Filled contents) (p ∷ r) (s ∷ c) (h .0 .1) f), j .1)
-  link-good (Gap.on-left g) u z h = (tt, link-good g u z (h .1))
+  link-good (Gap.on-exited g) u z h = (tt, link-good g u z (h .1))
   link-good (Gap.on-pass g) u z h = (tt, link-good g u z (h .1))
 
   bare-good : {a : Line} (d : List ℕ) → NoGap a → All (Chain next contents) a → All (Chain next contents) (grow a (s ∷ c) d)
-  bare-good d NoGap.at-met h = ((k, f), h .1)
-  bare-good d (NoGap.on-left g) h = (tt, bare-good d g (h .1))
+  bare-good d NoGap.at-entered h = ((k, f), h .1)
+  bare-good d (NoGap.on-exited g) h = (tt, bare-good d g (h .1))
   bare-good d (NoGap.on-pass g) h = (tt, bare-good d g (h .1))
 
   sole-good : {a : Line} {p : ℕ} → Sole a p → All (Chain next contents) a → All (Chain next contents) (grow a (s ∷ c) (s ∷ c))
   sole-good Sole.at-base h = ((k, full f), h .1)
-  sole-good (Sole.on-left g) h = (tt, sole-good g (h .1))
+  sole-good (Sole.on-exited g) h = (tt, sole-good g (h .1))
   sole-good (Sole.on-pass g) h = (tt, sole-good g (h .1))
 
 module _ (own : ℕ → ℕ) (single : (x : ℕ) → own x ≤ 1) (next : ℕ → Option ℕ) (contents : ℕ → List ℕ) (free : List ℕ) where
@@ -96,16 +96,16 @@ module _ (own : ℕ → ℕ) (single : (x : ℕ) → own x ≤ 1) (next : ℕ �
   }
 
   -- The gap of t, with the chain s ∷ c, becomes part of the gap before it.
-  module _ (b : Line) (t s : ℕ) (c : List ℕ) (a : Line) (h : Segments own next contents free (b ++ (met t (s ∷ c) ∷ a))) where
-    there : All (Chain next contents) (met t (s ∷ c) ∷ a)
-    there = all-behind (Chain next contents) b (met t (s ∷ c) ∷ a) (h .good)
+  module _ (b : Line) (t s : ℕ) (c : List ℕ) (a : Line) (h : Segments own next contents free (b ++ (entered t (s ∷ c) ∷ a))) where
+    there : All (Chain next contents) (entered t (s ∷ c) ∷ a)
+    there = all-behind (Chain next contents) b (entered t (s ∷ c) ∷ a) (h .good)
 
     later : All (Chain next contents) b
-    later = all-front (Chain next contents) b (met t (s ∷ c) ∷ a) (h .good)
+    later = all-front (Chain next contents) b (entered t (s ∷ c) ∷ a) (h .good)
 
     sum : (x : ℕ) → occurrences x (segments b) + (occurrences x (s ∷ c) + occurrences x (segments a)) + occurrences x free ≡ own x
     unfolding occurrences
-    sum x = omega (arith, h .once x, count-segments x b (met t (s ∷ c) ∷ a), occurs-append x c (segments a))
+    sum x = omega (arith, h .once x, count-segments x b (entered t (s ∷ c) ∷ a), occurs-append x c (segments a))
 
     -- behind a last segment that holds a value
     pub join-link : {p : ℕ} {r : List ℕ} → Gap a p r → Filled contents (lastOf p r)

@@ -18,15 +18,15 @@ pub data Extent : Type 0 where
   vacant : Extent
   extent : End → End → Extent
 
--- A mark of the line. The tour of the task tree goes backwards (tree's Tour): a task is met where its right view, its
--- spot and its user view stand, and left where its children view stands.
+-- A mark of the line. The tour of the task tree goes backwards (spec_tree's Tour): a task is entered where its right view, its
+-- spot and its user view stand, and exited where its children view stands.
 pub data Mark : Type 0 where
   -- at the bottom: the queue view, with the chain of the first gap
   base : List ℕ → Mark
   -- task t is left: its children view
-  left : ℕ → Mark
-  -- task t is met: its right view, the chain of the gap that the right view begins, its spot, its user view
-  met : ℕ → List ℕ → Mark
+  exited : ℕ → Mark
+  -- task t is entered: its right view, the chain of the gap that the right view begins, its spot, its user view
+  entered : ℕ → List ℕ → Mark
   -- mark x of a task without a right to the queue: no view
   pass : ℕ → Mark
 
@@ -37,46 +37,46 @@ Line = List Mark
 abbrev pub marks : Line → List ℕ
 marks [] = []
 marks (base c ∷ l) = marks l
-marks (left t ∷ l) = (128 + t) ∷ marks l
-marks (met t c ∷ l) = t ∷ marks l
+marks (exited t ∷ l) = (128 + t) ∷ marks l
+marks (entered t c ∷ l) = t ∷ marks l
 marks (pass x ∷ l) = x ∷ marks l
 
 -- the tasks whose children views, and those whose other views, stand in a line
-abbrev pub lefts : Line → List ℕ
-lefts [] = []
-lefts (base c ∷ l) = lefts l
-lefts (left t ∷ l) = t ∷ lefts l
-lefts (met t c ∷ l) = lefts l
-lefts (pass x ∷ l) = lefts l
+abbrev pub exits : Line → List ℕ
+exits [] = []
+exits (base c ∷ l) = exits l
+exits (exited t ∷ l) = t ∷ exits l
+exits (entered t c ∷ l) = exits l
+exits (pass x ∷ l) = exits l
 
-abbrev pub mets : Line → List ℕ
-mets [] = []
-mets (base c ∷ l) = mets l
-mets (left t ∷ l) = mets l
-mets (met t c ∷ l) = t ∷ mets l
-mets (pass x ∷ l) = mets l
+abbrev pub entries : Line → List ℕ
+entries [] = []
+entries (base c ∷ l) = entries l
+entries (exited t ∷ l) = entries l
+entries (entered t c ∷ l) = t ∷ entries l
+entries (pass x ∷ l) = entries l
 
 -- all segments of its chains
 abbrev pub segments : Line → List ℕ
 segments [] = []
 segments (base c ∷ l) = c ++ segments l
-segments (left t ∷ l) = segments l
-segments (met t c ∷ l) = c ++ segments l
+segments (exited t ∷ l) = segments l
+segments (entered t c ∷ l) = c ++ segments l
 segments (pass x ∷ l) = segments l
 
 -- the chain of the first gap
 abbrev pub firstChain : Line → List ℕ
 firstChain [] = []
 firstChain (base c ∷ l) = c
-firstChain (left t ∷ l) = firstChain l
-firstChain (met t c ∷ l) = firstChain l
+firstChain (exited t ∷ l) = firstChain l
+firstChain (entered t c ∷ l) = firstChain l
 firstChain (pass x ∷ l) = firstChain l
 
 -- Which tasks have marks of their own: those with a right to the queue.
 abbrev pub Fits : (ℕ → Bool) → Mark → Type 0
 Fits uses (base c) = Unit {0}
-Fits uses (left t) = uses t ≡ true
-Fits uses (met t c) = uses t ≡ true
+Fits uses (exited t) = uses t ≡ true
+Fits uses (entered t c) = uses t ≡ true
 Fits uses (pass x) = uses (pick (ltb x 128) x (x - 128)) ≡ false
 
 -- What stands behind us in this gap: nothing whose tail is still to come, or a chain with the last segment z, and no view
@@ -100,8 +100,8 @@ pub data Begins : List ℕ → Extent → Mode → Type 0 where
 -- Views along a line: no gap has a pair of non-local ends that reaches over a spot, every chain has one head and one tail.
 pub data Views (children user right : ℕ → Extent) : Line → Mode → Type 0 where
   queue : {s z : ℕ} {c : List ℕ} → lastOf s c ≡ z → Views children user right (base (s ∷ c) ∷ []) (awaiting z)
-  leaving : {t : ℕ} {l : Line} {m n : Mode} (v : Extent) → children t ≡ v → Inside m v n → Views children user right l m
-      → Views children user right (left t ∷ l) n
-  meeting : {t : ℕ} {c : List ℕ} {l : Line} {m n : Mode} (v w : Extent) → user t ≡ v → Inside m v settled → right t ≡ w → Begins c w n
-      → Views children user right l m → Views children user right (met t c ∷ l) n
+  exiting : {t : ℕ} {l : Line} {m n : Mode} (v : Extent) → children t ≡ v → Inside m v n → Views children user right l m
+      → Views children user right (exited t ∷ l) n
+  entering : {t : ℕ} {c : List ℕ} {l : Line} {m n : Mode} (v w : Extent) → user t ≡ v → Inside m v settled → right t ≡ w → Begins c w n
+      → Views children user right l m → Views children user right (entered t c ∷ l) n
   passing : {x : ℕ} {l : Line} {m : Mode} → Views children user right l m → Views children user right (pass x ∷ l) m

@@ -8,8 +8,8 @@ use Prim.Native.Nat.{ℕ, _+_, _≤_}
 use native.Mathlib.Omega.{arith}
 use Rattle.spec_lists.specs.Counting.{one-yes, occurrences, occurs-append, equal?}
 use Rattle.spec_lists.specs.Maps.{All, put, put-same, put-other, Off, off, all-front, all-behind}
-use Rattle.law_gaps.specs.Line.{End, nonlocal, local, Extent, extent, base, left, met, pass, Line, lefts, mets, segments, firstChain, Mode, Inside, rest, mid}
-use Rattle.law_gaps.specs.Line.{close, Begins, bare, whole, begun, Views, queue, leaving, meeting, passing}
+use Rattle.law_gaps.specs.Line.{End, nonlocal, local, Extent, extent, base, exited, entered, pass, Line, exits, entries, segments, firstChain, Mode, Inside, rest, mid}
+use Rattle.law_gaps.specs.Line.{close, Begins, bare, whole, begun, Views, queue, exiting, entering, passing}
 use Rattle.law_gaps.specs.Store.{headOf, Memory, Laid}
 use Rattle.law_gaps.specs.Frames.{clash}
 
@@ -17,8 +17,8 @@ use Rattle.law_gaps.specs.Frames.{clash}
 abbrev pub laterSegments : Line → List ℕ
 laterSegments [] = []
 laterSegments (base c ∷ l) = laterSegments l
-laterSegments (left t ∷ l) = laterSegments l
-laterSegments (met t c ∷ l) = c ++ laterSegments l
+laterSegments (exited t ∷ l) = laterSegments l
+laterSegments (entered t c ∷ l) = c ++ laterSegments l
 laterSegments (pass x ∷ l) = laterSegments l
 
 -- HEADS OF VIEWS. A view inside a gap has no local head; the first view of a gap has the first segment of its chain.
@@ -34,23 +34,23 @@ begins-head w g x (begun {s = s} k) e f o = let i : extent (local s) nonlocal �
 
 module _ {children user right : ℕ → Extent} where
   pub children-heads : {l : Line} {m : Mode} → Views children user right l m
-      → All (λ t. (h x : End) → children t ≡ extent h x → h ≡ nonlocal) (lefts l)
+      → All (λ t. (h x : End) → children t ≡ extent h x → h ≡ nonlocal) (exits l)
   children-heads (queue e) = tt
-  children-heads (leaving {t = t} v e i r) = (λ h x f. inside-head (children t) h x i e f, children-heads r)
-  children-heads (meeting v w e i f b r) = children-heads r
+  children-heads (exiting {t = t} v e i r) = (λ h x f. inside-head (children t) h x i e f, children-heads r)
+  children-heads (entering v w e i f b r) = children-heads r
   children-heads (passing r) = children-heads r
 
-  pub user-heads : {l : Line} {m : Mode} → Views children user right l m → All (λ t. (h x : End) → user t ≡ extent h x → h ≡ nonlocal) (mets l)
+  pub user-heads : {l : Line} {m : Mode} → Views children user right l m → All (λ t. (h x : End) → user t ≡ extent h x → h ≡ nonlocal) (entries l)
   user-heads (queue e) = tt
-  user-heads (leaving v e i r) = user-heads r
-  user-heads (meeting {t = t} v w e i f b r) = (λ h x g. inside-head (user t) h x i e g, user-heads r)
+  user-heads (exiting v e i r) = user-heads r
+  user-heads (entering {t = t} v w e i f b r) = (λ h x g. inside-head (user t) h x i e g, user-heads r)
   user-heads (passing r) = user-heads r
 
   pub right-heads : {l : Line} {m : Mode} (g : ℕ) → Views children user right l m → Off g (laterSegments l)
-      → All (λ t. (x : End) → right t ≡ extent (local g) x → ⊥) (mets l)
+      → All (λ t. (x : End) → right t ≡ extent (local g) x → ⊥) (entries l)
   right-heads g (queue e) o = tt
-  right-heads g (leaving v e i r) o = right-heads g r o
-  right-heads g (meeting {t = t} {c = c} {l = l} v w e i f b r) o = (
+  right-heads g (exiting v e i r) o = right-heads g r o
+  right-heads g (entering {t = t} {c = c} {l = l} v w e i f b r) o = (
     λ x k. begins-head (right t) g x b f k (all-front (λ y. y ≡ g → ⊥) c (laterSegments l) o),
     right-heads g r (all-behind (λ y. y ≡ g → ⊥) c (laterSegments l) o),
   )
@@ -58,11 +58,11 @@ module _ {children user right : ℕ → Extent} where
 
   -- A USER VIEW that is not vacant has a local tail.
   pub user-local : {l : Line} {m : Mode} → Views children user right l m
-      → All (λ t. (h x : End) → user t ≡ extent h x → (z : ℕ) × (x ≡ local z)) (mets l)
+      → All (λ t. (h x : End) → user t ≡ extent h x → (z : ℕ) × (x ≡ local z)) (entries l)
   user-local (queue e) = tt
-  user-local (leaving v e i r) = user-local r
-  user-local (meeting {t = t} v w e rest f b r) = (λ h x g. clash (user t) e g, user-local r)
-  user-local (meeting {t = t} v w e (close {z = z}) f b r) =
+  user-local (exiting v e i r) = user-local r
+  user-local (entering {t = t} v w e rest f b r) = (λ h x g. clash (user t) e g, user-local r)
+  user-local (entering {t = t} v w e (close {z = z}) f b r) =
       (λ h x g. let i : extent nonlocal (local z) ≡ extent h x = sym e ∙ g in (z, cc), user-local r)
   user-local (passing r) = user-local r
 
@@ -70,17 +70,17 @@ module _ {children user right : ℕ → Extent} where
       → occurrences x (segments l) ≡ occurrences x (firstChain l) + occurrences x (laterSegments l)
   unfolding occurrences
   count-parts x (queue {s = s} {c = c} e) = omega (arith, occurs-append x c [])
-  count-parts x (leaving v e i r) = count-parts x r
-  count-parts x (meeting {c = c} {l = l} v w e i f b r) =
+  count-parts x (exiting v e i r) = count-parts x r
+  count-parts x (entering {c = c} {l = l} v w e i f b r) =
       omega (arith, count-parts x r, occurs-append x c (segments l), occurs-append x c (laterSegments l))
   count-parts x (passing r) = count-parts x r
 
 -- THE FIRST SEGMENT g: the holder's queue head names it; no view of the line does.
 pub record OnlyHead (m : Memory) (holder : ℕ) (l : Line) (g : ℕ) : Type 0 where
   pub head-names : m .store .heads holder ≡ some g
-  pub no-children : All (λ t. (h x : End) → m .children t ≡ extent h x → h ≡ nonlocal) (lefts l)
-  pub no-user : All (λ t. (h x : End) → m .user t ≡ extent h x → h ≡ nonlocal) (mets l)
-  pub no-right : All (λ t. (x : End) → m .right t ≡ extent (local g) x → ⊥) (mets l)
+  pub no-children : All (λ t. (h x : End) → m .children t ≡ extent h x → h ≡ nonlocal) (exits l)
+  pub no-user : All (λ t. (h x : End) → m .user t ≡ extent h x → h ≡ nonlocal) (entries l)
+  pub no-right : All (λ t. (x : End) → m .right t ≡ extent (local g) x → ⊥) (entries l)
 
 pub only-head : (own : ℕ → ℕ) → ((x : ℕ) → own x ≤ 1) → (m : Memory) (holder : ℕ) (l : Line) (g : ℕ) (c : List ℕ) → Laid own m holder l
     → firstChain l ≡ g ∷ c
@@ -102,9 +102,9 @@ only-head own single m holder l g c r e = record {
 -- A SEGMENT g THAT A QUEUE DOES NOT HAVE: neither a queue head nor a view names it.
 pub record Unnamed (m : Memory) (l : Line) (g : ℕ) : Type 0 where
   pub no-head : (x : ℕ) → m .store .heads x ≡ some g → ⊥
-  pub no-children : All (λ t. (h x : End) → m .children t ≡ extent h x → h ≡ nonlocal) (lefts l)
-  pub no-user : All (λ t. (h x : End) → m .user t ≡ extent h x → h ≡ nonlocal) (mets l)
-  pub no-right : All (λ t. (x : End) → m .right t ≡ extent (local g) x → ⊥) (mets l)
+  pub no-children : All (λ t. (h x : End) → m .children t ≡ extent h x → h ≡ nonlocal) (exits l)
+  pub no-user : All (λ t. (h x : End) → m .user t ≡ extent h x → h ≡ nonlocal) (entries l)
+  pub no-right : All (λ t. (x : End) → m .right t ≡ extent (local g) x → ⊥) (entries l)
 
 -- the head of a first chain without g is not g
 other-head : (heads : ℕ → Option ℕ) (holder g : ℕ) (c : List ℕ) (x : ℕ) → Off g c → heads x ≡ put (λ y. none) holder (headOf c) x → heads x ≡ some g
@@ -125,8 +125,8 @@ other-head heads holder g c x o h e = ⊎-elim held others (equal? x holder)
 pub first-chain : {children user right : ℕ → Extent} {m : Mode} {l : Line} → Views children user right l m
     → (s : ℕ) × (c : List ℕ) × (firstChain l ≡ s ∷ c)
 first-chain (queue {s = s} {c = c} e) = (s, c, refl)
-first-chain (leaving v e i r) = first-chain r
-first-chain (meeting v w e i f b r) = first-chain r
+first-chain (exiting v e i r) = first-chain r
+first-chain (entering v w e i f b r) = first-chain r
 first-chain (passing r) = first-chain r
 
 pub unnamed : (own : ℕ → ℕ) (m : Memory) (holder : ℕ) (l : Line) (g : ℕ) → Laid own m holder l → occurrences g (segments l) ≡ 0 → Unnamed m l g

@@ -7,7 +7,7 @@ use native.Mathlib.Omega.{arith}
 use Rattle.spec_lists.specs.Counting.{one-yes, occurrences, occurs-append}
 use Rattle.law_order_queue.specs.Points.{Point, value, user}
 use Rattle.spec_lists.specs.Maps.{put, put-same, put-other, off, agree-put, lastOf, last-in}
-use Rattle.law_gaps.specs.Line.{End, nonlocal, local, vacant, extent, met, Line, segments, Mode, settled, Views}
+use Rattle.law_gaps.specs.Line.{End, nonlocal, local, vacant, extent, entered, Line, segments, Mode, settled, Views}
 use Rattle.law_gaps.specs.Store.{Store, Segments, Held, Memory, Laid, valuesIn, timeline}
 use Rattle.law_gaps.specs.Lines.{count-segments, NoBase, no-base-append}
 use Rattle.law_gaps.specs.Outline.{outline, outline-behind, same-once}
@@ -23,7 +23,7 @@ use Rattle.law_gaps.specs.Stores.{own-apart, Joined, joined-at, joined-a
 use Rattle.law_gaps.specs.After.{closed-behind, After}
 
 module _ (own : ℕ → ℕ) (single : (x : ℕ) → own x ≤ 1) (m : Memory) (holder : ℕ) (b : Line) (t : ℕ) (c : List ℕ) (a : Line) (v : ℕ)
-    (r : Laid own m holder (b ++ (met t c ∷ a))) where
+    (r : Laid own m holder (b ++ (entered t c ∷ a))) where
   abbrev contents₀ : ℕ → List ℕ
   contents₀ = m .store .contents
 
@@ -32,17 +32,17 @@ module _ (own : ℕ → ℕ) (single : (x : ℕ) → own x ≤ 1) (m : Memory) (
   Pushed = timeline contents₀ a ++ (value v ∷ (user t ∷ (valuesIn contents₀ c ++ timeline contents₀ b)))
 
   sum : (x : ℕ) → occurrences x (segments b) + (occurrences x c + occurrences x (segments a)) + occurrences x (m .store .free) ≡ own x
-  sum x = omega (arith, r .held .chains .once x, count-segments x b (met t c ∷ a), occurs-append x c (segments a))
+  sum x = omega (arith, r .held .chains .once x, count-segments x b (entered t c ∷ a), occurs-append x c (segments a))
 
   -- what is earlier than the spot of t
-  earlier : (n : Mode) × Views (m .children) (m .user) (m .right) (met t c ∷ a) n
-  earlier = split b (met t c) a (r .views)
+  earlier : (n : Mode) × Views (m .children) (m .user) (m .right) (entered t c ∷ a) n
+  earlier = split b (entered t c) a (r .views)
 
   -- THE TAIL SEGMENT z HAS ROOM.
-  into : (p : ℕ) (d : List ℕ) → Gap a p d → After own (m .store) (pushedInto (lastOf p d) v m) holder (b ++ (met t c ∷ a)) Pushed
+  into : (p : ℕ) (d : List ℕ) → Gap a p d → After own (m .store) (pushedInto (lastOf p d) v m) holder (b ++ (entered t c ∷ a)) Pushed
   unfolding pushedInto
   into p d g = record {
-    line = b ++ (met t c ∷ a);
+    line = b ++ (entered t c ∷ a);
     laid = record { views = r .views; dist = r .dist; held = record { chains = rw append-assoc at chains; head = r .held .head }; closed = r .closed };
     outlined = refl;
     points = timeline-around contents₀ (stored z v contents₀) b t c a a (value v ∷ [])
@@ -67,26 +67,26 @@ module _ (own : ℕ → ℕ) (single : (x : ℕ) → own x ≤ 1) (m : Memory) (
       l : own z ≤ 1
       l = single z
 
-      chains : Segments own (m .store .next) (stored z v contents₀) (m .store .free) ((b ++ (met t c ∷ [])) ++ a)
-      chains = store-segments contents₀ v own single (m .store .next) (m .store .free) (b ++ (met t c ∷ [])) a g (rw append-assoc (r .held .chains))
+      chains : Segments own (m .store .next) (stored z v contents₀) (m .store .free) ((b ++ (entered t c ∷ [])) ++ a)
+      chains = store-segments contents₀ v own single (m .store .next) (m .store .free) (b ++ (entered t c ∷ [])) a g (rw append-assoc (r .held .chains))
 
   pub into-row : (h : End) (z : ℕ) → m .user t ≡ extent h (local z)
-      → After own (m .store) (pushedInto z v m) holder (b ++ (met t c ∷ a)) Pushed
+      → After own (m .store) (pushedInto z v m) holder (b ++ (entered t c ∷ a)) Pushed
   into-row h z u =
       let g = awaited (user-awaits t c a h z u (earlier .1)) in
-      subst (λ z. After own (m .store) (pushedInto z v m) holder (b ++ (met t c ∷ a)) Pushed) (g .3) (into (g .0) (g .1) (g .2))
+      subst (λ z. After own (m .store) (pushedInto z v m) holder (b ++ (entered t c ∷ a)) Pushed) (g .3) (into (g .0) (g .1) (g .2))
 
   -- A NEW SEGMENT g is taken, the first of the free ones.
   module _ (g : ℕ) (rest : List ℕ) (e : m .store .free ≡ g ∷ rest) where
     abbrev store₁ : Store
     store₁ = taken g rest v (m .store)
 
-    later : NoBase (b ++ (met t c ∷ []))
-    later = no-base-append b (met t c ∷ []) (no-base b (met t c) a (r .views)) tt
+    later : NoBase (b ++ (entered t c ∷ []))
+    later = no-base-append b (entered t c ∷ []) (no-base b (entered t c) a (r .views)) tt
 
     -- it begins a gap of its own behind the gap before the spot of t
-    apart : Held own store₁ holder ((b ++ (met t c ∷ [])) ++ (met 0 (g ∷ []) ∷ a))
-    apart = held-taken own single (m .store) holder (b ++ (met t c ∷ [])) 0 g rest v a later e (rw append-assoc (r .held))
+    apart : Held own store₁ holder ((b ++ (entered t c ∷ [])) ++ (entered 0 (g ∷ []) ∷ a))
+    apart = held-taken own single (m .store) holder (b ++ (entered t c ∷ [])) 0 g rest v a later e (rw append-assoc (r .held))
 
     owned : 1 ≤ own g
     unfolding occurrences
@@ -97,16 +97,16 @@ module _ (own : ℕ → ℕ) (single : (x : ℕ) → own x ≤ 1) (m : Memory) (
     new = omega (arith, sum g, ap (occurrences g) e, one-yes g g refl, single g)
 
     -- and then that gap becomes part of the other
-    joined-row : (m′ : Memory) → (j : Joined own store₁ (m′ .store) holder (b ++ (met t c ∷ [])) g [] a)
-        → Views (m′ .children) (m′ .user) (m′ .right) (b ++ (met t c ∷ grow a (g ∷ []) (j .q ∷ j .d))) settled
-        → After own (m .store) m′ holder (b ++ (met t c ∷ a)) Pushed
+    joined-row : (m′ : Memory) → (j : Joined own store₁ (m′ .store) holder (b ++ (entered t c ∷ [])) g [] a)
+        → Views (m′ .children) (m′ .user) (m′ .right) (b ++ (entered t c ∷ grow a (g ∷ []) (j .q ∷ j .d))) settled
+        → After own (m .store) m′ holder (b ++ (entered t c ∷ a)) Pushed
     joined-row m′ j w = record {
-      line = b ++ (met t c ∷ a′);
+      line = b ++ (entered t c ∷ a′);
       laid = record {
         views = w;
-        dist = same-once (b ++ (met t c ∷ a′)) (b ++ (met t c ∷ a)) outlines (r .dist);
+        dist = same-once (b ++ (entered t c ∷ a′)) (b ++ (entered t c ∷ a)) outlines (r .dist);
         held = rw append-assoc at (j .held);
-        closed = closed-behind b (met t c) a (met t c ∷ a′) (λ x. x) (r .closed);
+        closed = closed-behind b (entered t c) a (entered t c ∷ a′) (λ x. x) (r .closed);
       };
       outlined = outlines;
       points = rw (j .same)
@@ -128,25 +128,25 @@ module _ (own : ℕ → ℕ) (single : (x : ℕ) → own x ≤ 1) (m : Memory) (
         contents₁ : ℕ → List ℕ
         contents₁ = put contents₀ g (v ∷ [])
 
-        outlines : outline (b ++ (met t c ∷ a′)) ≡ outline (b ++ (met t c ∷ a))
-        outlines = outline-behind b (met t c ∷ a′) (met t c ∷ a) (ap (λ (l : Line). met t [] ∷ l) (outline-grow a (g ∷ []) (j .q ∷ j .d)))
+        outlines : outline (b ++ (entered t c ∷ a′)) ≡ outline (b ++ (entered t c ∷ a))
+        outlines = outline-behind b (entered t c ∷ a′) (entered t c ∷ a) (ap (λ (l : Line). entered t [] ∷ l) (outline-grow a (g ∷ []) (j .q ∷ j .d)))
 
     -- THE TAIL SEGMENT z IS FULL.
     pub behind-row : (h : End) (z : ℕ) → m .user t ≡ extent h (local z)
-        → After own (m .store) (pushedBehind holder t h z g rest v m) holder (b ++ (met t c ∷ a)) Pushed
+        → After own (m .store) (pushedBehind holder t h z g rest v m) holder (b ++ (entered t c ∷ a)) Pushed
     unfolding pushedBehind
     behind-row h z u =
-        let j = joined-awaiting own single store₁ holder (b ++ (met t c ∷ [])) 0 g [] a later apart (m .children) (m .user) (m .right) z
+        let j = joined-awaiting own single store₁ holder (b ++ (entered t c ∷ [])) 0 g [] a later apart (m .children) (m .user) (m .right) z
         (user-awaits t c a h z u (earlier .1)) in
         joined-row (pushedBehind holder t h z g rest v m) j
         (push-views (m .children) (m .user) (m .right) b t c a g (j .q) (j .d) h (local z) (r .dist) (j .last) u (r .views))
 
     -- THE USER VIEW IS VACANT: the new head is reduced into the view at place k.
     pub apart-row : (k : Place) → m .user t ≡ vacant → Target (m .children) a k
-        → After own (m .store) (pushedApart holder t k g rest v m) holder (b ++ (met t c ∷ a)) Pushed
+        → After own (m .store) (pushedApart holder t k g rest v m) holder (b ++ (entered t c ∷ a)) Pushed
     unfolding pushedApart
     apart-row k u o =
-        let j = joined-at own single store₁ holder (b ++ (met t c ∷ [])) 0 g [] a later apart (m .children) (m .user) (m .right) k nonlocal o
+        let j = joined-at own single store₁ holder (b ++ (entered t c ∷ [])) 0 g [] a later apart (m .children) (m .user) (m .right) k nonlocal o
         (user-settled t c a u (earlier .1)) in
         joined-row (pushedApart holder t k g rest v m) j
         (place-views (m .children) (m .user) (m .right) b t c a g (j .q) (j .d) k (r .dist) (j .last) u o (r .views))

@@ -7,7 +7,7 @@ use Prim.Native.Nat.{ℕ, _+_, _≤_}
 use native.Mathlib.Omega.{arith}
 use Rattle.spec_lists.specs.Counting.{one-yes, occurrences, occurs-append, equal?}
 use Rattle.spec_lists.specs.Maps.{All, put, put-same, put-other, Off, off, agree-refl, agree-put, lastOf, all-append, all-front, all-behind, all-map, last-in}
-use Rattle.law_gaps.specs.Line.{base, left, met, Line, segments}
+use Rattle.law_gaps.specs.Line.{base, exited, entered, Line, segments}
 use Rattle.law_gaps.specs.Store.{Linked, Filled, Start, sole, full, Chain, Segments}
 use Rattle.law_gaps.specs.Lines.{count-segments}
 use Rattle.law_gaps.specs.Moves.{stored}
@@ -38,12 +38,12 @@ rearrange own next contents free b k k′ a e f h = record {
 module _ (own : ℕ → ℕ) (single : (x : ℕ) → own x ≤ 1) (next : ℕ → Option ℕ) (contents : ℕ → List ℕ) (free : List ℕ) where
   -- A FREE SEGMENT g becomes a chain of its own, with one value.
   pub fresh : (b : Line) (t g v : ℕ) (a : Line) → Segments own next contents (g ∷ free) (b ++ a)
-      → Segments own (put next g none) (put contents g (v ∷ [])) free (b ++ (met t (g ∷ []) ∷ a))
+      → Segments own (put next g none) (put contents g (v ∷ [])) free (b ++ (entered t (g ∷ []) ∷ a))
   unfolding occurrences
   fresh b t g v a h = record {
-    good = all-append (Chain next′ contents′) b (met t (g ∷ []) ∷ a) (all-front (Chain next′ contents′) b a here)
+    good = all-append (Chain next′ contents′) b (entered t (g ∷ []) ∷ a) (all-front (Chain next′ contents′) b a here)
         ((put-same next g none, ((v, [], put-same contents g (v ∷ [])), tt)), all-behind (Chain next′ contents′) b a here);
-    once = λ x. omega (arith, h .once x, count-segments x b a, count-segments x b (met t (g ∷ []) ∷ a));
+    once = λ x. omega (arith, h .once x, count-segments x b a, count-segments x b (entered t (g ∷ []) ∷ a));
   }
     where
       next′ : ℕ → Option ℕ
@@ -91,8 +91,8 @@ module _ (contents : ℕ → List ℕ) (v : ℕ) where
   stored-good : (next : ℕ → Option ℕ) {a : Line} {p : ℕ} {r : List ℕ} → Gap a p r → ((x : ℕ) → occurrences x (segments a) ≤ 1)
       → All (Chain next contents) a → All (Chain next (stored (lastOf p r) v contents)) a
   stored-good next {p = p} {r = r} (Gap.at-base {l = l}) u h = ((h .0 .0, stored-start p r (h .0 .1)), elsewhere next p r l u (h .1))
-  stored-good next {p = p} {r = r} (Gap.at-met {l = l}) u h = ((h .0 .0, stored-filled (lastOf p r) (p ∷ r) (h .0 .1)), elsewhere next p r l u (h .1))
-  stored-good next (Gap.on-left g) u h = (tt, stored-good next g u (h .1))
+  stored-good next {p = p} {r = r} (Gap.at-entered {l = l}) u h = ((h .0 .0, stored-filled (lastOf p r) (p ∷ r) (h .0 .1)), elsewhere next p r l u (h .1))
+  stored-good next (Gap.on-exited g) u h = (tt, stored-good next g u (h .1))
   stored-good next (Gap.on-pass g) u h = (tt, stored-good next g u (h .1))
 
   pub store-segments : (own : ℕ → ℕ) → ((x : ℕ) → own x ≤ 1) → (next : ℕ → Option ℕ) (free : List ℕ) (b a : Line) {p : ℕ} {r : List ℕ} → Gap a p r
@@ -171,6 +171,6 @@ pop-free own single next contents free b s t c h =
 -- OPEN: one segment in the first gap
 pub open-segments : (own : ℕ → ℕ) (next : ℕ → Option ℕ) (contents : ℕ → List ℕ) (free : List ℕ) (s : ℕ)
     → ((x : ℕ) → occurrences x (s ∷ free) ≡ own x) → next s ≡ none → contents s ≡ []
-    → Segments own next contents free (met 0 [] ∷ (left 0 ∷ (base (s ∷ []) ∷ [])))
+    → Segments own next contents free (entered 0 [] ∷ (exited 0 ∷ (base (s ∷ []) ∷ [])))
 unfolding occurrences
 open-segments own next contents free s u e f = record { good = ((tt, tt), (tt, ((e, sole f), tt))); once = λ x. omega (arith, u x) }

@@ -5,9 +5,9 @@ use mathlib.Core.List.{List, [], _∷_, _++_, head-eq-of-cons-eq, tail-eq-of-con
 use Prim.Native.Nat.{ℕ, _+_, _<_}
 use native.Mathlib.Omega.{arith}
 use Rattle.spec_lists.specs.Maps.{All, all-behind}
-use Rattle.law_gaps.specs.Line.{Extent, Mark, base, left, met, pass, Line, marks, mets, Fits, Mode, Views, queue, leaving, meeting, passing}
+use Rattle.law_gaps.specs.Line.{Extent, Mark, base, exited, entered, pass, Line, marks, entries, Fits, Mode, Views, queue, exiting, entering, passing}
 use Rattle.law_gaps.specs.Frames.{split}
-use Rattle.law_gaps.specs.Search.{taskAt, task-met, task-left}
+use Rattle.law_gaps.specs.Search.{taskAt, task-entered, task-exited}
 
 -- THE LINE PARTS at mark y of the tour: what is later, the mark with the number y, what is earlier.
 pub record Parted (l : Line) (xs : List ℕ) (y : ℕ) (ys : List ℕ) : Type 0 where
@@ -47,10 +47,10 @@ pub part : (l : Line) (xs : List ℕ) (y : ℕ) (ys : List ℕ) → marks l ≡ 
 part [] [] y ys e = let z : _≡_ {A = ℕ} 0 1 = cc in absurd (omega (arith, z))
 part [] (x ∷ xs) y ys e = let z : _≡_ {A = ℕ} 0 1 = cc in absurd (omega (arith, z))
 part (base c ∷ l) xs y ys e = more (base c) (λ a. refl) refl (part l xs y ys e)
-part (left t ∷ l) [] y ys e = first (left t) l (128 + t) y ys refl e
-part (left t ∷ l) (x ∷ xs) y ys e = more (left t) (λ a. refl) (ap (λ (k : ℕ). k ∷ xs) (head-eq-of-cons-eq e)) (part l xs y ys (tail-eq-of-cons-eq e))
-part (met t c ∷ l) [] y ys e = first (met t c) l t y ys refl e
-part (met t c ∷ l) (x ∷ xs) y ys e = more (met t c) (λ a. refl) (ap (λ (k : ℕ). k ∷ xs) (head-eq-of-cons-eq e)) (part l xs y ys (tail-eq-of-cons-eq e))
+part (exited t ∷ l) [] y ys e = first (exited t) l (128 + t) y ys refl e
+part (exited t ∷ l) (x ∷ xs) y ys e = more (exited t) (λ a. refl) (ap (λ (k : ℕ). k ∷ xs) (head-eq-of-cons-eq e)) (part l xs y ys (tail-eq-of-cons-eq e))
+part (entered t c ∷ l) [] y ys e = first (entered t c) l t y ys refl e
+part (entered t c ∷ l) (x ∷ xs) y ys e = more (entered t c) (λ a. refl) (ap (λ (k : ℕ). k ∷ xs) (head-eq-of-cons-eq e)) (part l xs y ys (tail-eq-of-cons-eq e))
 part (pass w ∷ l) [] y ys e = first (pass w) l w y ys refl e
 part (pass w ∷ l) (x ∷ xs) y ys e = more (pass w) (λ a. refl) (ap (λ (k : ℕ). k ∷ xs) (head-eq-of-cons-eq e)) (part l xs y ys (tail-eq-of-cons-eq e))
 
@@ -58,68 +58,68 @@ part (pass w ∷ l) (x ∷ xs) y ys e = more (pass w) (λ a. refl) (ap (λ (k : 
 front : {children user right : ℕ → Extent} {n : Mode} (l : Line) (y : ℕ) (ys : List ℕ) → Views children user right l n → marks l ≡ y ∷ ys
     → (z : Mark) × (a : Line) × (l ≡ z ∷ a) × (marks (z ∷ []) ≡ y ∷ []) × (marks a ≡ ys)
 front (base c ∷ l) y ys (queue e) h = let z : _≡_ {A = ℕ} 0 1 = cc in absurd (omega (arith, z))
-front (left t ∷ l) y ys (leaving v e i r) h = (left t, l, refl, ap (λ (k : ℕ). k ∷ []) (head-eq-of-cons-eq h), tail-eq-of-cons-eq h)
-front (met t c ∷ l) y ys (meeting v w e i f b r) h = (met t c, l, refl, ap (λ (k : ℕ). k ∷ []) (head-eq-of-cons-eq h), tail-eq-of-cons-eq h)
+front (exited t ∷ l) y ys (exiting v e i r) h = (exited t, l, refl, ap (λ (k : ℕ). k ∷ []) (head-eq-of-cons-eq h), tail-eq-of-cons-eq h)
+front (entered t c ∷ l) y ys (entering v w e i f b r) h = (entered t c, l, refl, ap (λ (k : ℕ). k ∷ []) (head-eq-of-cons-eq h), tail-eq-of-cons-eq h)
 front (pass x ∷ l) y ys (passing r) h = (pass x, l, refl, ap (λ (k : ℕ). k ∷ []) (head-eq-of-cons-eq h), tail-eq-of-cons-eq h)
 
 earlier-views : {children user right : ℕ → Extent} {n : Mode} (z : Mark) (a : Line) (y : ℕ) (ys : List ℕ) → Views children user right (z ∷ a) n
     → marks a ≡ y ∷ ys
     → (m : Mode) × Views children user right a m
 earlier-views (base c) a y ys (queue e) h = let z : _≡_ {A = ℕ} 0 1 = cc in absurd (omega (arith, z))
-earlier-views (left t) a y ys (leaving {m = m} v e i r) h = (m, r)
-earlier-views (met t c) a y ys (meeting {m = m} v w e i f b r) h = (m, r)
+earlier-views (exited t) a y ys (exiting {m = m} v e i r) h = (m, r)
+earlier-views (entered t c) a y ys (entering {m = m} v w e i f b r) h = (m, r)
 earlier-views (pass x) a y ys (passing {m = m} r) h = (m, r)
 
 -- WHICH MARK IT IS, in a line that has views for the tasks with a right, all below 128
 module _ (uses : ℕ → Bool) where
   abbrev pub Proper : Mark → Type 0
-  Proper z = Fits uses z × All (λ x. x < 128) (mets (z ∷ []))
+  Proper z = Fits uses z × All (λ x. x < 128) (entries (z ∷ []))
 
-  pub all-proper : (l : Line) → All (Fits uses) l → All (λ x. x < 128) (mets l) → All Proper l
+  pub all-proper : (l : Line) → All (Fits uses) l → All (λ x. x < 128) (entries l) → All Proper l
   all-proper [] h s = tt
   all-proper (base c ∷ l) h s = ((tt, tt), all-proper l (h .1) s)
-  all-proper (left t ∷ l) h s = ((h .0, tt), all-proper l (h .1) s)
-  all-proper (met t c ∷ l) h s = ((h .0, (s .0, tt)), all-proper l (h .1) (s .1))
+  all-proper (exited t ∷ l) h s = ((h .0, tt), all-proper l (h .1) s)
+  all-proper (entered t c ∷ l) h s = ((h .0, (s .0, tt)), all-proper l (h .1) (s .1))
   all-proper (pass x ∷ l) h s = ((h .0, tt), all-proper l (h .1) s)
 
   -- the tasks of a line are below 128 where no other number has a right
-  pub small-mets : (l : Line) → ((t : ℕ) → uses t ≡ true → t < 128) → All (Fits uses) l → All (λ x. x < 128) (mets l)
-  small-mets [] s h = tt
-  small-mets (base c ∷ l) s h = small-mets l s (h .1)
-  small-mets (left t ∷ l) s h = small-mets l s (h .1)
-  small-mets (met t c ∷ l) s h = (s t (h .0), small-mets l s (h .1))
-  small-mets (pass x ∷ l) s h = small-mets l s (h .1)
+  pub small-entries : (l : Line) → ((t : ℕ) → uses t ≡ true → t < 128) → All (Fits uses) l → All (λ x. x < 128) (entries l)
+  small-entries [] s h = tt
+  small-entries (base c ∷ l) s h = small-entries l s (h .1)
+  small-entries (exited t ∷ l) s h = small-entries l s (h .1)
+  small-entries (entered t c ∷ l) s h = (s t (h .0), small-entries l s (h .1))
+  small-entries (pass x ∷ l) s h = small-entries l s (h .1)
 
-  is-met : (t : ℕ) → t < 128 → uses t ≡ true → (z : Mark) → Proper z → marks (z ∷ []) ≡ t ∷ [] → (c : List ℕ) × (z ≡ met t c)
+  is-entered : (t : ℕ) → t < 128 → uses t ≡ true → (z : Mark) → Proper z → marks (z ∷ []) ≡ t ∷ [] → (c : List ℕ) × (z ≡ entered t c)
   unfolding taskAt
-  is-met t s u (base c) h e = let z : _≡_ {A = ℕ} 0 1 = cc in absurd (omega (arith, z))
-  is-met t s u (left x) h e = let q = head-eq-of-cons-eq e in absurd (omega (arith, q, s))
-  is-met t s u (met x c) h e = (c, ap (λ (k : ℕ). met k c) (head-eq-of-cons-eq e))
-  is-met t s u (pass x) h e =
-      absurd (false≢true (sym (h .0) ∙ (ap (λ (k : ℕ). uses (taskAt k)) (head-eq-of-cons-eq e) ∙ (ap uses (task-met t s) ∙ u))))
+  is-entered t s u (base c) h e = let z : _≡_ {A = ℕ} 0 1 = cc in absurd (omega (arith, z))
+  is-entered t s u (exited x) h e = let q = head-eq-of-cons-eq e in absurd (omega (arith, q, s))
+  is-entered t s u (entered x c) h e = (c, ap (λ (k : ℕ). entered k c) (head-eq-of-cons-eq e))
+  is-entered t s u (pass x) h e =
+      absurd (false≢true (sym (h .0) ∙ (ap (λ (k : ℕ). uses (taskAt k)) (head-eq-of-cons-eq e) ∙ (ap uses (task-entered t s) ∙ u))))
 
-  is-left : (t : ℕ) → uses t ≡ true → (z : Mark) → Proper z → marks (z ∷ []) ≡ (128 + t) ∷ [] → z ≡ left t
+  is-exited : (t : ℕ) → uses t ≡ true → (z : Mark) → Proper z → marks (z ∷ []) ≡ (128 + t) ∷ [] → z ≡ exited t
   unfolding taskAt
-  is-left t u (base c) h e = let z : _≡_ {A = ℕ} 0 1 = cc in absurd (omega (arith, z))
-  is-left t u (left x) h e = let q = head-eq-of-cons-eq e in ap left (let z : x ≡ t = omega (arith, q) in z)
-  is-left t u (met x c) h e = let q = head-eq-of-cons-eq e in absurd (omega (arith, q, h .1 .0))
-  is-left t u (pass x) h e =
-      absurd (false≢true (sym (h .0) ∙ (ap (λ (k : ℕ). uses (taskAt k)) (head-eq-of-cons-eq e) ∙ (ap uses (task-left t) ∙ u))))
+  is-exited t u (base c) h e = let z : _≡_ {A = ℕ} 0 1 = cc in absurd (omega (arith, z))
+  is-exited t u (exited x) h e = let q = head-eq-of-cons-eq e in ap exited (let z : x ≡ t = omega (arith, q) in z)
+  is-exited t u (entered x c) h e = let q = head-eq-of-cons-eq e in absurd (omega (arith, q, h .1 .0))
+  is-exited t u (pass x) h e =
+      absurd (false≢true (sym (h .0) ∙ (ap (λ (k : ℕ). uses (taskAt k)) (head-eq-of-cons-eq e) ∙ (ap uses (task-exited t) ∙ u))))
 
   is-pass : (y : ℕ) → uses (taskAt y) ≡ false → (z : Mark) → Proper z → marks (z ∷ []) ≡ y ∷ [] → z ≡ pass y
   is-pass y u (base c) h e = let z : _≡_ {A = ℕ} 0 1 = cc in absurd (omega (arith, z))
-  is-pass y u (left x) h e =
-      absurd (false≢true (sym u ∙ (ap (λ (k : ℕ). uses (taskAt k)) (sym (head-eq-of-cons-eq e)) ∙ (ap uses (task-left x) ∙ h .0))))
-  is-pass y u (met x c) h e =
-      absurd (false≢true (sym u ∙ (ap (λ (k : ℕ). uses (taskAt k)) (sym (head-eq-of-cons-eq e)) ∙ (ap uses (task-met x (h .1 .0)) ∙ h .0))))
+  is-pass y u (exited x) h e =
+      absurd (false≢true (sym u ∙ (ap (λ (k : ℕ). uses (taskAt k)) (sym (head-eq-of-cons-eq e)) ∙ (ap uses (task-exited x) ∙ h .0))))
+  is-pass y u (entered x c) h e =
+      absurd (false≢true (sym u ∙ (ap (λ (k : ℕ). uses (taskAt k)) (sym (head-eq-of-cons-eq e)) ∙ (ap uses (task-entered x (h .1 .0)) ∙ h .0))))
   is-pass y u (pass x) h e = ap pass (head-eq-of-cons-eq e)
 
   -- AT ONE MARK: the spot of a task with a right; a mark of a task without
-  pub met-part : (l : Line) → All Proper l → (t : ℕ) (xs ys : List ℕ) → t < 128 → uses t ≡ true → marks l ≡ xs ++ (t ∷ ys)
-      → (b : Line) × (c : List ℕ) × (a : Line) × (l ≡ b ++ (met t c ∷ a)) × (marks b ≡ xs) × (marks a ≡ ys)
-  met-part l h t xs ys s u e =
+  pub entered-part : (l : Line) → All Proper l → (t : ℕ) (xs ys : List ℕ) → t < 128 → uses t ≡ true → marks l ≡ xs ++ (t ∷ ys)
+      → (b : Line) × (c : List ℕ) × (a : Line) × (l ≡ b ++ (entered t c ∷ a)) × (marks b ≡ xs) × (marks a ≡ ys)
+  entered-part l h t xs ys s u e =
       let p = part l xs t ys e in
-      let i = is-met t s u (p .mark) (all-behind Proper (p .later) (p .mark ∷ p .earlier) (subst (All Proper) (p .parts) h) .0) (p .number) in
+      let i = is-entered t s u (p .mark) (all-behind Proper (p .later) (p .mark ∷ p .earlier) (subst (All Proper) (p .parts) h) .0) (p .number) in
       (p .later, i .0, p .earlier, p .parts ∙ ap (λ (z : Mark). p .later ++ (z ∷ p .earlier)) (i .1), p .later-marks, p .earlier-marks)
 
   pub pass-part : (l : Line) → All Proper l → (y : ℕ) (xs ys : List ℕ) → uses (taskAt y) ≡ false → marks l ≡ xs ++ (y ∷ ys)
@@ -140,26 +140,26 @@ module _ (uses : ℕ → Bool) where
           → (w : Mark) × (k : Line) × (a ≡ w ∷ k) × Proper w × (marks (w ∷ []) ≡ y ∷ []) × (marks k ≡ ys)
       go f = (f .0, f .1, f .2, subst (All Proper) (f .2) (all-behind Proper b (z ∷ a) (subst (All Proper) p h) .1) .0, f .3, f .4)
 
-  -- A TASK WITHOUT CHILDREN is met and left side by side.
+  -- A TASK WITHOUT CHILDREN is entered and exited side by side.
   module _ {children user right : ℕ → Extent} {n : Mode} (l : Line) (views : Views children user right l n) (h : All Proper l)
       (t : ℕ) (xs ys : List ℕ) (small : t < 128) (e : marks l ≡ xs ++ (t ∷ ((128 + t) ∷ ys))) where
-    pub met-leaf : uses t ≡ true
-        → (b : Line) × (c : List ℕ) × (a : Line) × (l ≡ b ++ (met t c ∷ (left t ∷ a))) × (marks b ≡ xs) × (marks a ≡ ys)
-    met-leaf u = go (met-part l h t xs ((128 + t) ∷ ys) small u e)
+    pub entered-leaf : uses t ≡ true
+        → (b : Line) × (c : List ℕ) × (a : Line) × (l ≡ b ++ (entered t c ∷ (exited t ∷ a))) × (marks b ≡ xs) × (marks a ≡ ys)
+    entered-leaf u = go (entered-part l h t xs ((128 + t) ∷ ys) small u e)
       where
-        go : (b : Line) × (c : List ℕ) × (a : Line) × (l ≡ b ++ (met t c ∷ a)) × (marks b ≡ xs) × (marks a ≡ (128 + t) ∷ ys)
-            → (b : Line) × (c : List ℕ) × (a : Line) × (l ≡ b ++ (met t c ∷ (left t ∷ a))) × (marks b ≡ xs) × (marks a ≡ ys)
+        go : (b : Line) × (c : List ℕ) × (a : Line) × (l ≡ b ++ (entered t c ∷ a)) × (marks b ≡ xs) × (marks a ≡ (128 + t) ∷ ys)
+            → (b : Line) × (c : List ℕ) × (a : Line) × (l ≡ b ++ (entered t c ∷ (exited t ∷ a))) × (marks b ≡ xs) × (marks a ≡ ys)
         go (b, c, a, p, f, g) =
-            let q = beside l b (met t c) a (128 + t) ys p views h g in
-            let i = is-left t u (q .0) (q .3) (q .4) in
-            (b, c, q .1, p ∙ ap (λ (k : Line). b ++ (met t c ∷ k)) (q .2 ∙ ap (λ (z : Mark). z ∷ q .1) i), f, q .5)
+            let q = beside l b (entered t c) a (128 + t) ys p views h g in
+            let i = is-exited t u (q .0) (q .3) (q .4) in
+            (b, c, q .1, p ∙ ap (λ (k : Line). b ++ (entered t c ∷ k)) (q .2 ∙ ap (λ (z : Mark). z ∷ q .1) i), f, q .5)
 
     pub pass-leaf : uses t ≡ false → (b : Line) × (a : Line) × (l ≡ b ++ (pass t ∷ (pass (128 + t) ∷ a))) × (marks b ≡ xs) × (marks a ≡ ys)
-    pass-leaf u = go (pass-part l h t xs ((128 + t) ∷ ys) (ap uses (task-met t small) ∙ u) e)
+    pass-leaf u = go (pass-part l h t xs ((128 + t) ∷ ys) (ap uses (task-entered t small) ∙ u) e)
       where
         go : (b : Line) × (a : Line) × (l ≡ b ++ (pass t ∷ a)) × (marks b ≡ xs) × (marks a ≡ (128 + t) ∷ ys)
             → (b : Line) × (a : Line) × (l ≡ b ++ (pass t ∷ (pass (128 + t) ∷ a))) × (marks b ≡ xs) × (marks a ≡ ys)
         go (b, a, p, f, g) =
             let q = beside l b (pass t) a (128 + t) ys p views h g in
-            let i = is-pass (128 + t) (ap uses (task-left t) ∙ u) (q .0) (q .3) (q .4) in
+            let i = is-pass (128 + t) (ap uses (task-exited t) ∙ u) (q .0) (q .3) (q .4) in
             (b, q .1, p ∙ ap (λ (k : Line). b ++ (pass t ∷ k)) (q .2 ∙ ap (λ (z : Mark). z ∷ q .1) i), f, q .5)

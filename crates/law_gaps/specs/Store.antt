@@ -6,7 +6,7 @@ use Prim.Native.Nat.{ℕ, _+_, _≤_}
 use Rattle.spec_lists.specs.Counting.{occurrences}
 use Rattle.law_order_queue.specs.Points.{Point, user, values}
 use Rattle.spec_lists.specs.Maps.{All, put}
-use Rattle.law_gaps.specs.Line.{Extent, Mark, base, left, met, pass, Line, lefts, mets, segments, firstChain, settled, Views}
+use Rattle.law_gaps.specs.Line.{Extent, Mark, base, exited, entered, pass, Line, exits, entries, segments, firstChain, settled, Views}
 
 -- as maps by segment and by task
 pub record Store : Type 0 where
@@ -39,8 +39,8 @@ pub data Start (contents : ℕ → List ℕ) : List ℕ → Type 0 where
 -- the chain that a mark begins is linked, and no segment of it is empty but the sole one of the first gap
 abbrev pub Chain : (ℕ → Option ℕ) → (ℕ → List ℕ) → Mark → Type 0
 Chain next contents (base c) = Linked next c × Start contents c
-Chain next contents (left t) = Unit {0}
-Chain next contents (met t c) = Linked next c × All (Filled contents) c
+Chain next contents (exited t) = Unit {0}
+Chain next contents (entered t c) = Linked next c × All (Filled contents) c
 Chain next contents (pass x) = Unit {0}
 
 -- Each segment that is the queue's to use stands in one chain, or is free: own x is 1 for those, and 0 for others.
@@ -57,16 +57,16 @@ pub record Held (own : ℕ → ℕ) (st : Store) (holder : ℕ) (l : Line) : Typ
   pub chains : Segments own (st .next) (st .contents) (st .free) l
   pub head : (x : ℕ) → st .heads x ≡ put (λ y. none) holder (headOf (firstChain l)) x
 
--- each task is met, and left, at most once
+-- each task is entered, and exited, at most once
 abbrev pub Once : Line → Type 0
-Once l = (x : ℕ) → (occurrences x (lefts l) ≤ 1) × (occurrences x (mets l) ≤ 1)
+Once l = (x : ℕ) → (occurrences x (exits l) ≤ 1) × (occurrences x (entries l) ≤ 1)
 
 -- The last mark of all is that of the top, which has every right; nothing lies behind its spot.
 abbrev pub Closed : Line → Type 0
 Closed [] = ⊥
 Closed (base c ∷ l) = ⊥
-Closed (left t ∷ l) = ⊥
-Closed (met t c ∷ l) = c ≡ []
+Closed (exited t ∷ l) = ⊥
+Closed (entered t c ∷ l) = c ≡ []
 Closed (pass x ∷ l) = ⊥
 
 -- the three views of all tasks, of one queue, and the store
@@ -91,6 +91,6 @@ valuesIn contents (s ∷ c) = values (contents s) ++ valuesIn contents c
 abbrev pub timeline : (ℕ → List ℕ) → Line → List Point
 timeline contents [] = []
 timeline contents (base c ∷ l) = timeline contents l ++ valuesIn contents c
-timeline contents (left t ∷ l) = timeline contents l
-timeline contents (met t c ∷ l) = timeline contents l ++ (user t ∷ valuesIn contents c)
+timeline contents (exited t ∷ l) = timeline contents l
+timeline contents (entered t c ∷ l) = timeline contents l ++ (user t ∷ valuesIn contents c)
 timeline contents (pass x ∷ l) = timeline contents l

@@ -6,7 +6,7 @@ use Prim.Native.Nat.{ℕ, _≤_}
 use native.Mathlib.Omega.{arith}
 use Rattle.spec_lists.specs.Counting.{occurs-append}
 use Rattle.spec_lists.specs.Maps.{All, put-other, lastOf, last-append, all-behind, last-in}
-use Rattle.law_gaps.specs.Line.{End, local, Extent, extent, met, Line, segments, firstChain, settled, awaiting, Views}
+use Rattle.law_gaps.specs.Line.{End, local, Extent, extent, entered, Line, segments, firstChain, settled, awaiting, Views}
 use Rattle.law_gaps.specs.Store.{Store, Chain, Segments, headOf, Held, valuesIn, timeline}
 use Rattle.law_gaps.specs.Lines.{count-segments, NoBase, first-behind}
 use Rattle.law_gaps.specs.Moves.{Place, viewAt, taken, linkedHolding, linked, joined}
@@ -28,18 +28,18 @@ own-apart own x z e h f = let g : own z ≡ 0 = ap own (sym f) ∙ e in omega (a
 -- THE FIRST CHAIN when the latest gap grows
 first-link : {a : Line} {p : ℕ} {r : List ℕ} (c : List ℕ) → Gap a p r → headOf (firstChain (grow a c (p ∷ (r ++ c)))) ≡ headOf (firstChain a)
 first-link c Gap.at-base = refl
-first-link c Gap.at-met = refl
-first-link c (Gap.on-left g) = first-link c g
+first-link c Gap.at-entered = refl
+first-link c (Gap.on-exited g) = first-link c g
 first-link c (Gap.on-pass g) = first-link c g
 
 first-bare : {a : Line} (c d : List ℕ) → NoGap a → firstChain (grow a c d) ≡ firstChain a
-first-bare c d NoGap.at-met = refl
-first-bare c d (NoGap.on-left g) = first-bare c d g
+first-bare c d NoGap.at-entered = refl
+first-bare c d (NoGap.on-exited g) = first-bare c d g
 first-bare c d (NoGap.on-pass g) = first-bare c d g
 
 first-sole : {a : Line} {p : ℕ} (c : List ℕ) → Sole a p → firstChain (grow a c c) ≡ c
 first-sole c Sole.at-base = refl
-first-sole c (Sole.on-left g) = first-sole c g
+first-sole c (Sole.on-exited g) = first-sole c g
 first-sole c (Sole.on-pass g) = first-sole c g
 
 -- THE RESULT OF A JOIN: the chain s ∷ c came behind the chain of the latest gap of a. Where that was the first gap, its chain
@@ -54,9 +54,9 @@ pub record Joined (own : ℕ → ℕ) (st st′ : Store) (holder : ℕ) (b : Lin
   pub kept : Kept own st st′
 
 module _ (own : ℕ → ℕ) (single : (x : ℕ) → own x ≤ 1) (st : Store) (holder : ℕ) (b : Line) (t s : ℕ) (c : List ℕ) (a : Line) (nb : NoBase b)
-    (h : Held own st holder (b ++ (met t (s ∷ c) ∷ a))) where
+    (h : Held own st holder (b ++ (entered t (s ∷ c) ∷ a))) where
   was : Only (st .heads) holder (headOf (firstChain a))
-  was = subst (λ z. Only (st .heads) holder (headOf z)) (first-behind b (met t (s ∷ c) ∷ a) nb) (h .head)
+  was = subst (λ z. Only (st .heads) holder (headOf z)) (first-behind b (entered t (s ∷ c) ∷ a) nb) (h .head)
 
   -- behind the chain p ∷ r
   join : (p : ℕ) (r : List ℕ) → Gap a p r → Joined own st (linked holder (lastOf p r) s st) holder b s c a
@@ -65,11 +65,11 @@ module _ (own : ℕ → ℕ) (single : (x : ℕ) → own x ≤ 1) (st : Store) (
       owned : 1 ≤ own (lastOf p r)
       owned =
           let z = lastOf p r in
-          omega (arith, h .chains .once z, count-segments z b (met t (s ∷ c) ∷ a), occurs-append z (s ∷ c) (segments a), count-gap z g, last-in p r)
+          omega (arith, h .chains .once z, count-segments z b (entered t (s ∷ c) ∷ a), occurs-append z (s ∷ c) (segments a), count-gap z g, last-in p r)
 
       go : (xs : List ℕ) → st .contents (lastOf p r) ≡ xs → Joined own st (linkedHolding xs holder (lastOf p r) s st) holder b s c a
       go [] e =
-          let chains = all-behind (Chain (st .next) (st .contents)) b (met t (s ∷ c) ∷ a) (h .chains .good) .1 in
+          let chains = all-behind (Chain (st .next) (st .contents)) b (entered t (s ∷ c) ∷ a) (h .chains .good) .1 in
           let only = is-sole (st .next) (st .contents) g chains e in
           let first : lastOf p r ≡ p = ap (lastOf p) (only .1) in
           record {
@@ -132,10 +132,10 @@ module _ (own : ℕ → ℕ) (single : (x : ℕ) → own x ≤ 1) (st : Store) (
 
 -- a free segment g is taken, as the chain of a gap of its own
 pub held-taken : (own : ℕ → ℕ) (single : (x : ℕ) → own x ≤ 1) (st : Store) (holder : ℕ) (b : Line) (t g : ℕ) (rest : List ℕ) (v : ℕ) (a : Line)
-    → NoBase b → st .free ≡ g ∷ rest → Held own st holder (b ++ a) → Held own (taken g rest v st) holder (b ++ (met t (g ∷ []) ∷ a))
+    → NoBase b → st .free ≡ g ∷ rest → Held own st holder (b ++ a) → Held own (taken g rest v st) holder (b ++ (entered t (g ∷ []) ∷ a))
 held-taken own single st holder b t g rest v a nb e h = record {
   chains = fresh own single (st .next) (st .contents) rest b t g v a (subst (λ z. Segments own (st .next) (st .contents) z (b ++ a)) e (h .chains));
-  head = rw (first-behind b (met t (g ∷ []) ∷ a) nb) (subst (λ z. Only (st .heads) holder (headOf z)) (first-behind b a nb) (h .head));
+  head = rw (first-behind b (entered t (g ∷ []) ∷ a) nb) (subst (λ z. Only (st .heads) holder (headOf z)) (first-behind b a nb) (h .head));
 }
 
 -- the marks k of a line become k′, with the same chains

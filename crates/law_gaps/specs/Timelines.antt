@@ -6,7 +6,7 @@ use native.Mathlib.Omega.{arith}
 use Rattle.spec_lists.specs.Counting.{one-yes, occurrences, occurs-append}
 use Rattle.law_order_queue.specs.Points.{Point, value, user, values}
 use Rattle.spec_lists.specs.Maps.{put-same, put-other, off, Agree, agree-put, lastOf, all-front, all-behind, last-off, last-in}
-use Rattle.law_gaps.specs.Line.{base, left, met, pass, Line, segments}
+use Rattle.law_gaps.specs.Line.{base, exited, entered, pass, Line, segments}
 use Rattle.law_gaps.specs.Store.{valuesIn, timeline}
 use Rattle.law_gaps.specs.Moves.{stored}
 use Rattle.law_gaps.specs.Places.{grow}
@@ -26,8 +26,8 @@ module _ (contents : ℕ → List ℕ) where
   timeline-append [] a = sym (append-nil (timeline contents a))
   timeline-append (base c ∷ b) a =
       ap (λ (l : List Point). l ++ valuesIn contents c) (timeline-append b a) ∙ append-assoc (timeline contents a) (timeline contents b) (valuesIn contents c)
-  timeline-append (left t ∷ b) a = timeline-append b a
-  timeline-append (met t c ∷ b) a =
+  timeline-append (exited t ∷ b) a = timeline-append b a
+  timeline-append (entered t c ∷ b) a =
       ap (λ (l : List Point). l ++ (user t ∷ valuesIn contents c)) (timeline-append b a)
       ∙ append-assoc (timeline contents a) (timeline contents b) (user t ∷ valuesIn contents c)
   timeline-append (pass x ∷ b) a = timeline-append b a
@@ -41,41 +41,41 @@ module _ (contents contents′ : ℕ → List ℕ) where
   pub timeline-keep : (l : Line) → Agree contents contents′ (segments l) → timeline contents′ l ≡ timeline contents l
   timeline-keep [] e = refl
   timeline-keep (base c ∷ l) e = rw (timeline-keep l (all-behind _ c (segments l) e), in-keep c (all-front _ c (segments l) e)) refl
-  timeline-keep (left t ∷ l) e = timeline-keep l e
-  timeline-keep (met t c ∷ l) e = rw (timeline-keep l (all-behind _ c (segments l) e), in-keep c (all-front _ c (segments l) e)) refl
+  timeline-keep (exited t ∷ l) e = timeline-keep l e
+  timeline-keep (entered t c ∷ l) e = rw (timeline-keep l (all-behind _ c (segments l) e), in-keep c (all-front _ c (segments l) e)) refl
   timeline-keep (pass x ∷ l) e = timeline-keep l e
 
   -- ABOUT A SPOT: the points xs come in just before the spot of t.
   pub timeline-around : (b : Line) (t : ℕ) (c : List ℕ) (a a′ : Line) (xs : List Point) → timeline contents′ a′ ≡ timeline contents a ++ xs
       → Agree contents contents′ c → Agree contents contents′ (segments b)
-      → timeline contents′ (b ++ (met t c ∷ a′)) ≡ timeline contents a ++ (xs ++ (user t ∷ (valuesIn contents c ++ timeline contents b)))
+      → timeline contents′ (b ++ (entered t c ∷ a′)) ≡ timeline contents a ++ (xs ++ (user t ∷ (valuesIn contents c ++ timeline contents b)))
   timeline-around b t c a a′ xs e f g =
-      timeline-append contents′ b (met t c ∷ a′)
+      timeline-append contents′ b (entered t c ∷ a′)
       ∙ (rw (e, in-keep c f, timeline-keep b g) (append-assoc (timeline contents a ++ xs) (user t ∷ valuesIn contents c) (timeline contents b))
       ∙ append-assoc (timeline contents a) xs (user t ∷ (valuesIn contents c ++ timeline contents b)))
 
 pub timeline-at : (contents : ℕ → List ℕ) (b : Line) (t : ℕ) (c : List ℕ) (a : Line)
-    → timeline contents (b ++ (met t c ∷ a)) ≡ timeline contents a ++ (user t ∷ (valuesIn contents c ++ timeline contents b))
+    → timeline contents (b ++ (entered t c ∷ a)) ≡ timeline contents a ++ (user t ∷ (valuesIn contents c ++ timeline contents b))
 timeline-at contents b t c a =
-    timeline-append contents b (met t c ∷ a) ∙ append-assoc (timeline contents a) (user t ∷ valuesIn contents c) (timeline contents b)
+    timeline-append contents b (entered t c ∷ a) ∙ append-assoc (timeline contents a) (user t ∷ valuesIn contents c) (timeline contents b)
 
 -- THE LATEST GAP GROWS by the chain c.
 module _ (contents : ℕ → List ℕ) (c : List ℕ) where
   pub timeline-link : {a : Line} {p : ℕ} {r : List ℕ} → Gap a p r
       → timeline contents (grow a c (p ∷ (r ++ c))) ≡ timeline contents a ++ valuesIn contents c
   timeline-link {r = r} (Gap.at-base {l = l}) = rw (in-append contents r c) (simp append-assoc)
-  timeline-link {r = r} (Gap.at-met {l = l}) = rw (in-append contents r c) (simp append-assoc)
-  timeline-link (Gap.on-left g) = timeline-link g
+  timeline-link {r = r} (Gap.at-entered {l = l}) = rw (in-append contents r c) (simp append-assoc)
+  timeline-link (Gap.on-exited g) = timeline-link g
   timeline-link (Gap.on-pass g) = timeline-link g
 
   pub timeline-bare : (d : List ℕ) {a : Line} → NoGap a → timeline contents (grow a c d) ≡ timeline contents a ++ valuesIn contents c
-  timeline-bare d NoGap.at-met = simp append-assoc
-  timeline-bare d (NoGap.on-left g) = timeline-bare d g
+  timeline-bare d NoGap.at-entered = simp append-assoc
+  timeline-bare d (NoGap.on-exited g) = timeline-bare d g
   timeline-bare d (NoGap.on-pass g) = timeline-bare d g
 
   pub timeline-sole : {a : Line} {p : ℕ} → Sole a p → contents p ≡ [] → timeline contents (grow a c c) ≡ timeline contents a ++ valuesIn contents c
   timeline-sole (Sole.at-base {l = l}) e = rw e (rw (append-nil (timeline contents l)) refl)
-  timeline-sole (Sole.on-left g) e = timeline-sole g e
+  timeline-sole (Sole.on-exited g) e = timeline-sole g e
   timeline-sole (Sole.on-pass g) e = timeline-sole g e
 
 -- ONE MORE VALUE at the end of the latest gap
@@ -107,9 +107,9 @@ module _ (contents : ℕ → List ℕ) (v : ℕ) where
       rw (before p r l u)
       (ap (λ (k : List Point). timeline contents l ++ k) (in-stored p r (λ x. omega (arith, u x, occurs-append x r (segments l))))
       ∙ sym (append-assoc (timeline contents l) (valuesIn contents (p ∷ r)) (value v ∷ [])))
-  timeline-stored {p = p} {r = r} (Gap.at-met {t = t} {l = l}) u =
+  timeline-stored {p = p} {r = r} (Gap.at-entered {t = t} {l = l}) u =
       rw (before p r l u)
       (ap (λ (k : List Point). timeline contents l ++ (user t ∷ k)) (in-stored p r (λ x. omega (arith, u x, occurs-append x r (segments l))))
       ∙ sym (append-assoc (timeline contents l) (user t ∷ valuesIn contents (p ∷ r)) (value v ∷ [])))
-  timeline-stored (Gap.on-left g) u = timeline-stored g u
+  timeline-stored (Gap.on-exited g) u = timeline-stored g u
   timeline-stored (Gap.on-pass g) u = timeline-stored g u

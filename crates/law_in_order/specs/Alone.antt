@@ -7,12 +7,12 @@ use lib.Dec.{ltb}
 use native.Mathlib.Omega.{arith}
 use Rattle.spec_words.specs.Words.{pick}
 use Rattle.spec_layout.specs.Layout.{NONE, YOUNGEST, task, read}
-use Rattle.spec_tree.specs.Tour.{after, entering, leaving}
+use Rattle.spec_tree.specs.Tour.{after, entering, exiting}
 use Rattle.spec_rules.specs.Contents.{Contents, decode, word}
 use Rattle.spec_order.specs.Steps.{Item}
 use Rattle.spec_lists.specs.Maps.{All}
-use Rattle.law_gaps.specs.Line.{base, left, met, Line, marks, Fits, Mode, Views, queue, meeting, passing}
-use Rattle.law_gaps.specs.Line.Views.{leaving as leaves}
+use Rattle.law_gaps.specs.Line.{base, exited, entered, Line, marks, Fits, Mode, Views, queue, passing}
+use Rattle.law_gaps.specs.Line.Views.{exiting as exits, entering as enters}
 use Rattle.law_gaps.specs.Store.{Closed}
 use Rattle.law_links.specs.Row.{Row, leads-after, leads-on}
 use Rattle.law_links.specs.Linked.{word-is}
@@ -26,7 +26,7 @@ module _ (m : List ℕ) (xs : List Item) (r : Represents m xs) (alone : read m (
   c = decode m
 
   after-top : after (c .recs) 0 ≡ 128
-  unfolding after entering leaving pick word
+  unfolding after entering exiting pick word
   after-top = ap (entering 0) (word-is m 0 YOUNGEST ∙ alone)
 
   pub tour-alone : r .tour ≡ 0 ∷ 128 ∷ []
@@ -49,17 +49,17 @@ module _ (m : List ℕ) (xs : List Item) (r : Represents m xs) (alone : read m (
 
     third : (l : Line) {n : Mode} → At l n → marks l ≡ [] → (g : ℕ) × (d : List ℕ) × (l ≡ base (g ∷ d) ∷ [])
     third l (queue {s = s} {c = d} e) k = (s, d, refl)
-    third l (leaves v e i w) k = absurd (cons-ne-nil _ _ k)
-    third l (meeting v w e i f b u) k = absurd (cons-ne-nil _ _ k)
+    third l (exits v e i w) k = absurd (cons-ne-nil _ _ k)
+    third l (enters v w e i f b u) k = absurd (cons-ne-nil _ _ k)
     third l (passing w) k = absurd (cons-ne-nil _ _ k)
 
-    second : (l : Line) {n : Mode} → At l n → All (Fits (usesIn m q)) l → marks l ≡ 128 ∷ [] → (g : ℕ) × (d : List ℕ) × (l ≡ left 0 ∷ base (g ∷ d) ∷ [])
+    second : (l : Line) {n : Mode} → At l n → All (Fits (usesIn m q)) l → marks l ≡ 128 ∷ [] → (g : ℕ) × (d : List ℕ) × (l ≡ exited 0 ∷ base (g ∷ d) ∷ [])
     second l (queue e) f k = absurd (cons-ne-nil _ _ (sym k))
-    second l (leaves {t = t} {l = b} v e i w) f k =
+    second l (exits {t = t} {l = b} v e i w) f k =
         let z = third b w (tail-eq-of-cons-eq k) in
         let is : t ≡ 0 = (let h = head-eq-of-cons-eq k in omega (arith, h)) in
-        (z .0, z .1, ap (λ (x : ℕ). left x ∷ b) is ∙ ap (λ (y : Line). left 0 ∷ y) (z .2))
-    second l (meeting {t = t} v w e i f0 b u) f k =
+        (z .0, z .1, ap (λ (x : ℕ). exited x ∷ b) is ∙ ap (λ (y : Line). exited 0 ∷ y) (z .2))
+    second l (enters {t = t} v w e i f0 b u) f k =
         let h = head-eq-of-cons-eq k in let a = uses-small m q t (f .0) in let z : ⊥ = omega (arith, h, a) in absurd z
     second l (passing {x = x} w) f k =
         absurd
@@ -67,16 +67,16 @@ module _ (m : List ℕ) (xs : List Item) (r : Represents m xs) (alone : read m (
         (sym (subst (λ (y : ℕ). usesIn m q (pick (ltb y 128) y (y - 128)) ≡ false) (head-eq-of-cons-eq k) (f .0)) ∙ (unfold pick in top-uses m xs r q small)))
 
     -- THE LINE of a queue: the top's spot, and one chain before it
-    pub line-alone : (g : ℕ) × (d : List ℕ) × (r .line q ≡ met 0 [] ∷ left 0 ∷ base (g ∷ d) ∷ [])
+    pub line-alone : (g : ℕ) × (d : List ℕ) × (r .line q ≡ entered 0 [] ∷ exited 0 ∷ base (g ∷ d) ∷ [])
     line-alone =
         let p = parts-of m xs r in
         first (r .line q) (p .laids .laid q small .views) (p .laids .laid q small .closed) (p .fits q small) (p .marked q small ∙ tour-alone)
       where
         first : (l : Line) {n : Mode} → At l n → Closed l → All (Fits (usesIn m q)) l → marks l ≡ 0 ∷ 128 ∷ []
-            → (g : ℕ) × (d : List ℕ) × (l ≡ met 0 [] ∷ left 0 ∷ base (g ∷ d) ∷ [])
+            → (g : ℕ) × (d : List ℕ) × (l ≡ entered 0 [] ∷ exited 0 ∷ base (g ∷ d) ∷ [])
         first l (queue e) z f k = absurd z
-        first l (leaves v e i w) z f k = absurd z
+        first l (exits v e i w) z f k = absurd z
         first l (passing w) z f k = absurd z
-        first l (meeting {t = t} {c = d} {l = b} v w e i f0 b0 u) z f k =
+        first l (enters {t = t} {c = d} {l = b} v w e i f0 b0 u) z f k =
             let y = second b u (f .1) (tail-eq-of-cons-eq k) in
-            (y .0, y .1, ap₂ (λ (x : ℕ) (s : List ℕ). met x s ∷ b) (head-eq-of-cons-eq k) z ∙ ap (λ (x : Line). met 0 [] ∷ x) (y .2))
+            (y .0, y .1, ap₂ (λ (x : ℕ) (s : List ℕ). entered x s ∷ b) (head-eq-of-cons-eq k) z ∙ ap (λ (x : Line). entered 0 [] ∷ x) (y .2))

@@ -25,13 +25,13 @@ use Rattle.spec_order.specs.Finding.{leftOver}
 use Rattle.spec_order.specs.Ordered.{forTask, leftAnswer}
 use Rattle.law_order_queue.specs.Finds.{nthValue, leaves}
 use Rattle.spec_lists.specs.Maps.{All, put-same}
-use Rattle.law_gaps.specs.Line.{Line, base, left, met, segments, firstChain}
+use Rattle.law_gaps.specs.Line.{Line, base, exited, entered, segments, firstChain}
 use Rattle.law_gaps.specs.Store.{Laid, LinkedFrom, Chain, valuesIn, timeline, headOf}
 use Rattle.law_gaps.specs.Pool.{mine}
 use Rattle.spec_rules.specs.Contents.{decode}
 use Rattle.spec_rules.specs.Rules.{Unfinished}
 use Rattle.law_links.specs.Linked.{word-is}
-use Rattle.law_links.specs.Marks.{mark-left}
+use Rattle.law_links.specs.Marks.{mark-exited}
 use Rattle.law_links.specs.Waits.{same-unfinished}
 use Rattle.law_maps.specs.Meaning.{nextIn, contentsIn, headsIn, storeIn}
 use Rattle.law_maps.specs.Reads.{head-at}
@@ -91,7 +91,7 @@ module _ (m : List ℕ) (xs : List Item) (e : Ended m xs) where
     abbrev d : List ℕ
     d = line-alone b (e .steps) r (e .alone) q small .1
 
-    line-is : r .line q ≡ met 0 [] ∷ left 0 ∷ base (g ∷ d) ∷ []
+    line-is : r .line q ≡ entered 0 [] ∷ exited 0 ∷ base (g ∷ d) ∷ []
     line-is = line-alone b (e .steps) r (e .alone) q small .2
 
     -- the queue view is the top's
@@ -200,7 +200,7 @@ module _ (m : List ℕ) (xs : List Item) (e : Ended m xs) where
       not-top l f n =
           let u : Unfinished (decode b) t = (l, word-is b t STATUS ∙ status-word t n ∙ f) in
           let p = subst (λ (k : List ℕ). 0 < occurrences (128 + t) k) (tour-alone b (e .steps) r (e .alone))
-          (mark-left b (r .tour) (e .steps) (r .linked) t u) in
+          (mark-exited b (r .tour) (e .steps) (r .linked) t u) in
           let a = occurs-past 0 (128 + t) (128 ∷ []) (λ x. omega (arith, x)) in
           let c = occurs-past 128 (128 + t) [] (λ x. n (omega (arith, x))) in
           let z = occurs-nil (128 + t) in

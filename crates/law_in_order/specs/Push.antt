@@ -27,7 +27,7 @@ use Rattle.law_order.specs.Reached.{Fresh}
 use Rattle.law_order_waits.specs.Spots.{says-unfinished}
 use Rattle.law_order_waits.specs.Played.{Asked, Played, plays}
 use Rattle.spec_lists.specs.Maps.{lastOf, last-in}
-use Rattle.law_gaps.specs.Line.{End, nonlocal, local, Extent, vacant, extent, Line, met, segments, Mode, Views}
+use Rattle.law_gaps.specs.Line.{End, nonlocal, local, Extent, vacant, extent, Line, entered, segments, Mode, Views}
 use Rattle.law_gaps.specs.Chains.{count-gap}
 use Rattle.law_gaps.specs.Find.{awaited, user-awaits}
 use Rattle.law_gaps.specs.Frames.{split}
@@ -100,8 +100,8 @@ module _ (P : List ℕ → List Item → Type 0) (runs : (m : List ℕ) (xs : Li
     here : At m ys zs s r q
     here = stands m ys zs s r q v small may
 
-    views : (n : Mode) × Views (queueMemory m q .children) (queueMemory m q .user) (queueMemory m q .right) (met t (here .chain) ∷ here .earlier) n
-    views = split (here .later) (met t (here .chain)) (here .earlier) (laid-at m ys zs s r q small here .views)
+    views : (n : Mode) × Views (queueMemory m q .children) (queueMemory m q .user) (queueMemory m q .right) (entered t (here .chain) ∷ here .earlier) n
+    views = split (here .later) (entered t (here .chain)) (here .earlier) (laid-at m ys zs s r q small here .views)
 
     -- the tail of a user view is a segment of the queue
     tail-held : (h : End) (z : ℕ) → queueMemory m q .user t ≡ extent h (local z) → 0 < occurrences z (segments (r .line q))
@@ -112,7 +112,7 @@ module _ (P : List ℕ → List Item → Type 0) (runs : (m : List ℕ) (xs : Li
         let k : occurrences (lastOf (g .0) (g .1)) (segments (here .earlier)) ≡ occurrences z (segments (here .earlier)) = ap
         (λ (x : ℕ). occurrences x (segments (here .earlier))) (g .3) in
         let e = ap (λ (l : Line). occurrences z (segments l)) (here .parts) in
-        let f = count-segments z (here .later) (met t (here .chain) ∷ here .earlier) in
+        let f = count-segments z (here .later) (entered t (here .chain) ∷ here .earlier) in
         let b = occurs-append z (here .chain) (segments (here .earlier)) in
         omega (arith, i, j, k, e, f, b)
 

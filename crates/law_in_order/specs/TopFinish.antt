@@ -10,7 +10,7 @@ use borrow.Author.Tests.{eqb-true, not-false}
 use Rattle.spec_words.specs.Words.{pick, both-true}
 use Rattle.spec_layout.specs.Layout.{NONE, YOUNGEST, task, read}
 use Rattle.spec_tree.specs.Rights.{uses}
-use Rattle.spec_tree.specs.Tour.{met}
+use Rattle.spec_tree.specs.Tour.{entered}
 use Rattle.spec_outcomes.specs.Waits.{rightsOf as rightsIn, hasChild as hasChildIn}
 use Rattle.spec_outcomes.specs.Sync.{synced}
 use Rattle.spec_outcomes.specs.Finish.{topFinished}
@@ -63,8 +63,8 @@ module _ (m : List ℕ) (ys zs : List Item) (s : Task) (r : Represents m (ys ++ 
   alone = subst (λ (x : ℕ). read m (task x YOUNGEST) ≡ NONE) top (eqb-true _ _ (not-false _ (child-same m ys zs s r ∙ barren)))
 
   one-spot : spots Old ≡ 1
-  unfolding met pick
-  one-spot = spots-length Old ∙ ap length (sym (r .linked .spots) ∙ ap met (tour-alone m Old r alone))
+  unfolding entered pick
+  one-spot = spots-length Old ∙ ap length (sym (r .linked .spots) ∙ ap entered (tour-alone m Old r alone))
 
   none-left : (x : ℕ) → unfinished x (advance t finishes Old) ≡ false
   unfolding spots

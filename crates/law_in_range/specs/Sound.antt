@@ -13,7 +13,7 @@ use Rattle.spec_lists.specs.Counting.{occurrences, occurs-here, occurs-cons}
 use Rattle.spec_layout.specs.Layout.{NL, UNFINISHED, STATUS, lengthWord, numberWord, freeSegments, freeTasks, freeSegment, freeTask, task, first, count, next}
 use Rattle.spec_layout.specs.Layout.{address, read}
 use Rattle.spec_layout.specs.Frame.{record-word}
-use Rattle.spec_tree.specs.Tour.{met}
+use Rattle.spec_tree.specs.Tour.{entered}
 use Rattle.spec_rules.specs.Contents.{decode, scan-decodes, word, part-word, heads, tails}
 use Rattle.spec_rules.specs.Rules.{Link, Holder, TaskRules}
 use Rattle.spec_rules.specs.Test.{test, rulesHold}
@@ -87,7 +87,7 @@ module _ (m : List ℕ) where
       let o = opening-says c (p .range) in
       let v = whole-tour c (p .top) (p .free) (p .tree) in
       let xs = toured c in
-      let g = segments-say c (heads c (met xs)) (tails c (met xs)) (o .number-range .1) (p .room) (p .seen .segs) (p .seen .holding) in
+      let g = segments-say c (heads c (entered xs)) (tails c (entered xs)) (o .number-range .1) (p .room) (p .seen .segs) (p .seen .holding) in
       let sound = segments-sound c (p .seen .segs) in
       let tasks = tasks-say c (p .top) (p .free) (p .tree) in
       let high : read m freeSegments ≤ read m numberWord =

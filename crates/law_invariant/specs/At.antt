@@ -17,11 +17,11 @@ use Rattle.law_order_waits.specs.Played.{played-reached}
 use Rattle.law_order_waits.specs.Changes.{in-right}
 use Rattle.law_order_queue.specs.Points.{Point, user, Timeline}
 use Rattle.spec_lists.specs.Maps.{All}
-use Rattle.law_gaps.specs.Line.{Line, met, marks}
+use Rattle.law_gaps.specs.Line.{Line, entered, marks}
 use Rattle.law_gaps.specs.Store.{Laid, valuesIn, timeline}
 use Rattle.law_gaps.specs.Timelines.{timeline-at}
 use Rattle.law_gaps.specs.Pool.{mine}
-use Rattle.law_gaps.specs.Splits.{Proper, all-proper, small-mets, met-part}
+use Rattle.law_gaps.specs.Splits.{Proper, all-proper, small-entries, entered-part}
 use Rattle.law_links.specs.Linked.{spot-unfinished}
 use Rattle.law_links.specs.Places.{Place, place}
 use Rattle.law_links.specs.Waits.{same-rights}
@@ -62,19 +62,19 @@ module _ (m : List ℕ) (ys zs : List Item) (s : Task) (r : Represents m (ys ++ 
     pub later : Line
     pub chain : List ℕ
     pub earlier : Line
-    pub parts : r .line q ≡ later ++ (met t chain ∷ earlier)
+    pub parts : r .line q ≡ later ++ (entered t chain ∷ earlier)
     pub later-marks : marks later ≡ where-it-stands .later
     pub earlier-marks : marks earlier ≡ where-it-stands .earlier
 
   pub proper : (q : ℕ) → q < 4 → All (Proper (usesIn m q)) (r .line q)
   proper q i =
       let f = parts-of m Old r .fits q i in
-      all-proper (usesIn m q) (r .line q) f (small-mets (usesIn m q) (r .line q) (uses-small m q) f)
+      all-proper (usesIn m q) (r .line q) f (small-entries (usesIn m q) (r .line q) (uses-small m q) f)
 
   pub at : (q : ℕ) → q < 4 → uses (rightsOf s) q ≡ true → At q
   at q i u =
       let p = where-it-stands in
-      let w = met-part (usesIn m q) (r .line q) (proper q i) t (p .later) (p .earlier) (task-unfinished .0) (uses-here q u)
+      let w = entered-part (usesIn m q) (r .line q) (proper q i) t (p .later) (p .earlier) (task-unfinished .0) (uses-here q u)
       (parts-of m Old r .marked q i ∙ p .here) in
       record { later = w .0; chain = w .1; earlier = w .2; parts = w .3; later-marks = w .4; earlier-marks = w .5 }
 
@@ -82,7 +82,7 @@ module _ (m : List ℕ) (ys zs : List Item) (s : Task) (r : Represents m (ys ++ 
     abbrev pub Behind : List Point
     Behind = valuesIn (contentsIn m) (w .chain) ++ timeline (contentsIn m) (w .later)
 
-    pub laid-at : Laid (mine (queueMemory m q .store) (r .line q)) (queueMemory m q) (holders m Old r q) (w .later ++ (met t (w .chain) ∷ w .earlier))
+    pub laid-at : Laid (mine (queueMemory m q .store) (r .line q)) (queueMemory m q) (holders m Old r q) (w .later ++ (entered t (w .chain) ∷ w .earlier))
     laid-at =
         subst (λ (l : Line). Laid (mine (queueMemory m q .store) (r .line q)) (queueMemory m q) (holders m Old r q) l) (w .parts)
         (parts-of m Old r .laids .laid q i)

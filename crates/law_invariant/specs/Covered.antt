@@ -6,11 +6,11 @@ use mathlib.Core.Logic.{_⊎_, inl, inr}
 use Prim.Native.Nat.{ℕ, _+_, _<_}
 use Rattle.spec_lists.specs.Counting.{occurrences}
 use Rattle.spec_lists.specs.Maps.{All}
-use Rattle.law_gaps.specs.Line.{vacant, Line, marks, lefts, mets, Fits}
+use Rattle.law_gaps.specs.Line.{vacant, Line, marks, exits, entries, Fits}
 use Rattle.law_gaps.specs.Store.{Memory}
-use Rattle.law_gaps.specs.Splits.{small-mets}
+use Rattle.law_gaps.specs.Splits.{small-entries}
 use Rattle.law_invariant.specs.Represents.{usesIn}
-use Rattle.law_invariant.specs.Views.{met-in, left-in, uses-small}
+use Rattle.law_invariant.specs.Views.{entered-in, exited-in, uses-small}
 
 -- task x has no view in the memory w
 abbrev pub Vacant : Memory → ℕ → Type 0
@@ -18,7 +18,7 @@ Vacant w x = (w .children x ≡ vacant) × (w .user x ≡ vacant) × (w .right x
 
 -- it has all its views in the line l, or none
 abbrev pub AllOrNone : Memory → Line → ℕ → Type 0
-AllOrNone w l x = ((0 < occurrences x (mets l)) × (0 < occurrences x (lefts l))) ⊎ Vacant w x
+AllOrNone w l x = ((0 < occurrences x (entries l)) × (0 < occurrences x (exits l))) ⊎ Vacant w x
 
 -- each task of the tour T
 abbrev pub Covered : Memory → List ℕ → Line → Type 0
@@ -31,4 +31,4 @@ by-marks m q w l f bare x small a b = go (usesIn m q x) refl
   where
     go : (c : Bool) → usesIn m q x ≡ c → AllOrNone w l x
     go false u = inr (bare x u)
-    go true u = inl (met-in (usesIn m q) l f x small u a, left-in (usesIn m q) l f (small-mets (usesIn m q) l (uses-small m q) f) x u b)
+    go true u = inl (entered-in (usesIn m q) l f x small u a, exited-in (usesIn m q) l f (small-entries (usesIn m q) l (uses-small m q) f) x u b)

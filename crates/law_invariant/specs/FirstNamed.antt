@@ -13,7 +13,7 @@ use Rattle.law_order_waits.specs.Poppers.{popper-says}
 use Rattle.law_gaps.specs.Line.{segments, firstChain}
 use Rattle.law_gaps.specs.Pool.{mine}
 use Rattle.law_links.specs.Linked.{spot-unfinished}
-use Rattle.law_links.specs.Marks.{mark-left, unfinished-met, mark-met}
+use Rattle.law_links.specs.Marks.{mark-exited, unfinished-entered, mark-entered}
 use Rattle.law_maps.specs.Meaning.{storeIn}
 use Rattle.law_invariant.specs.Represents.{alive, ofTasks, queueMemory, opened, Represents}
 use Rattle.law_invariant.specs.Laids.{held-opened, mine-one}
@@ -41,7 +41,7 @@ module _ (m : List ℕ) (xs : List Item) (r : Represents m xs) where
 
   -- the task of a mark of the tour
   pub task-there : (x : ℕ) → x < 128 → 0 < occurrences x (r .tour) → Unfinished (decode m) x
-  task-there = unfinished-met m (r .tour) xs (r .linked)
+  task-there = unfinished-entered m (r .tour) xs (r .linked)
 
   pub here : (x : ℕ) → x < 128 → 0 < occurrences x (r .tour) → alive m x ≡ true
   here x l p = unfinished-alive m x (task-there x l p)
@@ -50,21 +50,21 @@ module _ (m : List ℕ) (xs : List Item) (r : Represents m xs) where
   unfolding queueMemory ofTasks
   one-mine q i = mine-one (opened m) (opened-single m) (storeIn m 0) (r .line) (old .laids .pool) q i
 
-  pub task-left : (x : ℕ) → x < 128 → 0 < occurrences x (r .tour) → 0 < occurrences (128 + x) (r .tour)
-  task-left x l p = mark-left m (r .tour) xs (r .linked) x (task-there x l p)
+  pub task-exited : (x : ℕ) → x < 128 → 0 < occurrences x (r .tour) → 0 < occurrences (128 + x) (r .tour)
+  task-exited x l p = mark-exited m (r .tour) xs (r .linked) x (task-there x l p)
 
   -- the holder of a queue view is an unfinished task
   pub holder-unfinished : (q : ℕ) → q < 4 → Unfinished (decode m) (holders m xs r q) × (0 < occurrences (holders m xs r q) (r .tour))
   holder-unfinished q i =
       let w = popper-says q xs (holders m xs r q) (old .first q i) in
       let u = subst (Unfinished (decode m)) (w .2) (spot-unfinished m (r .tour) xs (r .linked) (w .0) (w .1)) in
-      (u, mark-met m (r .tour) xs (r .linked) (holders m xs r q) u)
+      (u, mark-entered m (r .tour) xs (r .linked) (holders m xs r q) u)
 
   covered : (p : ℕ) → p < 4 → Covered (queueMemory m p) (r .tour) (r .line p)
   covered p i x l t =
       let e = sym (old .marked p i) in
       by-marks m p (queueMemory m p) (r .line p) (old .fits p i) (old .bare p i) x l
-      (subst (λ (k : List ℕ). 0 < occurrences x k) e t) (subst (λ (k : List ℕ). 0 < occurrences (128 + x) k) e (task-left x l t))
+      (subst (λ (k : List ℕ). 0 < occurrences x k) e t) (subst (λ (k : List ℕ). 0 < occurrences (128 + x) k) e (task-exited x l t))
 
   module _ (q : ℕ) (small : q < 4) (g : ℕ) (c : List ℕ) (first : firstChain (r .line q) ≡ g ∷ c) where
     abbrev h : ℕ

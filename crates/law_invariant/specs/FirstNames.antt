@@ -9,7 +9,7 @@ use native.Mathlib.Omega.{arith}
 use Rattle.spec_lists.specs.Counting.{occurrences, equal?, occurs-here, occurs-append}
 use Rattle.spec_layout.specs.Layout.{CHILDREN, USER, RIGHT}
 use Rattle.spec_lists.specs.Maps.{All, put-other, all-at}
-use Rattle.law_gaps.specs.Line.{End, nonlocal, local, extent, Line, lefts, mets, firstChain, base, left, met, pass, segments}
+use Rattle.law_gaps.specs.Line.{End, nonlocal, local, extent, Line, exits, entries, firstChain, base, exited, entered, pass, segments}
 use Rattle.law_gaps.specs.Store.{headOf}
 use Rattle.law_gaps.specs.Names.{OnlyHead, only-head, Unnamed, unnamed}
 use Rattle.law_gaps.specs.Pool.{mine}
@@ -31,8 +31,8 @@ first-in l g c e = let a = go l in let b = ap (occurrences g) e in let d = occur
     go : (l : Line) → occurrences g (firstChain l) ≤ occurrences g (segments l)
     go [] = omega arith
     go (base d ∷ l) = let f = occurs-append g d (segments l) in omega (arith, f)
-    go (left t ∷ l) = go l
-    go (met t d ∷ l) = let f = occurs-append g d (segments l) in let k = go l in omega (arith, f, k)
+    go (exited t ∷ l) = go l
+    go (entered t d ∷ l) = let f = occurs-append g d (segments l) in let k = go l in omega (arith, f, k)
     go (pass x ∷ l) = go l
 
 module _ (own : ℕ → ℕ) (own-one : (x : ℕ) → own x ≤ 1) (n : List ℕ) (T : List ℕ) (holder : ℕ → ℕ) (line : ℕ → Line)
@@ -77,9 +77,9 @@ module _ (own : ℕ → ℕ) (own-one : (x : ℕ) → own x ≤ 1) (n : List ℕ
   -- a view's head
   abbrev Views : ℕ → Type 0
   Views p =
-      All (λ t. (b y : End) → queueMemory n p .children t ≡ extent b y → b ≡ nonlocal) (lefts (line p))
-      × All (λ t. (b y : End) → queueMemory n p .user t ≡ extent b y → b ≡ nonlocal) (mets (line p))
-      × All (λ t. (y : End) → queueMemory n p .right t ≡ extent (local g) y → ⊥) (mets (line p))
+      All (λ t. (b y : End) → queueMemory n p .children t ≡ extent b y → b ≡ nonlocal) (exits (line p))
+      × All (λ t. (b y : End) → queueMemory n p .user t ≡ extent b y → b ≡ nonlocal) (entries (line p))
+      × All (λ t. (y : End) → queueMemory n p .right t ≡ extent (local g) y → ⊥) (entries (line p))
 
   no-views : (p : ℕ) → p < 4 → Views p
   no-views p i =
@@ -101,9 +101,9 @@ module _ (own : ℕ → ℕ) (own-one : (x : ℕ) → own x ≤ 1) (n : List ℕ
       R = right-word n p x (in-use x l t)
 
       go : (k : ℕ) → k < 3 → viewIn n p k x ≡ extent (local g) y → AllOrNone (queueMemory n p) (line p) x → ⊥
-      go zero j e (inl w) = not-nonlocal (all-at _ (lefts (line p)) x (no-views p i .0) (w .1) _ y (sym C ∙ e))
-      go (suc zero) j e (inl w) = not-nonlocal (all-at _ (mets (line p)) x (no-views p i .1) (w .0) _ y (sym U ∙ e))
-      go (suc (suc zero)) j e (inl w) = all-at _ (mets (line p)) x (no-views p i .2) (w .0) y (sym R ∙ e)
+      go zero j e (inl w) = not-nonlocal (all-at _ (exits (line p)) x (no-views p i .0) (w .1) _ y (sym C ∙ e))
+      go (suc zero) j e (inl w) = not-nonlocal (all-at _ (entries (line p)) x (no-views p i .1) (w .0) _ y (sym U ∙ e))
+      go (suc (suc zero)) j e (inl w) = all-at _ (entries (line p)) x (no-views p i .2) (w .0) y (sym R ∙ e)
       go zero j e (inr w) = clash _ (w .0) (sym C ∙ e)
       go (suc zero) j e (inr w) = clash _ (w .1) (sym U ∙ e)
       go (suc (suc zero)) j e (inr w) = clash _ (w .2) (sym R ∙ e)

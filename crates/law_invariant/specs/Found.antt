@@ -14,7 +14,7 @@ use Rattle.spec_rules.specs.Rules.{Unfinished}
 use Rattle.spec_outcomes.specs.Views.{taskAt, kindAt}
 use Rattle.spec_order.specs.Steps.{Item}
 use Rattle.spec_lists.specs.Maps.{All, put-other}
-use Rattle.law_gaps.specs.Line.{Extent, vacant, extent, Line, base, left, met, pass, lefts, mets, Fits}
+use Rattle.law_gaps.specs.Line.{Extent, vacant, extent, Line, base, exited, entered, pass, exits, entries, Fits}
 use Rattle.law_gaps.specs.Moves.{Place, childrenOf, rightOf, viewAt, reduced, childrenWith, rightsWith}
 use Rattle.law_gaps.specs.Places.{In}
 use Rattle.law_gaps.specs.Search.{firstOf, placeAt}
@@ -38,36 +38,36 @@ first-member f (y ∷ l) n = go (f y) refl (first-member f l)
         ⊎-elim (λ d. let g = occurs-here y (firstOf f l) l d in omega (arith, g)) (λ d. let g = occurs-past y (firstOf f l) l d in omega (arith, g, p))
         (equal? y (firstOf f l)))
 
--- a task that is left in a line has a right
-left-uses : (uses : ℕ → Bool) (l : Line) (x : ℕ) → All (Fits uses) l → 0 < occurrences x (lefts l) → uses x ≡ true
-left-uses uses [] x f p = let e = occurs-nil x in let z : ⊥ = omega (arith, e, p) in absurd z
-left-uses uses (base c ∷ l) x f p = left-uses uses l x (f .1) p
-left-uses uses (left t ∷ l) x f p =
-    ⊎-elim (λ e. ap uses (sym e) ∙ f .0) (λ n. let e = occurs-past t x (lefts l) n in left-uses uses l x (f .1) (omega (arith, e, p))) (equal? t x)
-left-uses uses (met t c ∷ l) x f p = left-uses uses l x (f .1) p
-left-uses uses (pass y ∷ l) x f p = left-uses uses l x (f .1) p
+-- a task that is exited in a line has a right
+exited-uses : (uses : ℕ → Bool) (l : Line) (x : ℕ) → All (Fits uses) l → 0 < occurrences x (exits l) → uses x ≡ true
+exited-uses uses [] x f p = let e = occurs-nil x in let z : ⊥ = omega (arith, e, p) in absurd z
+exited-uses uses (base c ∷ l) x f p = exited-uses uses l x (f .1) p
+exited-uses uses (exited t ∷ l) x f p =
+    ⊎-elim (λ e. ap uses (sym e) ∙ f .0) (λ n. let e = occurs-past t x (exits l) n in exited-uses uses l x (f .1) (omega (arith, e, p))) (equal? t x)
+exited-uses uses (entered t c ∷ l) x f p = exited-uses uses l x (f .1) p
+exited-uses uses (pass y ∷ l) x f p = exited-uses uses l x (f .1) p
 
-met-uses : (uses : ℕ → Bool) (l : Line) (x : ℕ) → All (Fits uses) l → 0 < occurrences x (mets l) → uses x ≡ true
-met-uses uses [] x f p = let e = occurs-nil x in let z : ⊥ = omega (arith, e, p) in absurd z
-met-uses uses (base c ∷ l) x f p = met-uses uses l x (f .1) p
-met-uses uses (left t ∷ l) x f p = met-uses uses l x (f .1) p
-met-uses uses (met t c ∷ l) x f p =
-    ⊎-elim (λ e. ap uses (sym e) ∙ f .0) (λ n. let e = occurs-past t x (mets l) n in met-uses uses l x (f .1) (omega (arith, e, p))) (equal? t x)
-met-uses uses (pass y ∷ l) x f p = met-uses uses l x (f .1) p
+entered-uses : (uses : ℕ → Bool) (l : Line) (x : ℕ) → All (Fits uses) l → 0 < occurrences x (entries l) → uses x ≡ true
+entered-uses uses [] x f p = let e = occurs-nil x in let z : ⊥ = omega (arith, e, p) in absurd z
+entered-uses uses (base c ∷ l) x f p = entered-uses uses l x (f .1) p
+entered-uses uses (exited t ∷ l) x f p = entered-uses uses l x (f .1) p
+entered-uses uses (entered t c ∷ l) x f p =
+    ⊎-elim (λ e. ap uses (sym e) ∙ f .0) (λ n. let e = occurs-past t x (entries l) n in entered-uses uses l x (f .1) (omega (arith, e, p))) (equal? t x)
+entered-uses uses (pass y ∷ l) x f p = entered-uses uses l x (f .1) p
 
 -- a view that is reduced into a place of the line is not of a task without a right
 pub children-elsewhere : (uses : ℕ → Bool) (l : Line) (k : Place) (v : Extent) (f : ℕ → Extent) (u : ℕ) → All (Fits uses) l → In k l → uses u ≡ false
     → childrenWith v k f u ≡ f u
 children-elsewhere uses l k vacant f u h i e = refl
 children-elsewhere uses l (childrenOf t) (extent b y) f u h i e =
-    put-other f t (reduced (f t) (extent b y)) u (λ d. false≢true (sym e ∙ ap uses d ∙ left-uses uses l t h i))
+    put-other f t (reduced (f t) (extent b y)) u (λ d. false≢true (sym e ∙ ap uses d ∙ exited-uses uses l t h i))
 children-elsewhere uses l (rightOf t) (extent b y) f u h i e = refl
 
 pub rights-elsewhere : (uses : ℕ → Bool) (l : Line) (k : Place) (v : Extent) (f : ℕ → Extent) (u : ℕ) → All (Fits uses) l → In k l → uses u ≡ false
     → rightsWith v k f u ≡ f u
 rights-elsewhere uses l k vacant f u h i e = refl
 rights-elsewhere uses l (rightOf t) (extent b y) f u h i e =
-    put-other f t (reduced (f t) (extent b y)) u (λ d. false≢true (sym e ∙ ap uses d ∙ met-uses uses l t h i))
+    put-other f t (reduced (f t) (extent b y)) u (λ d. false≢true (sym e ∙ ap uses d ∙ entered-uses uses l t h i))
 rights-elsewhere uses l (childrenOf t) (extent b y) f u h i e = refl
 
 -- what holds of the mark that is found
@@ -80,10 +80,10 @@ module _ (m : List ℕ) (xs : List Item) (r : Represents m xs) where
   -- of a mark of the tour
   pub mark-placed : (q x : ℕ) → 0 < occurrences x (r .tour) → Placed m q x
   unfolding taskAt kindAt placeAt holdsAt queueMemory ofTasks pick
-  mark-placed q x p = ⊎-elim met-mark left-mark (mark-held m (r .tour) xs (r .linked) x p)
+  mark-placed q x p = ⊎-elim entered-mark exited-mark (mark-held m (r .tour) xs (r .linked) x p)
     where
-      met-mark : (x < 128) × Unfinished (decode m) x → Placed m q x
-      met-mark v =
+      entered-mark : (x < 128) × Unfinished (decode m) x → Placed m q x
+      entered-mark v =
           let b = lt-ltb x 128 (v .0) in
           let a = unfinished-alive m x (v .1) in
           record {
@@ -92,8 +92,8 @@ module _ (m : List ℕ) (xs : List Item) (r : Represents m xs) where
             by-words = rw b (sym (halt _ _ a));
           }
 
-      left-mark : (128 ≤ x) × (x < 256) × Unfinished (decode m) (x - 128) → Placed m q x
-      left-mark v =
+      exited-mark : (128 ≤ x) × (x < 256) × Unfinished (decode m) (x - 128) → Placed m q x
+      exited-mark v =
           let b = le-ltb x 128 (v .0) in
           let a = unfinished-alive m (x - 128) (v .2) in
           record {
@@ -112,9 +112,9 @@ module _ (m : List ℕ) (xs : List Item) (r : Represents m xs) where
     where
       none : In (placeAt END) a → ⊥
       none j =
-          let u = left-uses (usesIn m q) a 128 fits (last j) in
+          let u = exited-uses (usesIn m q) a 128 fits (last j) in
           let z = uses-small m q 128 u in
           omega (arith, z)
         where
-          last : In (placeAt END) a → 0 < occurrences 128 (lefts a)
+          last : In (placeAt END) a → 0 < occurrences 128 (exits a)
           last k = unfold placeAt pick in k

@@ -11,14 +11,14 @@ use Rattle.spec_tree.specs.Tour.{tour}
 use Rattle.spec_outcomes.specs.Views.{standsAt, justBefore}
 use Rattle.spec_order.specs.Steps.{Task, Item, spot, numberOf}
 use Rattle.spec_lists.specs.Maps.{All, all-behind}
-use Rattle.law_gaps.specs.Line.{vacant, Line, met, Fits, settled, Views}
+use Rattle.law_gaps.specs.Line.{vacant, Line, entered, Fits, settled, Views}
 use Rattle.law_gaps.specs.Store.{Laid}
 use Rattle.law_gaps.specs.Places.{Target, target-in}
 use Rattle.law_gaps.specs.Search.{firstOf, placeAt, standsAt as viewStands, Ends, ends-behind, target-found}
 use Rattle.law_gaps.specs.Find.{Found, find, user-settled}
 use Rattle.law_gaps.specs.Frames.{split}
 use Rattle.law_gaps.specs.Pool.{mine}
-use Rattle.law_gaps.specs.Splits.{small-mets}
+use Rattle.law_gaps.specs.Splits.{small-entries}
 use Rattle.law_invariant.specs.Represents.{queueMemory, usesIn, Represents}
 use Rattle.law_invariant.specs.Parts.{holders, parts-of}
 use Rattle.law_invariant.specs.At.{At, where-it-stands, laid-at, task-unfinished}
@@ -46,11 +46,11 @@ module _ (m : List ℕ) (ys zs : List Item) (s : Task) (r : Represents m (ys ++ 
   abbrev a : Line
   a = here .earlier
 
-  laid : Laid (mine (queueMemory m q .store) (r .line q)) (queueMemory m q) (holders m Old r q) (here .later ++ (met t (here .chain) ∷ a))
+  laid : Laid (mine (queueMemory m q .store) (r .line q)) (queueMemory m q) (holders m Old r q) (here .later ++ (entered t (here .chain) ∷ a))
   laid = laid-at m ys zs s r q small here
 
   views-before : Views (queueMemory m q .children) (queueMemory m q .user) (queueMemory m q .right) a settled
-  views-before = user-settled t (here .chain) a empty (split (here .later) (met t (here .chain)) a (laid .views) .1)
+  views-before = user-settled t (here .chain) a empty (split (here .later) (entered t (here .chain)) a (laid .views) .1)
 
   -- marks before the spot are marks of the tour
   inside : (x : ℕ) → 0 < occurrences x (where-it-stands m ys zs s r .earlier) → 0 < occurrences x (r .tour)
@@ -63,7 +63,7 @@ module _ (m : List ℕ) (ys zs : List Item) (s : Task) (r : Represents m (ys ++ 
 
   fits-before : All (Fits (usesIn m q)) a
   fits-before =
-      all-behind (Fits (usesIn m q)) (here .later) (met t (here .chain) ∷ a) (subst (All (Fits (usesIn m q))) (here .parts) (parts-of m Old r .fits q small)) .1
+      all-behind (Fits (usesIn m q)) (here .later) (entered t (here .chain) ∷ a) (subst (All (Fits (usesIn m q))) (here .parts) (parts-of m Old r .fits q small)) .1
 
   stand : ℕ → Bool
   stand = viewStands (usesIn m q) (queueMemory m q .children)
@@ -90,7 +90,7 @@ module _ (m : List ℕ) (ys zs : List Item) (s : Task) (r : Represents m (ys ++ 
   target =
       subst (λ (l : List ℕ). Target (queueMemory m q .children) a (placeAt (firstOf stand l))) (here .earlier-marks)
       (target-found (usesIn m q) (top-uses m Old r q small) (queueMemory m q .children) a views-before fits-before
-      (small-mets (usesIn m q) a (uses-small m q) fits-before) (subst Ends (sym (here .earlier-marks)) ends-before))
+      (small-entries (usesIn m q) a (uses-small m q) fits-before) (subst Ends (sym (here .earlier-marks)) ends-before))
 
   placed : Placed m q (firstOf stand (where-it-stands m ys zs s r .earlier))
   placed = found-placed m Old r q stand (where-it-stands m ys zs s r .earlier) a inside fits-before (target-in _ target) .1

@@ -12,7 +12,7 @@ use Rattle.spec_tree.specs.Tour.{MARKS, tour}
 use Rattle.spec_outcomes.specs.Segments.{taken, nextFree}
 use Rattle.spec_order.specs.Steps.{Task, Item, spot, numberOf}
 use Rattle.spec_lists.specs.Maps.{put-other, lastOf, last-in, all-behind}
-use Rattle.law_gaps.specs.Line.{Line, met, segments, firstChain}
+use Rattle.law_gaps.specs.Line.{Line, entered, segments, firstChain}
 use Rattle.law_gaps.specs.Store.{Chain, Laid}
 use Rattle.law_gaps.specs.Chains.{Gap, count-gap, sole-first}
 use Rattle.law_gaps.specs.Joins.{is-sole}
@@ -53,7 +53,7 @@ module _ (m : List ℕ) (ys zs : List Item) (s : Task) (r : Represents m (ys ++ 
   abbrev a : Line
   a = here .earlier
 
-  laid : Laid (mine (queueMemory m q .store) (r .line q)) (queueMemory m q) (holders m Old r q) (here .later ++ (met t (here .chain) ∷ a))
+  laid : Laid (mine (queueMemory m q .store) (r .line q)) (queueMemory m q) (holders m Old r q) (here .later ++ (entered t (here .chain) ∷ a))
   laid = laid-at m ys zs s r q small here
 
   g-free : 0 < occurrences g (freeIn m)
@@ -66,7 +66,7 @@ module _ (m : List ℕ) (ys zs : List Item) (s : Task) (r : Represents m (ys ++ 
   held-before : (z : ℕ) → 0 < occurrences z (segments a) → 0 < occurrences z (segments (r .line q))
   held-before z p =
       let e = ap (λ (l : Line). occurrences z (segments l)) (here .parts) in
-      let f = count-segments z (here .later) (met t (here .chain) ∷ a) in
+      let f = count-segments z (here .later) (entered t (here .chain) ∷ a) in
       let k = occurs-append z (here .chain) (segments a) in
       omega (arith, e, f, k, p)
 
@@ -119,11 +119,11 @@ module _ (m : List ℕ) (ys zs : List Item) (s : Task) (r : Represents m (ys ++ 
       let was : contentsIn m (lastOf p c) ≡ [] =
       sym (ap (λ (M : Meaning). M .contents (lastOf p c)) (is-taken .means) ∙ put-other (contentsIn m) g (v ∷ []) (lastOf p c) (not-free (lastOf p c) there))
       ∙ e in
-      let good = all-behind (Chain (queueMemory m q .store .next) (contentsIn m)) (here .later) (met t (here .chain) ∷ a) (laid .held .chains .good) .1 in
+      let good = all-behind (Chain (queueMemory m q .store .next) (contentsIn m)) (here .later) (entered t (here .chain) ∷ a) (laid .held .chains .good) .1 in
       let w = is-sole (queueMemory m q .store .next) (contentsIn m) k good was in
       let d : lastOf p c ≡ p = ap (lastOf p) (w .1) in
       ap firstChain (here .parts)
-      ∙ first-behind (here .later) (met t (here .chain) ∷ a) (no-base (here .later) (met t (here .chain)) a (laid .views))
+      ∙ first-behind (here .later) (entered t (here .chain) ∷ a) (no-base (here .later) (entered t (here .chain)) a (laid .views))
       ∙ sole-first (w .0)
       ∙ ap (λ (y : ℕ). y ∷ []) (sym d)
 

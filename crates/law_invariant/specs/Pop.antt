@@ -27,7 +27,7 @@ use Rattle.law_order_queue.specs.Found.{firstOf}
 use Rattle.law_order_queue.specs.Laws.{pop-line}
 use Rattle.law_order_queue.specs.Finds.{finds, NoValueFirst, finds-none}
 use Rattle.spec_lists.specs.Maps.{put-same, all-behind}
-use Rattle.law_gaps.specs.Line.{vacant, Line, base, left, met, pass, firstChain}
+use Rattle.law_gaps.specs.Line.{vacant, Line, base, exited, entered, pass, firstChain}
 use Rattle.law_gaps.specs.Store.{Memory, Chain, Start, sole, full, headOf, Laid, valuesIn, timeline}
 use Rattle.law_gaps.specs.Lines.{NoBase, first-behind}
 use Rattle.law_gaps.specs.Frames.{bottomed, no-base}
@@ -66,9 +66,9 @@ no-popper q (spot o ∷ ys) h = (h o (inl refl), no-popper q ys (λ u i. h u (in
 no-value-first : (contents : ℕ → List ℕ) (b : Line) → NoBase b → NoValueFirst (timeline contents b)
 no-value-first contents [] h v rs e = let z : _≡_ {A = ℕ} 0 1 = cc in omega (arith, z)
 no-value-first contents (base c ∷ b) h v rs e = absurd h
-no-value-first contents (left t ∷ b) h v rs e = no-value-first contents b h v rs e
+no-value-first contents (exited t ∷ b) h v rs e = no-value-first contents b h v rs e
 no-value-first contents (pass x ∷ b) h v rs e = no-value-first contents b h v rs e
-no-value-first contents (met t c ∷ b) h v rs e = go (timeline contents b) (no-value-first contents b h) e
+no-value-first contents (entered t c ∷ b) h v rs e = go (timeline contents b) (no-value-first contents b h) e
   where
     go : (l : List Point) → NoValueFirst l → l ++ (user t ∷ valuesIn contents c) ≡ value v ∷ rs → ⊥
     go [] f d = let z : _≡_ {A = ℕ} 0 1 = cc in omega (arith, z)

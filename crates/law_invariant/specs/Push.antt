@@ -14,7 +14,7 @@ use Rattle.law_order_waits.specs.Played.{Played}
 use Rattle.law_order_queue.specs.Points.{Point, value, user, added, takes, Timeline}
 use Rattle.law_order_queue.specs.Laws.{push-line}
 use Rattle.spec_lists.specs.Maps.{put, put-other}
-use Rattle.law_gaps.specs.Line.{End, local, Extent, vacant, extent, Line, met}
+use Rattle.law_gaps.specs.Line.{End, local, Extent, vacant, extent, Line, entered}
 use Rattle.law_gaps.specs.Store.{Memory, timeline}
 use Rattle.law_gaps.specs.Moves.{pushedInto, taken as taken-store, pushedBehind}
 use Rattle.law_gaps.specs.After.{After}
@@ -85,7 +85,7 @@ module _ (m : List ℕ) (ys zs : List Item) (s : Task) (r : Represents m (ys ++ 
       → ((p : ℕ) → p < 4 → (p ≡ q → ⊥) → ofTasks (alive m) (memoryOf M p) ≡ shared (W .store) (queueMemory m p))
       → ((x : ℕ) → usesIn m q x ≡ false → (W .children x ≡ vacant) × (W .user x ≡ vacant) × (W .right x ≡ vacant))
       → After (mine (queueMemory m q .store) (r .line q)) (queueMemory m q .store) W (holders m Old r q)
-      (stands .later ++ (met t (stands .chain) ∷ stands .earlier)) Pushed
+      (stands .later ++ (entered t (stands .chain) ∷ stands .earlier)) Pushed
       → Represents n New
   unfolding queueMemory ofTasks
   pushed n M W b play f e others bare row =

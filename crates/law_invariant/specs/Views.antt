@@ -12,51 +12,51 @@ use Rattle.spec_layout.specs.Layout.{FREE, STATUS, task, read, CHILDREN, USER, 
 use Rattle.spec_rules.specs.Contents.{decode}
 use Rattle.spec_rules.specs.Rules.{Unfinished}
 use Rattle.spec_lists.specs.Maps.{All}
-use Rattle.law_gaps.specs.Line.{base, left, met, pass, Line, marks, lefts, mets, Fits}
-use Rattle.law_gaps.specs.Search.{taskAt, task-met, task-left}
+use Rattle.law_gaps.specs.Line.{base, exited, entered, pass, Line, marks, exits, entries, Fits}
+use Rattle.law_gaps.specs.Search.{taskAt, task-entered, task-exited}
 use Rattle.law_links.specs.Linked.{word-is}
 use Rattle.law_maps.specs.Meaning.{headsIn, viewIn}
 use Rattle.law_invariant.specs.Represents.{alive, usesIn, ofTasks, queueMemory}
 
--- a task with a right is met, and left, in the line where the tour meets and leaves it
+-- a task with a right is entered, and exited, in the line where the tour meets and leaves it
 module _ (uses : ℕ → Bool) where
-  pub met-in : (l : Line) → All (Fits uses) l → (x : ℕ) → x < 128 → uses x ≡ true → 0 < occurrences x (marks l) → 0 < occurrences x (mets l)
+  pub entered-in : (l : Line) → All (Fits uses) l → (x : ℕ) → x < 128 → uses x ≡ true → 0 < occurrences x (marks l) → 0 < occurrences x (entries l)
   unfolding taskAt
-  met-in [] f x s u p = p
-  met-in (base c ∷ l) f x s u p = met-in l (f .1) x s u p
-  met-in (left t ∷ l) f x s u p =
-      let e = occurs-past (128 + t) x (marks l) (λ q. omega (arith, q, s)) in met-in l (f .1) x s u (omega (arith, e, p))
-  met-in (met t c ∷ l) f x s u p =
+  entered-in [] f x s u p = p
+  entered-in (base c ∷ l) f x s u p = entered-in l (f .1) x s u p
+  entered-in (exited t ∷ l) f x s u p =
+      let e = occurs-past (128 + t) x (marks l) (λ q. omega (arith, q, s)) in entered-in l (f .1) x s u (omega (arith, e, p))
+  entered-in (entered t c ∷ l) f x s u p =
       ⊎-elim
-      (λ e. let g = occurs-here t x (mets l) e in omega (arith, g))
-      (λ n. let e = occurs-past t x (marks l) n in occurs-later t x (mets l) (met-in l (f .1) x s u (omega (arith, e, p))))
+      (λ e. let g = occurs-here t x (entries l) e in omega (arith, g))
+      (λ n. let e = occurs-past t x (marks l) n in occurs-later t x (entries l) (entered-in l (f .1) x s u (omega (arith, e, p))))
       (equal? t x)
-  met-in (pass y ∷ l) f x s u p =
+  entered-in (pass y ∷ l) f x s u p =
       ⊎-elim
-      (λ e. absurd (false≢true (sym (f .0) ∙ ap (λ (z : ℕ). uses (taskAt z)) e ∙ ap uses (task-met x s) ∙ u)))
-      (λ n. let e = occurs-past y x (marks l) n in met-in l (f .1) x s u (omega (arith, e, p)))
+      (λ e. absurd (false≢true (sym (f .0) ∙ ap (λ (z : ℕ). uses (taskAt z)) e ∙ ap uses (task-entered x s) ∙ u)))
+      (λ n. let e = occurs-past y x (marks l) n in entered-in l (f .1) x s u (omega (arith, e, p)))
       (equal? y x)
 
-  pub left-in : (l : Line) → All (Fits uses) l → All (λ t. t < 128) (mets l) → (x : ℕ) → uses x ≡ true → 0 < occurrences (128 + x) (marks l)
-      → 0 < occurrences x (lefts l)
+  pub exited-in : (l : Line) → All (Fits uses) l → All (λ t. t < 128) (entries l) → (x : ℕ) → uses x ≡ true → 0 < occurrences (128 + x) (marks l)
+      → 0 < occurrences x (exits l)
   unfolding taskAt
-  left-in [] f s x u p = let e = occurs-nil (128 + x) in let z : ⊥ = omega (arith, e, p) in absurd z
-  left-in (base c ∷ l) f s x u p = left-in l (f .1) s x u p
-  left-in (left t ∷ l) f s x u p =
+  exited-in [] f s x u p = let e = occurs-nil (128 + x) in let z : ⊥ = omega (arith, e, p) in absurd z
+  exited-in (base c ∷ l) f s x u p = exited-in l (f .1) s x u p
+  exited-in (exited t ∷ l) f s x u p =
       ⊎-elim
-      (λ e. let g = occurs-here t x (lefts l) e in omega (arith, g))
+      (λ e. let g = occurs-here t x (exits l) e in omega (arith, g))
       (λ n.
       let e = occurs-past (128 + t) (128 + x) (marks l) (λ q. n (omega (arith, q))) in
-      occurs-later t x (lefts l) (left-in l (f .1) s x u (omega (arith, e, p))))
+      occurs-later t x (exits l) (exited-in l (f .1) s x u (omega (arith, e, p))))
       (equal? t x)
-  left-in (met t c ∷ l) f s x u p =
+  exited-in (entered t c ∷ l) f s x u p =
       let b = s .0 in
       let e = occurs-past t (128 + x) (marks l) (λ q. omega (arith, q, b)) in
-      left-in l (f .1) (s .1) x u (omega (arith, e, p))
-  left-in (pass y ∷ l) f s x u p =
+      exited-in l (f .1) (s .1) x u (omega (arith, e, p))
+  exited-in (pass y ∷ l) f s x u p =
       ⊎-elim
-      (λ e. absurd (false≢true (sym (f .0) ∙ ap (λ (z : ℕ). uses (taskAt z)) e ∙ ap uses (task-left x) ∙ u)))
-      (λ n. let e = occurs-past y (128 + x) (marks l) n in left-in l (f .1) s x u (omega (arith, e, p)))
+      (λ e. absurd (false≢true (sym (f .0) ∙ ap (λ (z : ℕ). uses (taskAt z)) e ∙ ap uses (task-exited x) ∙ u)))
+      (λ n. let e = occurs-past y (128 + x) (marks l) n in exited-in l (f .1) s x u (omega (arith, e, p)))
       (equal? y (128 + x))
 
 -- a task of the tour is in use

@@ -36,7 +36,7 @@ first-path f g (y ∷ l) h =
     (first-path f g l
     (λ x p. h x (⊎-elim (λ e. let k = occurs-here y x l e in omega (arith, k)) (λ e. let k = occurs-past y x l e in omega (arith, k, p)) (equal? y x))))
 
--- a row of the tour ends where the top is left
+-- a row of the tour ends where the top is exited
 pub row-ends : (c : Contents) (l : List ℕ) → Row c l → Ends l
 row-ends c [] h = h
 row-ends c (x ∷ []) h = h

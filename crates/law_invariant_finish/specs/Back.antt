@@ -37,7 +37,7 @@ module _ (m : List ℕ) (ys zs : List Item) (s : Task) (r : Represents m (ys ++ 
   abbrev here : Leaf m ys zs s r barren
   here = leaf m ys zs s r barren
 
-  -- what the tour meets behind t is part of it, and ends where the top is left
+  -- what the tour meets behind t is part of it, and ends where the top is exited
   pub earlier-marks : (x : ℕ) → 0 < occurrences x (here .earlier) → 0 < occurrences x (r .tour)
   earlier-marks x p =
       let a = ap (occurrences x) (here .here) ∙ occurs-append x (here .later) (t ∷ (128 + t) ∷ here .earlier) in

@@ -17,7 +17,7 @@ use Rattle.spec_outcomes.specs.Views.{viewOf, isEmpty, headOf, tailOf, frees, b
 use Rattle.spec_outcomes.specs.Finish.{returned as returnedView, finishes}
 use Rattle.spec_order.specs.Steps.{Task, Item, spot, numberOf}
 use Rattle.law_order_waits.specs.Popper.{firstPopper}
-use Rattle.law_gaps.specs.Line.{End, local, Extent, vacant, extent, left, met, Line, marks}
+use Rattle.law_gaps.specs.Line.{End, local, Extent, vacant, extent, exited, entered, Line, marks}
 use Rattle.law_gaps.specs.Store.{Memory}
 use Rattle.law_gaps.specs.Moves.{viewAt, reduced, returned}
 use Rattle.law_gaps.specs.Search.{placeAt}
@@ -54,7 +54,7 @@ no-values m z l e = contents-at m z l ∙ ap (listed (valueAt m z)) e
 module _ (m : List ℕ) (ys zs : List Item) (s : Task) (r : Represents m (ys ++ spot s ∷ zs)) (barren : hasChild m (numberOf s) ≡ false) (above : 0 < numberOf s)
     (n : List ℕ) (holder : ℕ → ℕ) (line : ℕ → Line) (way : Way m n holder line) (covered : (p : ℕ) → p < 4 → Covered (queueMemory n p) (r .tour) (line p))
     (q : ℕ) (small : q < 4) (first : firstPopper q (ys ++ spot s ∷ zs) ≡ some (holder q))
-    (b : Line) (c : List ℕ) (a : Line) (parts : line q ≡ b ++ (met (numberOf s) c ∷ (left (numberOf s) ∷ a)))
+    (b : Line) (c : List ℕ) (a : Line) (parts : line q ≡ b ++ (entered (numberOf s) c ∷ (exited (numberOf s) ∷ a)))
     (earlier : marks a ≡ leaf m ys zs s r barren .earlier) where
   abbrev t : ℕ
   t = numberOf s
@@ -66,7 +66,7 @@ module _ (m : List ℕ) (ys zs : List Item) (s : Task) (r : Represents m (ys ++ 
   Q = queueMemory n q
 
   abbrev Line-t : Line
-  Line-t = b ++ (met t c ∷ (left t ∷ a))
+  Line-t = b ++ (entered t c ∷ (exited t ∷ a))
 
   below : t < 128
   below = task-unfinished m ys zs s r .0

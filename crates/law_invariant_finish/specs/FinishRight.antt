@@ -13,7 +13,7 @@ use Rattle.spec_order.specs.Steps.{Task, Item, spot, finishes, numberOf, rights
 use Rattle.law_order_queue.specs.Points.{Point, user, Timeline}
 use Rattle.law_order_queue.specs.Laws.{finish-line}
 use Rattle.spec_lists.specs.Maps.{All, put-same, put-other, all-append, all-front, all-behind}
-use Rattle.law_gaps.specs.Line.{Extent, vacant, Mark, left, met, Line, marks, segments, Fits}
+use Rattle.law_gaps.specs.Line.{Extent, vacant, Mark, exited, entered, Line, marks, segments, Fits}
 use Rattle.law_gaps.specs.Store.{Memory, Laid, valuesIn, timeline}
 use Rattle.law_gaps.specs.Lines.{marks-append, count-segments}
 use Rattle.law_gaps.specs.Moves.{viewAt, reduced, joined, finishedWith, finished}
@@ -63,7 +63,7 @@ module _ (m : List ℕ) (ys zs : List Item) (s : Task) (r : Represents m (ys ++ 
   abbrev Rest : List ℕ
   Rest = leaf m ys zs s r barren .later ++ leaf m ys zs s r barren .earlier
 
-  module _ (y : Mark) (b : Line) (c : List ℕ) (a : Line) (parts : line q ≡ (y ∷ b) ++ (met t c ∷ (left t ∷ a)))
+  module _ (y : Mark) (b : Line) (c : List ℕ) (a : Line) (parts : line q ≡ (y ∷ b) ++ (entered t c ∷ (exited t ∷ a)))
       (later : marks (y ∷ b) ≡ leaf m ys zs s r barren .later)
       (earlier : marks a ≡ leaf m ys zs s r barren .earlier) (right : usesIn m q t ≡ true) (may : uses (rightsOf s) q ≡ true) where
     live-t : alive n t ≡ true
@@ -104,13 +104,13 @@ module _ (m : List ℕ) (ys zs : List Item) (s : Task) (r : Represents m (ys ++ 
     time : Timeline q New Points
     time =
         finish-line q ys zs s (single-spot m ys zs s r) (timeline (contentsIn n) a) (valuesIn (contentsIn n) c ++ timeline (contentsIn n) (y ∷ b)) may
-        (subst (Timeline q Old) (ap (timeline (contentsIn n)) parts ∙ timeline-at (contentsIn n) (y ∷ b) t c (left t ∷ a)) (stands .time))
+        (subst (Timeline q Old) (ap (timeline (contentsIn n)) parts ∙ timeline-at (contentsIn n) (y ∷ b) t c (exited t ∷ a)) (stands .time))
 
     both-parts : All (Fits (usesIn m q)) ((y ∷ b) ++ a)
     both-parts =
         let f = subst (All (Fits (usesIn m q))) parts (way .fits q small) in
-        all-append (Fits (usesIn m q)) (y ∷ b) a (all-front (Fits (usesIn m q)) (y ∷ b) (met t c ∷ (left t ∷ a)) f)
-        (all-behind (Fits (usesIn m q)) (y ∷ b) (met t c ∷ (left t ∷ a)) f .1 .1)
+        all-append (Fits (usesIn m q)) (y ∷ b) a (all-front (Fits (usesIn m q)) (y ∷ b) (entered t c ∷ (exited t ∷ a)) f)
+        (all-behind (Fits (usesIn m q)) (y ∷ b) (entered t c ∷ (exited t ∷ a)) f .1 .1)
 
     bare : (x : ℕ) → usesIn m q x ≡ false → Vacant W x
     unfolding finished finishedWith
@@ -138,7 +138,7 @@ module _ (m : List ℕ) (ys zs : List Item) (s : Task) (r : Represents m (ys ++ 
         inner : Extent
         inner = reduced (Q .children t) (Q .user t)
 
-        laid : Laid own Q h ((y ∷ b) ++ (met t c ∷ (left t ∷ a)))
+        laid : Laid own Q h ((y ∷ b) ++ (entered t c ∷ (exited t ∷ a)))
         laid = was m ys zs s r n holder line way covered q small (stands .first) (y ∷ b) c a parts
 
         views : Leaving own (single m Old r n holder line way q small) Q h (y ∷ b) t a c
@@ -147,14 +147,14 @@ module _ (m : List ℕ) (ys zs : List Item) (s : Task) (r : Represents m (ys ++ 
         low : (x : ℕ) → 0 < occurrences x c → x < N
         low x p =
             let e = ap (λ (l : Line). occurrences x (segments l)) parts in
-            let f = count-segments x (y ∷ b) (met t c ∷ (left t ∷ a)) in
-            let g = occurs-append x c (segments (left t ∷ a)) in
+            let f = count-segments x (y ∷ b) (entered t c ∷ (exited t ∷ a)) in
+            let g = occurs-append x c (segments (exited t ∷ a)) in
             let k = held-below m Old r n holder line way q small x (omega (arith, e, f, g, p)) in
             let w = way .kept .number in
             omega (arith, k, w)
 
         right-head : HeadBelow N some-opened (Q .right t)
-        right-head = right-below N some-opened t c (left t ∷ a) (split (y ∷ b) (met t c) (left t ∷ a) (laid .views) .1) low
+        right-head = right-below N some-opened t c (exited t ∷ a) (split (y ∷ b) (entered t c) (exited t ∷ a) (laid .views) .1) low
 
     gone : Vacant W t
     unfolding finished finishedWith
@@ -185,7 +185,7 @@ module _ (m : List ℕ) (ys zs : List Item) (s : Task) (r : Represents m (ys ++ 
   pub views-turn : usesIn m q t ≡ true → uses (rightsOf s) q ≡ true → Change m n (viewsReturned n t q) t q (line q) h New Rest
   views-turn u v = go (with-right m ys zs s r barren q (line q) (way .laids .laid q small .views) (way .fits q small) (stands .marked) u)
     where
-      go : (b : Line) × (c : List ℕ) × (a : Line) × (line q ≡ b ++ (met t c ∷ (left t ∷ a))) × (marks b ≡ leaf m ys zs s r barren .later)
+      go : (b : Line) × (c : List ℕ) × (a : Line) × (line q ≡ b ++ (entered t c ∷ (exited t ∷ a))) × (marks b ≡ leaf m ys zs s r barren .later)
           × (marks a ≡ leaf m ys zs s r barren .earlier)
           → Change m n (viewsReturned n t q) t q (line q) h New Rest
       go ([], c, a, p, e, f) =

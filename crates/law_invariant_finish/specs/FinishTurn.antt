@@ -20,7 +20,7 @@ use Rattle.law_links.specs.Waits.{same-rights}
 use Rattle.law_invariant.specs.Represents.{queueMemory, usesIn, Represents}
 use Rattle.law_invariant.specs.Walks.{marked}
 use Rattle.law_invariant.specs.At.{mine-spot, task-unfinished}
-use Rattle.law_invariant.specs.FirstNamed.{task-left}
+use Rattle.law_invariant.specs.FirstNamed.{task-exited}
 use Rattle.law_invariant.specs.Covered.{Covered, Vacant, AllOrNone, by-marks}
 use Rattle.law_invariant_finish.specs.Leaf.{Leaf, leaf, with-right}
 use Rattle.law_invariant_finish.specs.Way.{Standing, AllStand, at-queue, Turn, turn, turn-other, turn-here, turn-gone, turn-vacant}
@@ -76,7 +76,7 @@ module _ (m : List ℕ) (ys zs : List Item) (s : Task) (r : Represents m (ys ++ 
           (subst (λ (j : List ℕ). 0 < occurrences x j) (sym e) a) (subst (λ (j : List ℕ). 0 < occurrences (128 + x) j) (sym e) b)
 
       go : (c : Bool) → Now n c p (A .holder p) (A .line p) → AllOrNone (queueMemory n p) (A .line p) x
-      go true w = marked (r .tour) (w .marked) k (task-left m Old r x l k)
+      go true w = marked (r .tour) (w .marked) k (task-exited m Old r x l k)
       go false w =
           ⊎-elim
           (λ e. inr (subst (Vacant (queueMemory n p)) (sym e) (w .1)))
@@ -84,7 +84,7 @@ module _ (m : List ℕ) (ys zs : List Item) (s : Task) (r : Represents m (ys ++ 
           let b = below in
           marked Rest (w .0 .marked)
           (in-rest x e (λ d. omega (arith, d, l)) k)
-          (in-rest (128 + x) (λ d. omega (arith, d, b)) (λ d. e (omega (arith, d))) (task-left m Old r x l k)))
+          (in-rest (128 + x) (λ d. omega (arith, d, b)) (λ d. e (omega (arith, d))) (task-exited m Old r x l k)))
           (equal? x t)
 
   pub uses-is : (q : ℕ) → usesIn m q t ≡ uses (rightsOf s) q

@@ -15,7 +15,7 @@ use Rattle.spec_tree.specs.Rights.{uses}
 use Rattle.spec_outcomes.specs.Waits.{rightsOf as rightsIn}
 use Rattle.spec_outcomes.specs.Finish.{unlinked, recordFreed}
 use Rattle.spec_lists.specs.Maps.{All}
-use Rattle.law_gaps.specs.Line.{vacant, base, left, met, pass, Line, marks, Fits}
+use Rattle.law_gaps.specs.Line.{vacant, base, exited, entered, pass, Line, marks, Fits}
 use Rattle.law_links.specs.Finish.{Finished}
 use Rattle.law_maps.specs.Meaning.{Meaning, meaningOf, nextIn, contentsIn, freeIn, headsIn, viewIn, Sized}
 use Rattle.law_maps.specs.Reads.{head-same-at, view-same-at}
@@ -39,11 +39,11 @@ pub fits-without : (u w : ℕ → Bool) (t : ℕ) → ((x : ℕ) → (x ≡ t �
     → All (Fits u) l → All (Fits w) l
 fits-without u w t same [] a b h = tt
 fits-without u w t same (base c ∷ l) a b h = (tt, fits-without u w t same l a b (h .1))
-fits-without u w t same (left x ∷ l) a b h =
+fits-without u w t same (exited x ∷ l) a b h =
     let i = occurs-not (128 + x) t (marks l) a in
     let j = occurs-not (128 + x) (128 + t) (marks l) b in
     (same x (λ e. j .0 (ap (λ (y : ℕ). 128 + y) e)) ∙ h .0, fits-without u w t same l (i .1) (j .1) (h .1))
-fits-without u w t same (met x c ∷ l) a b h =
+fits-without u w t same (entered x c ∷ l) a b h =
     let i = occurs-not x t (marks l) a in
     let j = occurs-not x (128 + t) (marks l) b in
     (same x (i .0) ∙ h .0, fits-without u w t same l (i .1) (j .1) (h .1))

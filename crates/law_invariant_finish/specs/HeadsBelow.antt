@@ -4,7 +4,7 @@ use mathlib.Core.List.{List, _∷_}
 use Prim.Native.Nat.{ℕ, _<_}
 use native.Mathlib.Omega.{arith}
 use Rattle.spec_lists.specs.Counting.{occurrences, occurs-here}
-use Rattle.law_gaps.specs.Line.{nonlocal, local, Extent, vacant, extent, Line, met, Mode, bare, whole, begun, Views, meeting}
+use Rattle.law_gaps.specs.Line.{nonlocal, local, Extent, vacant, extent, Line, entered, Mode, bare, whole, begun, Views, entering}
 use Rattle.law_gaps.specs.Moves.{reduced}
 use Rattle.law_invariant.specs.Nexts.{HeadBelow}
 use Rattle.law_invariant_finish.specs.Meets.{Headless}
@@ -25,8 +25,8 @@ module _ (n : ℕ) (some-opened : 0 < n) where
   reduced-below (extent (local s) y) (extent g z) h b = absurd h
 
   -- a right view begins the chain behind the task's spot
-  pub right-below : {children user right : ℕ → Extent} (t : ℕ) (c : List ℕ) (a : Line) {k : Mode} → Views children user right (met t c ∷ a) k
+  pub right-below : {children user right : ℕ → Extent} (t : ℕ) (c : List ℕ) (a : Line) {k : Mode} → Views children user right (entered t c ∷ a) k
       → ((x : ℕ) → 0 < occurrences x c → x < n) → Below (right t)
-  right-below t c a (meeting v w e i f bare r) h = subst Below (sym f) tt
-  right-below t c a (meeting v w e i f (whole {s = s} {c = d} y) r) h = subst Below (sym f) (h s (let o = occurs-here s s d refl in omega (arith, o)))
-  right-below t c a (meeting v w e i f (begun {s = s} {c = d} y) r) h = subst Below (sym f) (h s (let o = occurs-here s s d refl in omega (arith, o)))
+  right-below t c a (entering v w e i f bare r) h = subst Below (sym f) tt
+  right-below t c a (entering v w e i f (whole {s = s} {c = d} y) r) h = subst Below (sym f) (h s (let o = occurs-here s s d refl in omega (arith, o)))
+  right-below t c a (entering v w e i f (begun {s = s} {c = d} y) r) h = subst Below (sym f) (h s (let o = occurs-here s s d refl in omega (arith, o)))

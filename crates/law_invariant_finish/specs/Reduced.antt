@@ -12,7 +12,7 @@ use Rattle.spec_rules.specs.Contents.{decode}
 use Rattle.spec_rules.specs.Rules.{Unfinished}
 use Rattle.spec_order.specs.Steps.{Task, Item, spot, numberOf}
 use Rattle.law_order_waits.specs.Popper.{firstPopper}
-use Rattle.law_gaps.specs.Line.{Extent, vacant, left, met, Line, segments, firstChain}
+use Rattle.law_gaps.specs.Line.{Extent, vacant, exited, entered, Line, segments, firstChain}
 use Rattle.law_gaps.specs.Store.{Store, Memory, Laid}
 use Rattle.law_gaps.specs.Moves.{reduced, joined, returned}
 use Rattle.law_gaps.specs.Pool.{mine}
@@ -41,7 +41,7 @@ use Rattle.law_invariant_finish.specs.Queue.{way-linked, spot-alive, sin
 module _ (m : List ℕ) (ys zs : List Item) (s : Task) (r : Represents m (ys ++ spot s ∷ zs))
     (n : List ℕ) (holder : ℕ → ℕ) (line : ℕ → Line) (way : Way m n holder line) (covered : (p : ℕ) → p < 4 → Covered (queueMemory n p) (r .tour) (line p))
     (q : ℕ) (small : q < 4) (first : firstPopper q (ys ++ spot s ∷ zs) ≡ some (holder q))
-    (b : Line) (c : List ℕ) (a : Line) (parts : line q ≡ b ++ (met (numberOf s) c ∷ (left (numberOf s) ∷ a))) where
+    (b : Line) (c : List ℕ) (a : Line) (parts : line q ≡ b ++ (entered (numberOf s) c ∷ (exited (numberOf s) ∷ a))) where
   abbrev t : ℕ
   t = numberOf s
 
@@ -61,7 +61,7 @@ module _ (m : List ℕ) (ys zs : List Item) (s : Task) (r : Represents m (ys ++ 
   own = mine (Q .store) (line q)
 
   abbrev Line-t : Line
-  Line-t = b ++ (met t c ∷ (left t ∷ a))
+  Line-t = b ++ (entered t c ∷ (exited t ∷ a))
 
   below : t < 128
   below = task-unfinished m ys zs s r .0

@@ -6,8 +6,8 @@ use Prim.Native.Nat.{ℕ, _+_, _<_, _≤_}
 use native.Mathlib.Omega.{arith}
 use Rattle.spec_lists.specs.Counting.{occurrences, occurs-append, occurs-here}
 use Rattle.spec_lists.specs.Maps.{lastOf, last-in, all-behind}
-use Rattle.law_gaps.specs.Line.{End, nonlocal, local, Extent, extent, left, met, Line, segments, firstChain, Mode, settled, awaiting, Inside, rest, mid, close}
-use Rattle.law_gaps.specs.Line.{Begins, bare, whole, begun, Views, leaving, meeting, passing}
+use Rattle.law_gaps.specs.Line.{End, nonlocal, local, Extent, extent, exited, entered, Line, segments, firstChain, Mode, settled, awaiting, Inside, rest, mid, close}
+use Rattle.law_gaps.specs.Line.{Begins, bare, whole, begun, Views, exiting, entering, passing}
 use Rattle.law_gaps.specs.Store.{Chain, Memory, Laid}
 use Rattle.law_gaps.specs.Lines.{count-segments, first-behind}
 use Rattle.law_gaps.specs.Frames.{split, no-base}
@@ -40,15 +40,15 @@ inside-apart close rest = tt
 latest-meets : (P : ℕ → ℕ → Type 0) {children user right : ℕ → Extent} {l : Line} {z : ℕ} (k : Place) (x : End) → Latest l k
     → Views children user right l (awaiting z)
     → Meets P (viewAt children right k) (extent nonlocal x)
-latest-meets P (childrenOf t) x Latest.at-left (leaving v e rest r) = subst (λ (w : Extent). Meets P w (extent nonlocal x)) (sym e) tt
-latest-meets P (childrenOf t) x Latest.at-left (leaving v e mid r) = subst (λ (w : Extent). Meets P w (extent nonlocal x)) (sym e) tt
-latest-meets P (rightOf t) x Latest.at-met (meeting v w e i f (begun y) r) = subst (λ (w : Extent). Meets P w (extent nonlocal x)) (sym f) tt
+latest-meets P (childrenOf t) x Latest.at-exited (exiting v e rest r) = subst (λ (w : Extent). Meets P w (extent nonlocal x)) (sym e) tt
+latest-meets P (childrenOf t) x Latest.at-exited (exiting v e mid r) = subst (λ (w : Extent). Meets P w (extent nonlocal x)) (sym e) tt
+latest-meets P (rightOf t) x Latest.at-entered (entering v w e i f (begun y) r) = subst (λ (w : Extent). Meets P w (extent nonlocal x)) (sym f) tt
 latest-meets P k x (Latest.over o) (passing r) = latest-meets P k x o r
 
--- Task t has a right to the queue, and no child: it is met and left side by side.
+-- Task t has a right to the queue, and no child: it is entered and exited side by side.
 module _ (own : ℕ → ℕ) (single : (x : ℕ) → own x ≤ 1) (m : Memory) (holder : ℕ) (b : Line) (t : ℕ) (a : Line) where
   abbrev Whole : List ℕ → Line
-  Whole c = b ++ (met t c ∷ (left t ∷ a))
+  Whole c = b ++ (entered t c ∷ (exited t ∷ a))
 
   abbrev Was : List ℕ → Type 0
   Was c = Laid own m holder (Whole c)
@@ -58,7 +58,7 @@ module _ (own : ℕ → ℕ) (single : (x : ℕ) → own x ≤ 1) (m : Memory) (
 
   counted : (c : List ℕ) (x : ℕ) → occurrences x (segments (Whole c)) ≡ occurrences x (segments b) + (occurrences x c + occurrences x (segments a))
   counted c x =
-      let e = count-segments x b (met t c ∷ (left t ∷ a)) in
+      let e = count-segments x b (entered t c ∷ (exited t ∷ a)) in
       let f = occurs-append x c (segments a) in
       omega (arith, e, f)
 
@@ -91,8 +91,8 @@ module _ (own : ℕ → ℕ) (single : (x : ℕ) → own x ≤ 1) (m : Memory) (
             omega (arith, x, o, i, j, k, first-held);
         alone = λ e.
             let k = is-sole (m .store .next) (m .store .contents) g
-            (all-behind (Chain (m .store .next) (m .store .contents)) b (met t (s ∷ d) ∷ (left t ∷ a)) (w .held .chains .good) .1 .1) e in
-            first-behind b (met t (s ∷ d) ∷ (left t ∷ a)) (no-base b (met t (s ∷ d)) (left t ∷ a) (w .views))
+            (all-behind (Chain (m .store .next) (m .store .contents)) b (entered t (s ∷ d) ∷ (exited t ∷ a)) (w .held .chains .good) .1 .1) e in
+            first-behind b (entered t (s ∷ d) ∷ (exited t ∷ a)) (no-base b (entered t (s ∷ d)) (exited t ∷ a) (w .views))
             ∙ sole-first (k .0)
             ∙ ap (λ (y : ℕ). y ∷ []) (sym (ap (lastOf p) (k .1)));
       }
@@ -157,10 +157,10 @@ module _ (own : ℕ → ℕ) (single : (x : ℕ) → own x ≤ 1) (m : Memory) (
     pub place-meets : (k : Place) → Returns (m .children) a (returned t m) k → Meets (Link m (Whole c)) (viewAt (m .children) (m .right) k) (returned t m)
 
   pub leaving-views : (c : List ℕ) → Was c → Leaving c
-  leaving-views c w = go (split b (met t c) (left t ∷ a) (w .views) .1)
+  leaving-views c w = go (split b (entered t c) (exited t ∷ a) (w .views) .1)
     where
-      go : {n : Mode} → Views (m .children) (m .user) (m .right) (met t c ∷ (left t ∷ a)) n → Leaving c
-      go {n} (meeting {m = n₁} v x e i f g (leaving {m = n₀} v′ e′ i′ q)) =
+      go : {n : Mode} → Views (m .children) (m .user) (m .right) (entered t c ∷ (exited t ∷ a)) n → Leaving c
+      go {n} (entering {m = n₁} v x e i f g (exiting {m = n₀} v′ e′ i′ q)) =
           let u : Inside n₁ (m .user t) settled = subst (λ (z : Extent). Inside n₁ z settled) (sym e) i in
           let k : Inside n₀ (m .children t) n₁ = subst (λ (z : Extent). Inside n₀ z n₁) (sym e′) i′ in
           let y : Begins c (m .right t) n = subst (λ (z : Extent). Begins c z n) (sym f) g in

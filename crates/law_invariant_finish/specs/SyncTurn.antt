@@ -10,7 +10,7 @@ use Rattle.spec_outcomes.specs.Waits.{hasChild}
 use Rattle.spec_outcomes.specs.Sync.{syncs, syncedQueue}
 use Rattle.spec_order.specs.Steps.{Task, Item, spot, numberOf}
 use Rattle.spec_lists.specs.Maps.{put-other}
-use Rattle.law_gaps.specs.Line.{Extent, vacant, left, met, Line, segments}
+use Rattle.law_gaps.specs.Line.{Extent, vacant, exited, entered, Line, segments}
 use Rattle.law_gaps.specs.Store.{Memory, Laid, timeline}
 use Rattle.law_gaps.specs.Moves.{reduced, joined, synced}
 use Rattle.law_gaps.specs.After.{After, after-marks, after-fits}
@@ -73,8 +73,8 @@ module _ (m : List ℕ) (ys zs : List Item) (s : Task) (r : Represents m (ys ++ 
     U = user-word n q t alive-t
 
     -- THE TASK HAS A RIGHT: b and a are the line's parts, c the chain of the gap behind its spot
-    module _ (b : Line) (c : List ℕ) (a : Line) (parts : line q ≡ b ++ (met t c ∷ (left t ∷ a))) where
-      was : Laid own Q (holder q) (b ++ (met t c ∷ (left t ∷ a)))
+    module _ (b : Line) (c : List ℕ) (a : Line) (parts : line q ≡ b ++ (entered t c ∷ (exited t ∷ a))) where
+      was : Laid own Q (holder q) (b ++ (entered t c ∷ (exited t ∷ a)))
       was = subst (Laid own Q (holder q)) parts (way .laids .laid q small)
 
       views : Leaving own (single m Old r n holder line way q small) Q (holder q) b t a c

@@ -15,17 +15,17 @@ use Rattle.spec_outcomes.specs.Waits.{hasChild}
 use Rattle.spec_outcomes.specs.Views.{taskAt, kindAt, returnedTo}
 use Rattle.spec_order.specs.Steps.{Task, Item, spot, numberOf}
 use Rattle.spec_lists.specs.Maps.{All, put-other, all-behind, all-at}
-use Rattle.law_gaps.specs.Line.{nonlocal, local, Extent, vacant, extent, base, left, met, pass, Line, marks, lefts, mets, Fits, Mode, Views, leaving, meeting}
+use Rattle.law_gaps.specs.Line.{nonlocal, local, Extent, vacant, extent, base, exited, entered, pass, Line, marks, exits, entries, Fits, Mode, Views, exiting, entering}
 use Rattle.law_gaps.specs.Store.{Memory, Laid}
-use Rattle.law_gaps.specs.Lines.{count-lefts, count-mets}
+use Rattle.law_gaps.specs.Lines.{count-exits, count-entries}
 use Rattle.law_gaps.specs.Frames.{split}
 use Rattle.law_gaps.specs.Moves.{Place, childrenOf, rightOf, viewAt, childrenWith, rightsWith}
 use Rattle.law_gaps.specs.Places.{Returns, In, latest-in, target-in}
-use Rattle.law_gaps.specs.Search.{firstOf, task-left, placeAt, takesPart as partTaken, standsAt as viewStands, Ends, latest-found, target-found}
-use Rattle.law_gaps.specs.Absent.{met-marks, left-marks}
+use Rattle.law_gaps.specs.Search.{firstOf, task-exited, placeAt, takesPart as partTaken, standsAt as viewStands, Ends, latest-found, target-found}
+use Rattle.law_gaps.specs.Absent.{entered-marks, exited-marks}
 use Rattle.law_gaps.specs.Pool.{mine}
-use Rattle.law_gaps.specs.Splits.{small-mets}
-use Rattle.law_links.specs.Marks.{mark-met}
+use Rattle.law_gaps.specs.Splits.{small-entries}
+use Rattle.law_links.specs.Marks.{mark-entered}
 use Rattle.law_maps.specs.Meaning.{extentOf, viewIn}
 use Rattle.law_maps.specs.FinishTest.{returned-nonlocal, returned-local}
 use Rattle.law_invariant.specs.Represents.{alive, queueMemory, usesIn, Represents}
@@ -39,23 +39,23 @@ use Rattle.law_invariant_finish.specs.Queue.{unfinished-live}
 use Rattle.law_invariant_finish.specs.Back.{earlier-marks, earlier-ends, back-part, back-stand}
 
 -- the tasks of a line have a right to the queue
-lefts-use : (uses : ℕ → Bool) (l : Line) → All (Fits uses) l → All (λ t. uses t ≡ true) (lefts l)
-lefts-use uses [] h = tt
-lefts-use uses (base c ∷ l) h = lefts-use uses l (h .1)
-lefts-use uses (left t ∷ l) h = (h .0, lefts-use uses l (h .1))
-lefts-use uses (met t c ∷ l) h = lefts-use uses l (h .1)
-lefts-use uses (pass x ∷ l) h = lefts-use uses l (h .1)
+exits-use : (uses : ℕ → Bool) (l : Line) → All (Fits uses) l → All (λ t. uses t ≡ true) (exits l)
+exits-use uses [] h = tt
+exits-use uses (base c ∷ l) h = exits-use uses l (h .1)
+exits-use uses (exited t ∷ l) h = (h .0, exits-use uses l (h .1))
+exits-use uses (entered t c ∷ l) h = exits-use uses l (h .1)
+exits-use uses (pass x ∷ l) h = exits-use uses l (h .1)
 
-mets-use : (uses : ℕ → Bool) (l : Line) → All (Fits uses) l → All (λ t. uses t ≡ true) (mets l)
-mets-use uses [] h = tt
-mets-use uses (base c ∷ l) h = mets-use uses l (h .1)
-mets-use uses (left t ∷ l) h = mets-use uses l (h .1)
-mets-use uses (met t c ∷ l) h = (h .0, mets-use uses l (h .1))
-mets-use uses (pass x ∷ l) h = mets-use uses l (h .1)
+entries-use : (uses : ℕ → Bool) (l : Line) → All (Fits uses) l → All (λ t. uses t ≡ true) (entries l)
+entries-use uses [] h = tt
+entries-use uses (base c ∷ l) h = entries-use uses l (h .1)
+entries-use uses (exited t ∷ l) h = entries-use uses l (h .1)
+entries-use uses (entered t c ∷ l) h = (h .0, entries-use uses l (h .1))
+entries-use uses (pass x ∷ l) h = entries-use uses l (h .1)
 
 module _ (m : List ℕ) (ys zs : List Item) (s : Task) (r : Represents m (ys ++ spot s ∷ zs)) (barren : hasChild m (numberOf s) ≡ false) (above : 0 < numberOf s)
     (n : List ℕ) (holder : ℕ → ℕ) (line : ℕ → Line) (way : Way m n holder line) (q : ℕ) (small : q < 4)
-    (b : Line) (c : List ℕ) (a : Line) (parts : line q ≡ b ++ (met (numberOf s) c ∷ (left (numberOf s) ∷ a)))
+    (b : Line) (c : List ℕ) (a : Line) (parts : line q ≡ b ++ (entered (numberOf s) c ∷ (exited (numberOf s) ∷ a)))
     (earlier : marks a ≡ leaf m ys zs s r barren .earlier) where
   abbrev t : ℕ
   t = numberOf s
@@ -66,17 +66,17 @@ module _ (m : List ℕ) (ys zs : List Item) (s : Task) (r : Represents m (ys ++ 
   abbrev Q : Memory
   Q = queueMemory n q
 
-  was : Laid (mine (Q .store) (line q)) Q (holder q) (b ++ (met t c ∷ (left t ∷ a)))
+  was : Laid (mine (Q .store) (line q)) Q (holder q) (b ++ (entered t c ∷ (exited t ∷ a)))
   was = subst (Laid (mine (Q .store) (line q)) Q (holder q)) parts (way .laids .laid q small)
 
   fits : All (Fits (usesIn m q)) a
-  fits = all-behind (Fits (usesIn m q)) b (met t c ∷ (left t ∷ a)) (subst (All (Fits (usesIn m q))) parts (way .fits q small)) .1 .1
+  fits = all-behind (Fits (usesIn m q)) b (entered t c ∷ (exited t ∷ a)) (subst (All (Fits (usesIn m q))) parts (way .fits q small)) .1 .1
 
   earlier-views : (k : Mode) × Views (Q .children) (Q .user) (Q .right) a k
-  earlier-views = go (split b (met t c) (left t ∷ a) (was .views) .1)
+  earlier-views = go (split b (entered t c) (exited t ∷ a) (was .views) .1)
     where
-      go : {k : Mode} → Views (Q .children) (Q .user) (Q .right) (met t c ∷ (left t ∷ a)) k → (k : Mode) × Views (Q .children) (Q .user) (Q .right) a k
-      go (meeting v w e i f g (leaving {m = k} v′ e′ i′ h)) = (k, h)
+      go : {k : Mode} → Views (Q .children) (Q .user) (Q .right) (entered t c ∷ (exited t ∷ a)) k → (k : Mode) × Views (Q .children) (Q .user) (Q .right) a k
+      go (entering v w e i f g (exiting {m = k} v′ e′ i′ h)) = (k, h)
 
   ends : Ends (marks a)
   ends = subst Ends (sym earlier) (earlier-ends m ys zs s r barren above)
@@ -90,9 +90,9 @@ module _ (m : List ℕ) (ys zs : List Item) (s : Task) (r : Represents m (ys ++ 
   pub returns : (v : Extent) → Returns (Q .children) a v (placeAt (markOf v))
   returns vacant = tt
   returns (extent nonlocal y) =
-      latest-found (usesIn m q) (top-uses m Old r q small) a (earlier-views .1) fits (small-mets (usesIn m q) a (uses-small m q) fits) ends
+      latest-found (usesIn m q) (top-uses m Old r q small) a (earlier-views .1) fits (small-entries (usesIn m q) a (uses-small m q) fits) ends
   returns (extent (local x) y) =
-      target-found (usesIn m q) (top-uses m Old r q small) (Q .children) a (earlier-views .1) fits (small-mets (usesIn m q) a (uses-small m q) fits) ends
+      target-found (usesIn m q) (top-uses m Old r q small) (Q .children) a (earlier-views .1) fits (small-entries (usesIn m q) a (uses-small m q) fits) ends
 
   -- by the words it is the same
   pub returned-at : (w : View) (v : Extent) → extentOf w ≡ v → (v ≡ vacant → ⊥) → returnedTo n q t w ≡ markOf v
@@ -119,34 +119,34 @@ module _ (m : List ℕ) (ys zs : List Item) (s : Task) (r : Represents m (ys ++ 
     pub live : alive n u ≡ true
     pub there : 0 < occurrences u (r .tour)
 
-  met-other : (u : ℕ) → 0 < occurrences u (mets a) → Other u
-  met-other u p =
-      let range = uses-small m q u (all-at (λ x. usesIn m q x ≡ true) (mets a) u (mets-use (usesIn m q) a fits) p) in
-      let there = in-earlier u (let k = met-marks u a in omega (arith, k, p)) in
+  entered-other : (u : ℕ) → 0 < occurrences u (entries a) → Other u
+  entered-other u p =
+      let range = uses-small m q u (all-at (λ x. usesIn m q x ≡ true) (entries a) u (entries-use (usesIn m q) a fits) p) in
+      let there = in-earlier u (let k = entered-marks u a in omega (arith, k, p)) in
       record {
         range = range;
         other = λ e.
             let d = was .dist u .1 in
-            let f = count-mets u b (met t c ∷ (left t ∷ a)) in
-            let g = occurs-here t u (mets a) (sym e) in
+            let f = count-entries u b (entered t c ∷ (exited t ∷ a)) in
+            let g = occurs-here t u (entries a) (sym e) in
             omega (arith, d, f, g, p);
         live = unfinished-live m Old r n holder line way u (task-there m Old r u range there);
         there = there;
       }
 
-  left-other : (u : ℕ) → 0 < occurrences u (lefts a) → Other u
-  left-other u p =
-      let k = subst (Unfinished (decode m)) (task-left u) (marked m Old r (128 + u) (in-earlier (128 + u) (let k = left-marks u a in omega (arith, k, p))) .1)
+  exited-other : (u : ℕ) → 0 < occurrences u (exits a) → Other u
+  exited-other u p =
+      let k = subst (Unfinished (decode m)) (task-exited u) (marked m Old r (128 + u) (in-earlier (128 + u) (let k = exited-marks u a in omega (arith, k, p))) .1)
       in
       record {
-        range = uses-small m q u (all-at (λ x. usesIn m q x ≡ true) (lefts a) u (lefts-use (usesIn m q) a fits) p);
+        range = uses-small m q u (all-at (λ x. usesIn m q x ≡ true) (exits a) u (exits-use (usesIn m q) a fits) p);
         other = λ e.
             let d = was .dist u .0 in
-            let f = count-lefts u b (met t c ∷ (left t ∷ a)) in
-            let g = occurs-here t u (lefts a) (sym e) in
+            let f = count-exits u b (entered t c ∷ (exited t ∷ a)) in
+            let g = occurs-here t u (exits a) (sym e) in
             omega (arith, d, f, g, p);
         live = unfinished-live m Old r n holder line way u k;
-        there = mark-met m (r .tour) Old (r .linked) u k;
+        there = mark-entered m (r .tour) Old (r .linked) u k;
       }
 
   abbrev Rest : Place → Type 0
@@ -160,10 +160,10 @@ module _ (m : List ℕ) (ys zs : List Item) (s : Task) (r : Represents m (ys ++ 
     -- what is reduced into it leaves the tasks without a right alone
     pub rest : Rest p
 
-  at-right : (u : ℕ) → 0 < occurrences u (mets a) → At u RIGHT (rightOf u)
+  at-right : (u : ℕ) → 0 < occurrences u (entries a) → At u RIGHT (rightOf u)
   unfolding holdsAt
   at-right u p =
-      let o = met-other u p in
+      let o = entered-other u p in
       record { task = o; holds = o .live; view = sym (right-word n q u (o .live)); rest = rest }
     where
       rest : Rest (rightOf u)
@@ -171,20 +171,20 @@ module _ (m : List ℕ) (ys zs : List Item) (s : Task) (r : Represents m (ys ++ 
       rest (extent g y) x e = (
         refl,
         put-other (Q .right) u _ x
-            (λ d. false≢true (sym e ∙ ap (usesIn m q) d ∙ all-at (λ x. usesIn m q x ≡ true) (mets a) u (mets-use (usesIn m q) a fits) p)),
+            (λ d. false≢true (sym e ∙ ap (usesIn m q) d ∙ all-at (λ x. usesIn m q x ≡ true) (entries a) u (entries-use (usesIn m q) a fits) p)),
       )
 
-  at-children : (u : ℕ) → 0 < occurrences u (lefts a) → At u CHILDREN (childrenOf u)
+  at-children : (u : ℕ) → 0 < occurrences u (exits a) → At u CHILDREN (childrenOf u)
   unfolding holdsAt
   at-children u p =
-      let o = left-other u p in
+      let o = exited-other u p in
       record { task = o; holds = o .live; view = sym (children-word n q u (o .live)); rest = rest }
     where
       rest : Rest (childrenOf u)
       rest vacant x e = (refl, refl)
       rest (extent g y) x e = (
         put-other (Q .children) u _ x
-            (λ d. false≢true (sym e ∙ ap (usesIn m q) d ∙ all-at (λ x. usesIn m q x ≡ true) (lefts a) u (lefts-use (usesIn m q) a fits) p)),
+            (λ d. false≢true (sym e ∙ ap (usesIn m q) d ∙ all-at (λ x. usesIn m q x ≡ true) (exits a) u (exits-use (usesIn m q) a fits) p)),
         refl,
       )
 

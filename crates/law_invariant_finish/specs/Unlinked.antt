@@ -115,6 +115,6 @@ module _ (m : List ℕ) (ys zs : List Item) (s : Task) (r : Represents m (ys ++ 
         let l = leaf m ys zs s r barren in
         let e = advance-at ys zs s finishes (single-spot m ys zs s r) in
         subst (λ (xs : List Item). Linked freed (l .later ++ l .earlier) xs) (sym e)
-        (finish-linked m freed (r .tour) ys zs s (r .played) (subst Played e play) (r .linked) words (l .later) (l .earlier) (l .here) (l .met-later)
-        (l .met-earlier) above
+        (finish-linked m freed (r .tour) ys zs s (r .played) (subst Played e play) (r .linked) words (l .later) (l .earlier) (l .here) (l .entered-later)
+        (l .entered-earlier) above
         (sym (same-hasChild m (r .tour) Old (r .played) (r .linked) s (mine-spot m ys zs s r)) ∙ barren))

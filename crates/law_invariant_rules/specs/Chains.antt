@@ -14,7 +14,7 @@ use Rattle.spec_rules.specs.Contents.{Contents, decode, part, part-word}
 use Rattle.spec_rules.specs.Test.{chain}
 use Rattle.law_rules_segments.specs.Chains.{chain-last, chain-more}
 use Rattle.spec_lists.specs.Maps.{All, lastOf, all-front, all-behind, all-append, all-map}
-use Rattle.law_gaps.specs.Line.{base, left, met, pass as past, Line, segments}
+use Rattle.law_gaps.specs.Line.{base, exited, entered, pass as past, Line, segments}
 use Rattle.law_gaps.specs.Store.{LinkedFrom, Linked, Filled, Start, sole, full, Chain}
 use Rattle.law_maps.specs.Meaning.{nextIn, contentsIn}
 use Rattle.law_maps.specs.Reads.{next-at}
@@ -74,8 +74,8 @@ module _ (m : List ℕ) where
   pub line-ends : (l : Line) → All (Chain (nextIn m) (contentsIn m)) l → All (λ x. nextIn m x ≡ none) (lasts l)
   line-ends [] h = tt
   line-ends (base d ∷ l) h = one-end d (lasts l) (h .0 .0) (line-ends l (h .1))
-  line-ends (left t ∷ l) h = line-ends l (h .1)
-  line-ends (met t d ∷ l) h = one-end d (lasts l) (h .0 .0) (line-ends l (h .1))
+  line-ends (exited t ∷ l) h = line-ends l (h .1)
+  line-ends (entered t d ∷ l) h = one-end d (lasts l) (h .0 .0) (line-ends l (h .1))
   line-ends (past x ∷ l) h = line-ends l (h .1)
 
   -- and hold values
@@ -86,8 +86,8 @@ module _ (m : List ℕ) where
   pub line-filled : (l : Line) → All (Chain (nextIn m) (contentsIn m)) l → All EndOrFilled (segments l)
   line-filled [] h = tt
   line-filled (base d ∷ l) h = all-append EndOrFilled d (segments l) (start-filled d (h .0 .0) (h .0 .1)) (line-filled l (h .1))
-  line-filled (left t ∷ l) h = line-filled l (h .1)
-  line-filled (met t d ∷ l) h =
+  line-filled (exited t ∷ l) h = line-filled l (h .1)
+  line-filled (entered t d ∷ l) h =
       all-append EndOrFilled d (segments l) (all-map (Filled (contentsIn m)) EndOrFilled d (λ x w. inr w) (h .0 .1)) (line-filled l (h .1))
   line-filled (past x ∷ l) h = line-filled l (h .1)
 
@@ -112,8 +112,8 @@ module _ (m : List ℕ) where
     unfolding over occurrences
     line-chains [] h b n = refl
     line-chains (base d ∷ l) h b n = one-chain d (firsts l) (segments l) (h .0 .0) b n (line-chains l (h .1))
-    line-chains (left t ∷ l) h b n = line-chains l (h .1) b n
-    line-chains (met t d ∷ l) h b n = one-chain d (firsts l) (segments l) (h .0 .0) b n (line-chains l (h .1))
+    line-chains (exited t ∷ l) h b n = line-chains l (h .1) b n
+    line-chains (entered t d ∷ l) h b n = one-chain d (firsts l) (segments l) (h .0 .0) b n (line-chains l (h .1))
     line-chains (past x ∷ l) h b n = line-chains l (h .1) b n
 
 -- FIRSTS AND LASTS are segments of the line
@@ -143,8 +143,8 @@ module _ (s : ℕ) where
       → (l : Line) → occurrences s (endsOf f l) ≤ occurrences s (segments l)
   ends-held f h [] = omega arith
   ends-held f h (base d ∷ l) = h d (endsOf f l) (segments l) (ends-held f h l)
-  ends-held f h (left t ∷ l) = ends-held f h l
-  ends-held f h (met t d ∷ l) = h d (endsOf f l) (segments l) (ends-held f h l)
+  ends-held f h (exited t ∷ l) = ends-held f h l
+  ends-held f h (entered t d ∷ l) = h d (endsOf f l) (segments l) (ends-held f h l)
   ends-held f h (past x ∷ l) = ends-held f h l
 
   pub firsts-held : (l : Line) → occurrences s (firsts l) ≤ occurrences s (segments l)

@@ -12,7 +12,7 @@ use Rattle.spec_lists.specs.Counting.{one, occurrences, occurs-cons}
 use Rattle.spec_layout.specs.Layout.{NONE, NL}
 use Rattle.law_view_events.specs.Counts.{names}
 use Rattle.spec_lists.specs.Maps.{All, lastOf}
-use Rattle.law_gaps.specs.Line.{Extent, base, left, met, pass as past, Line, Mode, settled, awaiting, Inside, rest, mid, close, Begins, bare, whole, begun}
+use Rattle.law_gaps.specs.Line.{Extent, base, exited, entered, pass as past, Line, Mode, settled, awaiting, Inside, rest, mid, close, Begins, bare, whole, begun}
 use Rattle.law_invariant_rules.specs.Words.{ViewWords}
 use Rattle.law_invariant_rules.specs.Modes.{Plain, PlainMode, all-last}
 
@@ -29,8 +29,8 @@ withLast (s ∷ d) r = lastOf s d ∷ r
 abbrev pub endsOf : (List ℕ → List ℕ → List ℕ) → Line → List ℕ
 endsOf f [] = []
 endsOf f (base d ∷ l) = f d (endsOf f l)
-endsOf f (left t ∷ l) = endsOf f l
-endsOf f (met t d ∷ l) = f d (endsOf f l)
+endsOf f (exited t ∷ l) = endsOf f l
+endsOf f (entered t d ∷ l) = f d (endsOf f l)
 endsOf f (past x ∷ l) = endsOf f l
 
 abbrev pub firsts : Line → List ℕ
@@ -47,8 +47,8 @@ one-more (s ∷ d) f e h = omega (arith, h)
 pub same-length : (l : Line) → length (firsts l) ≡ length (lasts l)
 same-length [] = refl
 same-length (base d ∷ l) = one-more d (firsts l) (lasts l) (same-length l)
-same-length (left t ∷ l) = same-length l
-same-length (met t d ∷ l) = one-more d (firsts l) (lasts l) (same-length l)
+same-length (exited t ∷ l) = same-length l
+same-length (entered t d ∷ l) = one-more d (firsts l) (lasts l) (same-length l)
 same-length (past x ∷ l) = same-length l
 
 -- WHAT A WORD NAMES: a mark no segment, a segment itself

@@ -15,7 +15,7 @@ use Rattle.spec_lists.specs.Counting.{occurrences, occurs-here}
 use Rattle.spec_lists.specs.Sums.{over-at}
 use Rattle.spec_layout.specs.Layout.{NONE, RIGHTS, numberWord, read}
 use Rattle.spec_tree.specs.Rights.{uses}
-use Rattle.spec_tree.specs.Tour.{met}
+use Rattle.spec_tree.specs.Tour.{entered}
 use Rattle.spec_tree.specs.Queues.{queue-each}
 use Rattle.spec_rules.specs.Contents.{Contents, decode, word, owners}
 use Rattle.spec_rules.specs.Rules.{Unfinished}
@@ -33,7 +33,7 @@ use Rattle.law_maps.specs.Meaning.{optional}
 use Rattle.law_maps.specs.Free.{none-word, some-word, optional-some}
 use Rattle.law_invariant.specs.Represents.{Represents, Queue}
 use Rattle.spec_tree.specs.Users.{pops-uses}
-use Rattle.law_invariant_rules.specs.Tasks.{whole, met-busy, head-word}
+use Rattle.law_invariant_rules.specs.Tasks.{whole, entered-busy, head-word}
 use Rattle.law_invariant_rules.specs.Segments.{held-opened}
 
 module _ (m : List ℕ) (xs : List Item) (r : Represents m xs) where
@@ -91,14 +91,14 @@ module _ (m : List ℕ) (xs : List Item) (r : Represents m xs) where
     other-head t u n = none-word _ (named t u ∙ put-other (λ y. none) holder (headOf (firstChain (r .line q))) t n)
 
     -- the tour meets the holder once
-    pub holder-once : occurrences holder (met (r .tour)) ≡ 1
+    pub holder-once : occurrences holder (entered (r .tour)) ≡ 1
     holder-once = whole m xs r .same holder ∙ task-once c holder (inr holder-busy)
 
-    one-owner : length (owners c q (met (r .tour))) ≡ 1
+    one-owner : length (owners c q (entered (r .tour))) ≡ 1
     one-owner =
-        over-owners c q (met (r .tour))
-        ∙ over-at (met (r .tour)) (λ t. pick (eqb (word c t (16 + q)) NONE) 0 1) holder
-        (λ t p n. halt _ _ (eq-eqb _ _ (other-head t (met-busy m xs r t p) n)))
+        over-owners c q (entered (r .tour))
+        ∙ over-at (entered (r .tour)) (λ t. pick (eqb (word c t (16 + q)) NONE) 0 1) holder
+        (λ t p n. halt _ _ (eq-eqb _ _ (other-head t (entered-busy m xs r t p) n)))
         ∙ ap (λ (k : ℕ). k * pick (eqb (word c holder (16 + q)) NONE) 0 1) holder-once
         ∙ ap (λ (k : ℕ). 1 * k) (pass 0 (ne-eqb _ _ some) refl)
       where
@@ -106,6 +106,6 @@ module _ (m : List ℕ) (xs : List Item) (r : Represents m xs) where
         some e = let a = holder-head in let b = first-opened in let d = r .sized .number-range .1 in omega (arith, a, b, d, e)
 
   -- ONE QUEUE VIEW WITH A HEAD for each queue
-  pub owners-right : ownersTest c (met (r .tour)) ≡ true
+  pub owners-right : ownersTest c (entered (r .tour)) ≡ true
   unfolding ownersTest
-  owners-right = queue-each (λ q. eqb (length (owners c q (met (r .tour)))) 1) (λ q l. eq-eqb _ _ (one-owner q l))
+  owners-right = queue-each (λ q. eqb (length (owners c q (entered (r .tour)))) 1) (λ q l. eq-eqb _ _ (one-owner q l))

@@ -11,7 +11,7 @@ use Rattle.spec_lists.specs.Counting.{occurrences, over, total, occurs-append, 
 use Rattle.spec_lists.specs.Sums.{total-le, total-some, total-term}
 use Rattle.spec_lists.specs.Distinct.{Distinct, distinct-append}
 use Rattle.spec_layout.specs.Layout.{NONE, numberWord, read}
-use Rattle.spec_tree.specs.Tour.{met}
+use Rattle.spec_tree.specs.Tour.{entered}
 use Rattle.spec_rules.specs.Contents.{Contents, decode, part, heads, tails}
 use Rattle.spec_rules.specs.Test.{chain, chains, heldTest}
 use Rattle.law_rules_segments.specs.Chains.{chains-nil, chains-parts}
@@ -45,10 +45,10 @@ module _ (m : List ℕ) (xs : List Item) (r : Represents m xs) where
 
   -- all local heads, and all local tails, of the tasks of the tour
   abbrev hs : List ℕ
-  hs = heads c (met (r .tour))
+  hs = heads c (entered (r .tour))
 
   abbrev es : List ℕ
-  es = tails c (met (r .tour))
+  es = tails c (entered (r .tour))
 
   over-heads : (g : ℕ → ℕ) → over hs g ≡ total 4 (λ q. over (firsts (r .line q)) g)
   over-heads =

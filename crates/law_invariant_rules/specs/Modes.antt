@@ -8,8 +8,8 @@ use Rattle.spec_layout.specs.Layout.{NL}
 use Rattle.spec_rules.specs.Test.{passed}
 use Rattle.spec_rules.specs.Passed.{marked-yes, marked-no, passed-none, passed-fit}
 use Rattle.spec_lists.specs.Maps.{All, lastOf, all-front}
-use Rattle.law_gaps.specs.Line.{Extent, Line, segments, Mode, settled, awaiting, Inside, rest, mid, close, Begins, bare, whole, begun, Views, queue, leaving}
-use Rattle.law_gaps.specs.Line.{meeting, passing}
+use Rattle.law_gaps.specs.Line.{Extent, Line, segments, Mode, settled, awaiting, Inside, rest, mid, close, Begins, bare, whole, begun, Views, queue, exiting}
+use Rattle.law_gaps.specs.Line.{entering, passing}
 use Rattle.law_invariant_rules.specs.Words.{ViewWords}
 
 -- a number that is no mark
@@ -40,8 +40,8 @@ begins-plain (begun {s = s} {z = z} {c = d} e) h = last-plain s z d e h
 
 pub views-plain : {children user right : ℕ → Extent} {l : Line} {n : Mode} → Views children user right l n → All Plain (segments l) → PlainMode n
 views-plain (queue {s = s} {z = z} {c = d} e) h = last-plain s z d e (all-front Plain (s ∷ d) [] h)
-views-plain (leaving v e i r) h = inside-plain i (views-plain r h)
-views-plain (meeting {c = d} {l = l} v w e i f b r) h = begins-plain b (all-front Plain d (segments l) h)
+views-plain (exiting v e i r) h = inside-plain i (views-plain r h)
+views-plain (entering {c = d} {l = l} v w e i f b r) h = begins-plain b (all-front Plain d (segments l) h)
 views-plain (passing r) h = views-plain r h
 
 -- The state of the test of order at a place of the line: 1 where the view behind begins with a non-local head, since the

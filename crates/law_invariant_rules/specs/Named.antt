@@ -12,18 +12,18 @@ use Rattle.spec_lists.specs.Counting.{one, occurrences, over, total, occurs-con
 use Rattle.spec_lists.specs.Sums.{over-plus, over-ext, over-at, over-total}
 use Rattle.spec_layout.specs.Layout.{RIGHTS}
 use Rattle.spec_tree.specs.Rights.{uses}
-use Rattle.spec_tree.specs.Tour.{met}
+use Rattle.spec_tree.specs.Tour.{entered}
 use Rattle.spec_rules.specs.Contents.{Contents, decode, word, locals, heads, tails}
 use Rattle.spec_rules.specs.Rules.{Unfinished}
 use Rattle.law_rules_views.specs.Toured.{over-heads, over-tails}
 use Rattle.law_view_events.specs.Counts.{names, namesAt, heads-count, tails-count}
 use Rattle.spec_order.specs.Steps.{Item}
 use Rattle.spec_lists.specs.Maps.{All, lastOf, all-front, all-behind}
-use Rattle.law_gaps.specs.Line.{Mark, Line, marks, segments, firstChain, Mode, Views, queue, leaving, meeting, passing}
+use Rattle.law_gaps.specs.Line.{Mark, Line, marks, segments, firstChain, Mode, Views, queue, exiting, entering, passing}
 use Rattle.law_gaps.specs.Store.{Memory}
 use Rattle.law_invariant.specs.Represents.{Represents, queueMemory}
-use Rattle.law_invariant_rules.specs.Tasks.{met-busy, Marked, marked, children-words, user-words, right-words}
-use Rattle.law_invariant_rules.specs.MarkSums.{atMark, met-term, left-term, tour-sum}
+use Rattle.law_invariant_rules.specs.Tasks.{entered-busy, Marked, marked, children-words, user-words, right-words}
+use Rattle.law_invariant_rules.specs.MarkSums.{atMark, entered-term, exited-term, tour-sum}
 use Rattle.law_invariant_rules.specs.Heads.{holder, firstSegment, first-is, first-opened, holder-head, other-head, holder-once}
 use Rattle.law_invariant_rules.specs.Views.{children-none, user-none, right-none}
 use Rattle.law_invariant_rules.specs.Modes.{Plain, views-plain}
@@ -38,17 +38,17 @@ module _ (m : List ℕ) (xs : List Item) (r : Represents m xs) (s : ℕ) where
   abbrev queueHead : ℕ → ℕ → ℕ
   queueHead q t = names s (word c t (16 + q))
 
-  abbrev metHeads : ℕ → ℕ → ℕ
-  metHeads q t = names s (word c t (24 + q)) + names s (word c t (28 + q))
+  abbrev enteredHeads : ℕ → ℕ → ℕ
+  enteredHeads q t = names s (word c t (24 + q)) + names s (word c t (28 + q))
 
-  abbrev leftHead : ℕ → ℕ → ℕ
-  leftHead q t = names s (word c t (20 + q))
+  abbrev exitedHead : ℕ → ℕ → ℕ
+  exitedHead q t = names s (word c t (20 + q))
 
-  abbrev metTails : ℕ → ℕ → ℕ
-  metTails q t = names s (word c t (36 + q)) + names s (word c t (40 + q))
+  abbrev enteredTails : ℕ → ℕ → ℕ
+  enteredTails q t = names s (word c t (36 + q)) + names s (word c t (40 + q))
 
-  abbrev leftTail : ℕ → ℕ → ℕ
-  leftTail q t = names s (word c t (32 + q))
+  abbrev exitedTail : ℕ → ℕ → ℕ
+  exitedTail q t = names s (word c t (32 + q))
 
   module _ (q : ℕ) (small : q < 4) where
     abbrev M : Memory
@@ -57,16 +57,16 @@ module _ (m : List ℕ) (xs : List Item) (r : Represents m xs) (s : ℕ) where
     -- a mark of a task without a right to the queue, where f and g are 0 for such a task
     past-term : (f g : ℕ → ℕ) (x : ℕ) → Marked m xs r q small (Mark.pass x)
         → ((t : ℕ) → Unfinished c t → uses (word c t RIGHTS) q ≡ false → (f t ≡ 0) × (g t ≡ 0)) → atMark f g x ≡ 0
-    past-term f g x (inl w) z = met-term f g x (w .0) ∙ z x (w .1) (w .2) .0
-    past-term f g x (inr w) z = let l = w .0 in left-term f g x (x - 128) (omega (arith, l)) ∙ z (x - 128) (w .1) (w .2) .1
+    past-term f g x (inl w) z = entered-term f g x (w .0) ∙ z x (w .1) (w .2) .0
+    past-term f g x (inr w) z = let l = w .0 in exited-term f g x (x - 128) (omega (arith, l)) ∙ z (x - 128) (w .1) (w .2) .1
 
-    no-heads : (t : ℕ) → Unfinished c t → uses (word c t RIGHTS) q ≡ false → (metHeads q t ≡ 0) × (leftHead q t ≡ 0)
+    no-heads : (t : ℕ) → Unfinished c t → uses (word c t RIGHTS) q ≡ false → (enteredHeads q t ≡ 0) × (exitedHead q t ≡ 0)
     no-heads t u n =
         let a = none-names s _ (user-none m xs r t u q small n .0) in
         let b = none-names s _ (right-none m xs r t u q small n .0) in
         (omega (arith, a, b), none-names s _ (children-none m xs r t u q small n .0))
 
-    no-tails : (t : ℕ) → Unfinished c t → uses (word c t RIGHTS) q ≡ false → (metTails q t ≡ 0) × (leftTail q t ≡ 0)
+    no-tails : (t : ℕ) → Unfinished c t → uses (word c t RIGHTS) q ≡ false → (enteredTails q t ≡ 0) × (exitedTail q t ≡ 0)
     no-tails t u n =
         let a = none-names s _ (user-none m xs r t u q small n .1) in
         let b = none-names s _ (right-none m xs r t u q small n .1) in
@@ -74,57 +74,57 @@ module _ (m : List ℕ) (xs : List Item) (r : Represents m xs) (s : ℕ) where
 
     -- ALONG THE LINE
     line-heads : {l : Line} {n : Mode} → Views (M .children) (M .user) (M .right) l n → All (Marked m xs r q small) l → All Plain (segments l)
-        → over (marks l) (atMark (metHeads q) (leftHead q)) + occurrences s (withFirst (firstChain l) []) ≡ occurrences s (firsts l)
+        → over (marks l) (atMark (enteredHeads q) (exitedHead q)) + occurrences s (withFirst (firstChain l) []) ≡ occurrences s (firsts l)
     unfolding over
     line-heads (queue e) h p = omega arith
-    line-heads (leaving {t = t} {l = l} v e i o) h p =
+    line-heads (exiting {t = t} {l = l} v e i o) h p =
         let u = h .0 .0 in
         let a = line-heads o (h .1) p in
-        let b = left-term (metHeads q) (leftHead q) (128 + t) t refl in
+        let b = exited-term (enteredHeads q) (exitedHead q) (128 + t) t refl in
         let d = inside-head s _ _ i (children-words m xs r q small t u v e) in
         omega (arith, a, b, d)
-    line-heads (meeting {t = t} {c = d} {l = l} v w e i f g o) h p =
+    line-heads (entering {t = t} {c = d} {l = l} v w e i f g o) h p =
         let u = h .0 .0 in
         let a = line-heads o (h .1) (all-behind Plain d (segments l) p) in
-        let b = met-term (metHeads q) (leftHead q) t (u .0) in
+        let b = entered-term (enteredHeads q) (exitedHead q) t (u .0) in
         let j = inside-head s _ _ i (user-words m xs r q small t u v e) in
         let k = begins-head s _ _ (firsts l) g (right-words m xs r q small t u w f) (all-front Plain d (segments l) p) in
         omega (arith, a, b, j, k)
-    line-heads (passing {x = x} o) h p = let a = line-heads o (h .1) p in let b = past-term (metHeads q) (leftHead q) x (h .0) no-heads in omega (arith, a, b)
+    line-heads (passing {x = x} o) h p = let a = line-heads o (h .1) p in let b = past-term (enteredHeads q) (exitedHead q) x (h .0) no-heads in omega (arith, a, b)
 
     line-tails : {l : Line} {n : Mode} → Views (M .children) (M .user) (M .right) l n → All (Marked m xs r q small) l → All Plain (segments l)
-        → over (marks l) (atMark (metTails q) (leftTail q)) + pending s n ≡ occurrences s (lasts l)
+        → over (marks l) (atMark (enteredTails q) (exitedTail q)) + pending s n ≡ occurrences s (lasts l)
     unfolding over
     line-tails (queue {s = f} {z = z} {c = d} e) h p =
         let a = occurs-cons (lastOf f d) s [] in
         let b = occurs-nil s in
         let i = ap (λ (j : ℕ). one (eqb j s)) e in
         omega (arith, a, b, i)
-    line-tails (leaving {t = t} {l = l} v e i o) h p =
+    line-tails (exiting {t = t} {l = l} v e i o) h p =
         let u = h .0 .0 in
         let a = line-tails o (h .1) p in
-        let b = left-term (metTails q) (leftTail q) (128 + t) t refl in
+        let b = exited-term (enteredTails q) (exitedTail q) (128 + t) t refl in
         let d = inside-tail s _ _ i (children-words m xs r q small t u v e) (views-plain o p) in
         omega (arith, a, b, d)
-    line-tails (meeting {t = t} {c = d} {l = l} v w e i f g o) h p =
+    line-tails (entering {t = t} {c = d} {l = l} v w e i f g o) h p =
         let u = h .0 .0 in
         let y = all-behind Plain d (segments l) p in
         let a = line-tails o (h .1) y in
-        let b = met-term (metTails q) (leftTail q) t (u .0) in
+        let b = entered-term (enteredTails q) (exitedTail q) t (u .0) in
         let j = inside-tail s _ _ i (user-words m xs r q small t u v e) (views-plain o y) in
         let k = begins-tail s _ _ (lasts l) g (right-words m xs r q small t u w f) (all-front Plain d (segments l) p) in
         omega (arith, a, b, j, k)
-    line-tails (passing {x = x} o) h p = let a = line-tails o (h .1) p in let b = past-term (metTails q) (leftTail q) x (h .0) no-tails in omega (arith, a, b)
+    line-tails (passing {x = x} o) h p = let a = line-tails o (h .1) p in let b = past-term (enteredTails q) (exitedTail q) x (h .0) no-tails in omega (arith, a, b)
 
     -- ONE QUEUE: the holder's queue head is the first segment of the first chain
-    held-head : over (met (r .tour)) (queueHead q) ≡ occurrences s (withFirst (firstChain (r .line q)) [])
+    held-head : over (entered (r .tour)) (queueHead q) ≡ occurrences s (withFirst (firstChain (r .line q)) [])
     held-head =
         let h = holder m xs r q small in
         let f = firstSegment m xs r q small in
         let low = first-opened m xs r q small in
         let few = r .sized .number-range .1 in
         let a =
-        over-at (met (r .tour)) (queueHead q) h (λ t p n. none-names s _ (other-head m xs r q small t (met-busy m xs r t p) n))
+        over-at (entered (r .tour)) (queueHead q) h (λ t p n. none-names s _ (other-head m xs r q small t (entered-busy m xs r t p) n))
         ∙ ap (λ (k : ℕ). k * queueHead q h) (holder-once m xs r q small) in
         let b = plain-names s (word c h (16 + q)) f (holder-head m xs r q small) (omega (arith, low, few)) in
         let d = ap (λ (k : List ℕ). occurrences s (withFirst k [])) (first-is m xs r q small .1) in
@@ -132,43 +132,43 @@ module _ (m : List ℕ) (xs : List Item) (r : Represents m xs) (s : ℕ) where
         let g = occurs-nil s in
         omega (arith, a, b, d, e, g)
 
-    queue-heads : over (met (r .tour)) (λ t. queueHead q t + (metHeads q t + leftHead q t)) ≡ occurrences s (firsts (r .line q))
+    queue-heads : over (entered (r .tour)) (λ t. queueHead q t + (enteredHeads q t + exitedHead q t)) ≡ occurrences s (firsts (r .line q))
     queue-heads =
         let Q = r .queue q small in
-        let a = over-plus (met (r .tour)) (queueHead q) (λ t. metHeads q t + leftHead q t) in
+        let a = over-plus (entered (r .tour)) (queueHead q) (λ t. enteredHeads q t + exitedHead q t) in
         let b = held-head in
-        let d = tour-sum (metHeads q) (leftHead q) m xs r in
-        let e = ap (λ (l : List ℕ). over l (atMark (metHeads q) (leftHead q))) (Q .marked) in
+        let d = tour-sum (enteredHeads q) (exitedHead q) m xs r in
+        let e = ap (λ (l : List ℕ). over l (atMark (enteredHeads q) (exitedHead q))) (Q .marked) in
         let f = line-heads (Q .laid .views) (marked m xs r q small) (line-plain m xs r q small) in
         omega (arith, a, b, d, e, f)
 
-    queue-tails : over (met (r .tour)) (λ t. metTails q t + leftTail q t) ≡ occurrences s (lasts (r .line q))
+    queue-tails : over (entered (r .tour)) (λ t. enteredTails q t + exitedTail q t) ≡ occurrences s (lasts (r .line q))
     queue-tails =
         let Q = r .queue q small in
-        let d = tour-sum (metTails q) (leftTail q) m xs r in
-        let e = ap (λ (l : List ℕ). over l (atMark (metTails q) (leftTail q))) (Q .marked) in
+        let d = tour-sum (enteredTails q) (exitedTail q) m xs r in
+        let e = ap (λ (l : List ℕ). over l (atMark (enteredTails q) (exitedTail q))) (Q .marked) in
         let f = line-tails (Q .laid .views) (marked m xs r q small) (line-plain m xs r q small) in
         omega (arith, d, e, f)
 
   -- ALL FOUR
-  task-heads : (t : ℕ) → occurrences s (locals 16 (drop 16 (c .recs t))) ≡ total 4 (λ q. queueHead q t + (metHeads q t + leftHead q t))
+  task-heads : (t : ℕ) → occurrences s (locals 16 (drop 16 (c .recs t))) ≡ total 4 (λ q. queueHead q t + (enteredHeads q t + exitedHead q t))
   unfolding total namesAt
   task-heads t = let a = heads-count s c t in omega (arith, a)
 
-  task-tails : (t : ℕ) → occurrences s (locals 12 (drop 32 (c .recs t))) ≡ total 4 (λ q. metTails q t + leftTail q t)
+  task-tails : (t : ℕ) → occurrences s (locals 12 (drop 32 (c .recs t))) ≡ total 4 (λ q. enteredTails q t + exitedTail q t)
   unfolding total namesAt
   task-tails t = let a = tails-count s c t in omega (arith, a)
 
-  pub heads-total : occurrences s (heads c (met (r .tour))) ≡ total 4 (λ q. occurrences s (firsts (r .line q)))
+  pub heads-total : occurrences s (heads c (entered (r .tour))) ≡ total 4 (λ q. occurrences s (firsts (r .line q)))
   heads-total =
-      over-heads c s (met (r .tour))
-      ∙ over-ext (met (r .tour)) _ _ task-heads
-      ∙ over-total 4 (met (r .tour)) (λ q t. queueHead q t + (metHeads q t + leftHead q t))
+      over-heads c s (entered (r .tour))
+      ∙ over-ext (entered (r .tour)) _ _ task-heads
+      ∙ over-total 4 (entered (r .tour)) (λ q t. queueHead q t + (enteredHeads q t + exitedHead q t))
       ∙ total-ext 4 _ _ queue-heads
 
-  pub tails-total : occurrences s (tails c (met (r .tour))) ≡ total 4 (λ q. occurrences s (lasts (r .line q)))
+  pub tails-total : occurrences s (tails c (entered (r .tour))) ≡ total 4 (λ q. occurrences s (lasts (r .line q)))
   tails-total =
-      over-tails c s (met (r .tour))
-      ∙ over-ext (met (r .tour)) _ _ task-tails
-      ∙ over-total 4 (met (r .tour)) (λ q t. metTails q t + leftTail q t)
+      over-tails c s (entered (r .tour))
+      ∙ over-ext (entered (r .tour)) _ _ task-tails
+      ∙ over-total 4 (entered (r .tour)) (λ q t. enteredTails q t + exitedTail q t)
       ∙ total-ext 4 _ _ queue-tails

@@ -14,10 +14,10 @@ use Rattle.spec_tree.specs.Queues.{queue-each}
 use Rattle.spec_rules.specs.Contents.{Contents, decode, word}
 use Rattle.spec_rules.specs.Rules.{Unfinished}
 use Rattle.spec_rules.specs.Test.{passedAt, orderAt, orderOf, orderTest}
-use Rattle.law_rules_views.specs.Marks.{at-met, at-met-none, at-left, at-left-none}
+use Rattle.law_rules_views.specs.Marks.{at-entered, at-entered-none, at-exited, at-exited-none}
 use Rattle.spec_order.specs.Steps.{Item}
 use Rattle.spec_lists.specs.Maps.{All, all-map, all-front, all-behind}
-use Rattle.law_gaps.specs.Line.{Extent, Line, marks, segments, Mark, Mode, settled, Inside, Begins, Views, queue, leaving, meeting, passing}
+use Rattle.law_gaps.specs.Line.{Extent, Line, marks, segments, Mark, Mode, settled, Inside, Begins, Views, queue, exiting, entering, passing}
 use Rattle.law_gaps.specs.Store.{Memory}
 use Rattle.law_invariant.specs.Represents.{Represents, queueMemory}
 use Rattle.law_invariant_rules.specs.Tasks.{Marked, marked, children-words, user-words, right-words}
@@ -39,23 +39,23 @@ module _ (m : List ℕ) (xs : List Item) (r : Represents m xs) where
     M = queueMemory m q
 
     module _ (t : ℕ) (u : Unfinished c t) (yes : uses (word c t RIGHTS) q ≡ true) where
-      -- where task t is left
-      left-passed : {a b : Mode} (v : Extent) → M .children t ≡ v → Inside a v b → PlainMode a → orderAt c q (128 + t) (stateOf b) ≡ stateOf a
+      -- where task t is exited
+      exited-passed : {a b : Mode} (v : Extent) → M .children t ≡ v → Inside a v b → PlainMode a → orderAt c q (128 + t) (stateOf b) ≡ stateOf a
       unfolding passedAt
-      left-passed {b = b} v e i p =
-          at-left c q (128 + t) (stateOf b) (le-ltb (128 + t) 128 (omega arith)) (ap (λ (k : ℕ). uses (word c k RIGHTS) q) back ∙ yes)
+      exited-passed {b = b} v e i p =
+          at-exited c q (128 + t) (stateOf b) (le-ltb (128 + t) 128 (omega arith)) (ap (λ (k : ℕ). uses (word c k RIGHTS) q) back ∙ yes)
           ∙ ap (λ (k : ℕ). passedAt c q k CHILDREN (stateOf b)) back
           ∙ inside-passed _ _ i (children-words m xs r q small t u v e) p
         where
           back : 128 + t - 128 ≡ t
           back = omega arith
 
-      -- where it is met
-      met-passed : {a b : Mode} {d : List ℕ} (v w : Extent) → M .user t ≡ v → Inside a v settled → M .right t ≡ w → Begins d w b
+      -- where it is entered
+      entered-passed : {a b : Mode} {d : List ℕ} (v w : Extent) → M .user t ≡ v → Inside a v settled → M .right t ≡ w → Begins d w b
           → PlainMode a → All Plain d → orderAt c q t (stateOf b) ≡ stateOf a
       unfolding passedAt
-      met-passed {b = b} v w e i f g p s =
-          at-met c q t (stateOf b) (lt-ltb t 128 (u .0)) yes
+      entered-passed {b = b} v w e i f g p s =
+          at-entered c q t (stateOf b) (lt-ltb t 128 (u .0)) yes
           ∙ ap (passedAt c q t USER) (begins-passed _ _ g (right-words m xs r q small t u w f) s)
           ∙ inside-passed _ _ i (user-words m xs r q small t u v e) p
 
@@ -64,17 +64,17 @@ module _ (m : List ℕ) (xs : List Item) (r : Represents m xs) where
         → orderOf c q (marks l) (stateOf n) ≡ 1
     unfolding orderOf
     order-line (queue e) h s = refl
-    order-line (leaving {t = t} {l = l} v e i o) h s =
-        ap (orderOf c q (marks l)) (left-passed t (h .0 .0) (h .0 .1) v e i (views-plain o s)) ∙ order-line o (h .1) s
-    order-line (meeting {t = t} {c = d} {l = l} v w e i f g o) h s =
+    order-line (exiting {t = t} {l = l} v e i o) h s =
+        ap (orderOf c q (marks l)) (exited-passed t (h .0 .0) (h .0 .1) v e i (views-plain o s)) ∙ order-line o (h .1) s
+    order-line (entering {t = t} {c = d} {l = l} v w e i f g o) h s =
         let later = all-behind Plain d (segments l) s in
-        ap (orderOf c q (marks l)) (met-passed t (h .0 .0) (h .0 .1) v w e i f g (views-plain o later) (all-front Plain d (segments l) s))
+        ap (orderOf c q (marks l)) (entered-passed t (h .0 .0) (h .0 .1) v w e i f g (views-plain o later) (all-front Plain d (segments l) s))
         ∙ order-line o (h .1) later
     order-line (passing {x = x} {l = l} {m = n} o) h s = ap (orderOf c q (marks l)) (past (h .0)) ∙ order-line o (h .1) s
       where
         past : Marked m xs r q small (Mark.pass x) → orderAt c q x (stateOf n) ≡ stateOf n
-        past (inl w) = at-met-none c q x (stateOf n) (lt-ltb x 128 (w .0)) (w .2)
-        past (inr w) = at-left-none c q x (stateOf n) (le-ltb x 128 (w .0)) (w .2)
+        past (inl w) = at-entered-none c q x (stateOf n) (lt-ltb x 128 (w .0)) (w .2)
+        past (inr w) = at-exited-none c q x (stateOf n) (le-ltb x 128 (w .0)) (w .2)
 
     order-one : orderOf c q (r .tour) 0 ≡ 1
     order-one =

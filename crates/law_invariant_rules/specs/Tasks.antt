@@ -12,17 +12,17 @@ use Rattle.spec_words.specs.Words.{pick, both-true, both-on, pass, halt}
 use Rattle.spec_lists.specs.Counting.{occurrences, occurs-first, occurs-later}
 use Rattle.spec_layout.specs.Layout.{RIGHTS, CHILDREN, USER, RIGHT}
 use Rattle.spec_tree.specs.Rights.{uses}
-use Rattle.spec_tree.specs.Tour.{met}
+use Rattle.spec_tree.specs.Tour.{entered}
 use Rattle.spec_rules.specs.Contents.{Contents, decode, word}
 use Rattle.spec_rules.specs.Rules.{Unfinished}
-use Rattle.law_rules_views.specs.Toured.{Toured, met-holder}
+use Rattle.law_rules_views.specs.Toured.{Toured, entered-holder}
 use Rattle.law_rules_same.specs.Passed.{toured}
 use Rattle.law_rules_same.specs.Same.{whole-tour}
 use Rattle.spec_outcomes.specs.Waits.{rightsOf}
 use Rattle.spec_order.specs.Steps.{Item}
 use Rattle.spec_lists.specs.Maps.{All}
-use Rattle.law_gaps.specs.Line.{Extent, Mark, base, left, pass as past, Line, marks, Fits}
-use Rattle.law_gaps.specs.Line.Mark.{met as meeting}
+use Rattle.law_gaps.specs.Line.{Extent, Mark, base, exited, pass as past, Line, marks, Fits}
+use Rattle.law_gaps.specs.Line.Mark.{entered as entering}
 use Rattle.law_links.specs.Linked.{tree, tour-is, word-is, holder-unfinished}
 use Rattle.law_links.specs.Marks.{mark-held}
 use Rattle.law_maps.specs.Meaning.{optional}
@@ -49,8 +49,8 @@ module _ (m : List ℕ) (xs : List Item) (r : Represents m xs) where
   whole = subst (λ (l : List ℕ). Toured c l) same-tour (whole-tour c (r .linked .top) (r .linked .idle) (tree m (r .tour) xs (r .linked)))
 
   -- its tasks are the unfinished ones
-  pub met-busy : (t : ℕ) → 0 < occurrences t (met (r .tour)) → Unfinished c t
-  met-busy t p = holder-unfinished m (r .tour) xs (r .linked) t (met-holder c (r .tour) whole t p)
+  pub entered-busy : (t : ℕ) → 0 < occurrences t (entered (r .tour)) → Unfinished c t
+  entered-busy t p = holder-unfinished m (r .tour) xs (r .linked) t (entered-holder c (r .tour) whole t p)
 
   -- ONE QUEUE: the words of its views
   module _ (q : ℕ) (small : q < 4) where
@@ -78,25 +78,25 @@ module _ (m : List ℕ) (xs : List Item) (r : Represents m xs) where
     -- What a mark of the line says of its task: a task with a right to the queue has marks of its own.
     abbrev pub Marked : Mark → Type 0
     Marked (base d) = Unit {0}
-    Marked (left t) = Unfinished c t × (uses (word c t RIGHTS) q ≡ true)
-    Marked (meeting t d) = Unfinished c t × (uses (word c t RIGHTS) q ≡ true)
+    Marked (exited t) = Unfinished c t × (uses (word c t RIGHTS) q ≡ true)
+    Marked (entering t d) = Unfinished c t × (uses (word c t RIGHTS) q ≡ true)
     Marked (past x) =
         ((x < 128) × Unfinished c x × (uses (word c x RIGHTS) q ≡ false))
         ⊎ ((128 ≤ x) × Unfinished c (x - 128) × (uses (word c (x - 128) RIGHTS) q ≡ false))
 
-    -- a mark of the tour is where an unfinished task is met or left
+    -- a mark of the tour is where an unfinished task is entered or exited
     abbrev Busy : ℕ → Type 0
     Busy x = ((x < 128) × Unfinished c x) ⊎ ((128 ≤ x) × (x < 256) × Unfinished c (x - 128))
 
-    left-mark : (t : ℕ) → usesIn m q t ≡ true → Busy (128 + t) → Unfinished c t × (uses (word c t RIGHTS) q ≡ true)
-    left-mark t e (inl w) = let l = w .0 in let z : ⊥ = omega (arith, l) in absurd z
-    left-mark t e (inr w) =
+    exited-mark : (t : ℕ) → usesIn m q t ≡ true → Busy (128 + t) → Unfinished c t × (uses (word c t RIGHTS) q ≡ true)
+    exited-mark t e (inl w) = let l = w .0 in let z : ⊥ = omega (arith, l) in absurd z
+    exited-mark t e (inr w) =
         let u = subst (λ (k : ℕ). Unfinished c k) (let z : 128 + t - 128 ≡ t = omega arith in z) (w .2) in
         (u, sym (uses-word t u) ∙ e)
 
-    met-mark : (t : ℕ) → usesIn m q t ≡ true → Busy t → Unfinished c t × (uses (word c t RIGHTS) q ≡ true)
-    met-mark t e (inl w) = (w .1, sym (uses-word t (w .1)) ∙ e)
-    met-mark t e (inr w) =
+    entered-mark : (t : ℕ) → usesIn m q t ≡ true → Busy t → Unfinished c t × (uses (word c t RIGHTS) q ≡ true)
+    entered-mark t e (inl w) = (w .1, sym (uses-word t (w .1)) ∙ e)
+    entered-mark t e (inr w) =
         let l = w .0 in
         let k : t < 128 = unfold usesIn in ltb-true t 128 (both-true _ _ e .0) in
         let z : ⊥ = omega (arith, l, k) in
@@ -110,8 +110,8 @@ module _ (m : List ℕ) (xs : List Item) (r : Represents m xs) where
     line-marked : (l : Line) → All (Fits (usesIn m q)) l → ((x : ℕ) → 0 < occurrences x (marks l) → Busy x) → All Marked l
     line-marked [] h f = tt
     line-marked (base d ∷ l) h f = (tt, line-marked l (h .1) f)
-    line-marked (left t ∷ l) h f = (left-mark t (h .0) (f (128 + t) (occurs-first (128 + t) (marks l))), line-marked l (h .1) (later (128 + t) (marks l) f))
-    line-marked (meeting t d ∷ l) h f = (met-mark t (h .0) (f t (occurs-first t (marks l))), line-marked l (h .1) (later t (marks l) f))
+    line-marked (exited t ∷ l) h f = (exited-mark t (h .0) (f (128 + t) (occurs-first (128 + t) (marks l))), line-marked l (h .1) (later (128 + t) (marks l) f))
+    line-marked (entering t d ∷ l) h f = (entered-mark t (h .0) (f t (occurs-first t (marks l))), line-marked l (h .1) (later t (marks l) f))
     line-marked (past x ∷ l) h f = (past-mark x (h .0) (f x (occurs-first x (marks l))), line-marked l (h .1) (later x (marks l) f))
 
     pub marked : All Marked (r .line q)

@@ -15,7 +15,7 @@ use Rattle.spec_lists.specs.Tests.{each, upto, eachWord, upto-says, says-upto}
 use Rattle.spec_lists.specs.Distinct.{distinct}
 use Rattle.spec_layout.specs.Layout.{NONE, FREE, UNFINISHED, STATUS, RIGHTS, PARENT, OLDER, YOUNGER, YOUNGEST, CHILDREN, USER, RIGHT}
 use Rattle.spec_tree.specs.Rights.{uses, subset, eachQueue}
-use Rattle.spec_tree.specs.Tour.{END, tour, met, after, entering}
+use Rattle.spec_tree.specs.Tour.{END, tour, entered, after, entering}
 use Rattle.spec_rules.specs.Contents.{Contents, word, part, locals, heads, tails, owners}
 use Rattle.spec_rules.specs.Test.{within, inRange, topTest, idleTest, kin, linkTest, treeTest, viewWord, viewsTest, passedAt, passed, orderAt, orderOf, orderTest}
 use Rattle.spec_rules.specs.Test.{ownersTest, segmentTest, chain, chains, heldTest}
@@ -161,15 +161,15 @@ module _ (c d : Contents) (s : ButTop c d) where
   unfolding orderTest ownersTest
   seen xs w =
       record {
-        words = ap (λ (f : ℕ → Bool). each f (met xs)) same-views ∙ w .words;
+        words = ap (λ (f : ℕ → Bool). each f (entered xs)) same-views ∙ w .words;
         order = ap eachQueue (fun-ext λ q. ap (λ (x : ℕ). eqb x 1) (same-order q xs 0)) ∙ w .order;
-        owned = ap eachQueue (fun-ext λ q. ap (λ (l : List ℕ). eqb (length l) 1) (same-owners q (met xs))) ∙ w .owned;
+        owned = ap eachQueue (fun-ext λ q. ap (λ (l : List ℕ). eqb (length l) 1) (same-owners q (entered xs))) ∙ w .owned;
         segs =
             let l = s .few in
             ap (λ (n : ℕ). upto (segmentTest d) n 0) (s .number)
             ∙ says-upto (segmentTest d) (c .number) 0 (λ x i j. same-segment x (omega (arith, j, l)) ∙ upto-says (segmentTest c) (c .number) 0 (w .segs) x i j);
         holding =
-            ap₂ (heldTest d) (same-heads (met xs)) (same-tails (met xs)) ∙ same-held (heads c (met xs)) (tails c (met xs)) ∙ w .holding;
+            ap₂ (heldTest d) (same-heads (entered xs)) (same-tails (entered xs)) ∙ same-held (heads c (entered xs)) (tails c (entered xs)) ∙ w .holding;
       }
 
   pub passed-but-top : topTest d ≡ true → Passed c → Passed d

@@ -10,7 +10,7 @@ use Rattle.spec_lists.specs.Counting.{equal?}
 use Rattle.spec_lists.specs.Tests.{each}
 use Rattle.spec_layout.specs.Layout.{NONE, NL, RIGHTS, CHILDREN, USER, RIGHT}
 use Rattle.spec_tree.specs.Rights.{uses}
-use Rattle.spec_tree.specs.Tour.{met}
+use Rattle.spec_tree.specs.Tour.{entered}
 use Rattle.spec_rules.specs.Contents.{Contents, decode, word}
 use Rattle.spec_rules.specs.Rules.{Unfinished}
 use Rattle.spec_rules.specs.Test.{viewsTest}
@@ -72,7 +72,7 @@ module _ (m : List ℕ) (xs : List Item) (r : Represents m xs) where
     right-may = record { heads = λ q l n. right-none q l n .0; tails = λ q l n. right-none q l n .1 }
 
   -- VIEW WORDS of all tasks of the tour
-  pub words-right : each (viewsTest c) (met (r .tour)) ≡ true
+  pub words-right : each (viewsTest c) (entered (r .tour)) ≡ true
   words-right =
       says-words c (r .tour) (whole m xs r) (λ t i h l.
       let u = holder-unfinished m (r .tour) xs (r .linked) t h in

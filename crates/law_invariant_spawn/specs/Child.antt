@@ -130,7 +130,7 @@ module _ (m : List ℕ) (ys zs : List Item) (s : Task) (r : Represents m (ys ++ 
   abbrev stands : Place m (r .tour) ys zs s
   stands = where-it-stands m ys zs s r
 
-  -- the marks of the tour: the child is met and left just behind its spawner
+  -- the marks of the tour: the child is entered and exited just behind its spawner
   abbrev pub newTour : List ℕ
   newTour = stands .later ++ t ∷ child ∷ (128 + child) ∷ stands .earlier
 
@@ -149,7 +149,7 @@ module _ (m : List ℕ) (ys zs : List Item) (s : Task) (r : Represents m (ys ++ 
   new-linked play =
       subst (Linked after newTour) (sym new-is)
       (spawn-linked m after (r .tour) ys zs s u child (r .played) (subst Played new-is play) (r .linked) words (stands .later) (stands .earlier) (stands .here)
-      (stands .met-later) (stands .met-earlier) sub-word)
+      (stands .entered-later) (stands .entered-earlier) sub-word)
 
   -- a step that the waits and the rights allow
   pub new-played : blocked t Old ≡ false → Played New

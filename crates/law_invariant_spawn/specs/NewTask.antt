@@ -15,18 +15,18 @@ use Rattle.law_order.specs.Count.{count, spotNumbered}
 use Rattle.law_order_queue.specs.Points.{Point, user, Timeline}
 use Rattle.law_order_queue.specs.Laws.{spawn-line, spawn-past}
 use Rattle.spec_lists.specs.Maps.{All, put, put-other, all-append, all-front, all-behind}
-use Rattle.law_gaps.specs.Line.{base, left, met, pass, Line, marks, Fits}
+use Rattle.law_gaps.specs.Line.{base, exited, entered, pass, Line, marks, Fits}
 
 -- a line fits still where a task of none of its marks gets rights
 pub fits-new : (f : ℕ → Bool) (c : ℕ) (b : Bool) (l : Line) → occurrences c (marks l) ≡ 0 → occurrences (128 + c) (marks l) ≡ 0
     → All (Fits f) l → All (Fits (put f c b)) l
 fits-new f c b [] n k h = tt
 fits-new f c b (base d ∷ l) n k h = (tt, fits-new f c b l n k (h .1))
-fits-new f c b (left t ∷ l) n k h =
+fits-new f c b (exited t ∷ l) n k h =
     let i = occurs-not (128 + t) c (marks l) n in
     let j = occurs-not (128 + t) (128 + c) (marks l) k in
     (put-other f c b t (λ e. j .0 (ap (λ (x : ℕ). 128 + x) e)) ∙ h .0, fits-new f c b l (i .1) (j .1) (h .1))
-fits-new f c b (met t d ∷ l) n k h =
+fits-new f c b (entered t d ∷ l) n k h =
     let i = occurs-not t c (marks l) n in
     let j = occurs-not t (128 + c) (marks l) k in
     (put-other f c b t (i .0) ∙ h .0, fits-new f c b l (i .1) (j .1) (h .1))

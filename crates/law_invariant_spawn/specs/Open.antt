@@ -22,7 +22,7 @@ use Rattle.law_order_waits.specs.Popper.{firstPopper}
 use Rattle.law_order_queue.specs.Points.{user, Timeline}
 use Rattle.law_order_queue.specs.Laws.{begins}
 use Rattle.spec_lists.specs.Maps.{put, put-same, put-other}
-use Rattle.law_gaps.specs.Line.{nonlocal, local, Extent, vacant, extent, base, left, met, Line}
+use Rattle.law_gaps.specs.Line.{nonlocal, local, Extent, vacant, extent, base, exited, entered, Line}
 use Rattle.law_gaps.specs.Store.{Memory}
 use Rattle.law_gaps.specs.After.{After, after-marks, after-fits}
 use Rattle.law_gaps.specs.TaskRows.{Opened, open-row}
@@ -153,7 +153,7 @@ module _ (l n : ℕ) (range : inRange l n ≡ true) where
         }
 
     abbrev Begun : Line
-    Begun = met 0 [] ∷ (left 0 ∷ (base (q ∷ []) ∷ []))
+    Begun = entered 0 [] ∷ (exited 0 ∷ (base (q ∷ []) ∷ []))
 
     opened-row : After (λ x. occurrences x (q ∷ freeIn m)) (after .store) after 0 Begun (user 0 ∷ [])
     opened-row = open-row (λ x. occurrences x (q ∷ freeIn m)) q after is-opened

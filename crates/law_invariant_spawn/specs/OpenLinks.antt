@@ -12,7 +12,7 @@ use Rattle.spec_words.specs.Words.{load, size, pick, both-true}
 use Rattle.spec_words.specs.Blocks.{storeAll, size-storeAll, block-same}
 use Rattle.spec_lists.specs.Counting.{occurrences, occurs-nil, occurs-here, occurs-past, occurs-append, equal?}
 use Rattle.spec_layout.specs.Layout.{WORDS, STATUS, RIGHTS, PARENT, OLDER, YOUNGER, YOUNGEST, freeTasks, freeTask, freeSegment, task, address, read}
-use Rattle.spec_tree.specs.Tour.{met}
+use Rattle.spec_tree.specs.Tour.{entered}
 use Rattle.spec_rules.specs.Contents.{Contents, decode, word}
 use Rattle.spec_rules.specs.Test.{within, inRange}
 use Rattle.law_rules_tasks.specs.Tested.{Top, Idle, says-top, says-idle}
@@ -160,7 +160,7 @@ module _ (l n : ℕ) (hn : 4 ≤ n) (hn' : n ≤ 256) where
   top-only s (inr i) = absurd i
 
   pub core-linked : Linked m (0 ∷ 128 ∷ []) begin
-  unfolding load met numbersBack begin numberOf rightsOf nameOf
+  unfolding load entered numbersBack begin numberOf rightsOf nameOf
   core-linked =
       record {
         sized = opened-sized;

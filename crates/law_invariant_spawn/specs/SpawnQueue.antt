@@ -17,13 +17,13 @@ use Rattle.law_order_waits.specs.Popper.{firstPopper}
 use Rattle.law_order_waits.specs.Heirs.{spawn-first, spawn-kept, spawn-other}
 use Rattle.law_order_queue.specs.Points.{Point, user, Timeline}
 use Rattle.spec_lists.specs.Maps.{All, put, put-same}
-use Rattle.law_gaps.specs.Line.{Mark, left, met, pass, Line, marks, segments, Fits}
+use Rattle.law_gaps.specs.Line.{Mark, exited, entered, pass, Line, marks, segments, Fits}
 use Rattle.law_gaps.specs.Store.{Memory, Laid, timeline}
 use Rattle.law_gaps.specs.Lines.{marks-append}
 use Rattle.law_gaps.specs.Moves.{spawned, queuePassed}
 use Rattle.law_gaps.specs.After.{After, after-marks, after-fits, after-then}
-use Rattle.law_gaps.specs.Absent.{new-unmet}
-use Rattle.law_gaps.specs.Search.{taskAt, task-met, task-left}
+use Rattle.law_gaps.specs.Absent.{new-unentered}
+use Rattle.law_gaps.specs.Search.{taskAt, task-entered, task-exited}
 use Rattle.law_gaps.specs.Splits.{pass-part}
 use Rattle.law_gaps.specs.TaskRows.{spawn-row, spawn-past-row, pass-past-row}
 use Rattle.law_gaps.specs.HolderRows.{queue-row, queue-still-row}
@@ -146,22 +146,22 @@ module _ (m : List ℕ) (ys zs : List Item) (s : Task) (r : Represents m (ys ++ 
     w = at m ys zs s r q i v
 
     abbrev Grown : Line
-    Grown = w .later ++ (met t (w .chain) ∷ (met c [] ∷ (left c ∷ w .earlier)))
+    Grown = w .later ++ (entered t (w .chain) ∷ (entered c [] ∷ (exited c ∷ w .earlier)))
 
     abbrev Points : List Point
     Points = timeline (contentsIn m) (w .earlier) ++ user c ∷ user t ∷ Behind m ys zs s r q i w
 
     grown : Placed Grown
     grown =
-        placed (w .later) (met t (w .chain)) (met c []) (left c) (w .earlier) (w .parts) (w .later-marks) (w .earlier-marks) refl
+        placed (w .later) (entered t (w .chain)) (entered c []) (exited c) (w .earlier) (w .parts) (w .later-marks) (w .earlier-marks) refl
         (put-same (usesIn m q) c (uses u q) ∙ k) (put-same (usesIn m q) c (uses u q) ∙ k)
 
     row : After own (was .store) (spawned t c was) holder Grown Points
     unfolding queueMemory ofTasks
     row =
-        let l = w .later ++ (met t (w .chain) ∷ w .earlier) in
+        let l = w .later ++ (entered t (w .chain) ∷ w .earlier) in
         let o = absent l (w .parts) in
-        spawn-row own was holder (w .later) t (w .chain) (w .earlier) c (new-unmet c l (o .0) (o .1)) (laid-at m ys zs s r q i w)
+        spawn-row own was holder (w .later) t (w .chain) (w .earlier) c (new-unentered c l (o .0) (o .1)) (laid-at m ys zs s r q i w)
 
     time : Timeline q Next Points
     time =
@@ -214,7 +214,7 @@ module _ (m : List ℕ) (ys zs : List Item) (s : Task) (r : Represents m (ys ++ 
     past b z a e eb ea ez row =
         done was holder (b ++ (z ∷ (pass c ∷ (pass (128 + c) ∷ a)))) (timeline (contentsIn m) (b ++ (z ∷ a))) (other-memory m ys zs s r u sub some-free q i k)
         (first-same (useless-pops u q k)) row
-        (placed b z (pass c) (pass (128 + c)) a e eb ea ez (unused c (task-met c (child-small m ys zs s r u sub some-free))) (unused (128 + c) (task-left c)))
+        (placed b z (pass c) (pass (128 + c)) a e eb ea ez (unused c (task-entered c (child-small m ys zs s r u sub some-free))) (unused (128 + c) (task-exited c)))
         (child-past q ys zs c u s (single-spot m ys zs s r) k (subst (λ (l : Line). Timeline q Old (timeline (contentsIn m) l)) e (parts-of m Old r .time q i)))
         (bare-was m ys zs s r u sub some-free q i k)
 
@@ -224,7 +224,7 @@ module _ (m : List ℕ) (ys zs : List Item) (s : Task) (r : Represents m (ys ++ 
     spawner-unused : uses (rightsOf s) q ≡ false → usesIn m q (taskAt t) ≡ false
     unfolding usesIn
     spawner-unused v =
-        ap (usesIn m q) (task-met t (task-unfinished m ys zs s r .0))
+        ap (usesIn m q) (task-entered t (task-unfinished m ys zs s r .0))
         ∙ both-right-off (ltb t 128) (ap (λ (x : ℕ). uses x q) (same-rights m (r .tour) Old (r .played) (r .linked) s (mine-spot m ys zs s r)) ∙ v)
 
     pub past-done : Done
@@ -234,7 +234,7 @@ module _ (m : List ℕ) (ys zs : List Item) (s : Task) (r : Represents m (ys ++ 
         go : (b : Bool) → uses (rightsOf s) q ≡ b → Done
         go true v =
             let w = at m ys zs s r q i v in
-            past (w .later) (met t (w .chain)) (w .earlier) (w .parts) (w .later-marks) (w .earlier-marks) refl
+            past (w .later) (entered t (w .chain)) (w .earlier) (w .parts) (w .later-marks) (w .earlier-marks) refl
             (spawn-past-row own was holder (w .later) t (w .chain) (w .earlier) c (laid-at m ys zs s r q i w))
         go false v =
             let p = where-it-stands m ys zs s r in

@@ -91,7 +91,7 @@ module _ (j : List ℕ) (acc : Accepted j) {xs : List Mark} (played : Played xs)
   pop-beside : (v : ℕ) (m : Numbered) → Right → Meets j played a b n h w (Value v) → (f : FirstValue j w v a) → taskOf j m ≡ taskOf j n
       → Beside j (advance (n .number) (pops w) xs) (kept w v (f .front) (f .back) false ++ spot m ∷ b)
   unfolding standing
-  pop-beside v m r meeting f e =
+  pop-beside v m r entering f e =
       stepped j (played-reached played) a b n h (pops w) (kept w v (f .front) (f .back) false) (spot m ∷ [])
       (standing-kept w v (f .front) (f .back) false ∙ ap standing (sym (f .parts)))
       (plain-places j (played-reached played) a b n h (pops w) m (plain-pop w) e)
@@ -113,7 +113,7 @@ module _ (j : List ℕ) (acc : Accepted j) {xs : List Mark} (played : Played xs)
       popped : New w
       popped =
           pop-line w (located j a b n h .before) (located j a b n h .behind) (taskOf j n) (single j (played-reached played) a b n h) v
-          (pointsOf j w (line false)) (r .1) (meeting .free)
+          (pointsOf j w (line false)) (r .1) (entering .free)
           (subst (Timeline w Steps) (points w ∙ points-taken w v (f .front) (f .back) j (spot m ∷ b) (f .bare))
           (time j (played-reached played) a b n h w (r .0)))
 

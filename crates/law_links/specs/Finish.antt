@@ -11,7 +11,7 @@ use Rattle.spec_rules.specs.Contents.{Contents, decode, word}
 use Rattle.spec_rules.specs.Rules.{Unfinished, Child, TaskRules}
 use Rattle.spec_order.specs.Steps.{Item}
 use Rattle.law_links.specs.Linked.{Linked, word-is, rules}
-use Rattle.law_links.specs.Marks.{unfinished-met}
+use Rattle.law_links.specs.Marks.{unfinished-entered}
 
 -- n is m without task t, which leaves the list of its siblings, and whose record is free
 pub record Finished (m n : List ℕ) (t : ℕ) : Type 0 where
@@ -68,7 +68,7 @@ module _ (m n : List ℕ) (t : ℕ) where
     law = rules m T xs h
 
     task-there : Unfinished c t
-    task-there = unfinished-met m T xs h t small mine
+    task-there = unfinished-entered m T xs h t small mine
 
     as-child : Child c p t
     as-child = ((λ e. omega (arith, e, above)), (task-there, word-is m t PARENT))

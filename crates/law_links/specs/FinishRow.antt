@@ -13,7 +13,7 @@ use Rattle.law_rules_tasks.specs.Marks.{Kin}
 use Rattle.spec_order.specs.Steps.{Item}
 use Rattle.law_links.specs.Row.{Leads, childless, child, oldest, older, Row}
 use Rattle.law_links.specs.Linked.{Linked, word-is}
-use Rattle.law_links.specs.Marks.{mark-once, unfinished-left}
+use Rattle.law_links.specs.Marks.{mark-once, unfinished-exited}
 use Rattle.law_links.specs.Finish.{Finished, AfterFinish}
 
 module _ (m n : List ℕ) (T : List ℕ) (xs : List Item) (h : Linked m T xs) (t : ℕ) (w : Finished m n t) (stay : AfterFinish m n t)
@@ -70,7 +70,7 @@ module _ (m n : List ℕ) (T : List ℕ) (xs : List Item) (h : Linked m T xs) (t
       let nv : v ≡ t → ⊥ = λ s. n2 (ap (λ (x : ℕ). 128 + x) s) in
       older g l (fixed v PARENT l (omega arith) nv ∙ e) i (older-stays v l nv (λ s. n3 (sym f ∙ s)) ∙ f)
       (kin-with z r v v n3 i
-      (λ s. barren v ((λ j. omega (arith, j, g)), (unfinished-left m T xs h v q, e ∙ s)))
+      (λ s. barren v ((λ j. omega (arith, j, g)), (unfinished-exited m T xs h v q, e ∙ s)))
       (younger-stays z (k .below) n3 (not-older nv) ∙ k .younger) k)
     where
       not-older : (v ≡ t → ⊥) → z ≡ o → ⊥
@@ -83,20 +83,20 @@ module _ (m n : List ℕ) (T : List ℕ) (xs : List Item) (h : Linked m T xs) (t
   not-self : (q : ℕ) → word c t PARENT ≡ q → q ≡ t → ⊥
   not-self q e f = barren t ((λ z. omega (arith, z, above)), (there, e ∙ f))
 
-  -- what led to t leads to what came after t was left
+  -- what led to t leads to what came after t was exited
   abbrev After : ℕ → Type 0
   After z = ((o ≡ NONE) × (z ≡ 128 + p)) ⊎ ((z ≡ o) × (o ≡ NONE → ⊥) × Kin c o p t)
 
-  after-left : (x z : ℕ) → x ≡ 128 + t → Leads c x z → After z
-  after-left x z is (childless l e) = let f : ⊥ = omega (arith, is, l) in absurd f
-  after-left x z is (child l e k) = let f : ⊥ = omega (arith, is, l) in absurd f
-  after-left x z is (oldest {t = v} {p = q} g l e i f) =
+  after-exited : (x z : ℕ) → x ≡ 128 + t → Leads c x z → After z
+  after-exited x z is (childless l e) = let f : ⊥ = omega (arith, is, l) in absurd f
+  after-exited x z is (child l e k) = let f : ⊥ = omega (arith, is, l) in absurd f
+  after-exited x z is (oldest {t = v} {p = q} g l e i f) =
       let s : v ≡ t = omega (arith, is) in
       inl (
         sym (word-is m t OLDER) ∙ ap (λ (u : ℕ). word c u OLDER) (sym s) ∙ f,
         ap (λ (u : ℕ). 128 + u) (sym e ∙ ap (λ (u : ℕ). word c u PARENT) s ∙ word-is m t PARENT),
       )
-  after-left x z is (older {t = v} {p = q} g l e i f k) =
+  after-exited x z is (older {t = v} {p = q} g l e i f k) =
       let s : v ≡ t = omega (arith, is) in
       let r : z ≡ o = sym f ∙ ap (λ (u : ℕ). word c u OLDER) s ∙ word-is m t OLDER in
       let b = k .below in
@@ -216,7 +216,7 @@ module _ (m n : List ℕ) (T : List ℕ) (xs : List Item) (h : Linked m T xs) (t
   last-part x (z ∷ l) s e k r =
       let inside : (u : ℕ) → 0 < occurrences u (z ∷ l) → 0 < occurrences u a = λ u q. subst (λ (i : List ℕ). 0 < occurrences u i) (sym s) q in
       let there = inside z (occurs-first z l) in (
-        joins x t z refl (e .2) (λ q f. other-older z there (q ∙ f)) k (after-left (128 + t) z refl (r .0)),
+        joins x t z refl (e .2) (λ q f. other-older z there (q ∙ f)) k (after-exited (128 + t) z refl (r .0)),
         rest-row (z ∷ l) inside (r .1),
       )
 

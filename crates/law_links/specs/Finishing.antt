@@ -7,7 +7,7 @@ use Prim.Native.Nat.{ℕ, _+_, _<_, _≤_}
 use native.Mathlib.Omega.{arith}
 use Rattle.spec_lists.specs.Counting.{occurrences, occurs-append, occurs-here}
 use Rattle.spec_layout.specs.Layout.{STATUS, RIGHTS, PARENT, OLDER, task, read}
-use Rattle.spec_tree.specs.Tour.{met}
+use Rattle.spec_tree.specs.Tour.{entered}
 use Rattle.spec_rules.specs.Contents.{decode}
 use Rattle.spec_rules.specs.Rules.{Child}
 use Rattle.spec_order.specs.Steps.{Name, Task, Item, spot, task as taskOf, finishes, nameOf, numberOf, rightsOf, made}
@@ -19,7 +19,7 @@ use Rattle.law_order_waits.specs.Changes.{in-right, back}
 use Rattle.law_order_waits.specs.Kinship.{says-child-there}
 use Rattle.law_order_waits.specs.Gone.{gone}
 use Rattle.law_links.specs.Linked.{numbersBack, back-append, Linked, spot-unfinished}
-use Rattle.law_links.specs.Places.{met-append}
+use Rattle.law_links.specs.Places.{entered-append}
 use Rattle.law_links.specs.Family.{link-child, older-trans}
 use Rattle.law_links.specs.Finish.{Finished, cut-word, AfterFinish, after-finish}
 use Rattle.law_links.specs.FinishRow.{cut-row, cut-first}
@@ -31,7 +31,7 @@ back-finish ys zs (taskOf p t q k) = back-append ys _
 
 module _ (m n : List ℕ) (T : List ℕ) (ys zs : List Item) (s : Task) (play : Played (ys ++ spot s ∷ zs)) (next : Played (ys ++ (made s finishes ++ zs)))
     (h : Linked m T (ys ++ spot s ∷ zs)) (w : Finished m n (numberOf s)) (b a : List ℕ) (here : T ≡ b ++ numberOf s ∷ (128 + numberOf s) ∷ a)
-    (later : met b ≡ numbersBack zs) (earlier : met a ≡ numbersBack ys) (above : 0 < numberOf s)
+    (later : entered b ≡ numbersBack zs) (earlier : entered a ≡ numbersBack ys) (above : 0 < numberOf s)
     (none : hasChild (numberOf s) (ys ++ spot s ∷ zs) ≡ false) where
   abbrev t : ℕ
   t = numberOf s
@@ -104,7 +104,7 @@ module _ (m n : List ℕ) (T : List ℕ) (ys zs : List Item) (s : Task) (play : 
         row = cut-row m n T Old h t w stay b a here small above barren;
         many = cut-many m n T Old h t w stay b a here small above;
         running = cut-word m n t stay 0 STATUS (omega arith) (omega arith) (λ e. omega (arith, e, above)) ∙ h .running;
-        spots = met-append b a ∙ ap₂ (λ (k l : List ℕ). k ++ l) later earlier ∙ sym (back-finish ys zs s);
+        spots = entered-append b a ∙ ap₂ (λ (k l : List ℕ). k ++ l) later earlier ∙ sym (back-finish ys zs s);
         rights = rights-are;
         parents = parents-are;
         ages = ages-are;

@@ -10,14 +10,14 @@ use Rattle.spec_words.specs.Words.{size}
 use Rattle.spec_lists.specs.Counting.{occurrences, occurs-nil, occurs-here, occurs-past, occurs-append, equal?}
 use Rattle.spec_layout.specs.Layout.{WORDS, UNFINISHED, STATUS, RIGHTS, PARENT, OLDER, task, read, recordOf}
 use Rattle.spec_layout.specs.Frame.{record-word}
-use Rattle.spec_tree.specs.Tour.{MARKS, tour, met}
+use Rattle.spec_tree.specs.Tour.{MARKS, tour, entered}
 use Rattle.spec_rules.specs.Contents.{Contents, decode, word, holders}
 use Rattle.spec_rules.specs.Rules.{Unfinished, Holder, TaskRules}
 use Rattle.spec_rules.specs.Test.{topTest, idleTest, treeTest}
 use Rattle.law_rules_tasks.specs.Marks.{after-top}
 use Rattle.law_rules_tasks.specs.Tested.{top-says}
 use Rattle.law_rules_tasks.specs.Holders.{holder-once, holders-hold}
-use Rattle.law_rules_tasks.specs.Tasks.{tasks-say, tour-whole, met-holders}
+use Rattle.law_rules_tasks.specs.Tasks.{tasks-say, tour-whole, entered-holders}
 use Rattle.spec_order.specs.Steps.{Task, Item, step, spot, nameOf, numberOf, rightsOf}
 use Rattle.spec_order.specs.Waits.{isOlder}
 use Rattle.law_order.specs.Items.{In}
@@ -39,7 +39,7 @@ pub record Linked (m : List ℕ) (T : List ℕ) (xs : List Item) : Type 0 where
   pub many : length T ≡ 2 * (128 - length (decode m .idle))
   pub running : read m (task 0 STATUS) ≡ UNFINISHED
   -- the tasks that the tour meets are those with spots, in the same order
-  pub spots : met T ≡ numbersBack xs
+  pub spots : entered T ≡ numbersBack xs
   pub rights : (s : Task) → In (spot s) xs → read m (task (numberOf s) RIGHTS) ≡ rightsOf s
   -- links by names
   pub parents : (s o : Task) (k : ℕ) → In (spot s) xs → In (spot o) xs → nameOf s ≡ k ∷ nameOf o → read m (task (numberOf s) PARENT) ≡ numberOf o
@@ -111,9 +111,9 @@ module _ (m : List ℕ) (T : List ℕ) (xs : List Item) (h : Linked m T xs) wher
       row-tour c 256 0 l (after-top c (t .parent) (t .older)) (subst (Row c) e (h .row)) (omega (arith, n, k)) ∙ sym e
 
   -- it meets exactly the holders
-  met-is : (t : ℕ) → occurrences t (met T) ≡ occurrences t (holders c)
-  met-is t =
-      ap (λ (l : List ℕ). occurrences t (met l)) (sym tour-is ∙ tour-whole c (h .top) (h .idle) tree) ∙ met-holders c (h .top) (h .idle) tree t
+  entered-is : (t : ℕ) → occurrences t (entered T) ≡ occurrences t (holders c)
+  entered-is t =
+      ap (λ (l : List ℕ). occurrences t (entered l)) (sym tour-is ∙ tour-whole c (h .top) (h .idle) tree) ∙ entered-holders c (h .top) (h .idle) tree t
 
   pub holder-unfinished : (t : ℕ) → Holder c t → Unfinished c t
   holder-unfinished t (inl e) = (omega (arith, e), ap (λ (x : ℕ). word c x STATUS) e ∙ word-is m 0 STATUS ∙ h .running)
@@ -124,12 +124,12 @@ module _ (m : List ℕ) (T : List ℕ) (xs : List Item) (h : Linked m T xs) wher
   spot-unfinished s i =
       let a = says-back s xs i in
       let b = ap (occurrences (numberOf s)) (h .spots) in
-      let d = met-is (numberOf s) in
+      let d = entered-is (numberOf s) in
       holder-unfinished (numberOf s) (holders-hold c (numberOf s) (omega (arith, a, b, d)) .1)
 
   pub unfinished-spot : (t : ℕ) → Unfinished c t → (s : Task) × In (spot s) xs × (numberOf s ≡ t)
   unfinished-spot t u =
       let a = holder-once c t (inr u) in
       let b = ap (occurrences t) (h .spots) in
-      let d = met-is t in
+      let d = entered-is t in
       back-says t xs (omega (arith, a, b, d))

@@ -8,16 +8,16 @@ use native.Mathlib.Omega.{arith}
 use lib.ListN.{length, length-append}
 use Rattle.spec_lists.specs.Counting.{total, occurrences, total-ext, length-total}
 use Rattle.spec_layout.specs.Layout.{freeTasks, read}
-use Rattle.spec_tree.specs.Tour.{met}
+use Rattle.spec_tree.specs.Tour.{entered}
 use Rattle.spec_rules.specs.Contents.{Contents, decode}
 use Rattle.spec_rules.specs.Rules.{Unfinished}
 use Rattle.law_rules_tasks.specs.Tested.{idle-says}
-use Rattle.law_rules_tasks.specs.Holders.{met-count}
+use Rattle.law_rules_tasks.specs.Holders.{entered-count}
 use Rattle.spec_order.specs.Steps.{Item, step, spot, numberOf}
 use Rattle.spec_order.specs.Ordered.{spots}
 use Rattle.law_links.specs.Linked.{numbersBack, Linked, back-says, says-back, spot-unfinished, unfinished-spot}
 use Rattle.law_links.specs.Idle.{idle-length, idle-height}
-use Rattle.law_links.specs.Marks.{mark-once, mark-held, mark-left}
+use Rattle.law_links.specs.Marks.{mark-once, mark-held, mark-exited}
 
 -- a sum in two parts
 total-parts : (n k : ℕ) (f : ℕ → ℕ) → total (k + n) f ≡ total n f + total k (λ y. f (n + y))
@@ -42,26 +42,26 @@ module _ (m : List ℕ) (T : List ℕ) (xs : List Item) (h : Linked m T xs) wher
   abbrev c : Contents
   c = decode m
 
-  -- a task is met as often as it is left
-  met-left : (t : ℕ) → t < 128 → occurrences t T ≡ occurrences (128 + t) T
-  met-left t small =
+  -- a task is entered as often as it is exited
+  entered-exited : (t : ℕ) → t < 128 → occurrences t T ≡ occurrences (128 + t) T
+  entered-exited t small =
       let a = mark-once m T xs h t in
       let b = mark-once m T xs h (128 + t) in
       ⊎-elim
       (λ e. ⊎-elim (λ f. e ∙ sym f) (λ p. let z = seen p in let y : ⊥ = omega (arith, e, z) in absurd y) (eq-zero-or-pos (occurrences (128 + t) T)))
-      (λ p. let q = left p in omega (arith, a, b, p, q))
+      (λ p. let q = exited p in omega (arith, a, b, p, q))
       (eq-zero-or-pos (occurrences t T))
     where
-      left : 0 < occurrences t T → 0 < occurrences (128 + t) T
-      left p =
-          ⊎-elim (λ w. mark-left m T xs h t (w .1)) (λ w. let l = w .0 in let z : ⊥ = omega (arith, l, small) in absurd z) (mark-held m T xs h t p)
+      exited : 0 < occurrences t T → 0 < occurrences (128 + t) T
+      exited p =
+          ⊎-elim (λ w. mark-exited m T xs h t (w .1)) (λ w. let l = w .0 in let z : ⊥ = omega (arith, l, small) in absurd z) (mark-held m T xs h t p)
 
       there : Unfinished c t → 0 < occurrences t T
       there u =
           let w = unfinished-spot m T xs h t u in
           let a = says-back (w .0) xs (w .1) in
           let b = ap (occurrences t) (h .spots) in
-          let d = met-count T t small in
+          let d = entered-count T t small in
           let e : occurrences (numberOf (w .0)) (numbersBack xs) ≡ occurrences t (numbersBack xs) = ap (λ (x : ℕ). occurrences x (numbersBack xs)) (w .2) in
           omega (arith, a, b, d, e)
 
@@ -72,11 +72,11 @@ module _ (m : List ℕ) (T : List ℕ) (xs : List Item) (h : Linked m T xs) wher
           (λ w. there (subst (Unfinished c) (let z : 128 + t - 128 ≡ t = omega arith in z) (w .2)))
           (mark-held m T xs h (128 + t) p)
 
-  mets : length (met T) ≡ total 128 (λ y. occurrences y T)
-  mets =
-      length-total 128 (met T) small ∙ total-ext 128 _ _ (λ y l. met-count T y l)
+  entries : length (entered T) ≡ total 128 (λ y. occurrences y T)
+  entries =
+      length-total 128 (entered T) small ∙ total-ext 128 _ _ (λ y l. entered-count T y l)
     where
-      small : (x : ℕ) → 0 < occurrences x (met T) → x < 128
+      small : (x : ℕ) → 0 < occurrences x (entered T) → x < 128
       small x p =
           let w = back-says x xs (let e = ap (occurrences x) (h .spots) in omega (arith, e, p)) in
           subst (λ (y : ℕ). y < 128) (w .2) (spot-unfinished m T xs h (w .0) (w .1) .0)
@@ -86,10 +86,10 @@ module _ (m : List ℕ) (T : List ℕ) (xs : List Item) (h : Linked m T xs) wher
 
   pub spots-many : spots xs + read m freeTasks ≡ 128
   spots-many =
-      let a = mets in
+      let a = entries in
       let b = whole in
       let d = total-parts 128 128 (λ y. occurrences y T) in
-      let e = total-ext 128 (λ y. occurrences y T) (λ y. occurrences (128 + y) T) met-left in
+      let e = total-ext 128 (λ y. occurrences y T) (λ y. occurrences (128 + y) T) entered-exited in
       let f = h .many in
       let i = idle-says c (h .idle) .few in
       let k = idle-height m (h .sized) i in

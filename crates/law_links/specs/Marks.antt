@@ -1,4 +1,4 @@
--- The marks of the tour: each stands in it once, and they are where unfinished tasks are met and left.
+-- The marks of the tour: each stands in it once, and they are where unfinished tasks are entered and exited.
 use mathlib.Core.Path.{_≡_, sym, _∙_, subst, ap}
 use mathlib.Core.List.{List}
 use mathlib.Core.Logic.{_⊎_, inl, inr, ⊎-elim}
@@ -8,13 +8,13 @@ use native.Mathlib.Omega.{arith}
 use lib.ListN.{length}
 use Rattle.spec_lists.specs.Counting.{occurrences}
 use Rattle.spec_layout.specs.Layout.{FREE, STATUS, recordOf}
-use Rattle.spec_tree.specs.Tour.{tour, met}
+use Rattle.spec_tree.specs.Tour.{tour, entered}
 use Rattle.spec_rules.specs.Contents.{Contents, decode, word}
 use Rattle.spec_rules.specs.Rules.{Unfinished}
 use Rattle.law_rules_tasks.specs.Tested.{idle-says}
 use Rattle.law_rules_tasks.specs.Visits.{marks-once}
-use Rattle.law_rules_tasks.specs.Tasks.{tour-whole, marks-held, holders-left}
-use Rattle.law_rules_tasks.specs.Holders.{met-count}
+use Rattle.law_rules_tasks.specs.Tasks.{tour-whole, marks-held, holders-exited}
+use Rattle.law_rules_tasks.specs.Holders.{entered-count}
 use Rattle.spec_order.specs.Steps.{Item, numberOf}
 use Rattle.law_links.specs.Linked.{Linked, tree, tour-is, holder-unfinished, unfinished-spot, says-back}
 
@@ -36,11 +36,11 @@ module _ (m : List ℕ) (T : List ℕ) (xs : List Item) (h : Linked m T xs) wher
       (marks-held c (h .top) (h .idle) (tree m T xs h) x (subst (λ (l : List ℕ). 0 < occurrences x l) whole p))
 
   -- the task that a mark meets, and the one that a mark leaves
-  pub unfinished-met : (x : ℕ) → x < 128 → 0 < occurrences x T → Unfinished c x
-  unfinished-met x l p = ⊎-elim (λ v. v .1) (λ v. let k = v .0 in let z : ⊥ = omega (arith, k, l) in absurd z) (mark-held x p)
+  pub unfinished-entered : (x : ℕ) → x < 128 → 0 < occurrences x T → Unfinished c x
+  unfinished-entered x l p = ⊎-elim (λ v. v .1) (λ v. let k = v .0 in let z : ⊥ = omega (arith, k, l) in absurd z) (mark-held x p)
 
-  pub unfinished-left : (x : ℕ) → 0 < occurrences (128 + x) T → Unfinished c x
-  unfinished-left x p =
+  pub unfinished-exited : (x : ℕ) → 0 < occurrences (128 + x) T → Unfinished c x
+  unfinished-exited x p =
       ⊎-elim
       (λ v. let k = v .0 in let z : ⊥ = omega (arith, k) in absurd z)
       (λ v. subst (Unfinished c) (let z : 128 + x - 128 ≡ x = omega arith in z) (v .2))
@@ -49,22 +49,22 @@ module _ (m : List ℕ) (T : List ℕ) (xs : List Item) (h : Linked m T xs) wher
   -- a free record has no mark
   pub free-unmarked : (t : ℕ) → t < 128 → word c t STATUS ≡ FREE → (occurrences t T ≡ 0) × (occurrences (128 + t) T ≡ 0)
   free-unmarked t small e = (
-    ⊎-elim (λ z. z) (λ p. absurd (busy (unfinished-met t small p))) (eq-zero-or-pos (occurrences t T)),
-    ⊎-elim (λ z. z) (λ p. absurd (busy (unfinished-left t p))) (eq-zero-or-pos (occurrences (128 + t) T)),
+    ⊎-elim (λ z. z) (λ p. absurd (busy (unfinished-entered t small p))) (eq-zero-or-pos (occurrences t T)),
+    ⊎-elim (λ z. z) (λ p. absurd (busy (unfinished-exited t p))) (eq-zero-or-pos (occurrences (128 + t) T)),
   )
     where
       busy : Unfinished c t → ⊥
       busy u = let f = u .1 in omega (arith, e, f)
 
-  -- an unfinished task is met, and left too
-  pub mark-met : (t : ℕ) → Unfinished c t → 0 < occurrences t T
-  mark-met t u =
+  -- an unfinished task is entered, and exited too
+  pub mark-entered : (t : ℕ) → Unfinished c t → 0 < occurrences t T
+  mark-entered t u =
       let w = unfinished-spot m T xs h t u in
       let a = says-back (w .0) xs (w .1) in
       let b = ap (occurrences (numberOf (w .0))) (h .spots) in
-      let d = met-count T t (u .0) in
-      let e = subst (λ (x : ℕ). 0 < occurrences x (met T)) (w .2) (omega (arith, a, b)) in
+      let d = entered-count T t (u .0) in
+      let e = subst (λ (x : ℕ). 0 < occurrences x (entered T)) (w .2) (omega (arith, a, b)) in
       omega (arith, d, e)
 
-  pub mark-left : (t : ℕ) → Unfinished c t → 0 < occurrences (128 + t) T
-  mark-left t u = subst (λ (l : List ℕ). 0 < occurrences (128 + t) l) (sym whole) (holders-left c (h .top) (h .idle) (tree m T xs h) t (inr u))
+  pub mark-exited : (t : ℕ) → Unfinished c t → 0 < occurrences (128 + t) T
+  mark-exited t u = subst (λ (l : List ℕ). 0 < occurrences (128 + t) l) (sym whole) (holders-exited c (h .top) (h .idle) (tree m T xs h) t (inr u))

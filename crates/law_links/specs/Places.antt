@@ -10,11 +10,11 @@ use lib.ListN.{length, length-append}
 use Rattle.spec_words.specs.Words.{pick}
 use Rattle.spec_lists.specs.Counting.{below?}
 use Rattle.spec_layout.specs.Layout.{NONE, YOUNGEST, task, read, recordOf}
-use Rattle.spec_tree.specs.Tour.{END, MARKS, after, tour, met, seek}
+use Rattle.spec_tree.specs.Tour.{END, MARKS, after, tour, entered, seek}
 use Rattle.spec_rules.specs.Contents.{Contents, decode}
 use Rattle.law_rules_tasks.specs.Marks.{after-top, after-childless, tour-past}
 use Rattle.law_rules_tasks.specs.Tested.{top-says}
-use Rattle.law_rules_tasks.specs.Holders.{met-here, met-past}
+use Rattle.law_rules_tasks.specs.Holders.{entered-here, entered-past}
 use Rattle.law_gaps.specs.Search.{firstOf}
 use Rattle.spec_order.specs.Steps.{Task, Item, spot, numberOf}
 use Rattle.law_order_waits.specs.Changes.{in-right}
@@ -32,42 +32,42 @@ seek-first (suc k) f recs x = go (leb END x) (seek-first k f recs (after recs x)
     go true e = refl
     go false e = ap (pick (f x) x) e
 
--- the tasks met, in two parts
-pub met-append : (a b : List ℕ) → met (a ++ b) ≡ met a ++ met b
-unfolding met pick
-met-append [] b = refl
-met-append (x ∷ a) b = go (ltb x 128) (met-append a b)
+-- the tasks entered, in two parts
+pub entered-append : (a b : List ℕ) → entered (a ++ b) ≡ entered a ++ entered b
+unfolding entered pick
+entered-append [] b = refl
+entered-append (x ∷ a) b = go (ltb x 128) (entered-append a b)
   where
-    go : (d : Bool) → met (a ++ b) ≡ met a ++ met b → pick d (x ∷ met (a ++ b)) (met (a ++ b)) ≡ pick d (x ∷ met a) (met a) ++ met b
+    go : (d : Bool) → entered (a ++ b) ≡ entered a ++ entered b → pick d (x ∷ entered (a ++ b)) (entered (a ++ b)) ≡ pick d (x ∷ entered a) (entered a) ++ entered b
     go true e = ap (λ (l : List ℕ). x ∷ l) e
     go false e = e
 
--- a place among the tasks met is a place among the marks
-met-parts : (T l r : List ℕ) (t : ℕ) → met T ≡ l ++ t ∷ r → (b : List ℕ) × (a : List ℕ) × (T ≡ b ++ t ∷ a) × (met b ≡ l) × (met a ≡ r)
-unfolding met
-met-parts [] l r t e = absurd (append-ne-nil-of-right-ne-nil l (cons-ne-nil t r) (sym e))
-met-parts (x ∷ T) l r t e =
-    ⊎-elim (λ h. on l (sym (met-here x T h) ∙ e) h (λ k d. met-parts T k r t d)) (λ h. over h (met-parts T l r t (sym (met-past x T h) ∙ e))) (below? x 128)
+-- a place among the tasks entered is a place among the marks
+entered-parts : (T l r : List ℕ) (t : ℕ) → entered T ≡ l ++ t ∷ r → (b : List ℕ) × (a : List ℕ) × (T ≡ b ++ t ∷ a) × (entered b ≡ l) × (entered a ≡ r)
+unfolding entered
+entered-parts [] l r t e = absurd (append-ne-nil-of-right-ne-nil l (cons-ne-nil t r) (sym e))
+entered-parts (x ∷ T) l r t e =
+    ⊎-elim (λ h. on l (sym (entered-here x T h) ∙ e) h (λ k d. entered-parts T k r t d)) (λ h. over h (entered-parts T l r t (sym (entered-past x T h) ∙ e))) (below? x 128)
   where
-    on : (l : List ℕ) → x ∷ met T ≡ l ++ t ∷ r → x < 128
-        → ((k : List ℕ) → met T ≡ k ++ t ∷ r → (b : List ℕ) × (a : List ℕ) × (T ≡ b ++ t ∷ a) × (met b ≡ k) × (met a ≡ r))
-        → (b : List ℕ) × (a : List ℕ) × (x ∷ T ≡ b ++ t ∷ a) × (met b ≡ l) × (met a ≡ r)
+    on : (l : List ℕ) → x ∷ entered T ≡ l ++ t ∷ r → x < 128
+        → ((k : List ℕ) → entered T ≡ k ++ t ∷ r → (b : List ℕ) × (a : List ℕ) × (T ≡ b ++ t ∷ a) × (entered b ≡ k) × (entered a ≡ r))
+        → (b : List ℕ) × (a : List ℕ) × (x ∷ T ≡ b ++ t ∷ a) × (entered b ≡ l) × (entered a ≡ r)
     on [] d h rest = ([], T, ap (λ (y : ℕ). y ∷ T) (head-eq-of-cons-eq d), refl, tail-eq-of-cons-eq d)
     on (y ∷ l) d h rest =
         let w = rest l (tail-eq-of-cons-eq d) in
-        (x ∷ w .0, w .1, ap (λ (k : List ℕ). x ∷ k) (w .2), met-here x (w .0) h ∙ ap₂ (λ (z : ℕ) (k : List ℕ). z ∷ k) (head-eq-of-cons-eq d) (w .3), w .4)
+        (x ∷ w .0, w .1, ap (λ (k : List ℕ). x ∷ k) (w .2), entered-here x (w .0) h ∙ ap₂ (λ (z : ℕ) (k : List ℕ). z ∷ k) (head-eq-of-cons-eq d) (w .3), w .4)
 
-    over : 128 ≤ x → (b : List ℕ) × (a : List ℕ) × (T ≡ b ++ t ∷ a) × (met b ≡ l) × (met a ≡ r)
-        → (b : List ℕ) × (a : List ℕ) × (x ∷ T ≡ b ++ t ∷ a) × (met b ≡ l) × (met a ≡ r)
-    over h w = (x ∷ w .0, w .1, ap (λ (k : List ℕ). x ∷ k) (w .2), met-past x (w .0) h ∙ w .3, w .4)
+    over : 128 ≤ x → (b : List ℕ) × (a : List ℕ) × (T ≡ b ++ t ∷ a) × (entered b ≡ l) × (entered a ≡ r)
+        → (b : List ℕ) × (a : List ℕ) × (x ∷ T ≡ b ++ t ∷ a) × (entered b ≡ l) × (entered a ≡ r)
+    over h w = (x ∷ w .0, w .1, ap (λ (k : List ℕ). x ∷ k) (w .2), entered-past x (w .0) h ∙ w .3, w .4)
 
 -- WHERE THE TASK STANDS
 pub record Place (m : List ℕ) (T : List ℕ) (ys zs : List Item) (s : Task) : Type 0 where
   pub later : List ℕ
   pub earlier : List ℕ
   pub here : T ≡ later ++ numberOf s ∷ earlier
-  pub met-later : met later ≡ numbersBack zs
-  pub met-earlier : met earlier ≡ numbersBack ys
+  pub entered-later : entered later ≡ numbersBack zs
+  pub entered-earlier : entered earlier ≡ numbersBack ys
   -- a search from behind it
   pub search : (f : ℕ → Bool) → seek MARKS f (recordOf m) (after (recordOf m) (numberOf s)) ≡ firstOf f earlier
 
@@ -95,11 +95,11 @@ module _ (m : List ℕ) (T : List ℕ) (ys zs : List Item) (s : Task) (h : Linke
   pub place : Place m T ys zs s
   unfolding numbersBack
   place =
-      let w = met-parts T (numbersBack zs) (numbersBack ys) (numberOf s)
+      let w = entered-parts T (numbersBack zs) (numbersBack ys) (numberOf s)
       (h .spots ∙ back-append ys (spot s ∷ zs) ∙ append-assoc (numbersBack zs) (numberOf s ∷ []) (numbersBack ys)) in
-      record { later = w .0; earlier = w .1; here = w .2; met-later = w .3; met-earlier = w .4; search = search-behind (w .0) (numberOf s) (w .1) (w .2) }
+      record { later = w .0; earlier = w .1; here = w .2; entered-later = w .3; entered-earlier = w .4; search = search-behind (w .0) (numberOf s) (w .1) (w .2) }
 
-  -- a task without children is left next
+  -- a task without children is exited next
   pub childless : (p : Place m T ys zs s) → read m (task (numberOf s) YOUNGEST) ≡ NONE → (a : List ℕ) × (p .earlier ≡ (128 + numberOf s) ∷ a)
   childless p e = go (p .earlier) (row-behind c (p .later) (numberOf s) (p .earlier) (subst (Row c) (p .here) (h .row)))
     where

@@ -1,4 +1,4 @@
--- THE TOUR AS A LIST of marks: each mark leads to the next, by links that are right; the last is where the top is left.
+-- THE TOUR AS A LIST of marks: each mark leads to the next, by links that are right; the last is where the top is exited.
 use mathlib.Core.Path.{_≡_, ap, sym, _∙_, subst}
 use mathlib.Core.Bool.{true}
 use mathlib.Core.List.{List, [], _∷_, _++_}
@@ -10,12 +10,12 @@ use Rattle.spec_layout.specs.Layout.{NONE, PARENT, OLDER, YOUNGEST}
 use Rattle.spec_tree.specs.Tour.{after, tour}
 use Rattle.spec_rules.specs.Contents.{Contents, word}
 use Rattle.spec_rules.specs.Test.{treeTest}
-use Rattle.law_rules_tasks.specs.Marks.{Kin, tree-last, met-none, met-child, left-none, left-older, after-childless, after-parent, after-oldest, after-younger}
+use Rattle.law_rules_tasks.specs.Marks.{Kin, tree-last, entered-none, entered-child, exited-none, exited-older, after-childless, after-parent, after-oldest, after-younger}
 use Rattle.law_rules_tasks.specs.Marks.{tour-cons, tour-past}
 
 module _ (c : Contents) where
-  -- Mark x leads to mark y: a task without children is left, else its youngest child is met; behind a task its older
-  -- sibling is met, else its parent is left.
+  -- Mark x leads to mark y: a task without children is exited, else its youngest child is entered; behind a task its older
+  -- sibling is entered, else its parent is exited.
   pub data Leads : ℕ → ℕ → Type 0 where
     childless : {t : ℕ} → t < 128 → word c t YOUNGEST ≡ NONE → Leads t (128 + t)
     child : {t y : ℕ} → t < 128 → word c t YOUNGEST ≡ y → Kin c y t NONE → Leads t y
@@ -39,7 +39,7 @@ module _ (c : Contents) where
   leads-below (oldest z l e m f) = omega (arith, l)
   leads-below (older z l e m f k) = omega (arith, l)
 
-  -- the top is left last
+  -- the top is exited last
   pub leads-on : {x y : ℕ} → Leads x y → x ≡ 128 → ⊥
   leads-on (childless l e) q = omega (arith, l, q)
   leads-on (child l e k) q = omega (arith, l, q)
@@ -47,18 +47,18 @@ module _ (c : Contents) where
   leads-on (older z l e m f k) q = omega (arith, z, q)
 
   tree-before : (k : ℕ) {x y : ℕ} → Leads x y → treeTest c k y ≡ true → treeTest c (suc k) x ≡ true
-  tree-before k (childless {t} l e) h = met-none c k t l e h
-  tree-before k (child {t} {y} l e i) h = met-child c k t l (subst (λ (u : ℕ). Kin c u t NONE) (sym e) i) (ap (treeTest c k) e ∙ h)
-  tree-before k (oldest {t} {p} z l e m f) h = left-none c k t z (omega (arith, e, m)) f (ap (λ (x : ℕ). treeTest c k (128 + x)) e ∙ h)
+  tree-before k (childless {t} l e) h = entered-none c k t l e h
+  tree-before k (child {t} {y} l e i) h = entered-child c k t l (subst (λ (u : ℕ). Kin c u t NONE) (sym e) i) (ap (treeTest c k) e ∙ h)
+  tree-before k (oldest {t} {p} z l e m f) h = exited-none c k t z (omega (arith, e, m)) f (ap (λ (x : ℕ). treeTest c k (128 + x)) e ∙ h)
   tree-before k (older {t} {y} {p} z l e m f i) h =
-      left-older c k t z (subst (λ (q : ℕ). Kin c (word c t OLDER) q t) (sym e) (subst (λ (u : ℕ). Kin c u p t) (sym f) i)) (ap (treeTest c k) f ∙ h)
+      exited-older c k t z (subst (λ (q : ℕ). Kin c (word c t OLDER) q t) (sym e) (subst (λ (u : ℕ). Kin c u p t) (sym f) i)) (ap (treeTest c k) f ∙ h)
 
   -- the test of the tree, with as many marks as there are
   pub row-tree : (x : ℕ) (l : List ℕ) → Row (x ∷ l) → treeTest c (length (x ∷ l)) x ≡ true
   row-tree x [] h = ap (treeTest c 1) h ∙ tree-last c
   row-tree x (y ∷ l) h = tree-before (length (y ∷ l)) (h .0) (row-tree y l (h .1))
 
-  -- the tour from its first mark on, where nothing comes after the top is left
+  -- the tour from its first mark on, where nothing comes after the top is exited
   pub row-tour : (k x : ℕ) (l : List ℕ) → after (c .recs) 128 ≡ 256 → Row (x ∷ l) → length (x ∷ l) ≤ k → tour k (c .recs) x ≡ x ∷ l
   row-tour zero x l out h n = let z : ⊥ = omega (arith, n) in absurd z
   row-tour (suc k) x [] out h n =

@@ -14,7 +14,7 @@ use Rattle.spec_layout.specs.Frame.{record-word}
 use Rattle.spec_tree.specs.Rights.{pushes, pops, subset}
 use Rattle.spec_tree.specs.Tour.{END, oldest}
 use Rattle.spec_rules.specs.Rules.{walk}
-use Rattle.law_rules_tasks.specs.Holders.{met-count}
+use Rattle.law_rules_tasks.specs.Holders.{entered-count}
 use Rattle.law_gaps.specs.Search.{firstOf}
 use Rattle.spec_outcomes.specs.Waits.{rightsOf as rightsIn, pusherBefore}
 use Rattle.spec_outcomes.specs.Finish.{heir}
@@ -67,8 +67,8 @@ module _ (m : List ℕ) (T : List ℕ) (ys zs : List Item) (s : Task) (h : Linke
       (λ e.
       let w = first-says f (p .earlier) (λ d. false≢true (ap not (sym (eq-eqb _ END d)) ∙ e)) in
       let b = both-true _ _ (w .2) in
-      let a = met-count (p .earlier) (w .0) (ltb-true (w .0) 128 (b .0)) in
-      let d = ap (occurrences (w .0)) (p .met-earlier) in
+      let a = entered-count (p .earlier) (w .0) (ltb-true (w .0) 128 (b .0)) in
+      let d = ap (occurrences (w .0)) (p .entered-earlier) in
       let n = w .1 in
       let v = back-says (w .0) ys (omega (arith, a, d, n)) in
       says-some _ ys (v .0) (v .1)
@@ -77,8 +77,8 @@ module _ (m : List ℕ) (T : List ℕ) (ys zs : List Item) (s : Task) (h : Linke
       let w = some-says _ ys e in
       let i = in-left (spot (w .0)) ys (spot s ∷ zs) (w .1) in
       let l = spot-unfinished m T (ys ++ spot s ∷ zs) h (w .0) i .0 in
-      let a = met-count (p .earlier) (numberOf (w .0)) l in
-      let d = ap (occurrences (numberOf (w .0))) (p .met-earlier) in
+      let a = entered-count (p .earlier) (numberOf (w .0)) l in
+      let d = ap (occurrences (numberOf (w .0))) (p .entered-earlier) in
       let n = says-back (w .0) ys (w .1) in
       ap not
       (ne-eqb _ END

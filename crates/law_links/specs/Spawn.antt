@@ -16,7 +16,7 @@ use Rattle.law_rules_tasks.specs.Tested.{Idle, idle-says}
 use Rattle.spec_order.specs.Steps.{Item}
 use Rattle.law_links.specs.Linked.{Linked, word-is, rules}
 use Rattle.law_links.specs.Idle.{idle-height, idle-last, same-stack}
-use Rattle.law_links.specs.Marks.{free-unmarked, unfinished-met}
+use Rattle.law_links.specs.Marks.{free-unmarked, unfinished-entered}
 
 -- n is m with child u of t, which has rights r and is the youngest child from now on
 pub record Spawned (m n : List ℕ) (t r u : ℕ) : Type 0 where
@@ -96,7 +96,7 @@ module _ (m n : List ℕ) (t u : ℕ) where
     others x v e = let f = v .1 in let g = ap (λ (y : ℕ). word c y STATUS) e in let k = was-free in omega (arith, f, g, k)
 
     spawner : Unfinished c t
-    spawner = unfinished-met m T xs h t small mine
+    spawner = unfinished-entered m T xs h t small mine
 
     -- the youngest child of before, if there is one
     sibling : (o ≡ NONE) ⊎ (Kin c o t NONE × Unfinished c o)

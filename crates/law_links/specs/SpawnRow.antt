@@ -1,4 +1,4 @@
--- THE TOUR AFTER A SPAWN: the child is met just behind its spawner.
+-- THE TOUR AFTER A SPAWN: the child is entered just behind its spawner.
 use mathlib.Core.Path.{_≡_, refl, ap, ap₂, sym, _∙_, subst}
 use mathlib.Core.Bool.{true}
 use mathlib.Core.List.{List, [], _∷_, _++_, head-eq-of-cons-eq}
@@ -14,7 +14,7 @@ use Rattle.law_rules_tasks.specs.Marks.{Kin}
 use Rattle.spec_order.specs.Steps.{Item}
 use Rattle.law_links.specs.Row.{Leads, childless, child, oldest, older, Row, Each, row-keep, row-front}
 use Rattle.law_links.specs.Linked.{Linked, word-is, rules}
-use Rattle.law_links.specs.Marks.{mark-once, unfinished-met, unfinished-left}
+use Rattle.law_links.specs.Marks.{mark-once, unfinished-entered, unfinished-exited}
 use Rattle.law_links.specs.Spawn.{Spawned, AfterSpawn}
 
 module _ (m n : List ℕ) (T : List ℕ) (xs : List Item) (h : Linked m T xs) (t r u : ℕ) (w : Spawned m n t r u) (stay : AfterSpawn m n t u)
@@ -65,21 +65,21 @@ module _ (m n : List ℕ) (T : List ℕ) (xs : List Item) (h : Linked m T xs) (t
 
   leads-stay : (x y : ℕ) → 0 < occurrences x T → (x ≡ t → ⊥) → Leads c x y → Leads d x y
   leads-stay x y p n (childless {t = v} l e) =
-      childless l (stays v YOUNGEST (unfinished-met m T xs h v l p) (omega arith) (λ q. n) (λ q. let z : ⊥ = omega (arith, q) in absurd z) ∙ e)
+      childless l (stays v YOUNGEST (unfinished-entered m T xs h v l p) (omega arith) (λ q. n) (λ q. let z : ⊥ = omega (arith, q) in absurd z) ∙ e)
   leads-stay x y p n (child {t = v} {y = z} l e k) =
-      child l (stays v YOUNGEST (unfinished-met m T xs h v l p) (omega arith) (λ q. n) (λ q. let f : ⊥ = omega (arith, q) in absurd f) ∙ e)
-      (kin-stays z v NONE (unfinished-met m T xs h v l p) (not-child z v n k) k)
+      child l (stays v YOUNGEST (unfinished-entered m T xs h v l p) (omega arith) (λ q. n) (λ q. let f : ⊥ = omega (arith, q) in absurd f) ∙ e)
+      (kin-stays z v NONE (unfinished-entered m T xs h v l p) (not-child z v n k) k)
   leads-stay x y p n (oldest {t = v} {p = q} g l e i f) =
       oldest g l
-      (link-stays v PARENT (unfinished-left m T xs h v p) (omega arith) (λ s. omega (arith, s)) (λ s. omega (arith, s)) ∙ e)
+      (link-stays v PARENT (unfinished-exited m T xs h v p) (omega arith) (λ s. omega (arith, s)) (λ s. omega (arith, s)) ∙ e)
       i
-      (link-stays v OLDER (unfinished-left m T xs h v p) (omega arith) (λ s. omega (arith, s)) (λ s. omega (arith, s)) ∙ f)
+      (link-stays v OLDER (unfinished-exited m T xs h v p) (omega arith) (λ s. omega (arith, s)) (λ s. omega (arith, s)) ∙ f)
   leads-stay x y p n (older {t = v} {y = z} {p = q} g l e i f k) =
-      let up = rules m T xs h .parents v q ((λ s. omega (arith, s, g)), (unfinished-left m T xs h v p, e)) in
+      let up = rules m T xs h .parents v q ((λ s. omega (arith, s, g)), (unfinished-exited m T xs h v p, e)) in
       older g l
-      (link-stays v PARENT (unfinished-left m T xs h v p) (omega arith) (λ s. omega (arith, s)) (λ s. omega (arith, s)) ∙ e)
+      (link-stays v PARENT (unfinished-exited m T xs h v p) (omega arith) (λ s. omega (arith, s)) (λ s. omega (arith, s)) ∙ e)
       i
-      (link-stays v OLDER (unfinished-left m T xs h v p) (omega arith) (λ s. omega (arith, s)) (λ s. omega (arith, s)) ∙ f)
+      (link-stays v OLDER (unfinished-exited m T xs h v p) (omega arith) (λ s. omega (arith, s)) (λ s. omega (arith, s)) ∙ f)
       (kin-stays z q v up (not-older z q v l k) k)
 
   each-stays : (l : List ℕ) → ((x : ℕ) → 0 < occurrences x l → (0 < occurrences x T) × (x ≡ t → ⊥)) → Each c d l
@@ -119,7 +119,7 @@ module _ (m n : List ℕ) (T : List ℕ) (xs : List Item) (h : Linked m T xs) (t
             ∙ sub;
       }
 
-  -- where the child is left: its older sibling is met, or its parent left
+  -- where the child is exited: its older sibling is entered, or its parent exited
   child-leads : (x y : ℕ) → x ≡ t → Leads c x y → Leads d (128 + u) y
   child-leads x y is (oldest g l e i f) = let z : ⊥ = omega (arith, is, small) in absurd z
   child-leads x y is (older g l e i f k) = let z : ⊥ = omega (arith, is, small) in absurd z

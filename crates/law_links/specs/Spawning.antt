@@ -10,8 +10,8 @@ use Rattle.spec_layout.specs.Frame.{record-word}
 use Rattle.spec_words.specs.Words.{load}
 use Rattle.spec_lists.specs.Counting.{occurrences, occurs-append, occurs-first}
 use Rattle.spec_tree.specs.Rights.{subset}
-use Rattle.spec_tree.specs.Tour.{met}
-use Rattle.law_rules_tasks.specs.Holders.{met-here, met-past}
+use Rattle.spec_tree.specs.Tour.{entered}
+use Rattle.law_rules_tasks.specs.Holders.{entered-here, entered-past}
 use Rattle.spec_order.specs.Steps.{Name, Task, Item, spot, task as taskOf, spawns, nameOf, numberOf, rightsOf, made}
 use Rattle.spec_order.specs.Waits.{isOlder}
 use Rattle.law_order.specs.Items.{In}
@@ -20,7 +20,7 @@ use Rattle.law_order_waits.specs.Played.{Played, played-reached, kidsOf, Like, 
 use Rattle.law_order_waits.specs.Changes.{in-right, back, spawner}
 use Rattle.law_order_waits.specs.Kinship.{kinship}
 use Rattle.law_links.specs.Linked.{numbersBack, back-append, Linked, word-is, spot-unfinished}
-use Rattle.law_links.specs.Places.{met-append}
+use Rattle.law_links.specs.Places.{entered-append}
 use Rattle.law_links.specs.Siblings.{On}
 use Rattle.law_links.specs.Family.{on-older, on-child}
 use Rattle.law_links.specs.Spawn.{Spawned, kept-word, AfterSpawn, after-spawn}
@@ -38,7 +38,7 @@ back-spawn ys zs (taskOf p t q k) u r =
 module _ (m n : List ℕ) (T : List ℕ) (ys zs : List Item) (s : Task) (r u : ℕ) (play : Played (ys ++ spot s ∷ zs))
     (next : Played (ys ++ (made s (spawns u r) ++ zs)))
     (h : Linked m T (ys ++ spot s ∷ zs)) (w : Spawned m n (numberOf s) r u) (b a : List ℕ) (here : T ≡ b ++ numberOf s ∷ a)
-    (later : met b ≡ numbersBack zs) (earlier : met a ≡ numbersBack ys) (sub : subset r (read m (task (numberOf s) RIGHTS)) ≡ true) where
+    (later : entered b ≡ numbersBack zs) (earlier : entered a ≡ numbersBack ys) (sub : subset r (read m (task (numberOf s) RIGHTS)) ≡ true) where
   abbrev t : ℕ
   t = numberOf s
 
@@ -65,11 +65,11 @@ module _ (m n : List ℕ) (T : List ℕ) (ys zs : List Item) (s : Task) (r u : �
   below-child : u < 128
   below-child = stay .child-below
 
-  spots-are : met T' ≡ numbersBack New
+  spots-are : entered T' ≡ numbersBack New
   spots-are =
-      met-append b _
+      entered-append b _
       ∙ ap₂ (λ (k l : List ℕ). k ++ l) later
-      (met-here t _ small ∙ ap (λ (l : List ℕ). t ∷ l) (met-here u _ below-child ∙ ap (λ (l : List ℕ). u ∷ l) (met-past (128 + u) a (omega arith) ∙ earlier)))
+      (entered-here t _ small ∙ ap (λ (l : List ℕ). t ∷ l) (entered-here u _ below-child ∙ ap (λ (l : List ℕ). u ∷ l) (entered-past (128 + u) a (omega arith) ∙ earlier)))
       ∙ sym (back-spawn ys zs s u r)
 
   -- a task of after: one of before, or the child

@@ -29,7 +29,7 @@ use Rattle.spec_order.specs.Steps.{Item, begin}
 use Rattle.law_gaps.specs.Line.{End, nonlocal, local, vacant, extent}
 use Rattle.law_gaps.specs.Store.{LinkedFrom}
 use Rattle.law_links.specs.Linked.{word-is}
-use Rattle.law_links.specs.Marks.{mark-met}
+use Rattle.law_links.specs.Marks.{mark-entered}
 use Rattle.law_maps.specs.Meaning.{nextIn, headsIn}
 use Rattle.law_invariant.specs.Represents.{Represents}
 use Rattle.law_in_order.specs.State.{Ended, State, state-rules}
@@ -221,7 +221,7 @@ finished-alone m xs (inr e) f t h = ⊎-elim (λ i. i) (λ k. absurd (other k)) 
 
     other : (t ≡ 0 → ⊥) → ⊥
     other k =
-        let a = mark-met (e .last) (e .was .tour) (e .steps) (e .was .linked) t u in
+        let a = mark-entered (e .last) (e .was .tour) (e .steps) (e .was .linked) t u in
         let b = ap (occurrences t) (tour-alone (e .last) (e .steps) (e .was) (e .alone)) in
         let c = occurs-past 0 t (128 ∷ []) (λ i. k (sym i)) in
         let d = occurs-past 128 t [] (λ i. let l = u .0 in omega (arith, i, l)) in

@@ -7,7 +7,7 @@ use native.Mathlib.Omega.{arith}
 use lib.ListN.{length}
 use Rattle.spec_lists.specs.Counting.{occurrences, occurs-nil, occurs-past, equal?}
 use Rattle.spec_lists.specs.Maps.{All, all-behind}
-use Rattle.law_gaps.specs.Line.{base, left, met, pass, Line, marks, lefts, mets}
+use Rattle.law_gaps.specs.Line.{base, exited, entered, pass, Line, marks, exits, entries}
 use Rattle.law_paper_rules.specs.Order.{ViewName, children, user, right, behind, placeIn, behind-at}
 use Rattle.law_paper_rules.specs.Slots.{Slot, slot, slots}
 
@@ -32,38 +32,38 @@ slot-at P v S h w = all-behind P (w .later) (slot v (w .chain) ∷ w .earlier) (
 none-in : (t : ℕ) {A : Type 0} → 0 < occurrences t [] → A
 none-in t p = let a = occurs-nil t in let z : ⊥ = omega (arith, a, p) in absurd z
 
-pub children-stands : (t : ℕ) (l : Line) → 0 < occurrences t (lefts l) → Stands (children t) (slots l)
+pub children-stands : (t : ℕ) (l : Line) → 0 < occurrences t (exits l) → Stands (children t) (slots l)
 children-stands t [] p = none-in t p
 children-stands t (base c ∷ l) p = children-stands t l p
-children-stands t (left u ∷ l) p =
+children-stands t (exited u ∷ l) p =
     ⊎-elim
     (λ e. subst (λ (k : ℕ). Stands (children t) (slot (children k) [] ∷ slots l)) (sym e) (stands-first (children t) [] (slots l)))
-    (λ n. stands-more (children t) (slot (children u) []) (slots l) (children-stands t l (let a = occurs-past u t (lefts l) n in omega (arith, a, p))))
+    (λ n. stands-more (children t) (slot (children u) []) (slots l) (children-stands t l (let a = occurs-past u t (exits l) n in omega (arith, a, p))))
     (equal? u t)
-children-stands t (met u c ∷ l) p =
+children-stands t (entered u c ∷ l) p =
     stands-more (children t) (slot (right u) c) (slot (user u) [] ∷ slots l) (stands-more (children t) (slot (user u) []) (slots l) (children-stands t l p))
 children-stands t (pass x ∷ l) p = children-stands t l p
 
 -- the user view and the right view
-pub met-stands : (t : ℕ) (l : Line) → 0 < occurrences t (mets l) → Stands (user t) (slots l) × Stands (right t) (slots l)
-met-stands t [] p = none-in t p
-met-stands t (base c ∷ l) p = met-stands t l p
-met-stands t (left u ∷ l) p =
-    let w = met-stands t l p in (stands-more (user t) (slot (children u) []) (slots l) (w .0), stands-more (right t) (slot (children u) []) (slots l) (w .1))
-met-stands t (met u c ∷ l) p =
+pub entered-stands : (t : ℕ) (l : Line) → 0 < occurrences t (entries l) → Stands (user t) (slots l) × Stands (right t) (slots l)
+entered-stands t [] p = none-in t p
+entered-stands t (base c ∷ l) p = entered-stands t l p
+entered-stands t (exited u ∷ l) p =
+    let w = entered-stands t l p in (stands-more (user t) (slot (children u) []) (slots l) (w .0), stands-more (right t) (slot (children u) []) (slots l) (w .1))
+entered-stands t (entered u c ∷ l) p =
     ⊎-elim
     (λ e.
-    subst (λ (k : ℕ). Stands (user t) (slots (met k c ∷ l)) × Stands (right t) (slots (met k c ∷ l))) (sym e) (
+    subst (λ (k : ℕ). Stands (user t) (slots (entered k c ∷ l)) × Stands (right t) (slots (entered k c ∷ l))) (sym e) (
       stands-more (user t) (slot (right t) c) (slot (user t) [] ∷ slots l) (stands-first (user t) [] (slots l)),
       stands-first (right t) c (slot (user t) [] ∷ slots l),
     ))
     (λ n.
-    let w = met-stands t l (let a = occurs-past u t (mets l) n in omega (arith, a, p)) in (
+    let w = entered-stands t l (let a = occurs-past u t (entries l) n in omega (arith, a, p)) in (
       stands-more (user t) (slot (right u) c) (slot (user u) [] ∷ slots l) (stands-more (user t) (slot (user u) []) (slots l) (w .0)),
       stands-more (right t) (slot (right u) c) (slot (user u) [] ∷ slots l) (stands-more (right t) (slot (user u) []) (slots l) (w .1)),
     ))
     (equal? u t)
-met-stands t (pass x ∷ l) p = met-stands t l p
+entered-stands t (pass x ∷ l) p = entered-stands t l p
 
 -- ALONG A TOUR T, each mark once
 module _ (T : List ℕ) where
@@ -90,16 +90,16 @@ module _ (T : List ℕ) where
     unfolding placeIn
     below-line a [] i = tt
     below-line a (base c ∷ l) i = below-line a l i
-    below-line a (left t ∷ l) i =
+    below-line a (exited t ∷ l) i =
         let b = behind-mark a (128 + t) (marks l) i in
         let j = next-part a (128 + t) (marks l) i in (
           omega (arith, b),
-          below-more (2 * length (marks l)) (2 * length (marks (left t ∷ l))) (slots l) (omega arith) (below-line (a ++ (128 + t) ∷ []) l j),
+          below-more (2 * length (marks l)) (2 * length (marks (exited t ∷ l))) (slots l) (omega arith) (below-line (a ++ (128 + t) ∷ []) l j),
         )
-    below-line a (met t c ∷ l) i =
+    below-line a (entered t c ∷ l) i =
         let b = behind-mark a t (marks l) i in let j = next-part a t (marks l) i in (
           omega (arith, b),
-          (omega (arith, b), below-more (2 * length (marks l)) (2 * length (marks (met t c ∷ l))) (slots l) (omega arith) (below-line (a ++ t ∷ []) l j)),
+          (omega (arith, b), below-more (2 * length (marks l)) (2 * length (marks (entered t c ∷ l))) (slots l) (omega arith) (below-line (a ++ t ∷ []) l j)),
         )
     below-line a (pass x ∷ l) i =
         below-more (2 * length (marks l)) (2 * length (marks (pass x ∷ l))) (slots l) (omega arith) (below-line (a ++ x ∷ []) l (next-part a x (marks l) i))
@@ -108,11 +108,11 @@ module _ (T : List ℕ) where
     unfolding placeIn
     falling-line a [] i = tt
     falling-line a (base c ∷ l) i = falling-line a l i
-    falling-line a (left t ∷ l) i =
+    falling-line a (exited t ∷ l) i =
         let b = behind-mark a (128 + t) (marks l) i in
         let j = next-part a (128 + t) (marks l) i in
         (below-more (2 * length (marks l)) _ (slots l) (omega (arith, b)) (below-line (a ++ (128 + t) ∷ []) l j), falling-line (a ++ (128 + t) ∷ []) l j)
-    falling-line a (met t c ∷ l) i =
+    falling-line a (entered t c ∷ l) i =
         let b = behind-mark a t (marks l) i in
         let j = next-part a t (marks l) i in
         let r = below-line (a ++ t ∷ []) l j in (

@@ -12,7 +12,7 @@ use Rattle.spec_layout.specs.Layout.{NONE, NL, USER, RIGHT, UNFINISHED, STATUS,
 use Rattle.spec_answers.specs.declared.Answer.the-variants.{Moved}
 use Rattle.spec_answers.specs.Calls.{open-call, spawn-call, push-call, finish-call}
 use Rattle.spec_tree.specs.Rights.{bits, pushes, pops}
-use Rattle.spec_tree.specs.Tour.{leaving, entering, after, tour}
+use Rattle.spec_tree.specs.Tour.{exiting, entering, after, tour}
 use Rattle.spec_rules.specs.Views.{view}
 use Rattle.spec_rules.specs.Contents.{decode}
 use Rattle.spec_rules.specs.Rules.{Holder}
@@ -164,7 +164,7 @@ handed m =
     ∷ place m (queue 1) ∷ place m (user 1) ∷ []
 
 pub handed-words : seen handed (computed onePopper lent) ≡ 0 ∷ NL ∷ 0 ∷ NONE ∷ UNFINISHED ∷ 2 ∷ 2 ∷ 4 ∷ []
-unfolding computed seen read load address place placeIn behind pick recordOf leaving entering after tour
+unfolding computed seen read load address place placeIn behind pick recordOf exiting entering after tour
 handed-words = refl
 
 pub rule-8-false : (m : List ℕ) → tried onePopper lent ≡ some m → Rule8 m 0 → ⊥

@@ -25,7 +25,7 @@ unfoldable pub behind : ℕ → List ℕ → ℕ
 behind x [] = 0
 behind x (y ∷ l) = pick (eqb y x) (length l) (behind x l)
 
--- The place of a view along a tour: where a task is left its queue view and its children view stand, where it is met its
+-- The place of a view along a tour: where a task is exited its queue view and its children view stand, where it is entered its
 -- user view and its right view.
 unfoldable pub placeIn : List ℕ → ViewName → ℕ
 placeIn T (queue t) = 2 * behind (128 + t) T

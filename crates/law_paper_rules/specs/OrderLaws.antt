@@ -25,7 +25,7 @@ use Rattle.spec_order.specs.Waits.{isOlder}
 use Rattle.law_order.specs.Items.{In}
 use Rattle.law_links.specs.Row.{Row, row-behind, row-tree}
 use Rattle.law_links.specs.Linked.{tree, rules, spot-unfinished}
-use Rattle.law_links.specs.Marks.{mark-once, mark-left, mark-met}
+use Rattle.law_links.specs.Marks.{mark-once, mark-exited, mark-entered}
 use Rattle.law_links.specs.Siblings.{On, here}
 use Rattle.law_links.specs.Siblings.On.{behind as further}
 use Rattle.law_links.specs.Family.{older-on, child-link}
@@ -64,25 +64,25 @@ module _ (m : List ℕ) (xs : List Item) (r : Represents m xs) where
   whole : treeTest c (count c) 0 ≡ true
   whole = tree m T xs (r .linked)
 
-  -- where an unfinished task is met, and left
+  -- where an unfinished task is entered, and exited
   module _ (t : ℕ) (u : Unfinished c t) where
     visit : Visit c idle whole t
     visit = holder-visit c idle whole t (inr u)
 
-    met-at : suc (behind t T) ≡ visit .met
-    met-at =
-        tree-same c (suc (behind t T)) (visit .met) t (mark-tree t (mark-met m (r .tour) xs (r .linked) t u))
-        (reached-tree c (count c) (visit .met) t (visit .reached))
+    entered-at : suc (behind t T) ≡ visit .entered
+    entered-at =
+        tree-same c (suc (behind t T)) (visit .entered) t (mark-tree t (mark-entered m (r .tour) xs (r .linked) t u))
+        (reached-tree c (count c) (visit .entered) t (visit .reached))
 
-    left-at : suc (behind (128 + t) T) ≡ visit .left
-    left-at = tree-same c (suc (behind (128 + t) T)) (visit .left) (128 + t) (mark-tree (128 + t) (mark-left m T xs (r .linked) t u)) (visit .leaves)
+    exited-at : suc (behind (128 + t) T) ≡ visit .exited
+    exited-at = tree-same c (suc (behind (128 + t) T)) (visit .exited) (128 + t) (mark-tree (128 + t) (mark-exited m T xs (r .linked) t u)) (visit .leaves)
 
     -- LAW (i). "For a task T, T.queue < T.children < T.user < T.right."
     pub order-i : Before m (queue t) (children t) × Before m (children t) (user t) × Before m (user t) (right t)
     unfolding placeIn
     order-i =
-        let a = met-at in
-        let b = left-at in
+        let a = entered-at in
+        let b = exited-at in
         let d = visit .order in
         let p = same-place m xs r (queue t) in
         let k = same-place m xs r (children t) in
@@ -91,8 +91,8 @@ module _ (m : List ℕ) (xs : List Item) (r : Represents m xs) where
         (omega (arith, p, k), omega (arith, a, b, d, k, w), omega (arith, w, g))
 
     -- all of an older sibling stands before it
-    older-left : (o : ℕ) → Unfinished c o → word c t OLDER ≡ o → behind o T < behind (128 + t) T
-    older-left o v e = go (visit .left) left-at (visit .leaves)
+    older-exited : (o : ℕ) → Unfinished c o → word c t OLDER ≡ o → behind o T < behind (128 + t) T
+    older-exited o v e = go (visit .exited) exited-at (visit .leaves)
       where
         go : (j : ℕ) → suc (behind (128 + t) T) ≡ j → treeTest c j (128 + t) ≡ true → behind o T < behind (128 + t) T
         go zero i f = let z : ⊥ = omega (arith, i) in absurd z
@@ -100,7 +100,7 @@ module _ (m : List ℕ) (xs : List Item) (r : Represents m xs) where
             let l = v .0 in
             let g = tree-rest c j (128 + t) (λ z. top-none z) f in
             let h : after (c .recs) (128 + t) ≡ o = after-younger c t (omega (arith, e, l)) ∙ e in
-            let k = tree-same c (suc (behind o T)) j o (mark-tree o (mark-met m (r .tour) xs (r .linked) o v)) (ap (treeTest c j) (sym h) ∙ g) in
+            let k = tree-same c (suc (behind o T)) j o (mark-tree o (mark-entered m (r .tour) xs (r .linked) o v)) (ap (treeTest c j) (sym h) ∙ g) in
             omega (arith, i, k)
           where
             l : o < 128
@@ -113,9 +113,9 @@ module _ (m : List ℕ) (xs : List Item) (r : Represents m xs) where
                 let d = rules m T xs (r .linked) .top-alone .1 .0 in
                 omega (arith, b, d, e, l)
 
-    -- met after it is left, in program order
-    pub left-met : behind (128 + t) T < behind t T
-    left-met = let a = met-at in let b = left-at in let d = visit .order in omega (arith, a, b, d)
+    -- entered after it is exited, in program order
+    pub exited-entered : behind (128 + t) T < behind t T
+    exited-entered = let a = entered-at in let b = exited-at in let d = visit .order in omega (arith, a, b, d)
 
   -- the older sibling that a link leads to is unfinished
   older-unfinished : (t : ℕ) → Unfinished c t → word c t OLDER < 128 → Unfinished c (word c t OLDER)
@@ -136,12 +136,12 @@ module _ (m : List ℕ) (xs : List Item) (r : Represents m xs) where
   siblings-before : (o t x : ℕ) → Unfinished c t → word c t OLDER ≡ x → On (recordOf m) x o → behind o T < behind (128 + t) T
   siblings-before o t x u e (here l i) =
       let v = older-unfinished t u (omega (arith, e, l)) in
-      older-left t u o (subst (λ (k : ℕ). Unfinished c k) (e ∙ i) v) (e ∙ i)
+      older-exited t u o (subst (λ (k : ℕ). Unfinished c k) (e ∙ i) v) (e ∙ i)
   siblings-before o t x u e (further l g) =
       let v = subst (λ (k : ℕ). Unfinished c k) e (older-unfinished t u (omega (arith, e, l))) in
       let a = siblings-before o x _ v (older-is x) g in
-      let b = left-met x v in
-      let d = older-left t u x v e in
+      let b = exited-entered x v in
+      let d = older-exited t u x v e in
       omega (arith, a, b, d)
 
   -- LAW (ii). "For sibling tasks T1 and T2 where T2 is later in program order, all views of T1 are ordered before T2's views."
@@ -174,30 +174,30 @@ module _ (m : List ℕ) (xs : List Item) (r : Represents m xs) where
       parent : word c t PARENT ≡ numberOf o
       parent = child-link m T xs (r .played) (r .linked) s o k i j e .1 .1
 
-      -- the parent is met later
+      -- the parent is entered later
       a : behind t T < behind (numberOf o) T
       a =
           let v = spot-unfinished m T xs (r .linked) o j in
           let w = parent-visit c idle whole t (visit t u) above in
-          let d = met-at t u in
-          let f = met-at (numberOf o) v in
+          let d = entered-at t u in
+          let f = entered-at (numberOf o) v in
           let g = w .1 in
           let h =
-          tree-same c (w .0 .met) (visit (numberOf o) v .met) (numberOf o)
-          (ap (treeTest c (w .0 .met)) (sym parent) ∙ reached-tree c (count c) (w .0 .met) (word c t PARENT) (w .0 .reached))
-          (reached-tree c (count c) (visit (numberOf o) v .met) (numberOf o) (visit (numberOf o) v .reached)) in
+          tree-same c (w .0 .entered) (visit (numberOf o) v .entered) (numberOf o)
+          (ap (treeTest c (w .0 .entered)) (sym parent) ∙ reached-tree c (count c) (w .0 .entered) (word c t PARENT) (w .0 .reached))
+          (reached-tree c (count c) (visit (numberOf o) v .entered) (numberOf o) (visit (numberOf o) v .reached)) in
           omega (arith, d, f, g, h)
 
-      -- and left earlier
+      -- and exited earlier
       b : behind (128 + numberOf o) T < behind (128 + t) T
       b =
           let v = spot-unfinished m T xs (r .linked) o j in
           let w = siblings-end c idle whole t above (visit t u) in
-          let d = left-at t u in
-          let f = left-at (numberOf o) v in
+          let d = exited-at t u in
+          let f = exited-at (numberOf o) v in
           let g = w .order in
           let h =
-          tree-same c (w .later) (visit (numberOf o) v .left) (128 + numberOf o) (ap (λ (x : ℕ). treeTest c (w .later) (128 + x)) (sym parent) ∙ w .parent)
+          tree-same c (w .later) (visit (numberOf o) v .exited) (128 + numberOf o) (ap (λ (x : ℕ). treeTest c (w .later) (128 + x)) (sym parent) ∙ w .parent)
           (visit (numberOf o) v .leaves) in
           omega (arith, d, f, g, h)
 

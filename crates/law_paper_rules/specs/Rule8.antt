@@ -16,7 +16,7 @@ use Rattle.spec_rules.specs.Rules.{Holder}
 use Rattle.spec_outcomes.specs.Waits.{rightsOf as rightsIn}
 use Rattle.spec_order.specs.Steps.{Item}
 use Rattle.spec_lists.specs.Maps.{All, lastOf, all-append}
-use Rattle.law_gaps.specs.Line.{local, extent, Line, firstChain, base, left, met, pass}
+use Rattle.law_gaps.specs.Line.{local, extent, Line, firstChain, base, exited, entered, pass}
 use Rattle.law_gaps.specs.Store.{Linked, Chain}
 use Rattle.law_maps.specs.Meaning.{headsIn, nextIn, contentsIn}
 use Rattle.law_invariant.specs.Represents.{queueMemory, ofTasks, usesIn, Represents}
@@ -32,8 +32,8 @@ use Rattle.law_paper_rules.specs.Rules79.{tail-not-queue}
 first-linked : (next : ℕ → Option ℕ) (contents : ℕ → List ℕ) (l : Line) → All (Chain next contents) l → Linked next (firstChain l)
 first-linked next contents [] h = tt
 first-linked next contents (base c ∷ l) h = h .0 .0
-first-linked next contents (left t ∷ l) h = first-linked next contents l (h .1)
-first-linked next contents (met t c ∷ l) h = first-linked next contents l (h .1)
+first-linked next contents (exited t ∷ l) h = first-linked next contents l (h .1)
+first-linked next contents (entered t c ∷ l) h = first-linked next contents l (h .1)
 first-linked next contents (pass x ∷ l) h = first-linked next contents l (h .1)
 
 module _ (m : List ℕ) (xs : List Item) (r : Represents m xs) (q : ℕ) (small : q < 4) where

@@ -7,7 +7,7 @@ use Prim.Native.Nat.{ℕ, _+_, _≤_}
 use native.Mathlib.Omega.{arith}
 use Rattle.spec_lists.specs.Counting.{occurrences, equal?}
 use Rattle.spec_layout.specs.Layout.{NONE}
-use Rattle.spec_tree.specs.Tour.{met}
+use Rattle.spec_tree.specs.Tour.{entered}
 use Rattle.spec_rules.specs.Contents.{Contents, decode, part, heads, tails, holders, nexts}
 use Rattle.spec_rules.specs.Rules.{Held, SegmentRules}
 use Rattle.law_rules_same.specs.Passed.{toured, opening-says, Passed}
@@ -33,8 +33,8 @@ module _ (c : Contents) (p : Passed c) where
       let o = opening-says c (p .range) in
       let v = whole-tour c (p .top) (p .free) (p .tree) in
       let T = toured c in
-      let g = segments-say c (heads c (met T)) (tails c (met T)) (o .number-range .1) (p .room) (p .seen .segs) (p .seen .holding) in
-      rules-by-counts c (heads c (met T)) (tails c (met T)) (allHeads c) (allTails c) (λ x. sym (same-heads c T v x)) (λ x. sym (same-tails c T v x)) (g .0)
+      let g = segments-say c (heads c (entered T)) (tails c (entered T)) (o .number-range .1) (p .room) (p .seen .segs) (p .seen .holding) in
+      rules-by-counts c (heads c (entered T)) (tails c (entered T)) (allHeads c) (allTails c) (λ x. sym (same-heads c T v x)) (λ x. sym (same-tails c T v x)) (g .0)
 
   -- RULE 4. "Every segment in a hyperqueue is pointed to by either one next-segment pointer, or by one view's head pointer."
   -- A new segment is named by the head that the push reduces into the view just before, or by the next of the full segment;

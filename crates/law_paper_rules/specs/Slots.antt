@@ -8,8 +8,8 @@ use Prim.Native.Nat.{ℕ, _<_, _≤_}
 use native.Mathlib.Omega.{arith}
 use Rattle.spec_lists.specs.Counting.{occurrences, occurs-append}
 use Rattle.spec_lists.specs.Maps.{All, lastOf, last-in}
-use Rattle.law_gaps.specs.Line.{End, nonlocal, local, Extent, vacant, extent, base, left, met, pass, Line, firstChain, Mode, settled, awaiting, Inside, rest, mid}
-use Rattle.law_gaps.specs.Line.{close, Begins, bare, whole, begun, Views, leaving, meeting, passing}
+use Rattle.law_gaps.specs.Line.{End, nonlocal, local, Extent, vacant, extent, base, exited, entered, pass, Line, firstChain, Mode, settled, awaiting, Inside, rest, mid}
+use Rattle.law_gaps.specs.Line.{close, Begins, bare, whole, begun, Views, exiting, entering, passing}
 use Rattle.law_gaps.specs.Line.Views.{queue as beginning}
 use Rattle.law_gaps.specs.Store.{Linked, Chain}
 use Rattle.law_gaps.specs.Names.{laterSegments}
@@ -24,8 +24,8 @@ pub data Slot : Type 0 where
 abbrev pub slots : Line → List Slot
 slots [] = []
 slots (base c ∷ l) = slots l
-slots (left t ∷ l) = slot (children t) [] ∷ slots l
-slots (met t c ∷ l) = slot (right t) c ∷ slot (user t) [] ∷ slots l
+slots (exited t ∷ l) = slot (children t) [] ∷ slots l
+slots (entered t c ∷ l) = slot (right t) c ∷ slot (user t) [] ∷ slots l
 slots (pass x ∷ l) = slots l
 
 -- all their segments
@@ -36,8 +36,8 @@ chains (slot v c ∷ e) = c ++ chains e
 pub chains-later : (l : Line) → chains (slots l) ≡ laterSegments l
 chains-later [] = refl
 chains-later (base c ∷ l) = chains-later l
-chains-later (left t ∷ l) = chains-later l
-chains-later (met t c ∷ l) = ap (λ (d : List ℕ). c ++ d) (chains-later l)
+chains-later (exited t ∷ l) = chains-later l
+chains-later (entered t c ∷ l) = ap (λ (d : List ℕ). c ++ d) (chains-later l)
 chains-later (pass x ∷ l) = chains-later l
 
 -- each chain is linked
@@ -47,8 +47,8 @@ LinkedSlot next (slot v c) = Linked next c
 pub linked-slots : (next : ℕ → Option ℕ) (contents : ℕ → List ℕ) (l : Line) → All (Chain next contents) l → All (LinkedSlot next) (slots l)
 linked-slots next contents [] h = tt
 linked-slots next contents (base c ∷ l) h = linked-slots next contents l (h .1)
-linked-slots next contents (left t ∷ l) h = (tt, linked-slots next contents l (h .1))
-linked-slots next contents (met t c ∷ l) h = (h .0 .0, (tt, linked-slots next contents l (h .1)))
+linked-slots next contents (exited t ∷ l) h = (tt, linked-slots next contents l (h .1))
+linked-slots next contents (entered t c ∷ l) h = (h .0 .0, (tt, linked-slots next contents l (h .1)))
 linked-slots next contents (pass x ∷ l) h = linked-slots next contents l (h .1)
 
 -- a segment of one slot is among those of all
@@ -147,8 +147,8 @@ module _ (childrenOf userOf rightOf : ℕ → Extent) where
 
   at-mode : {l : Line} {n : Mode} → Views childrenOf userOf rightOf l n → AtMode (firstChain l) (slots l) n
   at-mode (beginning i) = inl (tt, i)
-  at-mode (leaving {t = t} {l = l} v e i r) = mode-inside (firstChain l) (slots l) (children t) tt e i (at-mode r)
-  at-mode (meeting {t = t} {l = l} v w e i f b r) = mode-begins (firstChain l) (slot (user t) [] ∷ slots l) t b
+  at-mode (exiting {t = t} {l = l} v e i r) = mode-inside (firstChain l) (slots l) (children t) tt e i (at-mode r)
+  at-mode (entering {t = t} {l = l} v w e i f b r) = mode-begins (firstChain l) (slot (user t) [] ∷ slots l) t b
   at-mode (passing r) = at-mode r
 
   -- A LOCAL TAIL: the view ends a chain that has had no tail, or one that it begins itself.
@@ -177,8 +177,8 @@ module _ (childrenOf userOf rightOf : ℕ → Extent) where
 
   pub each-tail : {l : Line} {n : Mode} → Views childrenOf userOf rightOf l n → EachTail (firstChain l) (slots l)
   each-tail (beginning i) = tt
-  each-tail (leaving {t = t} {l = l} v e i r) = (tail-inside (firstChain l) (slots l) (children t) tt e i (at-mode r), each-tail r)
-  each-tail (meeting {t = t} {l = l} v w e i f b r) = (
+  each-tail (exiting {t = t} {l = l} v e i r) = (tail-inside (firstChain l) (slots l) (children t) tt e i (at-mode r), each-tail r)
+  each-tail (entering {t = t} {l = l} v w e i f b r) = (
     tail-begins (firstChain l) (slot (user t) [] ∷ slots l) t f b,
     (tail-inside (firstChain l) (slots l) (user t) tt e i (at-mode r), each-tail r),
   )
@@ -208,8 +208,8 @@ module _ (childrenOf userOf rightOf : ℕ → Extent) where
 
   pub each-head : {l : Line} {n : Mode} → Views childrenOf userOf rightOf l n → All Head (slots l)
   each-head (beginning i) = tt
-  each-head (leaving {t = t} v e i r) = (head-inside (children t) e i, each-head r)
-  each-head (meeting {t = t} v w e i f b r) = (head-begins t f b, (head-inside (user t) e i, each-head r))
+  each-head (exiting {t = t} v e i r) = (head-inside (children t) e i, each-head r)
+  each-head (entering {t = t} v w e i f b r) = (head-begins t f b, (head-inside (user t) e i, each-head r))
   each-head (passing r) = each-head r
 
   -- A USER VIEW is empty, or has a non-local head and a local tail.
@@ -221,7 +221,7 @@ module _ (childrenOf userOf rightOf : ℕ → Extent) where
 
   pub each-user : {l : Line} {n : Mode} → Views childrenOf userOf rightOf l n → All UserEnds (slots l)
   each-user (beginning i) = tt
-  each-user (leaving v e i r) = (tt, each-user r)
-  each-user (meeting v w e rest f b r) = (tt, (inl e, each-user r))
-  each-user (meeting v w e (close {z = z}) f b r) = (tt, (inr (z, e), each-user r))
+  each-user (exiting v e i r) = (tt, each-user r)
+  each-user (entering v w e rest f b r) = (tt, (inl e, each-user r))
+  each-user (entering v w e (close {z = z}) f b r) = (tt, (inr (z, e), each-user r))
   each-user (passing r) = each-user r

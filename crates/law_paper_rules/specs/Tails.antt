@@ -7,7 +7,7 @@ use native.Mathlib.Omega.{arith}
 use Rattle.spec_lists.specs.Counting.{occurrences, occurs-append}
 use Rattle.spec_lists.specs.Maps.{All}
 use Rattle.law_gaps.specs.Line.{End, nonlocal, local, Extent, extent, Line, firstChain, Mode, settled, awaiting, Inside, rest, mid, close, Begins, bare, whole}
-use Rattle.law_gaps.specs.Line.{begun, Views, leaving, meeting, passing}
+use Rattle.law_gaps.specs.Line.{begun, Views, exiting, entering, passing}
 use Rattle.law_gaps.specs.Line.Views.{queue as beginning}
 use Rattle.law_gaps.specs.Frames.{clash}
 use Rattle.law_paper_rules.specs.Order.{ViewName, children, user, right}
@@ -79,9 +79,9 @@ module _ (childrenOf userOf rightOf : ℕ → Extent) where
 
   at-mode : {l : Line} {n : Mode} → Views childrenOf userOf rightOf l n → OnceIn (firstChain l) (slots l) → AtMode (slots l) n
   at-mode (beginning i) o = tt
-  at-mode (leaving {t = t} {l = l} v e i r) o = mode-inside (slots l) (children t) e i (at-mode r (fewer (firstChain l) (children t) [] (slots l) o))
-  at-mode (meeting {t = t} {c = c} {l = l} v w e i f b r) o =
-      mode-begins (firstChain l) t (slot (user t) [] ∷ slots l) f b o (each-tail childrenOf userOf rightOf (meeting v w e i f b r) .1)
+  at-mode (exiting {t = t} {l = l} v e i r) o = mode-inside (slots l) (children t) e i (at-mode r (fewer (firstChain l) (children t) [] (slots l) o))
+  at-mode (entering {t = t} {c = c} {l = l} v w e i f b r) o =
+      mode-begins (firstChain l) t (slot (user t) [] ∷ slots l) f b o (each-tail childrenOf userOf rightOf (entering v w e i f b r) .1)
   at-mode (passing r) o = at-mode r o
 
   -- so each tail stands once
@@ -110,11 +110,11 @@ module _ (childrenOf userOf rightOf : ℕ → Extent) where
 
   pub each-only : {l : Line} {n : Mode} → Views childrenOf userOf rightOf l n → OnceIn (firstChain l) (slots l) → EachOnly (slots l)
   each-only (beginning i) o = tt
-  each-only (leaving {t = t} {l = l} v e i r) o =
+  each-only (exiting {t = t} {l = l} v e i r) o =
       let p = fewer (firstChain l) (children t) [] (slots l) o in (only-inside (slots l) (children t) e i (at-mode r p), each-only r p)
-  each-only (meeting {t = t} {c = c} {l = l} v w e i f b r) o =
+  each-only (entering {t = t} {c = c} {l = l} v w e i f b r) o =
       let p = fewer (firstChain l) (user t) [] (slots l) (fewer (firstChain l) (right t) c (slot (user t) [] ∷ slots l) o) in (
-        only-begins (firstChain l) t (slot (user t) [] ∷ slots l) f b o (each-tail childrenOf userOf rightOf (meeting v w e i f b r) .1),
+        only-begins (firstChain l) t (slot (user t) [] ∷ slots l) f b o (each-tail childrenOf userOf rightOf (entering v w e i f b r) .1),
         (only-inside (slots l) (user t) e i (at-mode r p), each-only r p),
       )
   each-only (passing r) o = each-only r o

@@ -17,17 +17,17 @@ use Rattle.law_gaps.specs.Line.{End, nonlocal, local, Extent, vacant, extent, f
 use Rattle.spec_lists.specs.Maps.{lastOf}
 use Rattle.law_gaps.specs.Store.{LinkedFrom, Memory}
 use Rattle.law_gaps.specs.Names.{count-parts}
-use Rattle.law_gaps.specs.Splits.{small-mets}
+use Rattle.law_gaps.specs.Splits.{small-entries}
 use Rattle.law_links.specs.Linked.{tour-is, holder-unfinished}
-use Rattle.law_links.specs.Marks.{mark-once, mark-left, mark-met}
+use Rattle.law_links.specs.Marks.{mark-once, mark-exited, mark-entered}
 use Rattle.law_maps.specs.Meaning.{nextIn, headsIn, viewIn}
 use Rattle.law_invariant.specs.Represents.{queueMemory, ofTasks, usesIn, Represents}
 use Rattle.law_invariant.specs.Parts.{parts-of}
-use Rattle.law_invariant.specs.Views.{met-in, left-in, unfinished-alive, uses-small}
+use Rattle.law_invariant.specs.Views.{entered-in, exited-in, unfinished-alive, uses-small}
 use Rattle.law_invariant.specs.FirstNamed.{one-mine}
 use Rattle.law_paper_rules.specs.Order.{ViewName, queue, children, user, right, placeIn, place}
 use Rattle.law_paper_rules.specs.Slots.{slots, chains, chains-later, viewOf}
-use Rattle.law_paper_rules.specs.Along.{Stands, children-stands, met-stands, Falling, falling}
+use Rattle.law_paper_rules.specs.Along.{Stands, children-stands, entered-stands, Falling, falling}
 
 -- A queue view has a head alone. Its tail is not stored, as the paper's rule 3 allows; it stands for a non-local one.
 abbrev pub headOnly : Option ℕ → Extent
@@ -104,9 +104,9 @@ module _ (m : List ℕ) (xs : List Item) (r : Represents m xs) where
     both-stand : (t : ℕ) → Unfinished (decode m) t → usesIn m q t ≡ true → Stands (user t) (slots (r .line q)) × Stands (right t) (slots (r .line q))
     both-stand t u b =
         let Q = parts-of m xs r in
-        met-stands t (r .line q)
-        (met-in (usesIn m q) (r .line q) (Q .fits q small) t (u .0) b
-        (subst (λ (l : List ℕ). 0 < occurrences t l) (sym (Q .marked q small)) (mark-met m (r .tour) xs (r .linked) t u)))
+        entered-stands t (r .line q)
+        (entered-in (usesIn m q) (r .line q) (Q .fits q small) t (u .0) b
+        (subst (λ (l : List ℕ). 0 < occurrences t l) (sym (Q .marked q small)) (mark-entered m (r .tour) xs (r .linked) t u)))
 
     -- the views of a task with a right to the queue stand in the line
     pub stands : (v : ViewName) → NotQueue v → Current m v → usesIn m q (taskOf v) ≡ true → Stands v (slots (r .line q))
@@ -114,8 +114,8 @@ module _ (m : List ℕ) (xs : List Item) (r : Represents m xs) where
     stands (children t) k u b =
         let Q = parts-of m xs r in
         children-stands t (r .line q)
-        (left-in (usesIn m q) (r .line q) (Q .fits q small) (small-mets (usesIn m q) (r .line q) (uses-small m q) (Q .fits q small)) t b
-        (subst (λ (l : List ℕ). 0 < occurrences (128 + t) l) (sym (Q .marked q small)) (mark-left m (r .tour) xs (r .linked) t (busy t u))))
+        (exited-in (usesIn m q) (r .line q) (Q .fits q small) (small-entries (usesIn m q) (r .line q) (uses-small m q) (Q .fits q small)) t b
+        (subst (λ (l : List ℕ). 0 < occurrences (128 + t) l) (sym (Q .marked q small)) (mark-exited m (r .tour) xs (r .linked) t (busy t u))))
     stands (user t) k u b = both-stand t (busy t u) b .0
     stands (right t) k u b = both-stand t (busy t u) b .1
 

@@ -8,7 +8,7 @@ use lib.ListN.{length}
 use borrow.Author.Tests.{leb-true, le-leb}
 use Rattle.spec_words.specs.Words.{both-true, true-both}
 use Rattle.spec_lists.specs.Tests.{each, upto}
-use Rattle.spec_tree.specs.Tour.{tour, met}
+use Rattle.spec_tree.specs.Tour.{tour, entered}
 use Rattle.spec_rules.specs.Contents.{Contents, heads, tails}
 use Rattle.spec_rules.specs.Rules.{OpeningRules}
 use Rattle.spec_rules.specs.Test.{within, inRange, topTest, idleTest, treeTest, viewsTest, orderTest, ownersTest, segmentTest, heldTest, viewTests, test}
@@ -42,11 +42,11 @@ module _ (c : Contents) where
 
   -- what is left to test where xs are the marks
   pub record Seen (xs : List ℕ) : Type 0 where
-    pub words : each (viewsTest c) (met xs) ≡ true
+    pub words : each (viewsTest c) (entered xs) ≡ true
     pub order : orderTest c xs ≡ true
-    pub owned : ownersTest c (met xs) ≡ true
+    pub owned : ownersTest c (entered xs) ≡ true
     pub segs : upto (segmentTest c) (c .number) 0 ≡ true
-    pub holding : heldTest c (heads c (met xs)) (tails c (met xs)) ≡ true
+    pub holding : heldTest c (heads c (entered xs)) (tails c (entered xs)) ≡ true
 
   seen-says : (xs : List ℕ) → viewTests c xs ≡ true → Seen xs
   unfolding viewTests

@@ -7,13 +7,13 @@ use Prim.Native.Nat.{ℕ, _+_, _*_, _≤_}
 use native.Mathlib.Omega.{arith}
 use Rattle.spec_words.specs.Words.{load}
 use Rattle.spec_layout.specs.Layout.{NONE, recordOf}
-use Rattle.spec_tree.specs.Tour.{met}
+use Rattle.spec_tree.specs.Tour.{entered}
 use Rattle.spec_rules.specs.Contents.{Contents, word, heads, tails, holders, decode, scan-decodes}
 use Rattle.spec_rules.specs.Rules.{Rules}
 use Rattle.spec_rules.specs.Test.{topTest, idleTest, treeTest, test, rulesHold}
 use Rattle.law_rules_same.specs.Passed.{marks, toured, opening-says, says-opening, Passed, test-says, says-test}
 use Rattle.law_rules_segments.specs.Segments.{segments-say, says-segments, rules-by-counts}
-use Rattle.law_rules_tasks.specs.Tasks.{tasks-say, says-tasks, tour-whole, met-holders, marks-held, holders-left}
+use Rattle.law_rules_tasks.specs.Tasks.{tasks-say, says-tasks, tour-whole, entered-holders, marks-held, holders-exited}
 use Rattle.law_rules_views.specs.Members.{load-drop}
 use Rattle.law_rules_views.specs.Toured.{Toured, same-heads, same-tails}
 use Rattle.law_rules_views.specs.Views.{views-say, says-views}
@@ -28,9 +28,9 @@ module _ (c : Contents) where
   whole-tour a b e =
       record {
         whole = tour-whole c a b e;
-        same = met-holders c a b e;
+        same = entered-holders c a b e;
         held = marks-held c a b e;
-        left = holders-left c a b e;
+        exited = holders-exited c a b e;
       }
 
 module _ (c : Contents) (small : (t i : ℕ) → word c t i ≤ NONE) where
@@ -40,8 +40,8 @@ module _ (c : Contents) (small : (t i : ℕ) → word c t i ≤ NONE) where
       let v = whole-tour c (p .top) (p .free) (p .tree) in
       let s = p .seen in
       let xs = toured c in
-      let hs = heads c (met xs) in
-      let es = tails c (met xs) in
+      let hs = heads c (entered xs) in
+      let es = tails c (entered xs) in
       let g = segments-say c hs es (o .number-range .1) (p .room) (s .segs) (s .holding) in
       record {
         opening = o;
@@ -57,8 +57,8 @@ module _ (c : Contents) (small : (t i : ℕ) → word c t i ≤ NONE) where
       let k = says-tasks c (r .tasks) in
       let v = whole-tour c (k .0) (k .1) (k .2) in
       let xs = toured c in
-      let hs = heads c (met xs) in
-      let es = tails c (met xs) in
+      let hs = heads c (entered xs) in
+      let es = tails c (entered xs) in
       let w = says-views c xs v few (r .views-right) in
       let g =
       says-segments c hs es few

@@ -12,12 +12,12 @@ use Rattle.spec_tree.specs.Tour.{after, tour}
 use Rattle.spec_rules.specs.Contents.{Contents, word}
 use Rattle.spec_rules.specs.Rules.{Holder, TaskRules}
 use Rattle.spec_rules.specs.Test.{treeTest}
-use Rattle.law_rules_tasks.specs.Marks.{tree-none, tree-rest, met-on, left-on, after-childless, after-parent, after-oldest, after-younger}
+use Rattle.law_rules_tasks.specs.Marks.{tree-none, tree-rest, entered-on, exited-on, after-childless, after-parent, after-oldest, after-younger}
 use Rattle.law_rules_tasks.specs.Tested.{Top, Idle}
 use Rattle.law_rules_tasks.specs.Tours.{tree-same, tour-length, tour-each, tour-once, tour-first, tour-after, tour-most}
 use Rattle.law_rules_tasks.specs.Pairs.{pair, pairs, total-twos}
 use Rattle.law_rules_tasks.specs.Visits.{count}
-use Rattle.law_rules_tasks.specs.Leads.{holder-child, down, Leads, left-leads, met-leads, oldest}
+use Rattle.law_rules_tasks.specs.Leads.{holder-child, down, Leads, exited-leads, entered-leads, oldest}
 use Rattle.law_rules_tasks.specs.Holders.{holder-below, child-above}
 
 module _ (c : Contents) (r : TaskRules c) where
@@ -53,7 +53,7 @@ module _ (c : Contents) (r : TaskRules c) where
       once : (t : ℕ) → occurrences t (c .idle) ≤ 1
       once t = ⊎-elim (λ q. omega (arith, q)) (λ p. let q = idle-one t p .1 in omega (arith, q)) (eq-zero-or-pos (occurrences t (c .idle)))
 
-  -- x is where a task is met or left
+  -- x is where a task is entered or exited
   abbrev Mark : ℕ → Type 0
   Mark x = (t : ℕ) × Holder c t × ((x ≡ t) ⊎ (x ≡ 128 + t))
 
@@ -61,39 +61,39 @@ module _ (c : Contents) (r : TaskRules c) where
   mark-range k x (t, h, s) = let l = holder-below c t h in ⊎-elim (λ q. omega (arith, l, q)) (λ q. omega (arith, l, q)) s
 
   mark-next : (k x : ℕ) → Mark x → treeTest c (suc k) x ≡ true → (x ≡ 128 → ⊥) → Mark (after (c .recs) x)
-  mark-next k x (t, h, s) e n = ⊎-elim met left s
+  mark-next k x (t, h, s) e n = ⊎-elim entered exited s
     where
-      met : x ≡ t → Mark (after (c .recs) x)
-      met q =
+      entered : x ≡ t → Mark (after (c .recs) x)
+      entered q =
           let a = ap (after (c .recs)) q in
           ⊎-elim
           (λ w. (t, h, inr (a ∙ w .1)))
           (λ w. let k = w .0 in (word c t YOUNGEST, inr (k .below, k .status), inl (a ∙ w .1)))
-          (met-on c k t (holder-below c t h) (rw q at e))
+          (entered-on c k t (holder-below c t h) (rw q at e))
 
-      left : x ≡ 128 + t → Mark (after (c .recs) x)
-      left q =
+      exited : x ≡ 128 + t → Mark (after (c .recs) x)
+      exited q =
           let a = ap (after (c .recs)) q in
           let g : 0 < t = omega (arith, q, n) in
           let u = r .parents t _ (holder-child c r t h g) in
           ⊎-elim
           (λ w. (word c t PARENT, inr u, inr (a ∙ w .1)))
           (λ w. let k = w .0 in (word c t OLDER, inr (k .below, k .status), inl (a ∙ w .1)))
-          (left-on c k t g (u .0) (rw q at e))
+          (exited-on c k t g (u .0) (rw q at e))
 
   mark-leads : (x : ℕ) → Mark x → Leads c r x
   mark-leads x (t, h, s) =
       ⊎-elim
-      (λ q. subst (λ (y : ℕ). Leads c r y) (sym q) (met-leads c r t h))
-      (λ q. subst (λ (y : ℕ). Leads c r y) (sym q) (left-leads c r t h))
+      (λ q. subst (λ (y : ℕ). Leads c r y) (sym q) (entered-leads c r t h))
+      (λ q. subst (λ (y : ℕ). Leads c r y) (sym q) (exited-leads c r t h))
       s
 
   -- the mark before x
   abbrev Before : ℕ → Type 0
   Before x = (y : ℕ) × Mark y × (y ≡ 128 → ⊥) × (after (c .recs) y ≡ x)
 
-  before-met : (t : ℕ) → Holder c t → 0 < t → Before t
-  before-met t h g =
+  before-entered : (t : ℕ) → Holder c t → 0 < t → Before t
+  before-entered t h g =
       let l = holder-below c t h in
       let k = holder-child c r t h g in
       ⊎-elim
@@ -112,8 +112,8 @@ module _ (c : Contents) (r : TaskRules c) where
       ))
       (r .younger-linked t _ k)
 
-  before-left : (t : ℕ) → Holder c t → Before (128 + t)
-  before-left t h =
+  before-exited : (t : ℕ) → Holder c t → Before (128 + t)
+  before-exited t h =
       let l = holder-below c t h in
       ⊎-elim
       (λ q. (t, (t, h, inl refl), (λ z. omega (arith, z, l)), after-childless c t l q))
@@ -132,8 +132,8 @@ module _ (c : Contents) (r : TaskRules c) where
   before : (x : ℕ) → Mark x → 0 < x → Before x
   before x (t, h, s) g =
       ⊎-elim
-      (λ q. subst (λ (y : ℕ). Before y) (sym q) (before-met t h (omega (arith, q, g))))
-      (λ q. subst (λ (y : ℕ). Before y) (sym q) (before-left t h))
+      (λ q. subst (λ (y : ℕ). Before y) (sym q) (before-entered t h (omega (arith, q, g))))
+      (λ q. subst (λ (y : ℕ). Before y) (sym q) (before-exited t h))
       s
 
   behind : (k x : ℕ) → Mark x → treeTest c k x ≡ true → 0 < x

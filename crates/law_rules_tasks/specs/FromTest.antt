@@ -41,7 +41,7 @@ module _ (c : Contents) where
   rights n j t (youngest i p r l q w e) h = ap (λ (x : ℕ). subset (word c t RIGHTS) (word c x RIGHTS)) (w .parent) ∙ w .rights
   rights n j t (older i u r l a q w e) h = ap (λ (x : ℕ). subset (word c t RIGHTS) (word c x RIGHTS)) (w .parent) ∙ w .rights
 
-  -- where a task other than the top is met, the top has a child
+  -- where a task other than the top is entered, the top has a child
   has-child : (n j t : ℕ) → Reached c n j t → 0 < t → word c 0 YOUNGEST ≡ NONE → ⊥
   has-child n j t (top a b e) h none = omega (arith, a, h)
   has-child n j t (youngest i p r l q w e) h none =
@@ -68,7 +68,7 @@ module _ (c : Contents) (first : Top c) (idle : Idle c) (e : treeTest c (count c
   younger-linked : (t p : ℕ) → Child c p t → Younger c p t
   younger-linked t p h =
       let v = child-visit t p h in
-      subst (λ (x : ℕ). Younger c x t) (h .1 .1) (came c (count c) (v .met) t (v .reached) (child-above c t p h))
+      subst (λ (x : ℕ). Younger c x t) (h .1 .1) (came c (count c) (v .entered) t (v .reached) (child-above c t p h))
 
   youngest-linked : (t : ℕ) → Holder c t → (word c t YOUNGEST ≡ NONE) ⊎ (Child c t (word c t YOUNGEST) × (word c (word c t YOUNGEST) YOUNGER ≡ NONE))
   youngest-linked t h = ⊎-elim inl (λ k. inr (kin-child c _ _ _ k, k .younger)) (down c idle e t (holder-visit c idle e t h))
@@ -82,7 +82,7 @@ module _ (c : Contents) (first : Top c) (idle : Idle c) (e : treeTest c (count c
       at-top : word c t PARENT ≡ 0 → (word c 0 STATUS ≡ UNFINISHED) ⊎ ((word c 0 STATUS ≡ FINISHED) × (word c 0 YOUNGEST ≡ NONE))
           → Unfinished c (word c t PARENT)
       at-top q (inl s) = (omega (arith, q), ap (λ (x : ℕ). word c x STATUS) q ∙ s)
-      at-top q (inr s) = let v = child-visit t p h in absurd (has-child c (count c) (v .met) t (v .reached) (child-above c t p h) (s .1))
+      at-top q (inr s) = let v = child-visit t p h in absurd (has-child c (count c) (v .entered) t (v .reached) (child-above c t p h) (s .1))
 
   no-sibling-ring : (t p : ℕ) → Child c p t → (k : ℕ) × (k ≤ 128) × (walk (λ x. word c x OLDER) k t ≡ NONE)
   no-sibling-ring t p h =
@@ -105,7 +105,7 @@ module _ (c : Contents) (first : Top c) (idle : Idle c) (e : treeTest c (count c
       → ((word c t STATUS ≡ UNFINISHED) × (occurrences t (c .idle) ≡ 0)) ⊎ ((word c t STATUS ≡ FREE) × (occurrences t (c .idle) ≡ 1))
   record-status t h l =
       ⊎-elim
-      (λ q. let v = visit c idle e t l q in inl (reached-unfinished c (count c) (v .met) t (v .reached) h .1, q))
+      (λ q. let v = visit c idle e t l q in inl (reached-unfinished c (count c) (v .entered) t (v .reached) h .1, q))
       (λ p. let a = idle .apart .once t in inr (idle .free t p, omega (arith, a, p)))
       (eq-zero-or-pos (occurrences t (c .idle)))
 
@@ -161,5 +161,5 @@ module _ (c : Contents) (first : Top c) (idle : Idle c) (e : treeTest c (count c
         top-rights = first .rights;
         child-rights = λ t p h.
             let v = child-visit t p h in
-            ap (λ (x : ℕ). subset (word c t RIGHTS) (word c x RIGHTS)) (sym (h .1 .1)) ∙ rights c (count c) (v .met) t (v .reached) (child-above c t p h);
+            ap (λ (x : ℕ). subset (word c t RIGHTS) (word c x RIGHTS)) (sym (h .1 .1)) ∙ rights c (count c) (v .entered) t (v .reached) (child-above c t p h);
       }

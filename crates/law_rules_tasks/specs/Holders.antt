@@ -1,4 +1,4 @@
--- How often a task stands among the holders, and among the tasks that are met.
+-- How often a task stands among the holders, and among the tasks that are entered.
 use mathlib.Core.Path.{_≡_, refl, ap, _∙_}
 use mathlib.Core.List.{List, [], _∷_}
 use mathlib.Core.Logic.{_⊎_, inl, inr, ⊎-elim}
@@ -9,48 +9,48 @@ use borrow.Author.Tests.{lt-ltb, le-ltb, eq-eqb, ne-eqb}
 use Rattle.spec_words.specs.Words.{pass, halt, true-left, true-right, neither}
 use Rattle.spec_lists.specs.Counting.{occurrences, equal?, occurs-nil, occurs-cons, occurs-here, occurs-past, below?}
 use Rattle.spec_layout.specs.Layout.{UNFINISHED, STATUS}
-use Rattle.spec_tree.specs.Tour.{met}
+use Rattle.spec_tree.specs.Tour.{entered}
 use Rattle.spec_rules.specs.Contents.{Contents, word, holders, holdersFrom}
 use Rattle.spec_rules.specs.Rules.{Holder, Child}
 
 -- a mark below 128 meets a task, any other does not
-pub met-here : (x : ℕ) (xs : List ℕ) → x < 128 → met (x ∷ xs) ≡ x ∷ met xs
-unfolding met
-met-here x xs h = halt _ _ (lt-ltb x 128 h)
+pub entered-here : (x : ℕ) (xs : List ℕ) → x < 128 → entered (x ∷ xs) ≡ x ∷ entered xs
+unfolding entered
+entered-here x xs h = halt _ _ (lt-ltb x 128 h)
 
-pub met-past : (x : ℕ) (xs : List ℕ) → 128 ≤ x → met (x ∷ xs) ≡ met xs
-unfolding met
-met-past x xs h = pass _ (le-ltb x 128 h) refl
+pub entered-past : (x : ℕ) (xs : List ℕ) → 128 ≤ x → entered (x ∷ xs) ≡ entered xs
+unfolding entered
+entered-past x xs h = pass _ (le-ltb x 128 h) refl
 
--- the tasks that are met are the marks below 128
-pub met-count : (xs : List ℕ) (t : ℕ) → t < 128 → occurrences t (met xs) ≡ occurrences t xs
-unfolding met
-met-count [] t l = refl
-met-count (x ∷ xs) t l =
-    let a = met-count xs t l in
+-- the tasks that are entered are the marks below 128
+pub entered-count : (xs : List ℕ) (t : ℕ) → t < 128 → occurrences t (entered xs) ≡ occurrences t xs
+unfolding entered
+entered-count [] t l = refl
+entered-count (x ∷ xs) t l =
+    let a = entered-count xs t l in
     let b = occurs-cons x t xs in
     ⊎-elim
     (λ h.
-    let d = ap (occurrences t) (met-here x xs h) in
-    let f = occurs-cons x t (met xs) in
-    d ∙ (let z : occurrences t (x ∷ met xs) ≡ occurrences t (x ∷ xs) = omega (arith, a, b, f) in z))
+    let d = ap (occurrences t) (entered-here x xs h) in
+    let f = occurs-cons x t (entered xs) in
+    d ∙ (let z : occurrences t (x ∷ entered xs) ≡ occurrences t (x ∷ xs) = omega (arith, a, b, f) in z))
     (λ h.
-    let d = ap (occurrences t) (met-past x xs h) in
+    let d = ap (occurrences t) (entered-past x xs h) in
     let f = occurs-past x t xs (λ q. omega (arith, q, h, l)) in
-    d ∙ (let z : occurrences t (met xs) ≡ occurrences t (x ∷ xs) = omega (arith, a, f) in z))
+    d ∙ (let z : occurrences t (entered xs) ≡ occurrences t (x ∷ xs) = omega (arith, a, f) in z))
     (below? x 128)
 
-pub met-below : (xs : List ℕ) (t : ℕ) → 128 ≤ t → occurrences t (met xs) ≡ 0
-unfolding met
-met-below [] t l = occurs-nil t
-met-below (x ∷ xs) t l =
-    let a = met-below xs t l in
+pub entered-below : (xs : List ℕ) (t : ℕ) → 128 ≤ t → occurrences t (entered xs) ≡ 0
+unfolding entered
+entered-below [] t l = occurs-nil t
+entered-below (x ∷ xs) t l =
+    let a = entered-below xs t l in
     ⊎-elim
     (λ h.
-    ap (occurrences t) (met-here x xs h)
-    ∙ occurs-past x t (met xs) (λ q. omega (arith, q, h, l))
+    ap (occurrences t) (entered-here x xs h)
+    ∙ occurs-past x t (entered xs) (λ q. omega (arith, q, h, l))
     ∙ a)
-    (λ h. ap (occurrences t) (met-past x xs h) ∙ a)
+    (λ h. ap (occurrences t) (entered-past x xs h) ∙ a)
     (below? x 128)
 
 module _ (c : Contents) where

@@ -9,7 +9,7 @@ use Rattle.spec_layout.specs.Layout.{NONE, PARENT, OLDER, YOUNGER, YOUNGEST}
 use Rattle.spec_rules.specs.Contents.{Contents, word}
 use Rattle.spec_rules.specs.Rules.{Holder, Child, TaskRules, walk}
 use Rattle.spec_rules.specs.Test.{treeTest}
-use Rattle.law_rules_tasks.specs.Marks.{Kin, tree-last, met-none, met-child, left-none, left-older}
+use Rattle.law_rules_tasks.specs.Marks.{Kin, tree-last, entered-none, entered-child, exited-none, exited-older}
 use Rattle.law_rules_tasks.specs.Holders.{holder-below, child-above}
 
 module _ (c : Contents) (r : TaskRules c) where
@@ -77,7 +77,7 @@ module _ (c : Contents) (r : TaskRules c) where
   abbrev pub Leads : ℕ → Type 0
   Leads x = (k : ℕ) × (treeTest c k x ≡ true)
 
-  -- from where a child of p is left, over its older siblings
+  -- from where a child of p is exited, over its older siblings
   siblings : (p : ℕ) → Leads (128 + p) → ((u : ℕ) → Child c p u → Leads (128 + u) → Leads u)
       → (m u : ℕ) → Child c p u → walk (λ x. word c x OLDER) m u ≡ NONE → Leads (128 + u)
   unfolding walk
@@ -87,23 +87,23 @@ module _ (c : Contents) (r : TaskRules c) where
       (λ q.
       let a = h .1 .1 in
       let l = r .parents u p h .0 in
-      (suc (lead .0), left-none c (lead .0) u (child-above c u p h) (omega (arith, a, l)) q (ap (λ (x : ℕ). treeTest c (lead .0) (128 + x)) a ∙ lead .1)))
+      (suc (lead .0), exited-none c (lead .0) u (child-above c u p h) (omega (arith, a, l)) q (ap (λ (x : ℕ). treeTest c (lead .0) (128 + x)) a ∙ lead .1)))
       (λ w.
       let f = through (word c u OLDER) (w .0) (siblings p lead through m (word c u OLDER) (w .0) e) in
-      (suc (f .0), left-older c (f .0) u (child-above c u p h) (w .1) (f .1)))
+      (suc (f .0), exited-older c (f .0) u (child-above c u p h) (w .1) (f .1)))
       (along u p h)
 
-  -- from where a task is met to where it is left, n being more than the levels below it
+  -- from where a task is entered to where it is exited, n being more than the levels below it
   passes : (n d t : ℕ) → Depth d t → 128 ≤ d + n → Holder c t → Leads (128 + t) → Leads t
   passes zero d t w l h lead = let a = depth-few d t h w in let z : ⊥ = omega (arith, a, l) in absurd z
   passes (suc n) d t w l h lead =
       ⊎-elim
-      (λ q. (suc (lead .0), met-none c (lead .0) t (holder-below c t h) q (lead .1)))
+      (λ q. (suc (lead .0), entered-none c (lead .0) t (holder-below c t h) q (lead .1)))
       (λ k.
       let through : (u : ℕ) → Child c t u → Leads (128 + u) → Leads u = λ u g. passes n (suc d) u (deeper d t g w refl) (omega (arith, l)) (inr (g .1 .0)) in
       let m = r .no-sibling-ring _ t (k .0) in
       let f = through (word c t YOUNGEST) (k .0) (siblings t lead through (m .0) (word c t YOUNGEST) (k .0) (m .2)) in
-      (suc (f .0), met-child c (f .0) t (holder-below c t h) (k .1) (f .1)))
+      (suc (f .0), entered-child c (f .0) t (holder-below c t h) (k .1) (f .1)))
       (down t h)
 
   leaves : (d t : ℕ) → Depth d t → Leads (128 + t)
@@ -112,11 +112,11 @@ module _ (c : Contents) (r : TaskRules c) where
       let m = r .no-sibling-ring t p h in
       siblings p (leaves i p w) (λ u g. passes 128 (suc i) u (deeper i p g w refl) (omega arith) (inr (g .1 .0))) (m .0) t h (m .2)
 
-  pub left-leads : (t : ℕ) → Holder c t → Leads (128 + t)
-  left-leads t h = let w = depth t h in leaves (w .0) t (w .1)
+  pub exited-leads : (t : ℕ) → Holder c t → Leads (128 + t)
+  exited-leads t h = let w = depth t h in leaves (w .0) t (w .1)
 
-  pub met-leads : (t : ℕ) → Holder c t → Leads t
-  met-leads t h = let w = depth t h in passes 128 (w .0) t (w .1) (omega arith) h (left-leads t h)
+  pub entered-leads : (t : ℕ) → Holder c t → Leads t
+  entered-leads t h = let w = depth t h in passes 128 (w .0) t (w .1) (omega arith) h (exited-leads t h)
 
   -- the oldest sibling
   pub oldest : (m u p : ℕ) → Child c p u → walk (λ x. word c x OLDER) m u ≡ NONE → (v : ℕ) × Child c p v × (word c v OLDER ≡ NONE)

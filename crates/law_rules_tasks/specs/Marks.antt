@@ -9,7 +9,7 @@ use borrow.Author.Tests.{lt-ltb, le-ltb, leb-true, le-leb, lt-leb, eqb-true, eq-
 use Rattle.spec_words.specs.Words.{pass, halt, both-true, true-both, either-true, true-left, true-right}
 use Rattle.spec_layout.specs.Layout.{NONE, UNFINISHED, STATUS, RIGHTS, PARENT, OLDER, YOUNGER, YOUNGEST}
 use Rattle.spec_tree.specs.Rights.{subset}
-use Rattle.spec_tree.specs.Tour.{after, entering, leaving, tour}
+use Rattle.spec_tree.specs.Tour.{after, entering, exiting, tour}
 use Rattle.spec_rules.specs.Contents.{Contents, word}
 use Rattle.spec_rules.specs.Test.{kin, within, linkTest, treeTest}
 
@@ -59,13 +59,13 @@ module _ (c : Contents) where
       (true-both (eq-eqb _ _ (w .status)) (true-both (eq-eqb _ _ (w .parent)) (true-both (eq-eqb _ _ (w .younger)) (w .rights)))))
 
   -- THE MARK AFTER ONE
-  after-met : (t : ℕ) → t < 128 → after (c .recs) t ≡ entering t (word c t YOUNGEST)
+  after-entered : (t : ℕ) → t < 128 → after (c .recs) t ≡ entering t (word c t YOUNGEST)
   unfolding after word
-  after-met t l = halt _ _ (lt-ltb t 128 l)
+  after-entered t l = halt _ _ (lt-ltb t 128 l)
 
-  after-left : (t : ℕ) → after (c .recs) (128 + t) ≡ entering (word c t PARENT) (word c t OLDER)
+  after-exited : (t : ℕ) → after (c .recs) (128 + t) ≡ entering (word c t PARENT) (word c t OLDER)
   unfolding after word
-  after-left t =
+  after-exited t =
       pass _ (le-ltb (128 + t) 128 (omega arith)) (ap (λ (u : ℕ). entering (word c u PARENT) (word c u OLDER)) (let z : 128 + t - 128 ≡ t = omega arith in z))
 
   enters : (p u : ℕ) → u < 128 → entering p u ≡ u
@@ -73,25 +73,25 @@ module _ (c : Contents) where
   enters p u l = halt _ _ (lt-ltb u 128 l)
 
   leaves : (p u : ℕ) → u ≡ NONE → p < 128 → entering p u ≡ 128 + p
-  unfolding entering leaving
+  unfolding entering exiting
   leaves p u e l = pass _ (le-ltb u 128 (omega (arith, e))) (halt _ _ (lt-ltb p 128 l))
 
   pub after-childless : (t : ℕ) → t < 128 → word c t YOUNGEST ≡ NONE → after (c .recs) t ≡ 128 + t
-  after-childless t l q = after-met t l ∙ leaves t (word c t YOUNGEST) q l
+  after-childless t l q = after-entered t l ∙ leaves t (word c t YOUNGEST) q l
 
   pub after-parent : (t : ℕ) → t < 128 → word c t YOUNGEST < 128 → after (c .recs) t ≡ word c t YOUNGEST
-  after-parent t l h = after-met t l ∙ enters t (word c t YOUNGEST) h
+  after-parent t l h = after-entered t l ∙ enters t (word c t YOUNGEST) h
 
   pub after-oldest : (t : ℕ) → word c t PARENT < 128 → word c t OLDER ≡ NONE → after (c .recs) (128 + t) ≡ 128 + word c t PARENT
-  after-oldest t l q = after-left t ∙ leaves (word c t PARENT) (word c t OLDER) q l
+  after-oldest t l q = after-exited t ∙ leaves (word c t PARENT) (word c t OLDER) q l
 
   pub after-younger : (t : ℕ) → word c t OLDER < 128 → after (c .recs) (128 + t) ≡ word c t OLDER
-  after-younger t h = after-left t ∙ enters (word c t PARENT) (word c t OLDER) h
+  after-younger t h = after-exited t ∙ enters (word c t PARENT) (word c t OLDER) h
 
   -- past the end
   pub after-top : word c 0 PARENT ≡ NONE → word c 0 OLDER ≡ NONE → after (c .recs) 128 ≡ 256
-  unfolding entering leaving
-  after-top e f = after-left 0 ∙ past (word c 0 PARENT) (word c 0 OLDER) e f
+  unfolding entering exiting
+  after-top e f = after-exited 0 ∙ past (word c 0 PARENT) (word c 0 OLDER) e f
     where
       past : (p u : ℕ) → p ≡ NONE → u ≡ NONE → entering p u ≡ 256
       past p u e f = pass _ (le-ltb u 128 (omega (arith, f))) (pass _ (le-ltb p 128 (omega (arith, e))) refl)
@@ -120,53 +120,53 @@ module _ (c : Contents) where
   pub tree-rest : (k x : ℕ) → (x ≡ 128 → ⊥) → treeTest c (suc k) x ≡ true → treeTest c k (after (c .recs) x) ≡ true
   tree-rest k x n e = step-tree k x n e .1
 
-  link-met : (t : ℕ) → t < 128 → linkTest c t ≡ kin c (word c t YOUNGEST) t NONE
+  link-entered : (t : ℕ) → t < 128 → linkTest c t ≡ kin c (word c t YOUNGEST) t NONE
   unfolding linkTest
-  link-met t l = halt _ _ (lt-ltb t 128 l)
+  link-entered t l = halt _ _ (lt-ltb t 128 l)
 
-  link-left : (t : ℕ) → linkTest c (128 + t) ≡ kin c (word c t OLDER) (word c t PARENT) t
+  link-exited : (t : ℕ) → linkTest c (128 + t) ≡ kin c (word c t OLDER) (word c t PARENT) t
   unfolding linkTest
-  link-left t =
+  link-exited t =
       pass _ (le-ltb (128 + t) 128 (omega arith)) (ap (λ (u : ℕ). kin c (word c u OLDER) (word c u PARENT) u) (let z : 128 + t - 128 ≡ t = omega arith in z))
 
-  -- where a task is met: its youngest child is met next, or it is left
-  pub met-on : (k t : ℕ) → t < 128 → treeTest c (suc k) t ≡ true
+  -- where a task is entered: its youngest child is entered next, or it is exited
+  pub entered-on : (k t : ℕ) → t < 128 → treeTest c (suc k) t ≡ true
       → ((word c t YOUNGEST ≡ NONE) × (after (c .recs) t ≡ 128 + t)) ⊎ (Kin (word c t YOUNGEST) t NONE × (after (c .recs) t ≡ word c t YOUNGEST))
-  met-on k t l e =
+  entered-on k t l e =
       ⊎-elim
       (λ q. inl (q, after-childless t l q))
       (λ w. inr (w, after-parent t l (w .below)))
-      (kin-says _ _ _ (sym (link-met t l) ∙ step-tree k t (λ q. omega (arith, q, l)) e .0))
+      (kin-says _ _ _ (sym (link-entered t l) ∙ step-tree k t (λ q. omega (arith, q, l)) e .0))
 
-  pub met-none : (k t : ℕ) → t < 128 → word c t YOUNGEST ≡ NONE → treeTest c k (128 + t) ≡ true → treeTest c (suc k) t ≡ true
-  met-none k t l q e =
-      tree-step k t (λ z. omega (arith, z, l)) (link-met t l ∙ none-kin _ _ _ q)
+  pub entered-none : (k t : ℕ) → t < 128 → word c t YOUNGEST ≡ NONE → treeTest c k (128 + t) ≡ true → treeTest c (suc k) t ≡ true
+  entered-none k t l q e =
+      tree-step k t (λ z. omega (arith, z, l)) (link-entered t l ∙ none-kin _ _ _ q)
       (ap (treeTest c k) (after-childless t l q) ∙ e)
 
-  pub met-child : (k t : ℕ) → t < 128 → Kin (word c t YOUNGEST) t NONE → treeTest c k (word c t YOUNGEST) ≡ true → treeTest c (suc k) t ≡ true
-  met-child k t l w e =
-      tree-step k t (λ z. omega (arith, z, l)) (link-met t l ∙ says-kin _ _ _ w)
+  pub entered-child : (k t : ℕ) → t < 128 → Kin (word c t YOUNGEST) t NONE → treeTest c k (word c t YOUNGEST) ≡ true → treeTest c (suc k) t ≡ true
+  entered-child k t l w e =
+      tree-step k t (λ z. omega (arith, z, l)) (link-entered t l ∙ says-kin _ _ _ w)
       (ap (treeTest c k) (after-parent t l (w .below)) ∙ e)
 
-  -- where a task other than the top is left: its older sibling is met next, or its parent is left
-  pub left-on : (k t : ℕ) → 0 < t → word c t PARENT < 128 → treeTest c (suc k) (128 + t) ≡ true
+  -- where a task other than the top is exited: its older sibling is entered next, or its parent is exited
+  pub exited-on : (k t : ℕ) → 0 < t → word c t PARENT < 128 → treeTest c (suc k) (128 + t) ≡ true
       → ((word c t OLDER ≡ NONE) × (after (c .recs) (128 + t) ≡ 128 + word c t PARENT))
       ⊎ (Kin (word c t OLDER) (word c t PARENT) t × (after (c .recs) (128 + t) ≡ word c t OLDER))
-  left-on k t n l e =
+  exited-on k t n l e =
       ⊎-elim
       (λ q. inl (q, after-oldest t l q))
       (λ w. inr (w, after-younger t (w .below)))
-      (kin-says _ _ _ (sym (link-left t) ∙ step-tree k (128 + t) (λ q. omega (arith, q, n)) e .0))
+      (kin-says _ _ _ (sym (link-exited t) ∙ step-tree k (128 + t) (λ q. omega (arith, q, n)) e .0))
 
-  pub left-none : (k t : ℕ) → 0 < t → word c t PARENT < 128 → word c t OLDER ≡ NONE → treeTest c k (128 + word c t PARENT) ≡ true
+  pub exited-none : (k t : ℕ) → 0 < t → word c t PARENT < 128 → word c t OLDER ≡ NONE → treeTest c k (128 + word c t PARENT) ≡ true
       → treeTest c (suc k) (128 + t) ≡ true
-  left-none k t n l q e =
-      tree-step k (128 + t) (λ z. omega (arith, z, n)) (link-left t ∙ none-kin _ _ _ q)
+  exited-none k t n l q e =
+      tree-step k (128 + t) (λ z. omega (arith, z, n)) (link-exited t ∙ none-kin _ _ _ q)
       (ap (treeTest c k) (after-oldest t l q) ∙ e)
 
-  pub left-older : (k t : ℕ) → 0 < t → Kin (word c t OLDER) (word c t PARENT) t → treeTest c k (word c t OLDER) ≡ true → treeTest c (suc k) (128 + t) ≡ true
-  left-older k t n w e =
-      tree-step k (128 + t) (λ z. omega (arith, z, n)) (link-left t ∙ says-kin _ _ _ w)
+  pub exited-older : (k t : ℕ) → 0 < t → Kin (word c t OLDER) (word c t PARENT) t → treeTest c k (word c t OLDER) ≡ true → treeTest c (suc k) (128 + t) ≡ true
+  exited-older k t n w e =
+      tree-step k (128 + t) (λ z. omega (arith, z, n)) (link-exited t ∙ says-kin _ _ _ w)
       (ap (treeTest c k) (after-younger t (w .below)) ∙ e)
 
   -- THE TOUR at one mark

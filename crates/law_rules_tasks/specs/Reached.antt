@@ -1,4 +1,4 @@
--- How the tour came to a task: from its parent or from its younger sibling, which were met before.
+-- How the tour came to a task: from its parent or from its younger sibling, which were entered before.
 use mathlib.Core.Path.{_≡_, ap, sym, _∙_, subst}
 use mathlib.Core.Bool.{true}
 use mathlib.Core.Logic.{_⊎_, inl, inr, ⊎-elim}
@@ -9,11 +9,11 @@ use Rattle.spec_tree.specs.Tour.{after}
 use Rattle.spec_rules.specs.Contents.{Contents, word}
 use Rattle.spec_rules.specs.Rules.{Holder}
 use Rattle.spec_rules.specs.Test.{treeTest}
-use Rattle.law_rules_tasks.specs.Marks.{Kin, tree-rest, met-on, left-on}
+use Rattle.law_rules_tasks.specs.Marks.{Kin, tree-rest, entered-on, exited-on}
 
 -- n is the count of marks at the first one
 module _ (c : Contents) (n : ℕ) where
-  -- t is met where j marks are left
+  -- t is entered where j marks are left
   pub data Reached : ℕ → ℕ → Type 0 where
     top : {j t : ℕ} → t ≡ 0 → j ≡ n → treeTest c j t ≡ true → Reached j t
     youngest : {j t : ℕ} (i p : ℕ) → Reached i p → j < i → word c p YOUNGEST ≡ t → Kin c t p NONE → treeTest c j t ≡ true → Reached j t
@@ -32,7 +32,7 @@ module _ (c : Contents) (n : ℕ) where
   pub reached-below : (j t : ℕ) → Reached j t → t < 128
   reached-below j t r = ⊎-elim (λ q. omega (arith, q)) (λ w. w .0) (reached-holder j t r)
 
-  -- its parent was met before
+  -- its parent was entered before
   pub reached-parent : (j t : ℕ) → Reached j t → 0 < t → (i : ℕ) × (j < i) × Reached i (word c t PARENT)
   reached-parent j t (top a b e) h = let z : ⊥ = omega (arith, a, h) in absurd z
   reached-parent j t (youngest i p r l q w e) h = (i, l, subst (λ (x : ℕ). Reached i x) (sym (w .parent)) r)
@@ -41,7 +41,7 @@ module _ (c : Contents) (n : ℕ) where
       let m = f .1 in
       (f .0, omega (arith, l, m), subst (λ (x : ℕ). Reached (f .0) x) (sym (w .parent)) (f .2))
 
-  -- where the tour stands with j marks left: a task is met, or left that was met before
+  -- where the tour stands with j marks left: a task is entered, or exited that was entered before
   abbrev pub Standing : ℕ → ℕ → Type 0
   Standing j x = Reached j x ⊎ ((t : ℕ) × (x ≡ 128 + t) × (i : ℕ) × (j < i) × Reached i t)
 
@@ -55,7 +55,7 @@ module _ (c : Contents) (n : ℕ) where
       (λ w. inr (x, w .1, suc j, omega arith, r))
       (λ w.
       inl (youngest (suc j) x r (omega arith) (sym (w .1)) (subst (λ (y : ℕ). Kin c y x NONE) (sym (w .1)) (w .0)) (tree-rest c j x n e)))
-      (met-on c j x (reached-below (suc j) x r) e)
+      (entered-on c j x (reached-below (suc j) x r) e)
   standing-next j x (inr s) e n = go (s .0) (s .1) (s .2) (s .3) (s .4)
     where
       go : (t : ℕ) → x ≡ 128 + t → (i : ℕ) → suc j < i → Reached i t → Standing j (after (c .recs) x)
@@ -69,4 +69,4 @@ module _ (c : Contents) (n : ℕ) where
           (λ w.
           let b = d ∙ w .1 in
           inl (older i t r (omega (arith, l)) h (sym b) (subst (λ (y : ℕ). Kin c y (word c t PARENT) t) (sym b) (w .0)) (tree-rest c j x n e)))
-          (left-on c j t h (reached-below (f .0) (word c t PARENT) (f .2)) (rw q at e))
+          (exited-on c j t h (reached-below (f .0) (word c t PARENT) (f .2)) (rw q at e))

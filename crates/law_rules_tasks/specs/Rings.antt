@@ -10,7 +10,7 @@ use Rattle.spec_tree.specs.Tour.{after}
 use Rattle.spec_rules.specs.Contents.{Contents, word}
 use Rattle.spec_rules.specs.Rules.{Holder, walk}
 use Rattle.spec_rules.specs.Test.{treeTest}
-use Rattle.law_rules_tasks.specs.Marks.{Kin, tree-none, tree-rest, met-on, left-on}
+use Rattle.law_rules_tasks.specs.Marks.{Kin, tree-none, tree-rest, entered-on, exited-on}
 use Rattle.law_rules_tasks.specs.Tested.{Idle}
 use Rattle.law_rules_tasks.specs.Tours.{tree-same}
 use Rattle.law_rules_tasks.specs.Reached.{reached-tree, reached-holder, reached-below, reached-parent}
@@ -24,35 +24,35 @@ module _ (c : Contents) (idle : Idle c) (e : treeTest c (count c) 0 ≡ true) wh
   some-left zero x f = absurd (tree-none c x f)
   some-left (suc j) x f = omega arith
 
-  -- the parent of a task that is met
-  pub parent-visit : (t : ℕ) → (v : Visited t) → 0 < t → (w : Visited (word c t PARENT)) × (v .met < w .met) × Holder c (word c t PARENT)
+  -- the parent of a task that is entered
+  pub parent-visit : (t : ℕ) → (v : Visited t) → 0 < t → (w : Visited (word c t PARENT)) × (v .entered < w .entered) × Holder c (word c t PARENT)
   parent-visit t v h =
-      let r = reached-parent c (count c) (v .met) t (v .reached) h in
+      let r = reached-parent c (count c) (v .entered) t (v .reached) h in
       let o = reached-holder c (count c) (r .0) (word c t PARENT) (r .2) in
       let w = holder-visit c idle e (word c t PARENT) o in
-      let s = tree-same c (r .0) (w .met) (word c t PARENT) (reached-tree c (count c) (r .0) _ (r .2)) (reached-tree c (count c) (w .met) _ (w .reached)) in
+      let s = tree-same c (r .0) (w .entered) (word c t PARENT) (reached-tree c (count c) (r .0) _ (r .2)) (reached-tree c (count c) (w .entered) _ (w .reached)) in
       let m = r .1 in
       (w, omega (arith, m, s), o)
 
   pub parent-below : (t : ℕ) → Visited t → 0 < t → word c t PARENT < 128
-  parent-below t v h = let r = reached-parent c (count c) (v .met) t (v .reached) h in reached-below c (count c) (r .0) _ (r .2)
+  parent-below t v h = let r = reached-parent c (count c) (v .entered) t (v .reached) h in reached-below c (count c) (r .0) _ (r .2)
 
-  -- the links of a task that is met and left
+  -- the links of a task that is entered and exited
   pub down : (t : ℕ) → Visited t → (word c t YOUNGEST ≡ NONE) ⊎ Kin c (word c t YOUNGEST) t NONE
-  down t v = go (v .met) (reached-tree c (count c) (v .met) t (v .reached))
+  down t v = go (v .entered) (reached-tree c (count c) (v .entered) t (v .reached))
     where
       go : (j : ℕ) → treeTest c j t ≡ true → (word c t YOUNGEST ≡ NONE) ⊎ Kin c (word c t YOUNGEST) t NONE
       go zero f = absurd (tree-none c t f)
-      go (suc j) f = ⊎-elim (λ w. inl (w .0)) (λ w. inr (w .0)) (met-on c j t (reached-below c (count c) (v .met) t (v .reached)) f)
+      go (suc j) f = ⊎-elim (λ w. inl (w .0)) (λ w. inr (w .0)) (entered-on c j t (reached-below c (count c) (v .entered) t (v .reached)) f)
 
   pub along : (t : ℕ) → Visited t → 0 < t → (word c t OLDER ≡ NONE) ⊎ Kin c (word c t OLDER) (word c t PARENT) t
-  along t v h = go (v .left) (v .leaves)
+  along t v h = go (v .exited) (v .leaves)
     where
       go : (j : ℕ) → treeTest c j (128 + t) ≡ true → (word c t OLDER ≡ NONE) ⊎ Kin c (word c t OLDER) (word c t PARENT) t
       go zero f = absurd (tree-none c (128 + t) f)
-      go (suc j) f = ⊎-elim (λ w. inl (w .0)) (λ w. inr (w .0)) (left-on c j t h (parent-below t v h) f)
+      go (suc j) f = ⊎-elim (λ w. inl (w .0)) (λ w. inr (w .0)) (exited-on c j t h (parent-below t v h) f)
 
-  -- From where t is left the tour goes through its older siblings, and then leaves its parent.
+  -- From where t is exited the tour goes through its older siblings, and then leaves its parent.
   pub record Ends (j t : ℕ) : Type 0 where
     pub steps : ℕ
     pub few : 2 * steps ≤ j
@@ -71,10 +71,10 @@ module _ (c : Contents) (idle : Idle c) (e : treeTest c (count c) 0 ≡ true) wh
       (λ w.
       let k = w .0 in
       let u = holder-visit c idle e (word c t OLDER) (inr (k .below, k .status)) in
-      let s = tree-same c (u .met) j (word c t OLDER) (reached-tree c (count c) (u .met) _ (u .reached)) (ap (treeTest c j) (sym (w .1)) ∙ rest) in
+      let s = tree-same c (u .entered) j (word c t OLDER) (reached-tree c (count c) (u .entered) _ (u .reached)) (ap (treeTest c j) (sym (w .1)) ∙ rest) in
       let o = u .order in
-      more (u .left) (omega (arith, o, s)) k (others (u .left) (word c t OLDER) (omega (arith, o, s)) (k .above) u (u .leaves)))
-      (left-on c j t h (parent-below t v h) f)
+      more (u .exited) (omega (arith, o, s)) k (others (u .exited) (word c t OLDER) (omega (arith, o, s)) (k .above) u (u .leaves)))
+      (exited-on c j t h (parent-below t v h) f)
     where
       rest : treeTest c j (after (c .recs) (128 + t)) ≡ true
       rest = tree-rest c j (128 + t) (λ q. omega (arith, q, h)) f
@@ -106,20 +106,20 @@ module _ (c : Contents) (idle : Idle c) (e : treeTest c (count c) 0 ≡ true) wh
       go zero l f others = absurd (tree-none c (128 + t) f)
       go (suc j) l f others = ends-one j t h v f (λ i u o g w k. others i u (omega (arith, o, l)) g w k)
 
-  pub siblings-end : (t : ℕ) → 0 < t → (v : Visited t) → Ends (v .left) t
-  siblings-end t h v = ends (v .left) (v .left) t (omega arith) h v (v .leaves)
+  pub siblings-end : (t : ℕ) → 0 < t → (v : Visited t) → Ends (v .exited) t
+  siblings-end t h v = ends (v .exited) (v .exited) t (omega arith) h v (v .leaves)
 
-  -- From where t is met back to where it is left there are more marks for its parent, at least one on either side.
+  -- From where t is entered back to where it is exited there are more marks for its parent, at least one on either side.
   pub record Rises (t : ℕ) (v : Visited t) : Type 0 where
     pub steps : ℕ
-    pub few : 2 * steps + v .met + 1 ≤ count c + v .left
+    pub few : 2 * steps + v .entered + 1 ≤ count c + v .exited
     pub end : walk (λ x. word c x PARENT) steps t ≡ 0
 
-  rises-one : (t : ℕ) → (v : Visited t) → 0 < t → (w : Visited (word c t PARENT)) → v .met < w .met → Rises (word c t PARENT) w → Rises t v
+  rises-one : (t : ℕ) → (v : Visited t) → 0 < t → (w : Visited (word c t PARENT)) → v .entered < w .entered → Rises (word c t PARENT) w → Rises t v
   unfolding walk
   rises-one t v h w m r =
       let s = siblings-end t h v in
-      let a = tree-same c (s .later) (w .left) (128 + word c t PARENT) (s .parent) (w .leaves) in
+      let a = tree-same c (s .later) (w .exited) (128 + word c t PARENT) (s .parent) (w .leaves) in
       let b = s .order in
       let d = r .few in
       record { steps = suc (r .steps); few = omega (arith, a, b, d, m); end = r .end }
@@ -128,10 +128,10 @@ module _ (c : Contents) (idle : Idle c) (e : treeTest c (count c) 0 ≡ true) wh
   unfolding walk
   rises-none t v q =
       let a = v .most in
-      let b = some-left (v .left) (128 + t) (v .leaves) in
+      let b = some-left (v .exited) (128 + t) (v .leaves) in
       record { steps = 0; few = omega (arith, a, b); end = q }
 
-  rises : (n t : ℕ) → (v : Visited t) → count c ≤ v .met + n → Rises t v
+  rises : (n t : ℕ) → (v : Visited t) → count c ≤ v .entered + n → Rises t v
   rises zero t v l =
       ⊎-elim
       (rises-none t v)

@@ -27,8 +27,8 @@ module _ (c : Contents) (idle : Idle c) (e : treeTest c (count c) 0 ≡ true) wh
   abbrev pub marks : List ℕ
   marks = tour (count c) (c .recs) 0
 
-  abbrev pub Met : ℕ → ℕ → Type 0
-  Met = Reached c (count c)
+  abbrev pub Entered : ℕ → ℕ → Type 0
+  Entered = Reached c (count c)
 
   pub start : Standing c (count c) (count c) 0
   start = inl (top refl refl e)
@@ -45,21 +45,21 @@ module _ (c : Contents) (idle : Idle c) (e : treeTest c (count c) 0 ≡ true) wh
   pub marks-below : (y : ℕ) → 0 < occurrences y marks → y < 256
   marks-below y p = let w = stands y p in standing-range c (count c) (w .0) y (w .3)
 
-  -- a task that is met
-  pub met-reached : (t : ℕ) → t < 128 → 0 < occurrences t marks → (j : ℕ) × (j ≤ count c) × Met j t
-  met-reached t l p = let w = stands t p in (w .0, w .1, go (w .0) (w .3))
+  -- a task that is entered
+  pub entered-reached : (t : ℕ) → t < 128 → 0 < occurrences t marks → (j : ℕ) × (j ≤ count c) × Entered j t
+  entered-reached t l p = let w = stands t p in (w .0, w .1, go (w .0) (w .3))
     where
-      go : (j : ℕ) → Standing c (count c) j t → Met j t
+      go : (j : ℕ) → Standing c (count c) j t → Entered j t
       go j (inl r) = r
       go j (inr w) = let q = w .1 in let z : ⊥ = omega (arith, q, l) in absurd z
 
-  -- a task that is left
-  pub left-reached : (t : ℕ) → 0 < occurrences (128 + t) marks → (j : ℕ) × (treeTest c j (128 + t) ≡ true) × (i : ℕ) × (j < i) × Met i t
-  left-reached t p = let w = stands (128 + t) p in let g = go (w .0) (w .3) in (w .0, w .2, g .0, g .1, g .2)
+  -- a task that is exited
+  pub exited-reached : (t : ℕ) → 0 < occurrences (128 + t) marks → (j : ℕ) × (treeTest c j (128 + t) ≡ true) × (i : ℕ) × (j < i) × Entered i t
+  exited-reached t p = let w = stands (128 + t) p in let g = go (w .0) (w .3) in (w .0, w .2, g .0, g .1, g .2)
     where
-      go : (j : ℕ) → Standing c (count c) j (128 + t) → (i : ℕ) × (j < i) × Met i t
+      go : (j : ℕ) → Standing c (count c) j (128 + t) → (i : ℕ) × (j < i) × Entered i t
       go j (inl r) = let a = reached-below c (count c) j (128 + t) r in let z : ⊥ = omega (arith, a) in absurd z
-      go j (inr w) = let q = w .1 in (w .2, w .3, subst (λ (x : ℕ). Met (w .2) x) (let z : w .0 ≡ t = omega (arith, q) in z) (w .4))
+      go j (inr w) = let q = w .1 in (w .2, w .3, subst (λ (x : ℕ). Entered (w .2) x) (let z : w .0 ≡ t = omega (arith, q) in z) (w .4))
 
   -- a holder is not on the stack
   pub busy : (t : ℕ) → Holder c t → occurrences t (c .idle) ≡ 0
@@ -75,11 +75,11 @@ module _ (c : Contents) (idle : Idle c) (e : treeTest c (count c) 0 ≡ true) wh
       h)
       (eq-zero-or-pos (occurrences t (c .idle)))
 
-  pub met-busy : (t : ℕ) → t < 128 → 0 < occurrences t marks → occurrences t (c .idle) ≡ 0
-  met-busy t l p = let w = met-reached t l p in busy t (reached-holder c (count c) (w .0) t (w .2))
+  pub entered-busy : (t : ℕ) → t < 128 → 0 < occurrences t marks → occurrences t (c .idle) ≡ 0
+  entered-busy t l p = let w = entered-reached t l p in busy t (reached-holder c (count c) (w .0) t (w .2))
 
-  left-busy : (t : ℕ) → 0 < occurrences (128 + t) marks → occurrences t (c .idle) ≡ 0
-  left-busy t p = let w = left-reached t p in busy t (reached-holder c (count c) (w .2) t (w .4))
+  exited-busy : (t : ℕ) → 0 < occurrences (128 + t) marks → occurrences t (c .idle) ≡ 0
+  exited-busy t p = let w = exited-reached t p in busy t (reached-holder c (count c) (w .2) t (w .4))
 
   at-most : (t : ℕ) → t < 128 → pair marks (c .idle) t ≤ 2
   at-most t l =
@@ -90,9 +90,9 @@ module _ (c : Contents) (idle : Idle c) (e : treeTest c (count c) 0 ≡ true) wh
       (λ q.
       ⊎-elim
       (λ r. omega (arith, d, q, r))
-      (λ r. let f = left-busy t r in omega (arith, b, f, q))
+      (λ r. let f = exited-busy t r in omega (arith, b, f, q))
       (eq-zero-or-pos (occurrences (128 + t) marks)))
-      (λ q. let f = met-busy t l q in omega (arith, a, b, f))
+      (λ q. let f = entered-busy t l q in omega (arith, a, b, f))
       (eq-zero-or-pos (occurrences t marks))
 
   -- THE PIGEONHOLE: as many marks and free records as there are places, at most two for each task: two for each
@@ -105,30 +105,30 @@ module _ (c : Contents) (idle : Idle c) (e : treeTest c (count c) 0 ≡ true) wh
       let f = idle .few in
       omega (arith, a, b, d, f))
 
-  pub met-once : (t : ℕ) → t < 128 → occurrences t (c .idle) ≡ 0 → occurrences t marks ≡ 1
-  met-once t l q = let a = two t l in let b = marks-once t in let d = marks-once (128 + t) in omega (arith, a, b, d, q)
+  pub entered-once : (t : ℕ) → t < 128 → occurrences t (c .idle) ≡ 0 → occurrences t marks ≡ 1
+  entered-once t l q = let a = two t l in let b = marks-once t in let d = marks-once (128 + t) in omega (arith, a, b, d, q)
 
-  pub left-once : (t : ℕ) → t < 128 → occurrences t (c .idle) ≡ 0 → occurrences (128 + t) marks ≡ 1
-  left-once t l q = let a = two t l in let b = marks-once t in let d = marks-once (128 + t) in omega (arith, a, b, d, q)
+  pub exited-once : (t : ℕ) → t < 128 → occurrences t (c .idle) ≡ 0 → occurrences (128 + t) marks ≡ 1
+  exited-once t l q = let a = two t l in let b = marks-once t in let d = marks-once (128 + t) in omega (arith, a, b, d, q)
 
-  -- t is met where i marks are left, and left where j are
+  -- t is entered where i marks are left, and exited where j are
   pub record Visit (t : ℕ) : Type 0 where
-    pub met : ℕ
-    pub left : ℕ
-    pub order : left < met
-    pub most : met ≤ count c
-    pub reached : Met met t
-    pub leaves : treeTest c left (128 + t) ≡ true
+    pub entered : ℕ
+    pub exited : ℕ
+    pub order : exited < entered
+    pub most : entered ≤ count c
+    pub reached : Entered entered t
+    pub leaves : treeTest c exited (128 + t) ≡ true
 
   pub visit : (t : ℕ) → t < 128 → occurrences t (c .idle) ≡ 0 → Visit t
   visit t l q =
-      let a = met-once t l q in
-      let b = left-once t l q in
-      let w = met-reached t l (omega (arith, a)) in
-      let v = left-reached t (omega (arith, b)) in
+      let a = entered-once t l q in
+      let b = exited-once t l q in
+      let w = entered-reached t l (omega (arith, a)) in
+      let v = exited-reached t (omega (arith, b)) in
       let m = v .3 in
       let s = tree-same c (v .2) (w .0) t (reached-tree c (count c) (v .2) t (v .4)) (reached-tree c (count c) (w .0) t (w .2)) in
-      record { met = w .0; left = v .0; order = omega (arith, m, s); most = w .1; reached = w .2; leaves = v .1 }
+      record { entered = w .0; exited = v .0; order = omega (arith, m, s); most = w .1; reached = w .2; leaves = v .1 }
 
   pub holder-visit : (t : ℕ) → Holder c t → Visit t
   holder-visit t h = visit t (holder-below c t h) (busy t h)

@@ -9,11 +9,11 @@ use lib.ListN.{drop}
 use Rattle.spec_words.specs.Words.{load}
 use Rattle.spec_lists.specs.Counting.{occurrences, over, equal?, occurs-nil, occurs-cons, occurs-here, occurs-past}
 use Rattle.spec_layout.specs.Layout.{NL}
-use Rattle.spec_tree.specs.Tour.{met}
+use Rattle.spec_tree.specs.Tour.{entered}
 use Rattle.spec_rules.specs.Contents.{Contents, word, locals, heads, tails}
 use Rattle.spec_rules.specs.Rules.{Holder}
 use Rattle.law_rules_views.specs.Members.{load-drop, local-in, in-local}
-use Rattle.law_rules_views.specs.Toured.{Toured, over-heads, over-tails, holder-met, met-holder}
+use Rattle.law_rules_views.specs.Toured.{Toured, over-heads, over-tails, holder-entered, entered-holder}
 
 over-term : (xs : List ℕ) (g : ℕ → ℕ) (x : ℕ) → 0 < occurrences x xs → g x ≤ over xs g
 unfolding over
@@ -63,30 +63,30 @@ module _ (c : Contents) where
       omega (arith, e, b)
 
   module _ (xs : List ℕ) (w : Toured c xs) where
-    -- a list l made of the n words from i on of each task that is met
-    module _ (i n : ℕ) (l : List ℕ) (made : (s : ℕ) → occurrences s l ≡ over (met xs) (λ y. occurrences s (locals n (drop i (c .recs y))))) where
+    -- a list l made of the n words from i on of each task that is entered
+    module _ (i n : ℕ) (l : List ℕ) (made : (s : ℕ) → occurrences s l ≡ over (entered xs) (λ y. occurrences s (locals n (drop i (c .recs y))))) where
       opened-fit : Opened l → Fit i n
       opened-fit f t j h k p =
           f (word c t (i + j))
           (let a = made (word c t (i + j)) in
-          let b = over-term (met xs) (λ y. occurrences (word c t (i + j)) (locals n (drop i (c .recs y)))) t (holder-met c xs w t h) in
+          let b = over-term (entered xs) (λ y. occurrences (word c t (i + j)) (locals n (drop i (c .recs y)))) t (holder-entered c xs w t h) in
           let d = listed t i n j k p in
           omega (arith, a, b, d))
 
       fit-opened : Fit i n → Opened l
       fit-opened f s p =
           let a = made s in
-          let v = over-some (met xs) (λ y. occurrences s (locals n (drop i (c .recs y)))) (omega (arith, a, p)) in
-          below i n f (v .0) s (met-holder c xs w (v .0) (v .1)) (v .2)
+          let v = over-some (entered xs) (λ y. occurrences s (locals n (drop i (c .recs y)))) (omega (arith, a, p)) in
+          below i n f (v .0) s (entered-holder c xs w (v .0) (v .1)) (v .2)
 
-    pub heads-fit : Opened (heads c (met xs)) → Fit 16 16
-    heads-fit = opened-fit 16 16 (heads c (met xs)) (λ s. over-heads c s (met xs))
+    pub heads-fit : Opened (heads c (entered xs)) → Fit 16 16
+    heads-fit = opened-fit 16 16 (heads c (entered xs)) (λ s. over-heads c s (entered xs))
 
-    pub tails-fit : Opened (tails c (met xs)) → Fit 32 12
-    tails-fit = opened-fit 32 12 (tails c (met xs)) (λ s. over-tails c s (met xs))
+    pub tails-fit : Opened (tails c (entered xs)) → Fit 32 12
+    tails-fit = opened-fit 32 12 (tails c (entered xs)) (λ s. over-tails c s (entered xs))
 
-    pub fit-heads : Fit 16 16 → Opened (heads c (met xs))
-    fit-heads = fit-opened 16 16 (heads c (met xs)) (λ s. over-heads c s (met xs))
+    pub fit-heads : Fit 16 16 → Opened (heads c (entered xs))
+    fit-heads = fit-opened 16 16 (heads c (entered xs)) (λ s. over-heads c s (entered xs))
 
-    pub fit-tails : Fit 32 12 → Opened (tails c (met xs))
-    fit-tails = fit-opened 32 12 (tails c (met xs)) (λ s. over-tails c s (met xs))
+    pub fit-tails : Fit 32 12 → Opened (tails c (entered xs))
+    fit-tails = fit-opened 32 12 (tails c (entered xs)) (λ s. over-tails c s (entered xs))

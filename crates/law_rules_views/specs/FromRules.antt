@@ -11,7 +11,7 @@ use borrow.Author.Tests.{eq-eqb, lt-ltb, le-ltb}
 use Rattle.spec_lists.specs.Counting.{occurrences, below?}
 use Rattle.spec_lists.specs.Tests.{each}
 use Rattle.spec_layout.specs.Layout.{NONE, NL, RIGHTS, CHILDREN, USER, RIGHT}
-use Rattle.spec_tree.specs.Tour.{MARKS, tour, met}
+use Rattle.spec_tree.specs.Tour.{MARKS, tour, entered}
 use Rattle.spec_tree.specs.Queues.{queue-each}
 use Rattle.spec_rules.specs.Contents.{Contents, word, heads, tails, owners}
 use Rattle.spec_rules.specs.Views.{views, viewsOf}
@@ -26,15 +26,15 @@ use Rattle.law_rules_views.specs.Tested.{word-right, says-words}
 use Rattle.law_rules_views.specs.FromTest.{same-pair}
 
 module _ (c : Contents) (few : c .number ≤ 256) (xs : List ℕ) (v : Toured c xs) (r : ViewRules c) where
-  words : each (viewsTest c) (met xs) ≡ true
+  words : each (viewsTest c) (entered xs) ≡ true
   words =
       says-words c xs v
       (λ t i h l. word-right (word c t RIGHTS) i (word c t (16 + i)) (r .no-views t i h l)
       (λ m e. ⊎-elim (λ a. omega (arith, a, e, few)) (λ a. omega (arith, a, e)) (r .queue-links t i h m)))
 
-  owned : ownersTest c (met xs) ≡ true
+  owned : ownersTest c (entered xs) ≡ true
   unfolding ownersTest
-  owned = queue-each (λ q. eqb (length (owners c q (met xs))) 1) (λ q l. eq-eqb _ _ (same-owners c xs v q ∙ r .one-owner q l))
+  owned = queue-each (λ q. eqb (length (owners c q (entered xs))) 1) (λ q l. eq-eqb _ _ (same-owners c xs v q ∙ r .one-owner q l))
 
   -- the ends of a view, where i is 4 times its kind plus its queue
   pair : (t i : ℕ) → Holder c t → i < 12 → Pair (word c t (20 + i)) (word c t (32 + i))
@@ -54,12 +54,12 @@ module _ (c : Contents) (few : c .number ≤ 256) (xs : List ℕ) (v : Toured c 
       (λ w.
       record {
         entered = λ a u. (pair-at x q USER (w .1) l (omega arith), pair-at x q RIGHT (w .1) l (omega arith));
-        left = λ a u. absurd (false≢true (sym a ∙ lt-ltb x 128 (w .0)));
+        exited = λ a u. absurd (false≢true (sym a ∙ lt-ltb x 128 (w .0)));
       })
       (λ w.
       record {
         entered = λ a u. absurd (false≢true (sym (le-ltb x 128 (w .0)) ∙ a));
-        left = λ a u. pair-at (x - 128) q CHILDREN (w .2) l (omega arith);
+        exited = λ a u. pair-at (x - 128) q CHILDREN (w .2) l (omega arith);
       })
       (v .held x p)
 
@@ -95,6 +95,6 @@ module _ (c : Contents) (few : c .number ≤ 256) (xs : List ℕ) (v : Toured c 
       omega (arith, e, a))
       (below? i 4)
 
-  pub views-tested : (each (viewsTest c) (met xs) ≡ true) × (orderTest c xs ≡ true) × (ownersTest c (met xs) ≡ true)
-      × Opened c (heads c (met xs)) × Opened c (tails c (met xs))
+  pub views-tested : (each (viewsTest c) (entered xs) ≡ true) × (orderTest c xs ≡ true) × (ownersTest c (entered xs) ≡ true)
+      × Opened c (heads c (entered xs)) × Opened c (tails c (entered xs))
   views-tested = (words, order, owned, fit-heads c xs v local-heads, fit-tails c xs v local-tail)

@@ -13,16 +13,16 @@ use Rattle.spec_lists.specs.Counting.{occurrences, below?}
 use Rattle.spec_lists.specs.Tests.{each}
 use Rattle.spec_layout.specs.Layout.{NONE, NL, RIGHTS, CHILDREN, USER, RIGHT}
 use Rattle.spec_tree.specs.Rights.{uses}
-use Rattle.spec_tree.specs.Tour.{MARKS, tour, met}
+use Rattle.spec_tree.specs.Tour.{MARKS, tour, entered}
 use Rattle.spec_tree.specs.Queues.{each-queue}
 use Rattle.spec_rules.specs.Contents.{Contents, word, heads, tails, owners, holders}
 use Rattle.spec_rules.specs.Views.{views, viewsOf, Joined}
 use Rattle.spec_rules.specs.Rules.{Holder, Link, Edge, ViewRules}
 use Rattle.spec_rules.specs.Test.{viewsTest, orderOf, orderTest, ownersTest}
 use Rattle.spec_rules.specs.Passed.{marked-yes}
-use Rattle.law_rules_views.specs.Members.{met-mark}
+use Rattle.law_rules_views.specs.Members.{entered-mark}
 use Rattle.law_rules_tasks.specs.Holders.{holder-below}
-use Rattle.law_rules_views.specs.Toured.{Toured, same-owners, holder-met}
+use Rattle.law_rules_views.specs.Toured.{Toured, same-owners, holder-entered}
 use Rattle.law_rules_views.specs.Order.{Pair, state, state-nil, state-joined}
 use Rattle.law_rules_views.specs.Marks.{yes-no, PairAt, Fine, order-fine, order-state}
 use Rattle.law_rules_views.specs.Ends.{Opened, heads-fit, tails-fit}
@@ -41,8 +41,8 @@ same-pair a b w =
     ⊎-elim (λ n. inl (sym a ∙ n .0, sym b ∙ n .1)) (λ n. inr ((λ z. n .0 (a ∙ z)), (λ z. n .1 (b ∙ z)))) w
 
 module _ (c : Contents) (small : (t i : ℕ) → word c t i ≤ NONE) (xs : List ℕ) (v : Toured c xs)
-    (words : each (viewsTest c) (met xs) ≡ true) (order : orderTest c xs ≡ true) (owned : ownersTest c (met xs) ≡ true)
-    (opened-heads : Opened c (heads c (met xs))) (opened-tails : Opened c (tails c (met xs))) where
+    (words : each (viewsTest c) (entered xs) ≡ true) (order : orderTest c xs ≡ true) (owned : ownersTest c (entered xs) ≡ true)
+    (opened-heads : Opened c (heads c (entered xs))) (opened-tails : Opened c (tails c (entered xs))) where
   state-one : (q : ℕ) → q < 4 → orderOf c q xs 0 ≡ 1
   unfolding orderTest
   state-one q l = eqb-true _ _ (each-queue (λ p. eqb (orderOf c p xs 0) 1) order q l)
@@ -62,7 +62,7 @@ module _ (c : Contents) (small : (t i : ℕ) → word c t i ≤ NONE) (xs : List
 
   one-owner : (q : ℕ) → q < 4 → length (owners c q (holders c)) ≡ 1
   unfolding ownersTest
-  one-owner q l = sym (same-owners c xs v q) ∙ eqb-true _ _ (each-queue (λ p. eqb (length (owners c p (met xs))) 1) owned q l)
+  one-owner q l = sym (same-owners c xs v q) ∙ eqb-true _ _ (each-queue (λ p. eqb (length (owners c p (entered xs))) 1) owned q l)
 
   no-views : (t i : ℕ) → Holder c t → i < 28 → uses (word c t RIGHTS) (i % 4) ≡ false → word c t (16 + i) ≡ NONE
   no-views t i h l u = word-none (word c t RIGHTS) i (word c t (16 + i)) (words-say c xs v words t i h l) u
@@ -75,12 +75,12 @@ module _ (c : Contents) (small : (t i : ℕ) → word c t i ≤ NONE) (xs : List
       (cases (word c t (16 + q)) (small t (16 + q)))
 
   -- the ends of the views at the two marks of a holder
-  pair-met : (t q : ℕ) → Holder c t → q < 4 → uses (word c t RIGHTS) q ≡ true → PairAt c q t USER × PairAt c q t RIGHT
-  pair-met t q h l u = fine q l t (met-mark xs t (holder-met c xs v t h)) .entered (lt-ltb t 128 (holder-below c t h)) u
+  pair-entered : (t q : ℕ) → Holder c t → q < 4 → uses (word c t RIGHTS) q ≡ true → PairAt c q t USER × PairAt c q t RIGHT
+  pair-entered t q h l u = fine q l t (entered-mark xs t (holder-entered c xs v t h)) .entered (lt-ltb t 128 (holder-below c t h)) u
 
-  pair-left : (t q : ℕ) → Holder c t → q < 4 → uses (word c t RIGHTS) q ≡ true → PairAt c q t CHILDREN
-  pair-left t q h l u =
-      rw e at (fine q l (128 + t) (v .left t h) .left (le-ltb (128 + t) 128 (omega arith)) (ap (λ (k : ℕ). uses (word c k RIGHTS) q) e ∙ u))
+  pair-exited : (t q : ℕ) → Holder c t → q < 4 → uses (word c t RIGHTS) q ≡ true → PairAt c q t CHILDREN
+  pair-exited t q h l u =
+      rw e at (fine q l (128 + t) (v .exited t h) .exited (le-ltb (128 + t) 128 (omega arith)) (ap (λ (k : ℕ). uses (word c k RIGHTS) q) e ∙ u))
     where
       e : 128 + t - 128 ≡ t
       e = omega arith
@@ -88,11 +88,11 @@ module _ (c : Contents) (small : (t i : ℕ) → word c t i ≤ NONE) (xs : List
   pair : (t i : ℕ) → Holder c t → i < 12 → uses (word c t RIGHTS) (i % 4) ≡ true → Pair (word c t (20 + i)) (word c t (32 + i))
   pair t i h l u =
       ⊎-elim
-      (λ a. here CHILDREN (omega arith) (pair-left t (i % 4) h (omega arith) u))
+      (λ a. here CHILDREN (omega arith) (pair-exited t (i % 4) h (omega arith) u))
       (λ a.
       ⊎-elim
-      (λ b. here USER (omega arith) (pair-met t (i % 4) h (omega arith) u .0))
-      (λ b. here RIGHT (omega arith) (pair-met t (i % 4) h (omega arith) u .1))
+      (λ b. here USER (omega arith) (pair-entered t (i % 4) h (omega arith) u .0))
+      (λ b. here RIGHT (omega arith) (pair-entered t (i % 4) h (omega arith) u .1))
       (below? i 8))
       (below? i 4)
     where

@@ -40,37 +40,37 @@ module _ (c : Contents) (q : ℕ) where
   -- the views at mark x have pairs of ends
   pub record Fine (x : ℕ) : Type 0 where
     pub entered : ltb x 128 ≡ true → uses (word c x RIGHTS) q ≡ true → PairAt x USER × PairAt x RIGHT
-    pub left : ltb x 128 ≡ false → uses (word c (x - 128) RIGHTS) q ≡ true → PairAt (x - 128) CHILDREN
+    pub exited : ltb x 128 ≡ false → uses (word c (x - 128) RIGHTS) q ≡ true → PairAt (x - 128) CHILDREN
 
   module _ (x : ℕ) where
-    pub at-met : (o : ℕ) → ltb x 128 ≡ true → uses (word c x RIGHTS) q ≡ true → orderAt c q x o ≡ passedAt c q x USER (passedAt c q x RIGHT o)
+    pub at-entered : (o : ℕ) → ltb x 128 ≡ true → uses (word c x RIGHTS) q ≡ true → orderAt c q x o ≡ passedAt c q x USER (passedAt c q x RIGHT o)
     unfolding orderAt
-    at-met o a b = halt _ _ a ∙ halt _ _ b
+    at-entered o a b = halt _ _ a ∙ halt _ _ b
 
-    pub at-met-none : (o : ℕ) → ltb x 128 ≡ true → uses (word c x RIGHTS) q ≡ false → orderAt c q x o ≡ o
+    pub at-entered-none : (o : ℕ) → ltb x 128 ≡ true → uses (word c x RIGHTS) q ≡ false → orderAt c q x o ≡ o
     unfolding orderAt
-    at-met-none o a b = halt _ _ a ∙ pass _ b refl
+    at-entered-none o a b = halt _ _ a ∙ pass _ b refl
 
-    pub at-left : (o : ℕ) → ltb x 128 ≡ false → uses (word c (x - 128) RIGHTS) q ≡ true → orderAt c q x o ≡ passedAt c q (x - 128) CHILDREN o
+    pub at-exited : (o : ℕ) → ltb x 128 ≡ false → uses (word c (x - 128) RIGHTS) q ≡ true → orderAt c q x o ≡ passedAt c q (x - 128) CHILDREN o
     unfolding orderAt
-    at-left o a b = pass _ a (halt _ _ b)
+    at-exited o a b = pass _ a (halt _ _ b)
 
-    pub at-left-none : (o : ℕ) → ltb x 128 ≡ false → uses (word c (x - 128) RIGHTS) q ≡ false → orderAt c q x o ≡ o
+    pub at-exited-none : (o : ℕ) → ltb x 128 ≡ false → uses (word c (x - 128) RIGHTS) q ≡ false → orderAt c q x o ≡ o
     unfolding orderAt
-    at-left-none o a b = pass _ a (pass _ b refl)
+    at-exited-none o a b = pass _ a (pass _ b refl)
 
     order-at-broken : orderAt c q x 2 ≡ 2
     order-at-broken =
         ⊎-elim
         (λ a.
         ⊎-elim
-        (λ b. at-met 2 a b ∙ ap (passedAt c q x USER) (passed-at-broken x RIGHT) ∙ passed-at-broken x USER)
-        (λ b. at-met-none 2 a b)
+        (λ b. at-entered 2 a b ∙ ap (passedAt c q x USER) (passed-at-broken x RIGHT) ∙ passed-at-broken x USER)
+        (λ b. at-entered-none 2 a b)
         (yes-no (uses (word c x RIGHTS) q)))
         (λ a.
         ⊎-elim
-        (λ b. at-left 2 a b ∙ passed-at-broken (x - 128) CHILDREN)
-        (λ b. at-left-none 2 a b)
+        (λ b. at-exited 2 a b ∙ passed-at-broken (x - 128) CHILDREN)
+        (λ b. at-exited-none 2 a b)
         (yes-no (uses (word c (x - 128) RIGHTS) q)))
         (yes-no (ltb x 128))
 
@@ -78,10 +78,10 @@ module _ (c : Contents) (q : ℕ) where
     order-at-fine o f =
         record {
           entered = λ a b. (
-            passed-at-pair x USER (passedAt c q x RIGHT o) (λ e. f (at-met o a b ∙ e)),
-            passed-at-pair x RIGHT o (λ e. f (at-met o a b ∙ ap (passedAt c q x USER) e ∙ passed-at-broken x USER)),
+            passed-at-pair x USER (passedAt c q x RIGHT o) (λ e. f (at-entered o a b ∙ e)),
+            passed-at-pair x RIGHT o (λ e. f (at-entered o a b ∙ ap (passedAt c q x USER) e ∙ passed-at-broken x USER)),
           );
-          left = λ a b. passed-at-pair (x - 128) CHILDREN o (λ e. f (at-left o a b ∙ e));
+          exited = λ a b. passed-at-pair (x - 128) CHILDREN o (λ e. f (at-exited o a b ∙ e));
         }
 
     order-at-state : (vs : List View) → Fine x → orderAt c q x (state vs) ≡ state (viewsAt c q x vs)
@@ -91,16 +91,16 @@ module _ (c : Contents) (q : ℕ) where
         (λ a.
         ⊎-elim
         (λ b.
-        at-met (state vs) a b
+        at-entered (state vs) a b
         ∙ ap (passedAt c q x USER) (passed-at-state x RIGHT vs (w .entered a b .1))
         ∙ passed-at-state x USER (more (viewAt c q x RIGHT) vs) (w .entered a b .0)
         ∙ ap state (sym (halt _ _ a ∙ halt _ _ b)))
-        (λ b. at-met-none (state vs) a b ∙ ap state (sym (halt _ _ a ∙ pass _ b refl)))
+        (λ b. at-entered-none (state vs) a b ∙ ap state (sym (halt _ _ a ∙ pass _ b refl)))
         (yes-no (uses (word c x RIGHTS) q)))
         (λ a.
         ⊎-elim
-        (λ b. at-left (state vs) a b ∙ passed-at-state (x - 128) CHILDREN vs (w .left a b) ∙ ap state (sym (pass _ a (halt _ _ b))))
-        (λ b. at-left-none (state vs) a b ∙ ap state (sym (pass _ a (pass _ b refl))))
+        (λ b. at-exited (state vs) a b ∙ passed-at-state (x - 128) CHILDREN vs (w .exited a b) ∙ ap state (sym (pass _ a (halt _ _ b))))
+        (λ b. at-exited-none (state vs) a b ∙ ap state (sym (pass _ a (pass _ b refl))))
         (yes-no (uses (word c (x - 128) RIGHTS) q)))
         (yes-no (ltb x 128))
 

@@ -12,7 +12,7 @@ use borrow.Author.Tests.{ltb-true, lt-ltb}
 use Rattle.spec_words.specs.Words.{load, pick, halt}
 use Rattle.spec_lists.specs.Counting.{occurrences, equal?, occurs-nil, occurs-cons, occurs-here, occurs-past}
 use Rattle.spec_layout.specs.Layout.{NL}
-use Rattle.spec_tree.specs.Tour.{met}
+use Rattle.spec_tree.specs.Tour.{entered}
 use Rattle.spec_rules.specs.Contents.{locals}
 
 -- x in front of r where b holds
@@ -29,15 +29,15 @@ unfolding pick
 picked-past true x s r p = let a = occurs-cons x s r in omega (arith, a, p)
 picked-past false x s r p = p
 
--- a task met is a mark
-pub met-mark : (xs : List ℕ) (t : ℕ) → 0 < occurrences t (met xs) → 0 < occurrences t xs
-unfolding met
-met-mark [] t p = p
-met-mark (x ∷ xs) t p =
+-- a task entered is a mark
+pub entered-mark : (xs : List ℕ) (t : ℕ) → 0 < occurrences t (entered xs) → 0 < occurrences t xs
+unfolding entered
+entered-mark [] t p = p
+entered-mark (x ∷ xs) t p =
     ⊎-elim
     (λ w. let a = occurs-here x t xs (w .1) in omega (arith, a))
-    (λ q. let a = met-mark xs t q in let b = occurs-cons x t xs in omega (arith, a, b))
-    (picked _ x t (met xs) p)
+    (λ q. let a = entered-mark xs t q in let b = occurs-cons x t xs in omega (arith, a, b))
+    (picked _ x t (entered xs) p)
 
 pub load-drop : (r : List ℕ) (i j : ℕ) → load (drop i r) j ≡ load r (i + j)
 unfolding load

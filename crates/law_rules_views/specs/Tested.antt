@@ -13,12 +13,12 @@ use Rattle.spec_lists.specs.Tests.{each, each-says, says-each, eachWord-says, s
 use Rattle.spec_lists.specs.Counting.{below?}
 use Rattle.spec_layout.specs.Layout.{NONE, NL, RIGHTS}
 use Rattle.spec_tree.specs.Rights.{uses}
-use Rattle.spec_tree.specs.Tour.{met}
+use Rattle.spec_tree.specs.Tour.{entered}
 use Rattle.spec_rules.specs.Contents.{Contents, word}
 use Rattle.spec_rules.specs.Rules.{Holder}
 use Rattle.spec_rules.specs.Test.{viewWord, viewsTest}
 use Rattle.law_rules_views.specs.Members.{load-drop}
-use Rattle.law_rules_views.specs.Toured.{Toured, holder-met, met-holder}
+use Rattle.law_rules_views.specs.Toured.{Toured, holder-entered, entered-holder}
 use Rattle.law_rules_views.specs.Marks.{yes-no}
 
 -- one word
@@ -49,20 +49,20 @@ module _ (r i w : ℕ) where
 
 -- all view words of all holders
 module _ (c : Contents) (xs : List ℕ) (v : Toured c xs) where
-  pub words-say : each (viewsTest c) (met xs) ≡ true → (t i : ℕ) → Holder c t → i < 28 → viewWord (word c t RIGHTS) i (word c t (16 + i)) ≡ true
+  pub words-say : each (viewsTest c) (entered xs) ≡ true → (t i : ℕ) → Holder c t → i < 28 → viewWord (word c t RIGHTS) i (word c t (16 + i)) ≡ true
   unfolding viewsTest word
   words-say e t i h l =
       ap (viewWord (load (c .recs t) RIGHTS) i) (sym (load-drop (c .recs t) 16 i))
       ∙ ap (λ (k : ℕ). viewWord (load (c .recs t) RIGHTS) k (load (drop 16 (c .recs t)) i)) (let z : i ≡ 0 + i = omega arith in z)
-      ∙ eachWord-says (viewWord (load (c .recs t) RIGHTS)) 28 0 (drop 16 (c .recs t)) (each-says (viewsTest c) (met xs) e t (holder-met c xs v t h)) i l
+      ∙ eachWord-says (viewWord (load (c .recs t) RIGHTS)) 28 0 (drop 16 (c .recs t)) (each-says (viewsTest c) (entered xs) e t (holder-entered c xs v t h)) i l
 
-  pub says-words : ((t i : ℕ) → Holder c t → i < 28 → viewWord (word c t RIGHTS) i (word c t (16 + i)) ≡ true) → each (viewsTest c) (met xs) ≡ true
+  pub says-words : ((t i : ℕ) → Holder c t → i < 28 → viewWord (word c t RIGHTS) i (word c t (16 + i)) ≡ true) → each (viewsTest c) (entered xs) ≡ true
   unfolding viewsTest word
   says-words f =
-      says-each (viewsTest c) (met xs)
+      says-each (viewsTest c) (entered xs)
       (λ t p.
       says-eachWord (viewWord (load (c .recs t) RIGHTS)) 28 0 (drop 16 (c .recs t))
       (λ i l.
       ap (λ (k : ℕ). viewWord (load (c .recs t) RIGHTS) k (load (drop 16 (c .recs t)) i)) (let z : 0 + i ≡ i = omega arith in z)
       ∙ ap (viewWord (load (c .recs t) RIGHTS) i) (load-drop (c .recs t) 16 i)
-      ∙ f t i (met-holder c xs v t p) l))
+      ∙ f t i (entered-holder c xs v t p) l))

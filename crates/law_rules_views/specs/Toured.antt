@@ -10,7 +10,7 @@ use lib.ListN.{length, drop}
 use Rattle.spec_words.specs.Words.{pick}
 use Rattle.spec_lists.specs.Counting.{occurrences, over, occurs-nil, occurs-append, over-same}
 use Rattle.spec_layout.specs.Layout.{NONE}
-use Rattle.spec_tree.specs.Tour.{MARKS, tour, met}
+use Rattle.spec_tree.specs.Tour.{MARKS, tour, entered}
 use Rattle.spec_rules.specs.Contents.{Contents, word, locals, heads, tails, owners, holders}
 use Rattle.spec_rules.specs.Rules.{Holder}
 use Rattle.law_rules_tasks.specs.Holders.{holder-once, holders-hold}
@@ -24,9 +24,9 @@ module _ (c : Contents) where
   -- xs are the marks of a tour that meets and leaves each holder, and no other task
   pub record Toured (xs : List ℕ) : Type 0 where
     pub whole : tour MARKS (c .recs) 0 ≡ xs
-    pub same : (t : ℕ) → occurrences t (met xs) ≡ occurrences t (holders c)
+    pub same : (t : ℕ) → occurrences t (entered xs) ≡ occurrences t (holders c)
     pub held : (x : ℕ) → 0 < occurrences x xs → ((x < 128) × Holder c x) ⊎ ((128 ≤ x) × (x < 256) × Holder c (x - 128))
-    pub left : (t : ℕ) → Holder c t → 0 < occurrences (128 + t) xs
+    pub exited : (t : ℕ) → Holder c t → 0 < occurrences (128 + t) xs
 
   pub over-heads : (s : ℕ) (ts : List ℕ) → occurrences s (heads c ts) ≡ over ts (λ t. occurrences s (locals 16 (drop 16 (c .recs t))))
   unfolding heads over
@@ -46,20 +46,20 @@ module _ (c : Contents) where
   over-owners q (t ∷ ts) = let a = over-owners q ts in let b = counted (eqb (word c t (16 + q)) NONE) t (owners c q ts) in omega (arith, a, b)
 
   module _ (xs : List ℕ) (w : Toured xs) where
-    same-over : (g : ℕ → ℕ) → over (met xs) g ≡ over (holders c) g
-    same-over g = over-same 128 (met xs) (holders c) g (w .same) (λ t p. holders-hold c t p .0)
+    same-over : (g : ℕ → ℕ) → over (entered xs) g ≡ over (holders c) g
+    same-over g = over-same 128 (entered xs) (holders c) g (w .same) (λ t p. holders-hold c t p .0)
 
-    pub same-heads : (s : ℕ) → occurrences s (heads c (met xs)) ≡ occurrences s (heads c (holders c))
-    same-heads s = over-heads s (met xs) ∙ same-over _ ∙ sym (over-heads s (holders c))
+    pub same-heads : (s : ℕ) → occurrences s (heads c (entered xs)) ≡ occurrences s (heads c (holders c))
+    same-heads s = over-heads s (entered xs) ∙ same-over _ ∙ sym (over-heads s (holders c))
 
-    pub same-tails : (s : ℕ) → occurrences s (tails c (met xs)) ≡ occurrences s (tails c (holders c))
-    same-tails s = over-tails s (met xs) ∙ same-over _ ∙ sym (over-tails s (holders c))
+    pub same-tails : (s : ℕ) → occurrences s (tails c (entered xs)) ≡ occurrences s (tails c (holders c))
+    same-tails s = over-tails s (entered xs) ∙ same-over _ ∙ sym (over-tails s (holders c))
 
-    pub same-owners : (q : ℕ) → length (owners c q (met xs)) ≡ length (owners c q (holders c))
-    same-owners q = over-owners q (met xs) ∙ same-over _ ∙ sym (over-owners q (holders c))
+    pub same-owners : (q : ℕ) → length (owners c q (entered xs)) ≡ length (owners c q (holders c))
+    same-owners q = over-owners q (entered xs) ∙ same-over _ ∙ sym (over-owners q (holders c))
 
-    pub holder-met : (t : ℕ) → Holder c t → 0 < occurrences t (met xs)
-    holder-met t h = let a = holder-once c t h in let b = w .same t in omega (arith, a, b)
+    pub holder-entered : (t : ℕ) → Holder c t → 0 < occurrences t (entered xs)
+    holder-entered t h = let a = holder-once c t h in let b = w .same t in omega (arith, a, b)
 
-    pub met-holder : (t : ℕ) → 0 < occurrences t (met xs) → Holder c t
-    met-holder t p = holders-hold c t (let b = w .same t in omega (arith, b, p)) .1
+    pub entered-holder : (t : ℕ) → 0 < occurrences t (entered xs) → Holder c t
+    entered-holder t p = holders-hold c t (let b = w .same t in omega (arith, b, p)) .1

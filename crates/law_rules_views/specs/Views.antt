@@ -5,7 +5,7 @@ use mathlib.Core.List.{List}
 use Prim.Native.Nat.{ℕ, _≤_}
 use Rattle.spec_lists.specs.Tests.{each}
 use Rattle.spec_layout.specs.Layout.{NONE}
-use Rattle.spec_tree.specs.Tour.{met}
+use Rattle.spec_tree.specs.Tour.{entered}
 use Rattle.spec_rules.specs.Contents.{Contents, word, heads, tails}
 use Rattle.spec_rules.specs.Rules.{ViewRules}
 use Rattle.spec_rules.specs.Test.{viewsTest, orderTest, ownersTest}
@@ -15,11 +15,11 @@ use Rattle.law_rules_views.specs.FromTest.{tested-views}
 use Rattle.law_rules_views.specs.FromRules.{views-tested}
 
 module _ (c : Contents) (xs : List ℕ) (v : Toured c xs) where
-  pub views-say : ((t i : ℕ) → word c t i ≤ NONE) → each (viewsTest c) (met xs) ≡ true → orderTest c xs ≡ true → ownersTest c (met xs) ≡ true
-      → Opened c (heads c (met xs)) → Opened c (tails c (met xs)) → ViewRules c
+  pub views-say : ((t i : ℕ) → word c t i ≤ NONE) → each (viewsTest c) (entered xs) ≡ true → orderTest c xs ≡ true → ownersTest c (entered xs) ≡ true
+      → Opened c (heads c (entered xs)) → Opened c (tails c (entered xs)) → ViewRules c
   views-say small words order owned hs es = tested-views c small xs v words order owned hs es
 
   pub says-views : c .number ≤ 256 → ViewRules c
-      → (each (viewsTest c) (met xs) ≡ true) × (orderTest c xs ≡ true) × (ownersTest c (met xs) ≡ true)
-      × Opened c (heads c (met xs)) × Opened c (tails c (met xs))
+      → (each (viewsTest c) (entered xs) ≡ true) × (orderTest c xs ≡ true) × (ownersTest c (entered xs) ≡ true)
+      × Opened c (heads c (entered xs)) × Opened c (tails c (entered xs))
   says-views few r = views-tested c few xs v r

@@ -37,14 +37,14 @@ same-first m n q e h = rw (← about n, ← e, about m) h
     about (putting p v) = refl
 
 -- what a search becomes at a value of queue p
-unfoldable pub meeting : Search → ℕ → ℕ → Search
-meeting free p v = free
-meeting (seeking b q) p v = pick (eqb q p) (found b q v) (seeking b q)
-meeting (found b q w) p v = found b q w
-meeting (putting q w) p v = putting q w
+unfoldable pub entering : Search → ℕ → ℕ → Search
+entering free p v = free
+entering (seeking b q) p v = pick (eqb q p) (found b q v) (seeking b q)
+entering (found b q w) p v = found b q w
+entering (putting q w) p v = putting q w
 
-meeting-first : (m : Search) (p v : ℕ) → first (meeting m p v) ≡ first m
-unfolding meeting
+meeting-first : (m : Search) (p v : ℕ) → first (entering m p v) ≡ first m
+unfolding entering
 meeting-first free p v = refl
 meeting-first (seeking b q) p v = by-test (λ m. first m ≡ seeking b q) (eqb q p) _ _ (λ e. refl) refl
 meeting-first (found b q w) p v = refl
@@ -68,7 +68,7 @@ module _ {S : Type 0} where
   -- notes a give-up there.
   unfoldable pub hear : (Search → S → Bool) → Search → ℕ → List (Timed S) → ℕ
   hear K m a [] = a
-  hear K m a (at t (value p v) ∷ l) = hear K (meeting m p v) (given m p t a) l
+  hear K m a (at t (value p v) ∷ l) = hear K (entering m p v) (given m p t a) l
   hear K m a (at t (spot s) ∷ l) = hear K m a l
   hear K m a (at t (finished s) ∷ l) = hear K m (pick (K m s) (later a t) a) l
   hear K m a (at t (gave q) ∷ l) = hear K m (given m q t a) l
@@ -77,7 +77,7 @@ module _ {S : Type 0} where
   hear-more : (K : Search → S → Bool) (m : Search) (a : ℕ) (l : List (Timed S)) → a ≤ hear K m a l
   unfolding hear
   hear-more K m a [] = omega arith
-  hear-more K m a (at t (value p v) ∷ l) = omega (arith, hear-more K (meeting m p v) (given m p t a) l, given-more m p t a)
+  hear-more K m a (at t (value p v) ∷ l) = omega (arith, hear-more K (entering m p v) (given m p t a) l, given-more m p t a)
   hear-more K m a (at t (spot s) ∷ l) = hear-more K m a l
   hear-more K m a (at t (gave q) ∷ l) = omega (arith, hear-more K m (given m q t a) l, given-more m q t a)
   hear-more K m a (at t (finished s) ∷ l) =
@@ -89,7 +89,7 @@ module _ {S : Type 0} where
       → ((n : Search) → first n ≡ i → K n w ≡ true) → z ≤ hear K m a l
   unfolding hear ended
   hear-has K i m a [] z w e h k = absurd h
-  hear-has K i m a (at t (value p v) ∷ l) z w e h k = hear-has K i (meeting m p v) (given m p t a) l z w (meeting-first m p v ∙ e) h k
+  hear-has K i m a (at t (value p v) ∷ l) z w e h k = hear-has K i (entering m p v) (given m p t a) l z w (meeting-first m p v ∙ e) h k
   hear-has K i m a (at t (spot s) ∷ l) z w e h k = hear-has K i m a l z w e h k
   hear-has K i m a (at t (gave q) ∷ l) z w e h k = hear-has K i m (given m q t a) l z w e h k
   hear-has K i m a (at t (finished s) ∷ l) z w e (inl h) k =
@@ -106,8 +106,8 @@ module _ {S : Type 0} where
   unfolding hear ended
   hear-below K L i m a b [] c e h k f = h
   hear-below K L i m a b (at t (value p v) ∷ l) c e h k f =
-      hear-below K L i (meeting m p v) (given m p t a) (given m p t b) l c (meeting-first m p v ∙ e)
-      (given-below m p t a b c h (omega (arith, hear-more L (meeting m p v) (given m p t b) l, k))) k f
+      hear-below K L i (entering m p v) (given m p t a) (given m p t b) l c (meeting-first m p v ∙ e)
+      (given-below m p t a b c h (omega (arith, hear-more L (entering m p v) (given m p t b) l, k))) k f
   hear-below K L i m a b (at t (spot s) ∷ l) c e h k f = hear-below K L i m a b l c e h k f
   hear-below K L i m a b (at t (gave q) ∷ l) c e h k f =
       hear-below K L i m (given m q t a) (given m q t b) l c e (given-below m q t a b c h (omega (arith, hear-more L m (given m q t b) l, k))) k f
@@ -122,15 +122,15 @@ module _ {S : Type 0} (T : Tasks S) (W : Waits T) where
   counting u m s = W .counts m u s
 
   -- a value that the search goes past changes nothing
-  meets-past : (m : Search) (p v a t : ℕ) → Passes (T .Pushes) (T .Pops) m (value p v) → (meeting m p v ≡ m) × (given m p t a ≡ a)
-  unfolding meeting
+  meets-past : (m : Search) (p v a t : ℕ) → Passes (T .Pushes) (T .Pops) m (value p v) → (entering m p v ≡ m) × (given m p t a ≡ a)
+  unfolding entering
   meets-past free p v a t h = (refl, refl)
   meets-past (seeking b q) p v a t h = let n = ne-eqb q p (λ e. h (sym e)) in (pass _ n refl, pass _ n refl)
   meets-past (found b q w) p v a t h = (refl, refl)
   meets-past (putting q w) p v a t h = (refl, refl)
 
-  meets-found : (b : Bool) (q v a t : ℕ) → (meeting (seeking b q) q v ≡ found b q v) × (given (seeking b q) q t a ≡ later a t)
-  unfolding meeting
+  meets-found : (b : Bool) (q v a t : ℕ) → (entering (seeking b q) q v ≡ found b q v) × (given (seeking b q) q t a ≡ later a t)
+  unfolding entering
   meets-found b q v a t = (halt _ _ (eq-eqb q q refl), halt _ _ (eq-eqb q q refl))
 
   -- THE TIME OF A STEP before which nobody unfinished stands

@@ -90,9 +90,9 @@ module _ (es : List Event) where
         heads = sym (halt _ _ (le-leb NL h l));
       }
 
--- the queue views met, with one of queue q
-abbrev pub metAt : (ℕ → ℕ) → ℕ → ℕ → ℕ
-metAt p q i = pick (eqb q i) 1 (p i)
+-- the queue views seen, with one of queue q
+abbrev pub enteredAt : (ℕ → ℕ) → ℕ → ℕ → ℕ
+enteredAt p q i = pick (eqb q i) 1 (p i)
 
 counted : (es : List Event) (q x i : ℕ) → (x ≡ NONE → ⊥) → ownersOf i (owner q x ∷ es) ≡ one (eqb q i) + ownersOf i es
 unfolding ownersOf
@@ -102,11 +102,11 @@ counted es q x i some = ap (λ (k : Bool). one k + ownersOf i es) (go (eqb q i))
     go true = both-on refl ∙ ap not (ne-eqb _ _ some)
     go false = both-off _ refl
 
-here : (p : ℕ → ℕ) (q i : ℕ) → q ≡ i → (metAt p q i ≡ 1) × (one (eqb q i) ≡ 1)
+here : (p : ℕ → ℕ) (q i : ℕ) → q ≡ i → (enteredAt p q i ≡ 1) × (one (eqb q i) ≡ 1)
 unfolding one
 here p q i z = (halt _ _ (eq-eqb _ _ z), halt _ _ (eq-eqb _ _ z))
 
-past : (p : ℕ → ℕ) (q i : ℕ) → (q ≡ i → ⊥) → (metAt p q i ≡ p i) × (one (eqb q i) ≡ 0)
+past : (p : ℕ → ℕ) (q i : ℕ) → (q ≡ i → ⊥) → (enteredAt p q i ≡ p i) × (one (eqb q i) ≡ 0)
 unfolding one
 past p q i z = (pass _ (ne-eqb _ _ z) refl, pass _ (ne-eqb _ _ z) refl)
 
@@ -154,9 +154,9 @@ module _ {c : Contents} {es : List Event} {d f : List ℕ} {o p : ℕ → ℕ} {
           },
         )
 
-  -- the head of a queue view of queue q, where none was met before
+  -- the head of a queue view of queue q, where none was seen before
   module _ (q x : ℕ) (low : q < 4) (some : x ≡ NONE → ⊥) where
-    pub add-owner : (x ≡ NL → ⊥) → p q ≡ 0 → Good c es d f o (metAt p q) a b e → Good c (owner q x ∷ es) d f o p a b e
+    pub add-owner : (x ≡ NL → ⊥) → p q ≡ 0 → Good c es d f o (enteredAt p q) a b e → Good c (owner q x ∷ es) d f o p a b e
     unfolding allowed orderFrom tailsOf headsOf
     add-owner local new g =
         record {
@@ -173,7 +173,7 @@ module _ {c : Contents} {es : List Event} {d f : List ℕ} {o p : ℕ → ℕ} {
           many = g .many;
         }
 
-    pub off-owner : Good c (owner q x ∷ es) d f o p a b e → (x ≡ NL → ⊥) × (p q ≡ 0) × Good c es d f o (metAt p q) a b e
+    pub off-owner : Good c (owner q x ∷ es) d f o p a b e → (x ≡ NL → ⊥) × (p q ≡ 0) × Good c es d f o (enteredAt p q) a b e
     unfolding allowed orderFrom tailsOf headsOf
     off-owner g =
         let w = both-true _ _ (g .words) in (

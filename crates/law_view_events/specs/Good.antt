@@ -87,8 +87,8 @@ pub record Ended (c : Contents) (ts f : List ℕ) : Type 0 where
   pub new : fresh (c .number) ts f ≡ true
   pub lasts : each (last c) ts ≡ true
 
--- The rules of the events es from a state on: marks d and f, order o q and queue views met p q of each queue q, a segments
--- placed, b heads and e tails met.
+-- The rules of the events es from a state on: marks d and f, order o q and queue views seen p q of each queue q, a segments
+-- placed, b heads and e tails seen.
 pub record Good (c : Contents) (es : List Event) (d f : List ℕ) (o p : ℕ → ℕ) (a b e : ℕ) : Type 0 where
   pub words : allowed es ≡ true
   pub ordered : (q : ℕ) → q < 4 → orderFrom q es (o q) ≡ 1

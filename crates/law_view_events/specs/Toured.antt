@@ -13,46 +13,46 @@ use Rattle.spec_lists.specs.Sums.{over-plus, over-ext}
 use Rattle.spec_lists.specs.Tests.{each}
 use Rattle.spec_layout.specs.Layout.{NONE, NL, RIGHTS, CHILDREN, USER, RIGHT}
 use Rattle.spec_tree.specs.Rights.{uses}
-use Rattle.spec_tree.specs.Tour.{met}
+use Rattle.spec_tree.specs.Tour.{entered}
 use Rattle.spec_rules.specs.Contents.{Contents, word, locals, heads, tails, holders}
 use Rattle.spec_rules.specs.Rules.{Holder}
 use Rattle.spec_rules.specs.Test.{viewWord, viewsTest}
-use Rattle.law_rules_tasks.specs.Holders.{met-below, holder-below, holder-once, holders-hold, holder?}
-use Rattle.law_rules_views.specs.Members.{met-mark}
-use Rattle.law_rules_views.specs.Toured.{Toured, over-heads, over-tails, holder-met}
+use Rattle.law_rules_tasks.specs.Holders.{entered-below, holder-below, holder-once, holders-hold, holder?}
+use Rattle.law_rules_views.specs.Members.{entered-mark}
+use Rattle.law_rules_views.specs.Toured.{Toured, over-heads, over-tails, holder-entered}
 use Rattle.law_rules_views.specs.Tested.{word-none, word-head, word-right, words-say, says-words}
 use Rattle.spec_view_events.specs.Events.{events}
 use Rattle.law_view_events.specs.Good.{allowed, tailsOf, headsOf}
 use Rattle.law_view_events.specs.Tasks.{MayKind, MayQueues}
 use Rattle.law_view_events.specs.Counts.{heads-count, tails-count}
-use Rattle.law_view_events.specs.Marks.{lefts, lefts-here, lefts-past, headsMet, headsLeft, tailsMet, tailsLeft, heads-marks, tails-marks, Allowed}
+use Rattle.law_view_events.specs.Marks.{exits, exits-here, exits-past, headsEntered, headsExited, tailsEntered, tailsExited, heads-marks, tails-marks, Allowed}
 use Rattle.law_view_events.specs.Marks.{allowed-marks, marks-allowed}
 
-lefts-count : (xs : List ℕ) (t : ℕ) → occurrences t (lefts xs) ≡ occurrences (128 + t) xs
-lefts-count [] t = unfold lefts in occurs-nil t ∙ sym (occurs-nil (128 + t))
-lefts-count (x ∷ xs) t =
+exits-count : (xs : List ℕ) (t : ℕ) → occurrences t (exits xs) ≡ occurrences (128 + t) xs
+exits-count [] t = unfold exits in occurs-nil t ∙ sym (occurs-nil (128 + t))
+exits-count (x ∷ xs) t =
     ⊎-elim
-    (λ l. ap (occurrences t) (lefts-past x xs l) ∙ lefts-count xs t ∙ sym (occurs-past x (128 + t) xs (λ z. omega (arith, z, l))))
+    (λ l. ap (occurrences t) (exits-past x xs l) ∙ exits-count xs t ∙ sym (occurs-past x (128 + t) xs (λ z. omega (arith, z, l))))
     (λ l.
-    ap (occurrences t) (lefts-here x xs l)
+    ap (occurrences t) (exits-here x xs l)
     ∙ ⊎-elim
     (λ z.
-    let a = occurs-here (x - 128) t (lefts xs) (let k : x - 128 ≡ t = omega (arith, z, l) in k) in
+    let a = occurs-here (x - 128) t (exits xs) (let k : x - 128 ≡ t = omega (arith, z, l) in k) in
     let b = occurs-here x (128 + t) xs z in
-    let d = lefts-count xs t in
+    let d = exits-count xs t in
     omega (arith, a, b, d))
-    (λ z. occurs-past (x - 128) t (lefts xs) (λ k. z (omega (arith, k, l))) ∙ lefts-count xs t ∙ sym (occurs-past x (128 + t) xs z))
+    (λ z. occurs-past (x - 128) t (exits xs) (λ k. z (omega (arith, k, l))) ∙ exits-count xs t ∙ sym (occurs-past x (128 + t) xs z))
     (equal? x (128 + t)))
     (below? x 128)
 
 module _ (c : Contents) (xs : List ℕ) (v : Toured c xs) (once : (y : ℕ) → occurrences y xs ≤ 1) where
-  -- a task is left as often as it is met
-  same-left : (t : ℕ) → occurrences t (lefts xs) ≡ occurrences t (met xs)
-  same-left t = lefts-count xs t ∙ ⊎-elim held none (holder? c t)
+  -- a task is exited as often as it is entered
+  same-exited : (t : ℕ) → occurrences t (exits xs) ≡ occurrences t (entered xs)
+  same-exited t = exits-count xs t ∙ ⊎-elim held none (holder? c t)
     where
-      held : Holder c t → occurrences (128 + t) xs ≡ occurrences t (met xs)
+      held : Holder c t → occurrences (128 + t) xs ≡ occurrences t (entered xs)
       held h =
-          let a = v .left t h in
+          let a = v .exited t h in
           let b = once (128 + t) in
           let d = v .same t in
           let e = holder-once c t h in
@@ -69,34 +69,34 @@ module _ (c : Contents) (xs : List ℕ) (v : Toured c xs) (once : (y : ℕ) → 
           (v .held (128 + t) p))
           (eq-zero-or-pos (occurrences (128 + t) xs))
 
-      none : (Holder c t → ⊥) → occurrences (128 + t) xs ≡ occurrences t (met xs)
+      none : (Holder c t → ⊥) → occurrences (128 + t) xs ≡ occurrences t (entered xs)
       none n =
           no-mark n
           ∙ sym (v .same t ∙ ⊎-elim (λ q. q) (λ p. absurd (n (holders-hold c t p .1))) (eq-zero-or-pos (occurrences t (holders c))))
 
-  met-low : (t : ℕ) → 0 < occurrences t (met xs) → t < 128
-  met-low t p = ⊎-elim (λ l. l) (λ l. let a = met-below xs t l in let z : ⊥ = omega (arith, a, p) in absurd z) (below? t 128)
+  entered-low : (t : ℕ) → 0 < occurrences t (entered xs) → t < 128
+  entered-low t p = ⊎-elim (λ l. l) (λ l. let a = entered-below xs t l in let z : ⊥ = omega (arith, a, p) in absurd z) (below? t 128)
 
-  pub over-left : (g : ℕ → ℕ) → over (lefts xs) g ≡ over (met xs) g
-  over-left g = over-same 128 (lefts xs) (met xs) g same-left met-low
+  pub over-exited : (g : ℕ → ℕ) → over (exits xs) g ≡ over (entered xs) g
+  over-exited g = over-same 128 (exits xs) (entered xs) g same-exited entered-low
 
-  -- what adds g where a task is met and h where it is left adds both for each task
-  count-same : (g h k : ℕ → ℕ) → ((t : ℕ) → g t + h t ≡ k t) → over (met xs) g + over (lefts xs) h ≡ over (met xs) k
+  -- what adds g where a task is entered and h where it is exited adds both for each task
+  count-same : (g h k : ℕ → ℕ) → ((t : ℕ) → g t + h t ≡ k t) → over (entered xs) g + over (exits xs) h ≡ over (entered xs) k
   count-same g h k e =
-      ap (λ (n : ℕ). over (met xs) g + n) (over-left h) ∙ sym (over-plus (met xs) g h) ∙ over-ext (met xs) (λ t. g t + h t) k e
+      ap (λ (n : ℕ). over (entered xs) g + n) (over-exited h) ∙ sym (over-plus (entered xs) g h) ∙ over-ext (entered xs) (λ t. g t + h t) k e
 
   -- HEADS AND TAILS
-  pub heads-same : (s : ℕ) → occurrences s (headsOf (events c xs)) ≡ occurrences s (heads c (met xs))
+  pub heads-same : (s : ℕ) → occurrences s (headsOf (events c xs)) ≡ occurrences s (heads c (entered xs))
   heads-same s =
       heads-marks c s xs
-      ∙ count-same (headsMet c s) (headsLeft c s) (λ t. occurrences s (locals 16 (drop 16 (c .recs t)))) (λ t. let a = heads-count s c t in omega (arith, a))
-      ∙ sym (over-heads c s (met xs))
+      ∙ count-same (headsEntered c s) (headsExited c s) (λ t. occurrences s (locals 16 (drop 16 (c .recs t)))) (λ t. let a = heads-count s c t in omega (arith, a))
+      ∙ sym (over-heads c s (entered xs))
 
-  pub tails-same : (s : ℕ) → occurrences s (tailsOf (events c xs)) ≡ occurrences s (tails c (met xs))
+  pub tails-same : (s : ℕ) → occurrences s (tailsOf (events c xs)) ≡ occurrences s (tails c (entered xs))
   tails-same s =
       tails-marks c s xs
-      ∙ count-same (tailsMet c s) (tailsLeft c s) (λ t. occurrences s (locals 12 (drop 32 (c .recs t)))) (λ t. let a = tails-count s c t in omega (arith, a))
-      ∙ sym (over-tails c s (met xs))
+      ∙ count-same (tailsEntered c s) (tailsExited c s) (λ t. occurrences s (locals 12 (drop 32 (c .recs t)))) (λ t. let a = tails-count s c t in omega (arith, a))
+      ∙ sym (over-tails c s (entered xs))
 
   -- WORDS
   -- all view words of a holder
@@ -148,17 +148,17 @@ module _ (c : Contents) (xs : List ℕ) (v : Toured c xs) (once : (y : ℕ) → 
         local = λ q l z. word-head (word c t RIGHTS) q _ (f q (omega arith)) l z;
       }
 
-  pub words-there : allowed (events c xs) ≡ true → each (viewsTest c) (met xs) ≡ true
+  pub words-there : allowed (events c xs) ≡ true → each (viewsTest c) (entered xs) ≡ true
   words-there e = says-words c xs v (λ t i h l. words t h i l)
     where
       words : (t : ℕ) → Holder c t → Words t
       words t h =
-          let a = allowed-marks c xs e t (met-mark xs t (holder-met c xs v t h)) .entered (holder-below c t h) in
-          let b = allowed-marks c xs e (128 + t) (v .left t h) .left (omega arith) in
+          let a = allowed-marks c xs e t (entered-mark xs t (holder-entered c xs v t h)) .entered (holder-below c t h) in
+          let b = allowed-marks c xs e (128 + t) (v .exited t h) .exited (omega arith) in
           kinds-words t (a .0) (subst (λ (k : ℕ). MayKind c k CHILDREN) (let z : 128 + t - 128 ≡ t = omega arith in z) b) (a .2) (a .1)
 
-  pub words-back : each (viewsTest c) (met xs) ≡ true → allowed (events c xs) ≡ true
-  words-back e = marks-allowed c xs (λ x p. ⊎-elim (entered x) (left x) (v .held x p))
+  pub words-back : each (viewsTest c) (entered xs) ≡ true → allowed (events c xs) ≡ true
+  words-back e = marks-allowed c xs (λ x p. ⊎-elim (entered x) (exited x) (v .held x p))
     where
       words : (t : ℕ) → Holder c t → Words t
       words t h i l = words-say c xs v e t i h l
@@ -168,12 +168,12 @@ module _ (c : Contents) (xs : List ℕ) (v : Toured c xs) (once : (y : ℕ) → 
           let f = words x (w .1) in
           record {
             entered = λ m. (words-queues x f, words-kind x RIGHT (omega arith) f, words-kind x USER (omega arith) f);
-            left = λ m. let l = w .0 in let z : ⊥ = omega (arith, l, m) in absurd z;
+            exited = λ m. let l = w .0 in let z : ⊥ = omega (arith, l, m) in absurd z;
           }
 
-      left : (x : ℕ) → (128 ≤ x) × (x < 256) × Holder c (x - 128) → Allowed c x
-      left x w =
+      exited : (x : ℕ) → (128 ≤ x) × (x < 256) × Holder c (x - 128) → Allowed c x
+      exited x w =
           record {
             entered = λ m. let l = w .0 in let z : ⊥ = omega (arith, l, m) in absurd z;
-            left = λ m. words-kind (x - 128) CHILDREN (omega arith) (words (x - 128) (w .2));
+            exited = λ m. words-kind (x - 128) CHILDREN (omega arith) (words (x - 128) (w .2));
           }

@@ -11,13 +11,13 @@ use Rattle.spec_words.specs.Words.{load, store, size, both, both-true, true-bot
 use Rattle.spec_lists.specs.Counting.{occurrences}
 use Rattle.spec_lists.specs.Tests.{upto}
 use Rattle.spec_lists.specs.Distinct.{fresh}
-use Rattle.spec_tree.specs.Tour.{tour, met}
+use Rattle.spec_tree.specs.Tour.{tour, entered}
 use Rattle.spec_tree.specs.Queues.{each-queue, queue-each, by-four}
 use Rattle.spec_rules.specs.Contents.{Contents, heads, tails, owners}
 use Rattle.spec_rules.specs.Test.{topTest, idleTest, treeTest, orderOf, orderTest, ownersTest, segmentTest, viewTests}
 use Rattle.law_rules_tasks.specs.Tested.{idle-says}
 use Rattle.law_rules_tasks.specs.Visits.{marks-once}
-use Rattle.law_rules_tasks.specs.Tasks.{tour-whole, met-holders, marks-held, holders-left}
+use Rattle.law_rules_tasks.specs.Tasks.{tour-whole, entered-holders, marks-held, holders-exited}
 use Rattle.law_rules_views.specs.Toured.{Toured}
 use Rattle.spec_view_events.specs.Events.{events}
 use Rattle.spec_view_events.specs.Run.{run}
@@ -69,9 +69,9 @@ module _ (c : Contents) (xs : List ℕ) (small : c .number ≤ 256) (few : leb (
       let g = run-says c small (events c xs) (D c) (D c) (W n) (queued-marks c xs) start (b .1) in
       true-both (words-there c xs v once (g .words))
       (true-both (queue-each _ (λ q l. eq-eqb _ _ (sym (order-marks c q xs 0 l) ∙ g .ordered q l)))
-      (true-both (queue-each _ (λ q l. eq-eqb (length (owners c q (met xs))) 1 (let k = owners-marks c q xs l in let j = g .owned q l in omega (arith, k, j))))
+      (true-both (queue-each _ (λ q l. eq-eqb (length (owners c q (entered xs))) 1 (let k = owners-marks c q xs l in let j = g .owned q l in omega (arith, k, j))))
       (true-both (a .0)
-      (held-counts c small (headsOf (events c xs)) (tailsOf (events c xs)) (heads c (met xs)) (tails c (met xs)) few (a .0)
+      (held-counts c small (headsOf (events c xs)) (tailsOf (events c xs)) (heads c (entered xs)) (tails c (entered xs)) few (a .0)
       (λ s. sym (heads-same c xs v once s)) (λ s. sym (tails-same c xs v once s))
       (holds-held c small (headsOf (events c xs)) (tailsOf (events c xs)) (record { free = b .0; heads = g .heads; tails = g .tails; many = g .many }))))))
 
@@ -84,7 +84,7 @@ module _ (c : Contents) (xs : List ℕ) (small : c .number ≤ 256) (few : leb (
       let f = both-true _ _ (d .1) in
       let h =
       held-holds c small (headsOf (events c xs)) (tailsOf (events c xs))
-      (held-counts c small (heads c (met xs)) (tails c (met xs)) (headsOf (events c xs)) (tailsOf (events c xs)) few (f .0)
+      (held-counts c small (heads c (entered xs)) (tails c (entered xs)) (headsOf (events c xs)) (tailsOf (events c xs)) few (f .0)
       (heads-same c xs v once) (tails-same c xs v once) (f .1)) in
       true-both (f .0) (true-both (h .free)
       (says-run c small (events c xs) (D c) (D c) (W n) (queued-marks c xs) start
@@ -93,7 +93,7 @@ module _ (c : Contents) (xs : List ℕ) (small : c .number ≤ 256) (few : leb (
         ordered = λ q l. order-marks c q xs 0 l ∙ eqb-true _ _ (each-queue (λ p. eqb (orderOf c p xs 0) 1) (b .0) q l);
         owned = λ q l.
             let k = owners-marks c q xs l in
-            let j = eqb-true (length (owners c q (met xs))) 1 (each-queue (λ p. eqb (length (owners c p (met xs))) 1) (d .0) q l) in
+            let j = eqb-true (length (owners c q (entered xs))) 1 (each-queue (λ p. eqb (length (owners c p (entered xs))) 1) (d .0) q l) in
             omega (arith, k, j);
         heads = h .heads;
         tails = h .tails;
@@ -115,8 +115,8 @@ views-same c small few a b e =
     coded-same c (tour (marks c) (c .recs) 0) small few
     (record {
       whole = tour-whole c a b e;
-      same = met-holders c a b e;
+      same = entered-holders c a b e;
       held = marks-held c a b e;
-      left = holders-left c a b e;
+      exited = holders-exited c a b e;
     })
     (marks-once c (idle-says c b) e)

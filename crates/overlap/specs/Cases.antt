@@ -10,7 +10,7 @@ use Rattle.spec_lists.specs.Distinct.{fresh, distinct}
 use Rattle.spec_layout.specs.Layout.{address, read, write, recordOf}
 use Rattle.spec_answers.specs.Answers.{answerOf as coreAnswer, wordsOf, statusOf as coreStatus, valueOf as coreValue}
 use Rattle.spec_tree.specs.Rights.{bits, pushes, pops, uses, eachQueue, someQueue, sharesPop, subset}
-use Rattle.spec_tree.specs.Tour.{leaving, entering, after, tour, met, seek, sibling, oldest}
+use Rattle.spec_tree.specs.Tour.{exiting, entering, after, tour, entered, seek, sibling, oldest}
 use Rattle.spec_rules.specs.Contents.{segmentOf, tables, look, scan, word, part, locals, heads, tails, owners}
 use Rattle.spec_rules.specs.Test.{within, inRange, topTest, idleTest, kin, linkTest, treeTest, viewWord, viewsTest, marked, passed, passedAt, orderAt, orderOf}
 use Rattle.spec_rules.specs.Test.{orderTest, ownersTest, segmentTest, chain, chains, heldTest, viewTests, test, rulesHold}
@@ -57,7 +57,7 @@ lastText = ascii "10 3 finished -\n11 0 moved -\n12 0 finished -\nleft 0 20\n"
 
 pub in-full : overlapText fullRun tasks ≡ callsText ++ lastText
 unfolding load store size pick both either storeAll rows one occurrences total each upto eachWord fresh distinct address read write recordOf coreAnswer
-    wordsOf coreStatus coreValue bits pushes pops uses eachQueue someQueue sharesPop subset leaving entering after tour met seek sibling oldest segmentOf
+    wordsOf coreStatus coreValue bits pushes pops uses eachQueue someQueue sharesPop subset exiting entering after tour entered seek sibling oldest segmentOf
     tables look scan word part locals heads tails owners within inRange topTest idleTest kin linkTest treeTest viewWord viewsTest marked passed passedAt
     orderAt orderOf orderTest ownersTest segmentTest chain chains heldTest viewTests test rulesHold down stacked segmented topped opened place valueAt
     stored dropped noneFree nextFree taken released indexOf headIndex linkedBy renamed linked viewOf isEmpty headOf tailOf reducible frees behind reduced

@@ -14,7 +14,7 @@ use Rattle.spec_lists.specs.Distinct.{fresh, distinct}
 use Rattle.spec_layout.specs.Layout.{WORDS, value, address, read, write, recordOf}
 use Rattle.spec_answers.specs.Answers.{Outcome, outcome, answerOf, wordsOf, statusOf, valueOf, sameAnswer}
 use Rattle.spec_tree.specs.Rights.{bits, pushes, pops, uses, eachQueue, someQueue, sharesPop, subset}
-use Rattle.spec_tree.specs.Tour.{leaving, entering, after, tour, met, seek, sibling, oldest}
+use Rattle.spec_tree.specs.Tour.{exiting, entering, after, tour, entered, seek, sibling, oldest}
 use Rattle.spec_rules.specs.Contents.{segmentOf, tables, look, scan, word, part, locals, heads, tails, owners}
 use Rattle.spec_rules.specs.Test.{within, inRange, topTest, idleTest, kin, linkTest, treeTest, viewWord, viewsTest, marked, passed, passedAt, orderAt, orderOf}
 use Rattle.spec_rules.specs.Test.{orderTest, ownersTest, segmentTest, chain, chains, heldTest, viewTests, test, rulesHold}
@@ -66,7 +66,7 @@ lent = replicate WORDS 7
 -- the same, with every definition open, so that it can be computed
 unfoldable pub computed : Case → List ℕ → Option (List ℕ)
 unfolding load store size pick both either storeAll rows one occurrences each upto eachWord fresh distinct address read write recordOf answerOf wordsOf
-    statusOf valueOf sameAnswer bits pushes pops uses eachQueue someQueue sharesPop subset leaving entering after tour met seek sibling oldest segmentOf
+    statusOf valueOf sameAnswer bits pushes pops uses eachQueue someQueue sharesPop subset exiting entering after tour entered seek sibling oldest segmentOf
     tables look scan word part locals heads tails owners within inRange topTest idleTest kin linkTest treeTest viewWord viewsTest marked passed passedAt
     orderAt orderOf orderTest ownersTest segmentTest chain chains heldTest viewTests test rulesHold down stacked segmented topped opened openOutcome place
     valueAt stored dropped noneFree nextFree taken released indexOf headIndex linkedBy renamed linked viewOf isEmpty headOf tailOf reducible frees behind

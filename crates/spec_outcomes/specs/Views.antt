@@ -64,7 +64,7 @@ joined m q t k b =
 unfoldable pub merged : List ℕ → ℕ → ℕ → ℕ → ℕ → ℕ → List ℕ
 merged m q t k t' k' = setView (joined m q t k (viewOf m q t' k')) q t' k' (view NONE NONE)
 
--- WHERE A VIEW GOES. At a mark of the tour stands the right view of the task met, or the children view of the task left.
+-- WHERE A VIEW GOES. At a mark of the tour stands the right view of the task entered, or the children view of the task exited.
 unfoldable pub taskAt : ℕ → ℕ
 taskAt x = pick (ltb x 128) x (x - 128)
 

@@ -9,7 +9,7 @@ use Rattle.spec_lists.specs.Tests.{each, upto, eachWord}
 use Rattle.spec_lists.specs.Distinct.{distinct}
 use Rattle.spec_layout.specs.Layout.{NONE, NL, FREE, UNFINISHED, FINISHED, STATUS, RIGHTS, PARENT, OLDER, YOUNGER, YOUNGEST, CHILDREN, USER, RIGHT}
 use Rattle.spec_tree.specs.Rights.{uses, subset, eachQueue}
-use Rattle.spec_tree.specs.Tour.{tour, met, after}
+use Rattle.spec_tree.specs.Tour.{tour, entered, after}
 use Rattle.spec_rules.specs.Contents.{Contents, scan, word, part, heads, tails, owners}
 
 unfoldable pub within : ℕ → ℕ → ℕ → Bool
@@ -118,7 +118,7 @@ heldTest c hs es =
 -- what is left to test where xs are the marks of the tour
 unfoldable pub viewTests : Contents → List ℕ → Bool
 viewTests c xs =
-    let ts = met xs in
+    let ts = entered xs in
     let hs = heads c ts in
     let es = tails c ts in
     both (each (viewsTest c) ts) (both (orderTest c xs) (both (ownersTest c ts) (both (upto (segmentTest c) (c .number) 0) (heldTest c hs es))))

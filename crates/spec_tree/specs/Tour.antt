@@ -1,5 +1,5 @@
--- The tour of the task tree, backwards: a task is met, then its children are toured, the youngest first, then the task
--- is left. Where a task is met its right view and its user view stand, and its spot between them; where it is left its
+-- The tour of the task tree, backwards: a task is entered, then its children are toured, the youngest first, then the task
+-- is exited. Where a task is entered its right view and its user view stand, and its spot between them; where it is exited its
 -- children view stands. So the tour goes through the views of a queue from the last to the first, in the paper's order,
 -- and through the spots from the last to the first.
 --
@@ -11,7 +11,7 @@ use lib.Dec.{leb, ltb}
 use Rattle.spec_words.specs.Words.{load, pick}
 use Rattle.spec_layout.specs.Layout.{NONE, PARENT, OLDER, YOUNGEST}
 
--- A mark is a place of the tour: t below 128 where task t is met, 128 + t where it is left, END past the end.
+-- A mark is a place of the tour: t below 128 where task t is entered, 128 + t where it is exited, END past the end.
 abbrev pub END : ℕ
 END = 256
 
@@ -19,13 +19,13 @@ END = 256
 abbrev pub MARKS : ℕ
 MARKS = 256
 
--- where task p is left; END where p is no task
-unfoldable pub leaving : ℕ → ℕ
-leaving p = pick (ltb p 128) (128 + p) END
+-- where task p is exited; END where p is no task
+unfoldable pub exiting : ℕ → ℕ
+exiting p = pick (ltb p 128) (128 + p) END
 
--- where c is met, or its parent p left where c is no task
+-- where c is entered, or its parent p exited where c is no task
 unfoldable pub entering : ℕ → ℕ → ℕ
-entering p c = pick (ltb c 128) c (leaving p)
+entering p c = pick (ltb c 128) c (exiting p)
 
 -- the mark after x
 unfoldable pub after : (ℕ → List ℕ) → ℕ → ℕ
@@ -38,10 +38,10 @@ unfoldable pub tour : ℕ → (ℕ → List ℕ) → ℕ → List ℕ
 tour zero recs x = []
 tour (suc k) recs x = let rest = tour k recs (after recs x) in pick (leb END x) [] (x ∷ rest)
 
--- the tasks that are met, of a list of marks
-unfoldable pub met : List ℕ → List ℕ
-met [] = []
-met (x ∷ xs) = let rest = met xs in pick (ltb x 128) (x ∷ rest) rest
+-- the tasks that are entered, of a list of marks
+unfoldable pub entered : List ℕ → List ℕ
+entered [] = []
+entered (x ∷ xs) = let rest = entered xs in pick (ltb x 128) (x ∷ rest) rest
 
 -- the first of at most k marks from x on that f holds of; END where there is none
 unfoldable pub seek : ℕ → (ℕ → Bool) → (ℕ → List ℕ) → ℕ → ℕ

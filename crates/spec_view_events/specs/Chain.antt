@@ -61,14 +61,14 @@ module _ (m : List ℕ) where
       pub queues-none : Blank m (1488 + t * 48) → Does m (queuesAt (decode m) t) true d f w d f w
       queues-none e = skip (queuesAt (decode m) t) (λ es. queues-skip m t d f w es (1488 + t * 48) refl e)
 
-  -- a mark where a task is met, and one where it is left
+  -- a mark where a task is entered, and one where it is exited
   module _ (x : ℕ) {b : Bool} {d f w d1 f1 w1 : List ℕ} where
-    pub mark-met : x < 128
+    pub mark-entered : x < 128
         → Does m (λ es. queuesAt (decode m) x (kindAt (decode m) x RIGHT (kindAt (decode m) x USER es))) b d f w d1 f1 w1
         → Does m (eventsAt (decode m) x) b d f w d1 f1 w1
     unfolding eventsAt
-    mark-met l s = record { same = λ es. s .same es ∙ sym (ap (λ (v : List Event). run (decode m) v d f w) (halt _ _ (lt-ltb x 128 l))) }
+    mark-entered l s = record { same = λ es. s .same es ∙ sym (ap (λ (v : List Event). run (decode m) v d f w) (halt _ _ (lt-ltb x 128 l))) }
 
-    pub mark-left : 128 ≤ x → Does m (kindAt (decode m) (x - 128) CHILDREN) b d f w d1 f1 w1 → Does m (eventsAt (decode m) x) b d f w d1 f1 w1
+    pub mark-exited : 128 ≤ x → Does m (kindAt (decode m) (x - 128) CHILDREN) b d f w d1 f1 w1 → Does m (eventsAt (decode m) x) b d f w d1 f1 w1
     unfolding eventsAt
-    mark-left l s = record { same = λ es. s .same es ∙ sym (ap (λ (v : List Event). run (decode m) v d f w) (pass _ (le-ltb x 128 l) refl)) }
+    mark-exited l s = record { same = λ es. s .same es ∙ sym (ap (λ (v : List Event). run (decode m) v d f w) (pass _ (le-ltb x 128 l) refl)) }

@@ -13,7 +13,7 @@ use Rattle.spec_view_events.specs.Run.{run}
 abbrev pub Ready : List ℕ → Type 0
 Ready m = (length m ≡ 16384) × (getD m 1 0 ≤ 256)
 
--- From the state d f w the events vs were met: with answer r and the state d' f' w' the test of any events behind them
+-- From the state d f w the events vs were seen: with answer r and the state d' f' w' the test of any events behind them
 -- says what it says of all from the start.
 pub record Does (m : List ℕ) (vs : List Event → List Event) (r : Bool) (d f w d' f' w' : List ℕ) : Type 0 where
   pub same : (es : List Event) → both r (run (decode m) es d' f' w') ≡ run (decode m) (vs es) d f w

@@ -13,7 +13,7 @@ use Rattle.spec_view_events.specs.Run.{run}
 use Rattle.spec_view_events.specs.Does.{Does}
 use Rattle.spec_view_events.specs.Groups.{view-at}
 
--- From the state d₀ f₀ w₀ the views of the queues before q were met: the test of what is left says what it says of all.
+-- From the state d₀ f₀ w₀ the views of the queues before q were seen: the test of what is left says what it says of all.
 pub record Left (m : List ℕ) (t k q : ℕ) (d₀ f₀ w₀ d f w : List ℕ) : Type 0 where
   pub same : (es : List Event) → run (decode m) (viewsFrom (decode m) t k (4 - q) q es) d f w ≡ run (decode m) (kindAt (decode m) t k es) d₀ f₀ w₀
 

@@ -1,7 +1,7 @@
 -- The test over the events, one after the other, as the code makes it. Its state:
--- d has the marks of the segments placed, f those of the free segments and of the tails met;
--- w 0 to 3 is the order of each queue, w 4 to 7 whether its queue view was met,
--- w 8 is the number of segments placed, w 9 that of the heads met, w 10 that of the tails met.
+-- d has the marks of the segments placed, f those of the free segments and of the tails seen;
+-- w 0 to 3 is the order of each queue, w 4 to 7 whether its queue view was seen,
+-- w 8 is the number of segments placed, w 9 that of the heads seen, w 10 that of the tails seen.
 use mathlib.Core.Bool.{Bool, not}
 use mathlib.Core.List.{List, [], _∷_}
 use Prim.Native.Nat.{ℕ, _+_, _%_, _^_}
@@ -30,7 +30,7 @@ module _ (c : Contents) where
   unfoldable pub filled : ℕ → Bool
   filled s = either (eqb (part c s 2) NONE) (not (eqb (part c s 1) 0))
 
-  -- at the end: the order of each queue is right, each queue view was met, each segment placed, each chain has its tail
+  -- at the end: the order of each queue is right, each queue view was seen, each segment placed, each chain has its tail
   unfoldable pub whole : List ℕ → Bool
   whole w = both (fourOnes w 0) (both (fourOnes w 4) (both (eqb (load w 8) (c .number)) (eqb (load w 9) (load w 10))))
 

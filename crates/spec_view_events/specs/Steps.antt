@@ -100,10 +100,10 @@ module _ (m : List ℕ) (es : List Event) where
         unfolding run load
         tail-inner x new q = both-off x refl ∙ sym (pass _ (lt-leb NL e local) (both-on low ∙ both-on (eq-eqb _ _ new) ∙ both-off _ (ne-eqb _ _ q)))
 
-        tail-met : getD f e 0 ≡ 0 → part c e 2 ≡ NONE → both true (run c es d (set f e 1) (raised w 10 1)) ≡ run c (tail e ∷ es) d f w
+        tail-seen : getD f e 0 ≡ 0 → part c e 2 ≡ NONE → both true (run c es d (set f e 1) (raised w 10 1)) ≡ run c (tail e ∷ es) d f w
         unfolding run load store
-        tail-met new q = both-on refl ∙ sym (pass _ (lt-leb NL e local) (both-on low ∙ both-on (eq-eqb _ _ new) ∙ both-on (eq-eqb _ _ q)))
+        tail-seen new q = both-on refl ∙ sym (pass _ (lt-leb NL e local) (both-on low ∙ both-on (eq-eqb _ _ new) ∙ both-on (eq-eqb _ _ q)))
 
         pub tail-right : getD f e 0 ≡ 0 → part c e 2 ≡ NONE → (i : ℕ) → i ≡ (getD w 10 0 + 1) % 2 ^ 32
             → both true (run c es d (set f e 1) (set w 10 i)) ≡ run c (tail e ∷ es) d f w
-        tail-right new q i p = ap (λ (x : List ℕ). both true (run c es d (set f e 1) x)) (raise-at w 10 1 i p) ∙ tail-met new q
+        tail-right new q i p = ap (λ (x : List ℕ). both true (run c es d (set f e 1) x)) (raise-at w 10 1 i p) ∙ tail-seen new q

@@ -33,7 +33,7 @@ module _ (c : Contents) (n : ℕ) where
     pub test : walkTest c (n - j) y ≡ walkTest c (n - i) x
     pub marks : take j ys ++ path c (n - j) y ≡ take i xs ++ path c (n - i) x
 
-  -- the walk came to where a task is met or the top is left; or it failed, and y is above 128
+  -- the walk came to where a task is entered or the top is exited; or it failed, and y is above 128
   pub record Led (x i : ℕ) (xs : List ℕ) (y j : ℕ) (ys : List ℕ) : Type 0 where
     pub on : y ≤ 128 → Same x i xs y j ys
     pub wrong : 128 < y → false ≡ walkTest c (n - i) x
@@ -97,7 +97,7 @@ module _ (c : Contents) (n : ℕ) where
   pub walk-fails : (ys : List ℕ) → false ≡ walkTest c (n - 0) 0 → (false ≡ treeTest c n 0) × (false ≡ true → take n ys ≡ tour n (c .recs) 0)
   walk-fails ys e = (e ∙ walk-starts, λ t. absurd (false≢true t))
 
-  -- it comes to where the top is left, and that mark is written
+  -- it comes to where the top is exited, and that mark is written
   pub walk-ends : (xs ys : List ℕ) (i x : ℕ) → i < n → i < length ys → x ≡ 128 → Same 0 0 xs x i ys
       → (eqb (i + 1) n ≡ treeTest c n 0) × (eqb (i + 1) n ≡ true → take n (set ys i x) ≡ tour n (c .recs) 0)
   unfolding path

@@ -13,29 +13,29 @@ use Rattle.spec_layout.specs.Layout.{NONE, RIGHTS, PARENT, OLDER, YOUNGEST}
 use Rattle.spec_tree.specs.Tour.{END, after, tour}
 use Rattle.spec_rules.specs.Contents.{Contents, word}
 use Rattle.spec_rules.specs.Test.{treeTest}
-use Rattle.law_rules_tasks.specs.Marks.{Kin, tree-none, tree-last, last-tree, tree-rest, met-on, met-none, met-child, left-on, left-none, left-older, tour-cons}
+use Rattle.law_rules_tasks.specs.Marks.{Kin, tree-none, tree-last, last-tree, tree-rest, entered-on, entered-none, entered-child, exited-on, exited-none, exited-older, tour-cons}
 use Rattle.law_rules_tasks.specs.Marks.{tour-none}
 use Rattle.law_rules_tasks.specs.Reached.{Reached, top, reached-below, reached-parent, Standing, standing-range, standing-next}
 use Rattle.tree_test.specs.Links.{fitting, fit-says, says-fit}
 
 module _ (c : Contents) where
-  -- the mark after the one where task t is met; END where the link is wrong
-  unfoldable pub metNext : ℕ → ℕ
-  metNext t =
+  -- the mark after the one where task t is entered; END where the link is wrong
+  unfoldable pub enteredNext : ℕ → ℕ
+  enteredNext t =
       let u = word c t YOUNGEST in
       pick (eqb u NONE) (128 + t) (pick (fitting c u t NONE (word c t RIGHTS)) u END)
 
-  -- the mark after the one where task t is left; END where the link is wrong or the parent is no task
-  unfoldable pub leftNext : ℕ → ℕ
-  leftNext t =
+  -- the mark after the one where task t is exited; END where the link is wrong or the parent is no task
+  unfoldable pub exitedNext : ℕ → ℕ
+  exitedNext t =
       let u = word c t OLDER in
       let p = word c t PARENT in
       pick (leb 128 p) END (pick (eqb u NONE) (128 + p) (pick (fitting c u p t (word c p RIGHTS)) u END))
 
   unfoldable pub nextMark : ℕ → ℕ
-  nextMark x = pick (ltb x 128) (metNext x) (leftNext (x - 128))
+  nextMark x = pick (ltb x 128) (enteredNext x) (exitedNext (x - 128))
 
-  -- from mark x on there are k marks, the last of them where the top is left
+  -- from mark x on there are k marks, the last of them where the top is exited
   unfoldable pub walkTest : ℕ → ℕ → Bool
   walkTest zero x = false
   walkTest (suc k) x = let y = nextMark x in let rest = walkTest k y in pick (eqb x 128) (eqb k 0) (pick (leb END y) false rest)
@@ -46,23 +46,23 @@ module _ (c : Contents) where
   path (suc k) x = let rest = path k (nextMark x) in x ∷ rest
 
   -- THE MARK AFTER ONE, by the tests of the code
-  pub met-leaf : (t u : ℕ) → u ≡ word c t YOUNGEST → u ≡ NONE → 128 + t ≡ metNext t
-  unfolding metNext
-  met-leaf t u e q = sym (halt _ _ (eq-eqb _ _ (sym e ∙ q)))
+  pub entered-leaf : (t u : ℕ) → u ≡ word c t YOUNGEST → u ≡ NONE → 128 + t ≡ enteredNext t
+  unfolding enteredNext
+  entered-leaf t u e q = sym (halt _ _ (eq-eqb _ _ (sym e ∙ q)))
 
-  pub met-down : (t u : ℕ) → u ≡ word c t YOUNGEST → (u ≡ NONE → ⊥) → fitting c u t NONE (word c t RIGHTS) ≡ true → u ≡ metNext t
-  unfolding metNext
-  met-down t u e n f =
+  pub entered-down : (t u : ℕ) → u ≡ word c t YOUNGEST → (u ≡ NONE → ⊥) → fitting c u t NONE (word c t RIGHTS) ≡ true → u ≡ enteredNext t
+  unfolding enteredNext
+  entered-down t u e n f =
       e ∙ sym (pass _ (ne-eqb _ _ (λ q. n (e ∙ q))) (halt _ _ (ap (λ (v : ℕ). fitting c v t NONE (word c t RIGHTS)) (sym e) ∙ f)))
 
-  pub met-wrong : (t u : ℕ) → u ≡ word c t YOUNGEST → (u ≡ NONE → ⊥) → fitting c u t NONE (word c t RIGHTS) ≡ false → END ≡ metNext t
-  unfolding metNext
-  met-wrong t u e n f =
+  pub entered-wrong : (t u : ℕ) → u ≡ word c t YOUNGEST → (u ≡ NONE → ⊥) → fitting c u t NONE (word c t RIGHTS) ≡ false → END ≡ enteredNext t
+  unfolding enteredNext
+  entered-wrong t u e n f =
       sym (pass _ (ne-eqb _ _ (λ q. n (e ∙ q))) (pass _ (ap (λ (v : ℕ). fitting c v t NONE (word c t RIGHTS)) (sym e) ∙ f) refl))
 
   module _ (t p : ℕ) (a : p ≡ word c t PARENT) where
-    pub left-out : 127 < p → END ≡ leftNext t
-    unfolding leftNext
+    pub left-out : 127 < p → END ≡ exitedNext t
+    unfolding exitedNext
     left-out h = sym (halt _ _ (le-leb 128 (word c t PARENT) (omega (arith, a, h))))
 
     module _ (h : p ≤ 127) (u : ℕ) (e : u ≡ word c t OLDER) where
@@ -72,55 +72,55 @@ module _ (c : Contents) where
       same : fitting c (word c t OLDER) (word c t PARENT) t (word c (word c t PARENT) RIGHTS) ≡ fitting c u p t (word c p RIGHTS)
       same = rw (e, a) refl
 
-      pub left-up : u ≡ NONE → 128 + p ≡ leftNext t
-      unfolding leftNext
-      left-up q = ap (λ (v : ℕ). 128 + v) a ∙ sym (pass _ inside (halt _ _ (eq-eqb _ _ (sym e ∙ q))))
+      pub exited-up : u ≡ NONE → 128 + p ≡ exitedNext t
+      unfolding exitedNext
+      exited-up q = ap (λ (v : ℕ). 128 + v) a ∙ sym (pass _ inside (halt _ _ (eq-eqb _ _ (sym e ∙ q))))
 
-      pub left-over : (u ≡ NONE → ⊥) → fitting c u p t (word c p RIGHTS) ≡ true → u ≡ leftNext t
-      unfolding leftNext
-      left-over n f = e ∙ sym (pass _ inside (pass _ (ne-eqb _ _ (λ q. n (e ∙ q))) (halt _ _ (same ∙ f))))
+      pub exited-over : (u ≡ NONE → ⊥) → fitting c u p t (word c p RIGHTS) ≡ true → u ≡ exitedNext t
+      unfolding exitedNext
+      exited-over n f = e ∙ sym (pass _ inside (pass _ (ne-eqb _ _ (λ q. n (e ∙ q))) (halt _ _ (same ∙ f))))
 
-      pub left-wrong : (u ≡ NONE → ⊥) → fitting c u p t (word c p RIGHTS) ≡ false → END ≡ leftNext t
-      unfolding leftNext
-      left-wrong n f = sym (pass _ inside (pass _ (ne-eqb _ _ (λ q. n (e ∙ q))) (pass _ (same ∙ f) refl)))
+      pub exited-wrong : (u ≡ NONE → ⊥) → fitting c u p t (word c p RIGHTS) ≡ false → END ≡ exitedNext t
+      unfolding exitedNext
+      exited-wrong n f = sym (pass _ inside (pass _ (ne-eqb _ _ (λ q. n (e ∙ q))) (pass _ (same ∙ f) refl)))
 
-  pub next-met : (x : ℕ) → x < 128 → metNext x ≡ nextMark x
+  pub next-entered : (x : ℕ) → x < 128 → enteredNext x ≡ nextMark x
   unfolding nextMark
-  next-met x l = sym (halt _ _ (lt-ltb x 128 l))
+  next-entered x l = sym (halt _ _ (lt-ltb x 128 l))
 
-  pub next-left : (x : ℕ) → 128 ≤ x → leftNext (x - 128) ≡ nextMark x
+  pub next-exited : (x : ℕ) → 128 ≤ x → exitedNext (x - 128) ≡ nextMark x
   unfolding nextMark
-  next-left x l = sym (pass _ (le-ltb x 128 l) refl)
+  next-exited x l = sym (pass _ (le-ltb x 128 l) refl)
 
-  pub next-up : (t : ℕ) → leftNext t ≡ nextMark (128 + t)
-  next-up t = ap leftNext (let z : t ≡ 128 + t - 128 = omega arith in z) ∙ next-left (128 + t) (omega arith)
+  pub next-up : (t : ℕ) → exitedNext t ≡ nextMark (128 + t)
+  next-up t = ap exitedNext (let z : t ≡ 128 + t - 128 = omega arith in z) ∙ next-exited (128 + t) (omega arith)
 
   -- what the mark after one says where it is below END
-  abbrev Met : ℕ → Type 0
-  Met t = ((word c t YOUNGEST ≡ NONE) × (metNext t ≡ 128 + t)) ⊎ (Kin c (word c t YOUNGEST) t NONE × (metNext t ≡ word c t YOUNGEST))
+  abbrev Entered : ℕ → Type 0
+  Entered t = ((word c t YOUNGEST ≡ NONE) × (enteredNext t ≡ 128 + t)) ⊎ (Kin c (word c t YOUNGEST) t NONE × (enteredNext t ≡ word c t YOUNGEST))
 
   abbrev Left : ℕ → Type 0
   Left t =
-      ((word c t OLDER ≡ NONE) × (leftNext t ≡ 128 + word c t PARENT))
-      ⊎ (Kin c (word c t OLDER) (word c t PARENT) t × (leftNext t ≡ word c t OLDER))
+      ((word c t OLDER ≡ NONE) × (exitedNext t ≡ 128 + word c t PARENT))
+      ⊎ (Kin c (word c t OLDER) (word c t PARENT) t × (exitedNext t ≡ word c t OLDER))
 
-  met-cases : (t : ℕ) → metNext t < END → Met t
-  met-cases t h = ⊎-elim (λ q. inl (q, sym (met-leaf t _ refl q))) (λ n. go n (fitting c (word c t YOUNGEST) t NONE (word c t RIGHTS)) refl) (equal? _ NONE)
+  entered-cases : (t : ℕ) → enteredNext t < END → Entered t
+  entered-cases t h = ⊎-elim (λ q. inl (q, sym (entered-leaf t _ refl q))) (λ n. go n (fitting c (word c t YOUNGEST) t NONE (word c t RIGHTS)) refl) (equal? _ NONE)
     where
-      go : (word c t YOUNGEST ≡ NONE → ⊥) → (b : Bool) → fitting c (word c t YOUNGEST) t NONE (word c t RIGHTS) ≡ b → Met t
-      go n true f = inr (fit-says c _ _ _ f, sym (met-down t _ refl n f))
-      go n false f = let a = met-wrong t _ refl n f in let z : ⊥ = omega (arith, a, h) in absurd z
+      go : (word c t YOUNGEST ≡ NONE → ⊥) → (b : Bool) → fitting c (word c t YOUNGEST) t NONE (word c t RIGHTS) ≡ b → Entered t
+      go n true f = inr (fit-says c _ _ _ f, sym (entered-down t _ refl n f))
+      go n false f = let a = entered-wrong t _ refl n f in let z : ⊥ = omega (arith, a, h) in absurd z
 
-  left-cases : (t : ℕ) → leftNext t < END → (word c t PARENT < 128) × Left t
-  left-cases t h = near (leb 128 (word c t PARENT)) refl
+  exited-cases : (t : ℕ) → exitedNext t < END → (word c t PARENT < 128) × Left t
+  exited-cases t h = near (leb 128 (word c t PARENT)) refl
     where
       go : word c t PARENT ≤ 127 → (word c t OLDER ≡ NONE → ⊥) → (b : Bool)
           → fitting c (word c t OLDER) (word c t PARENT) t (word c (word c t PARENT) RIGHTS) ≡ b → Left t
-      go l n true f = inr (fit-says c _ _ _ f, sym (left-over t _ refl l _ refl n f))
-      go l n false f = let a = left-wrong t _ refl l _ refl n f in let z : ⊥ = omega (arith, a, h) in absurd z
+      go l n true f = inr (fit-says c _ _ _ f, sym (exited-over t _ refl l _ refl n f))
+      go l n false f = let a = exited-wrong t _ refl l _ refl n f in let z : ⊥ = omega (arith, a, h) in absurd z
 
       links : word c t PARENT ≤ 127 → Left t
-      links l = ⊎-elim (λ q. inl (q, sym (left-up t _ refl l _ refl q))) (λ n. go l n _ refl) (equal? _ NONE)
+      links l = ⊎-elim (λ q. inl (q, sym (exited-up t _ refl l _ refl q))) (λ n. go l n _ refl) (equal? _ NONE)
 
       near : (b : Bool) → leb 128 (word c t PARENT) ≡ b → (word c t PARENT < 128) × Left t
       near true q =
@@ -146,37 +146,37 @@ module _ (c : Contents) where
           let z = eqb-true k 0 (sym (halt _ _ (eq-eqb x 128 q)) ∙ e) in
           ap (treeTest c (suc k)) q ∙ ap (λ (j : ℕ). treeTest c (suc j) 128) z ∙ tree-last c
 
-      met : (x ≡ 128 → ⊥) → x < 128 → treeTest c k (nextMark x) ≡ true → treeTest c (suc k) x ≡ true
-      met n h rest =
+      entered : (x ≡ 128 → ⊥) → x < 128 → treeTest c k (nextMark x) ≡ true → treeTest c (suc k) x ≡ true
+      entered n h rest =
           ⊎-elim
-          (λ w. met-none c k x h (w .0) (ap (treeTest c k) (sym (w .1) ∙ next-met x h) ∙ rest))
-          (λ w. met-child c k x h (w .0) (ap (treeTest c k) (sym (w .1) ∙ next-met x h) ∙ rest))
-          (met-cases x (subst (λ (y : ℕ). y < END) (sym (next-met x h)) (walk-step k x n e .0)))
+          (λ w. entered-none c k x h (w .0) (ap (treeTest c k) (sym (w .1) ∙ next-entered x h) ∙ rest))
+          (λ w. entered-child c k x h (w .0) (ap (treeTest c k) (sym (w .1) ∙ next-entered x h) ∙ rest))
+          (entered-cases x (subst (λ (y : ℕ). y < END) (sym (next-entered x h)) (walk-step k x n e .0)))
 
-      left : (x ≡ 128 → ⊥) → 128 ≤ x → treeTest c k (nextMark x) ≡ true → treeTest c (suc k) x ≡ true
-      left n h rest =
+      exited : (x ≡ 128 → ⊥) → 128 ≤ x → treeTest c k (nextMark x) ≡ true → treeTest c (suc k) x ≡ true
+      exited n h rest =
           let t = x - 128 in
-          let w = left-cases t (subst (λ (y : ℕ). y < END) (sym (next-left x h)) (walk-step k x n e .0)) in
+          let w = exited-cases t (subst (λ (y : ℕ). y < END) (sym (next-exited x h)) (walk-step k x n e .0)) in
           ap (treeTest c (suc k)) (let z : x ≡ 128 + (x - 128) = omega (arith, h) in z)
           ∙ ⊎-elim
-          (λ v. left-none c k t (omega (arith, n, h)) (w .0) (v .0) (ap (treeTest c k) (sym (v .1) ∙ next-left x h) ∙ rest))
-          (λ v. left-older c k t (omega (arith, n, h)) (v .0) (ap (treeTest c k) (sym (v .1) ∙ next-left x h) ∙ rest))
+          (λ v. exited-none c k t (omega (arith, n, h)) (w .0) (v .0) (ap (treeTest c k) (sym (v .1) ∙ next-exited x h) ∙ rest))
+          (λ v. exited-older c k t (omega (arith, n, h)) (v .0) (ap (treeTest c k) (sym (v .1) ∙ next-exited x h) ∙ rest))
           (w .1)
 
       side : (x ≡ 128 → ⊥) → (b : Bool) → ltb x 128 ≡ b → treeTest c k (nextMark x) ≡ true → treeTest c (suc k) x ≡ true
-      side n true q = met n (ltb-true x 128 q)
-      side n false q = left n (ltb-false x 128 q)
+      side n true q = entered n (ltb-true x 128 q)
+      side n false q = exited n (ltb-false x 128 q)
 
   -- where the test of the tree holds, the walk goes on as the tour does
   module _ (n : ℕ) where
     next-after : (k x : ℕ) → Standing c n (suc k) x → treeTest c (suc k) x ≡ true → (x ≡ 128 → ⊥) → nextMark x ≡ after (c .recs) x
     next-after k x (inl r) e o =
         let l = reached-below c n (suc k) x r in
-        sym (next-met x l)
+        sym (next-entered x l)
         ∙ ⊎-elim
-        (λ w. sym (met-leaf x _ refl (w .0)) ∙ sym (w .1))
-        (λ w. sym (met-down x _ refl (λ q. let b = w .0 .below in omega (arith, b, q)) (says-fit c _ _ _ (w .0))) ∙ sym (w .1))
-        (met-on c k x l e)
+        (λ w. sym (entered-leaf x _ refl (w .0)) ∙ sym (w .1))
+        (λ w. sym (entered-down x _ refl (λ q. let b = w .0 .below in omega (arith, b, q)) (says-fit c _ _ _ (w .0))) ∙ sym (w .1))
+        (entered-on c k x l e)
     next-after k x (inr s) e o = go (s .0) (s .1) (s .2) (s .4)
       where
         go : (t : ℕ) → x ≡ 128 + t → (i : ℕ) → Reached c n i t → nextMark x ≡ after (c .recs) x
@@ -185,13 +185,13 @@ module _ (c : Contents) where
             let f = reached-parent c n i t r h in
             let l = reached-below c n (f .0) (word c t PARENT) (f .2) in
             let d = ap (after (c .recs)) q in
-            sym (next-left x (omega (arith, q)))
-            ∙ ap leftNext (let z : x - 128 ≡ t = omega (arith, q) in z)
+            sym (next-exited x (omega (arith, q)))
+            ∙ ap exitedNext (let z : x - 128 ≡ t = omega (arith, q) in z)
             ∙ ⊎-elim
-            (λ w. sym (left-up t _ refl (omega (arith, l)) _ refl (w .0)) ∙ sym (d ∙ w .1))
-            (λ w. sym (left-over t _ refl (omega (arith, l)) _ refl (λ z. let b = w .0 .below in omega (arith, b, z)) (says-fit c _ _ _ (w .0)))
+            (λ w. sym (exited-up t _ refl (omega (arith, l)) _ refl (w .0)) ∙ sym (d ∙ w .1))
+            (λ w. sym (exited-over t _ refl (omega (arith, l)) _ refl (λ z. let b = w .0 .below in omega (arith, b, z)) (says-fit c _ _ _ (w .0)))
             ∙ sym (d ∙ w .1))
-            (left-on c k t h l (rw q at e))
+            (exited-on c k t h l (rw q at e))
 
     tree-walk : (k x : ℕ) → Standing c n k x → treeTest c k x ≡ true → (walkTest k x ≡ true) × (path k x ≡ tour k (c .recs) x)
     unfolding walkTest path

@@ -11,7 +11,7 @@ ghost use Rattle.spec_rules.specs.Test.{inRange, topTest, idleTest, treeTest};
 ghost use Rattle.tree_test.specs.Top.{topAlone};
 ghost use Rattle.tree_test.specs.Counted.{faultsFrom, nearFrom, marks};
 ghost use Rattle.tree_test.specs.Links.{fitting};
-ghost use Rattle.tree_test.specs.Walk.{metNext, leftNext};
+ghost use Rattle.tree_test.specs.Walk.{enteredNext, exitedNext};
 ghost use Rattle.tree_test.specs.Led.{Led};
 
 const NONE: u32 = 4294967295;
@@ -166,10 +166,10 @@ fn fitting(m: &[u32], t: u32, p: u32, y: u32, b: u32) -> bool
     rights::subset(m[a + 1], b)
 }
 
-// The mark after the one where task t is met; END where the link is wrong.
-fn met_next(m: &[u32], t: u32) -> u32
+// The mark after the one where task t is entered; END where the link is wrong.
+fn entered_next(m: &[u32], t: u32) -> u32
     requires { ⌜ (length (now m) ≡ 16384) × (t < 128) ⌝ }
-    ensures { λ r. ⌜ r ≡ metNext (decode (now (m .entry))) t ⌝ }
+    ensures { λ r. ⌜ r ≡ enteredNext (decode (now (m .entry))) t ⌝ }
 {
     let a = 1472 + t as usize * 48;
     let u = m[a + 5];
@@ -182,10 +182,10 @@ fn met_next(m: &[u32], t: u32) -> u32
     END
 }
 
-// The mark after the one where task t is left; END where the link is wrong or the parent is no task.
-fn left_next(m: &[u32], t: u32) -> u32
+// The mark after the one where task t is exited; END where the link is wrong or the parent is no task.
+fn exited_next(m: &[u32], t: u32) -> u32
     requires { ⌜ (length (now m) ≡ 16384) × (t < 128) ⌝ }
-    ensures { λ r. ⌜ r ≡ leftNext (decode (now (m .entry))) t ⌝ }
+    ensures { λ r. ⌜ r ≡ exitedNext (decode (now (m .entry))) t ⌝ }
 {
     let a = 1472 + t as usize * 48;
     let p = m[a + 2];
@@ -208,8 +208,8 @@ struct Spot {
     written: usize,
 }
 
-// From where task t0 is left, with i0 marks written: up to where an older sibling is met, or to the top. The mark where
-// the top is left is for the caller to write, since it is the last.
+// From where task t0 is exited, with i0 marks written: up to where an older sibling is entered, or to the top. The mark where
+// the top is exited is for the caller to write, since it is the last.
 fn climb(m: &[u32], xs: &mut [u32], n: usize, t0: u32, i0: usize) -> Spot
     requires { ⌜ (length (now m) ≡ 16384) × (length (now xs) ≡ 256) × (n ≤ 256) × (t0 < 128) ⌝ }
     ensures { λ r. ⌜ Led (decode (now (m .entry))) n (128 + t0) i0 (now (xs .entry)) (r .mark) (r .written) (now (xs .exit)) × (i0 ≤ r .written) ⌝ }
@@ -225,7 +225,7 @@ fn climb(m: &[u32], xs: &mut [u32], n: usize, t0: u32, i0: usize) -> Spot
         }
         xs[i] = 128 + t;
         i += 1;
-        let y = left_next(m, t);
+        let y = exited_next(m, t);
         if y < 128 {
             return Spot {
                 mark: y,
@@ -246,13 +246,13 @@ fn climb(m: &[u32], xs: &mut [u32], n: usize, t0: u32, i0: usize) -> Spot
     }
 }
 
-// From where task t is met, with i marks written: to where the next task is met or the top is left.
+// From where task t is entered, with i marks written: to where the next task is entered or the top is exited.
 fn onward(m: &[u32], xs: &mut [u32], n: usize, t: u32, i: usize) -> Spot
     requires { ⌜ (length (now m) ≡ 16384) × (length (now xs) ≡ 256) × (n ≤ 256) × (t < 128) × (i < n) ⌝ }
     ensures { λ r. ⌜ Led (decode (now (m .entry))) n t i (now (xs .entry)) (r .mark) (r .written) (now (xs .exit)) × (i < r .written) ⌝ }
 {
     xs[i] = t;
-    let y = met_next(m, t);
+    let y = entered_next(m, t);
     if y < 128 {
         return Spot {
             mark: y,

@@ -104,8 +104,8 @@ fn right(d: &mut [u8; 256], f: &mut [u8; 256], w: &mut [u32; 12], m: &[u32], t: 
     user(d, f, w, m, t)
 }
 
-// Task t where it is met.
-fn met(d: &mut [u8; 256], f: &mut [u8; 256], w: &mut [u32; 12], m: &[u32], t: usize) -> bool
+// Task t where it is entered.
+fn entered(d: &mut [u8; 256], f: &mut [u8; 256], w: &mut [u32; 12], m: &[u32], t: usize) -> bool
     requires { ⌜ Ready (now m) × (t < 128) ⌝ }
     ensures { λ b. ⌜ Does (now (m .entry)) (λ es. queuesAt (decode (now (m .entry))) t
         (kindAt (decode (now (m .entry))) t RIGHT (kindAt (decode (now (m .entry))) t USER es))) b
@@ -120,8 +120,8 @@ fn met(d: &mut [u8; 256], f: &mut [u8; 256], w: &mut [u32; 12], m: &[u32], t: us
     right(d, f, w, m, t)
 }
 
-// Task t where it is left.
-fn left(d: &mut [u8; 256], f: &mut [u8; 256], w: &mut [u32; 12], m: &[u32], t: usize) -> bool
+// Task t where it is exited.
+fn exited(d: &mut [u8; 256], f: &mut [u8; 256], w: &mut [u32; 12], m: &[u32], t: usize) -> bool
     requires { ⌜ Ready (now m) × (t < 128) ⌝ }
     ensures { λ b. ⌜ Does (now (m .entry)) (kindAt (decode (now (m .entry))) t CHILDREN) b
         (now (d .entry)) (now (f .entry)) (now (w .entry)) (now (d .exit)) (now (f .exit)) (now (w .exit)) ⌝ }
@@ -139,9 +139,9 @@ fn mark(d: &mut [u8; 256], f: &mut [u8; 256], w: &mut [u32; 12], m: &[u32], x: u
         (now (d .entry)) (now (f .entry)) (now (w .entry)) (now (d .exit)) (now (f .exit)) (now (w .exit)) ⌝ }
 {
     if x < 128 {
-        return met(d, f, w, m, x as usize);
+        return entered(d, f, w, m, x as usize);
     }
-    left(d, f, w, m, x as usize - 128)
+    exited(d, f, w, m, x as usize - 128)
 }
 
 // The four words of the state from a on are 1.
@@ -161,7 +161,7 @@ fn ones(w: &[u32; 12], a: usize) -> bool
     w[a + 3] == 1
 }
 
-// The end: the order of each queue is right, each queue view was met, each segment placed, each chain has its tail.
+// The end: the order of each queue is right, each queue view was seen, each segment placed, each chain has its tail.
 fn whole(w: &[u32; 12], m: &[u32]) -> bool
     requires { ⌜ length (now m) ≡ 16384 ⌝ }
     ensures { λ b. ⌜ b ≡ whole (decode (now (m .entry))) (now (w .entry)) ⌝ }

@@ -20,15 +20,15 @@ use Rattle.spec_outcomes.specs.Finish.{heir}
 pub both-so : {a x b : Bool} → a ≡ true → x ≡ b → x ≡ both a b
 both-so e f = f ∙ sym (both-on e)
 
--- the mark after a task that is met, and after one that is left
-pub after-met : {r y : ℕ} (m : List ℕ) (x : ℕ) → x < 128 → y ≡ read m (task x YOUNGEST) → r ≡ entering x y → r ≡ after (recordOf m) x
+-- the mark after a task that is entered, and after one that is exited
+pub after-entered : {r y : ℕ} (m : List ℕ) (x : ℕ) → x < 128 → y ≡ read m (task x YOUNGEST) → r ≡ entering x y → r ≡ after (recordOf m) x
 unfolding after
-after-met m x h e d = d ∙ ap (entering x) (e ∙ sym (record-word m x YOUNGEST)) ∙ sym (halt _ _ (lt-ltb x 128 h))
+after-entered m x h e d = d ∙ ap (entering x) (e ∙ sym (record-word m x YOUNGEST)) ∙ sym (halt _ _ (lt-ltb x 128 h))
 
-pub after-left : {r p o : ℕ} (m : List ℕ) (x : ℕ) → 128 ≤ x → p ≡ read m (task (x - 128) PARENT) → o ≡ read m (task (x - 128) OLDER)
+pub after-exited : {r p o : ℕ} (m : List ℕ) (x : ℕ) → 128 ≤ x → p ≡ read m (task (x - 128) PARENT) → o ≡ read m (task (x - 128) OLDER)
     → r ≡ entering p o → r ≡ after (recordOf m) x
 unfolding after
-after-left m x h e g d =
+after-exited m x h e g d =
     d ∙ ap₂ entering (e ∙ sym (record-word m (x - 128) PARENT)) (g ∙ sym (record-word m (x - 128) OLDER))
     ∙ sym (pass _ (le-ltb x 128 h) refl)
 
@@ -66,9 +66,9 @@ module _ {p : Bool} (m : List ℕ) (q x : ℕ) (part : p ≡ takesPart m q x) wh
   unfolding standsAt
   stands-not f = sym (both-off _ (sym part ∙ f))
 
-  pub stands-met : p ≡ true → x ≤ 128 → true ≡ standsAt m q x
+  pub stands-entered : p ≡ true → x ≤ 128 → true ≡ standsAt m q x
   unfolding standsAt
-  stands-met f h = both-so (sym part ∙ f) (sym (true-right _ (true-left _ (eq-eqb (x - 128) 0 (omega arith)))))
+  stands-entered f h = both-so (sym part ∙ f) (sym (true-right _ (true-left _ (eq-eqb (x - 128) 0 (omega arith)))))
 
   pub stands-head : {h : ℕ} → p ≡ true → h ≡ read m (task (x - 128) (20 + q)) → (h ≡ NONE → ⊥) → true ≡ standsAt m q x
   unfolding standsAt viewOf isEmpty

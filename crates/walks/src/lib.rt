@@ -7,7 +7,7 @@ ghost use lib.Dec.{ltb, eqb};
 ghost use Rattle.spec_words.specs.Words.{pick, both};
 ghost use Rattle.spec_layout.specs.Layout.{recordOf};
 ghost use Rattle.spec_tree.specs.Rights.{pushes, pops, sharesPop};
-ghost use Rattle.spec_tree.specs.Tour.{MARKS, leaving, entering, after, seek, sibling, oldest};
+ghost use Rattle.spec_tree.specs.Tour.{MARKS, exiting, entering, after, seek, sibling, oldest};
 ghost use Rattle.spec_rules.specs.Views.{view};
 ghost use Rattle.spec_outcomes.specs.Waits.{rightsOf, unfinished, blocked, childPops, hasChild, pusherBefore};
 ghost use Rattle.spec_outcomes.specs.Views.{taskAt, takesPart, standsAt, justBefore, returnedTo};
@@ -29,18 +29,18 @@ const OLDER: u32 = 3;
 
 const YOUNGEST: u32 = 5;
 
-// Where task p is left.
-fn leaving(p: u32) -> u32
-    ensures { λ r. ⌜ r ≡ leaving p ⌝ }
+// Where task p is exited.
+fn exiting(p: u32) -> u32
+    ensures { λ r. ⌜ r ≡ exiting p ⌝ }
 {
     if p < 128 { 128 + p } else { END }
 }
 
-// Where c is met, or its parent p left where c is no task.
+// Where c is entered, or its parent p exited where c is no task.
 fn entering(p: u32, c: u32) -> u32
     ensures { λ r. ⌜ r ≡ entering p c ⌝ }
 {
-    if c < 128 { c } else { leaving(p) }
+    if c < 128 { c } else { exiting(p) }
 }
 
 // The mark after x.
@@ -125,7 +125,7 @@ pub fn has_child(m: &[u32], t: u32) -> bool
     memory::task(m, t, YOUNGEST) != NONE
 }
 
-// At mark x a task is met that may push to q.
+// At mark x a task is entered that may push to q.
 fn meets_pusher(m: &[u32], q: u32, x: u32) -> bool
     requires { ⌜ q < 4 ⌝ }
     ensures { λ r. ⌜ r ≡ both (ltb x 128) (pushes (rightsOf (now (m .entry)) x) q) ⌝ }
@@ -137,7 +137,7 @@ fn meets_pusher(m: &[u32], q: u32, x: u32) -> bool
     }
 }
 
-// The first mark from `from` on where a task is met that may push to q.
+// The first mark from `from` on where a task is entered that may push to q.
 fn pushing(m: &[u32], q: u32, from: u32) -> u32
     requires { ⌜ q < 4 ⌝ }
     ensures { λ r. ⌜ r ≡ seek MARKS (λ x. both (ltb x 128) (pushes (rightsOf (now (m .entry)) x) q)) (recordOf (now (m .entry))) from ⌝ }
@@ -164,7 +164,7 @@ pub fn pusher_before(m: &[u32], t: u32, q: u32) -> bool
     pushing(m, q, after(m, t)) != END
 }
 
-// The task that is met or left at mark x.
+// The task that is entered or exited at mark x.
 pub fn task_at(x: u32) -> u32
     ensures { λ r. ⌜ r ≡ taskAt x ⌝ }
 {

@@ -46,8 +46,8 @@ slice-write-xs c =
 add-i : tie.Need-add-i Inv-loop μ-loop
 add-i c = search needs
 
-left-next-requires : tie.Need-left-next-requires Inv-loop μ-loop
-left-next-requires c κs = (c .before .before .before .before .before .pre .0, c .before .before .loop .inv .1)
+exited-next-requires : tie.Need-exited-next-requires Inv-loop μ-loop
+exited-next-requires c κs = (c .before .before .before .before .before .pre .0, c .before .before .loop .inv .1)
 
 same-length-2 : tie.Need-same-length-2 Inv-loop μ-loop
 same-length-2 c =
@@ -64,7 +64,7 @@ returns-2 c = (
       (c .before .before .before .before .before .before .before .args .n) (c .before .before .before .before .loop .i)
       (128 + (c .before .before .before .before .loop .t)) (c .before .before .before .loop-test .taken)
       (λ e. c .before .before .if1 .left (let z : (c .before .before .before .before .loop .t) ≡ 0 = omega (arith, e) in z)) _
-      (c .before .left-next .ensures ∙ next-up (decode (c .before .before .before .before .before .before .before .args .m .now))
+      (c .before .exited-next .ensures ∙ next-up (decode (c .before .before .before .before .before .before .before .args .m .now))
       (c .before .before .before .before .loop .t)) (c .before .before .before .before .loop .xs) (let a = c .before .before .before .loop-test .taken in
       let b = c .before .before .before .before .before .before .before .pre .2 in let d = c .before .before .before .before .loop .inv .2 in
       omega (arith, a, b, d)) (let a = c .if2 .taken in omega (arith, a)))),
@@ -85,7 +85,7 @@ returns-3 c = (
       (c .before .before .before .before .before .before .before .before .args .n) (c .before .before .before .before .before .loop .i)
       (128 + (c .before .before .before .before .before .loop .t)) (c .before .before .before .before .loop-test .taken)
       (λ e. c .before .before .before .if1 .left (let z : (c .before .before .before .before .before .loop .t) ≡ 0 = omega (arith, e) in z)) _
-      (c .before .before .left-next .ensures ∙ next-up (decode (c .before .before .before .before .before .before .before .before .args .m .now))
+      (c .before .before .exited-next .ensures ∙ next-up (decode (c .before .before .before .before .before .before .before .before .args .m .now))
       (c .before .before .before .before .before .loop .t)) (c .if3 .taken) ∙ c .before .before .before .before .before .loop .inv .3 .test),
   let a = c .before .before .before .before .before .loop .inv .0 in omega (arith, a),
 )
@@ -106,9 +106,9 @@ loop-again c = (
       (c .before .before .before .before .before .before .before .before .args .n) (c .before .before .before .before .before .loop .i)
       (128 + (c .before .before .before .before .before .loop .t)) (c .before .before .before .before .loop-test .taken)
       (λ e. c .before .before .before .if1 .left (let z : (c .before .before .before .before .before .loop .t) ≡ 0 = omega (arith, e) in z))
-      (128 + ((c .before .before .left-next .result) - 128))
-      ((let a = c .before .if2 .left in let z : 128 + ((c .before .before .left-next .result) - 128) ≡ (c .before .before .left-next .result) = omega
-      (arith, a) in z) ∙ c .before .before .left-next .ensures
+      (128 + ((c .before .before .exited-next .result) - 128))
+      ((let a = c .before .if2 .left in let z : 128 + ((c .before .before .exited-next .result) - 128) ≡ (c .before .before .exited-next .result) = omega
+      (arith, a) in z) ∙ c .before .before .exited-next .ensures
       ∙ next-up (decode (c .before .before .before .before .before .before .before .before .args .m .now)) (c .before .before .before .before .before .loop .t))
       (c .before .before .before .before .before .loop .xs) (let a = c .before .before .before .before .loop-test .taken in
       let b = c .before .before .before .before .before .before .before .before .pre .2 in let d = c .before .before .before .before .before .loop .inv .2 in
@@ -139,7 +139,7 @@ climb-spec =
     mul-xs
     slice-write-xs
     add-i
-    left-next-requires
+    exited-next-requires
     same-length-2
     returns-2
     same-length-3

@@ -1,5 +1,5 @@
 use Rattle.tree_test.specs.Led.{same-step, led-on, led-here, led-wrong, walk-wrong}
-use Rattle.tree_test.specs.Walk.{next-met}
+use Rattle.tree_test.specs.Walk.{next-entered}
 use Rattle.spec_rules.specs.Contents.{decode}
 use lib.ListN.{length-set}
 use Prim.Native.Nat.{_-_, _+_}
@@ -12,8 +12,8 @@ use Rattle.tree_test.proofs.onward.Tie as tie
 slice-write-xs : tie.Need-slice-write-xs
 slice-write-xs c = (let a = c .before .before .pre .1 in let b = c .before .before .pre .2 in let d = c .before .before .pre .4 in omega (arith, a, b, d))
 
-met-next-requires : tie.Need-met-next-requires
-met-next-requires c κs = (c .before .before .pre .0, c .before .before .pre .3)
+entered-next-requires : tie.Need-entered-next-requires
+entered-next-requires c κs = (c .before .before .pre .0, c .before .before .pre .3)
 
 same-length : tie.Need-same-length
 same-length c =
@@ -25,7 +25,7 @@ returns c = (
       omega (arith, a)) (same-step (decode (c .before .before .before .before .args .m .now)) (c .before .before .before .before .args .n)
       (c .before .before .before .before .args .i) (c .before .before .before .before .args .t) (c .before .before .before .before .pre .4)
       (λ e. let a = c .before .before .before .before .pre .3 in omega (arith, a, e)) _
-      (c .before .met-next .ensures ∙ next-met (decode (c .before .before .before .before .args .m .now)) (c .before .before .before .before .args .t)
+      (c .before .entered-next .ensures ∙ next-entered (decode (c .before .before .before .before .args .m .now)) (c .before .before .before .before .args .t)
       (c .before .before .before .before .pre .3)) (c .before .before .before .before .args .xs .now) (let a = c .before .before .before .before .pre .1 in
       let b = c .before .before .before .before .pre .2 in let d = c .before .before .before .before .pre .4 in omega (arith, a, b, d))
       (let a = c .if1 .taken in omega (arith, a))),
@@ -43,7 +43,7 @@ returns-2 c = (
       (walk-wrong (decode (c .before .before .before .before .before .args .m .now)) (c .before .before .before .before .before .args .n)
       (c .before .before .before .before .before .args .i) (c .before .before .before .before .before .args .t)
       (c .before .before .before .before .before .pre .4) (λ e. let a = c .before .before .before .before .before .pre .3 in omega (arith, a, e)) _
-      (c .before .before .met-next .ensures ∙ next-met (decode (c .before .before .before .before .before .args .m .now))
+      (c .before .before .entered-next .ensures ∙ next-entered (decode (c .before .before .before .before .before .args .m .now))
       (c .before .before .before .before .before .args .t) (c .before .before .before .before .before .pre .3)) (c .if2 .taken)),
   omega arith,
 )
@@ -73,12 +73,12 @@ returns-3 c = (
       (c .before .before .before .before .before .before .before .before .before .args .t)
       (c .before .before .before .before .before .before .before .before .before .pre .4)
       (λ e. let a = c .before .before .before .before .before .before .before .before .before .pre .3 in omega (arith, a, e))
-      (128 + ((c .before .before .before .before .before .before .met-next .result) - 128))
+      (128 + ((c .before .before .before .before .before .before .entered-next .result) - 128))
       ((let a = c .before .before .before .before .before .if1 .left in
-      let z : 128 + ((c .before .before .before .before .before .before .met-next .result) - 128)
-      ≡ (c .before .before .before .before .before .before .met-next .result) = omega (arith, a) in z)
-      ∙ c .before .before .before .before .before .before .met-next .ensures
-      ∙ next-met (decode (c .before .before .before .before .before .before .before .before .before .args .m .now))
+      let z : 128 + ((c .before .before .before .before .before .before .entered-next .result) - 128)
+      ≡ (c .before .before .before .before .before .before .entered-next .result) = omega (arith, a) in z)
+      ∙ c .before .before .before .before .before .before .entered-next .ensures
+      ∙ next-entered (decode (c .before .before .before .before .before .before .before .before .before .args .m .now))
       (c .before .before .before .before .before .before .before .before .before .args .t)
       (c .before .before .before .before .before .before .before .before .before .pre .3))
       (c .before .before .before .before .before .before .before .before .before .args .xs .now)
@@ -93,5 +93,5 @@ returns-3 c = (
 pub onward-spec : {M : Type 1} → statement M
 onward-spec =
     tie.close
-    (tie.spec (λ c. search needs) slice-write-xs met-next-requires (λ c. search needs) same-length returns (λ c. search needs) same-length-2 returns-2
+    (tie.spec (λ c. search needs) slice-write-xs entered-next-requires (λ c. search needs) same-length returns (λ c. search needs) same-length-2 returns-2
     (λ c. search needs) climb-requires same-length-3 returns-3)

@@ -5,8 +5,8 @@ use Rattle.spec_tree.specs.Tour.{entering}
 use Rattle.walks.proofs.entering.Statement.{statement}
 use Rattle.walks.proofs.entering.Tie as tie
 
-leaving-requires : tie.Need-leaving-requires
-leaving-requires c κs = tt
+exiting-requires : tie.Need-exiting-requires
+exiting-requires c κs = tt
 
 returns : tie.Need-returns
 unfolding entering
@@ -14,7 +14,7 @@ returns c = sym (halt _ _ (lt-ltb _ _ (c .if1 .taken)))
 
 returns-2 : tie.Need-returns-2
 unfolding entering
-returns-2 c = c .leaving .ensures ∙ sym (pass _ (le-ltb _ _ (c .before .if1 .left)) refl)
+returns-2 c = c .exiting .ensures ∙ sym (pass _ (le-ltb _ _ (c .before .if1 .left)) refl)
 
 pub entering-spec : {M : Type 1} → statement M
-entering-spec = tie.close (tie.spec leaving-requires returns returns-2)
+entering-spec = tie.close (tie.spec exiting-requires returns returns-2)

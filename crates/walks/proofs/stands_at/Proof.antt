@@ -1,5 +1,5 @@
 use borrow.Author.Tests.{not-true, not-false}
-use Rattle.walks.proofs.Glue.{stands-not, stands-met, stands-head, stands-tail}
+use Rattle.walks.proofs.Glue.{stands-not, stands-entered, stands-head, stands-tail}
 use borrow.Author.Needs.{needs}
 use Rattle.walks.proofs.stands_at.Statement.{statement}
 use Rattle.walks.proofs.stands_at.Tie as tie
@@ -11,7 +11,7 @@ returns : tie.Need-returns
 returns c = stands-not _ _ _ (c .before .takes-part .ensures) (not-true _ (c .if1 .taken))
 
 returns-2 : tie.Need-returns-2
-returns-2 c = stands-met _ _ _ (c .before .before .takes-part .ensures) (not-false _ (c .before .if1 .left)) (c .if2 .taken)
+returns-2 c = stands-entered _ _ _ (c .before .before .takes-part .ensures) (not-false _ (c .before .if1 .left)) (c .if2 .taken)
 
 task-requires : tie.Need-task-requires
 task-requires c κs = tt

@@ -1,4 +1,4 @@
-use Rattle.tree_test.specs.Walk.{left-out, left-up, left-over, left-wrong}
+use Rattle.tree_test.specs.Walk.{left-out, exited-up, exited-over, exited-wrong}
 use Rattle.tree_test.specs.Links.{fitting}
 use Rattle.tree_test.specs.Records.{word-at}
 use Rattle.spec_rules.specs.Contents.{decode}
@@ -6,8 +6,8 @@ use lib.ListN.{getD}
 use Prim.Native.Nat.{_+_, _*_}
 use mathlib.Core.Path.{ap, sym, _∙_}
 use borrow.Author.Needs.{needs}
-use Rattle.tree_test.proofs.left_next.Statement.{statement}
-use Rattle.tree_test.proofs.left_next.Tie as tie
+use Rattle.tree_test.proofs.exited_next.Statement.{statement}
+use Rattle.tree_test.proofs.exited_next.Tie as tie
 
 returns : tie.Need-returns
 returns c =
@@ -16,7 +16,7 @@ returns c =
 
 returns-2 : tie.Need-returns-2
 returns-2 c =
-    left-up (decode (c .before .before .before .before .before .args .m .now)) (c .before .before .before .before .before .args .t) _
+    exited-up (decode (c .before .before .before .before .before .args .m .now)) (c .before .before .before .before .before .args .t) _
     (word-at (c .before .before .before .before .before .args .m .now) (c .before .before .before .before .before .args .t) 2) (c .before .before .if1 .left)
     _ (word-at (c .before .before .before .before .before .args .m .now) (c .before .before .before .before .before .args .t) 3) (c .if2 .taken)
 
@@ -25,7 +25,7 @@ fitting-requires c κs = c .before .before .before .before .before .before .pre 
 
 returns-3 : tie.Need-returns-3
 returns-3 c =
-    left-over (decode (c .before .before .before .before .before .before .before .before .args .m .now))
+    exited-over (decode (c .before .before .before .before .before .before .before .before .args .m .now))
     (c .before .before .before .before .before .before .before .before .args .t) _
     (word-at (c .before .before .before .before .before .before .before .before .args .m .now)
     (c .before .before .before .before .before .before .before .before .args .t) 2) (c .before .before .before .before .before .if1 .left) _
@@ -39,7 +39,7 @@ returns-3 c =
 
 returns-4 : tie.Need-returns-4
 returns-4 c =
-    left-wrong (decode (c .before .before .before .before .before .before .before .before .args .m .now))
+    exited-wrong (decode (c .before .before .before .before .before .before .before .before .args .m .now))
     (c .before .before .before .before .before .before .before .before .args .t) _
     (word-at (c .before .before .before .before .before .before .before .before .args .m .now)
     (c .before .before .before .before .before .before .before .before .args .t) 2) (c .before .before .before .before .before .if1 .left) _
@@ -51,8 +51,8 @@ returns-4 c =
     (getD (c .before .before .before .before .before .before .before .before .args .m .now)
     (1472 + (c .before .before .before .before .before .before .before .before .args .t) * 48 + 2) 0) 1)) ∙ sym (c .before .fitting .ensures) ∙ c .if3 .left)
 
-pub left-next-spec : {M : Type 1} → statement M
-left-next-spec =
+pub exited-next-spec : {M : Type 1} → statement M
+exited-next-spec =
     tie.close
     (tie.spec (λ c. search needs) (λ c. search needs) (λ c. search needs) (λ c. search needs) (λ c. search needs) returns (λ c. search needs)
     (λ c. search needs) (λ c. search needs) (λ c. search needs) returns-2 (λ c. search needs) (λ c. search needs) (λ c. search needs)

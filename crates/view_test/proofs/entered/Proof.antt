@@ -3,8 +3,8 @@ use borrow.Author.Tests.{not-true, not-false}
 use native.Mathlib.Omega.{arith}
 use mathlib.Core.Path.{refl}
 use borrow.Author.Needs.{needs}
-use Rattle.view_test.proofs.met.Statement.{statement}
-use Rattle.view_test.proofs.met.Tie as tie
+use Rattle.view_test.proofs.entered.Statement.{statement}
+use Rattle.view_test.proofs.entered.Tie as tie
 
 returns : tie.Need-returns
 returns c =
@@ -19,8 +19,8 @@ returns-3 c =
     follow _ _ _ (not-false _ (c .before .before .before .before .if2 .left)) (c .before .before .before .before .before .queues .ensures _)
     (c .right2 .ensures)
 
-pub met-spec : {M : Type 1} → statement M
-met-spec =
+pub entered-spec : {M : Type 1} → statement M
+entered-spec =
     tie.close
     (tie.spec (λ c. search needs) (λ c. search needs) (λ c κs. search needs) (λ c κs. search needs) returns (λ c κs. search needs) returns-2
     (λ c κs. search needs) returns-3)
