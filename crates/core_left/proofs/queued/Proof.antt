@@ -13,31 +13,13 @@ Inv-loop m first index s₀ i₀ k₀ s i k = (s < 2 ^ 32) × (i < 2 ^ 32) × (k
 abbrev μ-loop : tie.MeasureT-loop
 μ-loop m first index s₀ i₀ k₀ s i k = k
 
-loop-holds : tie.Need-loop-holds Inv-loop μ-loop
-loop-holds c = (search needs, search needs, omega arith, refl)
-
 returns : tie.Need-returns Inv-loop μ-loop
 returns c = chain-end _ _ _ _ (c .before .loop-test .taken) (c .if1 .taken) ∙ c .before .before .loop .inv .3
-
-segment-requires : tie.Need-segment-requires Inv-loop μ-loop
-segment-requires c κs = search needs
-
-value-at-requires : tie.Need-value-at-requires Inv-loop μ-loop
-value-at-requires c κs = search needs
 
 returns-2 : tie.Need-returns-2 Inv-loop μ-loop
 returns-2 c =
     chain-here _ _ _ _ _ _ (c .before .before .before .before .loop-test .taken) (c .before .before .before .if1 .left) (c .before .before .segment .ensures)
     (c .before .if2 .taken) (c .value-at .ensures) ∙ c .before .before .before .before .before .loop .inv .3
-
-segment-requires-2 : tie.Need-segment-requires-2 Inv-loop μ-loop
-segment-requires-2 c κs = search needs
-
-sub-k : tie.Need-sub-k Inv-loop μ-loop
-sub-k c = omega arith
-
-loop-less : tie.Need-loop-less Inv-loop μ-loop
-loop-less c = omega arith
 
 loop-again : tie.Need-loop-again Inv-loop μ-loop
 loop-again c = (
@@ -54,16 +36,5 @@ returns-3 c = chain-none _ _ _ _ (c .loop-test .left) ∙ c .before .loop .inv .
 pub queued-spec : {M : Type 1} → statement M
 queued-spec =
     tie.close
-    (tie.spec
-    Inv-loop
-    μ-loop
-    loop-holds
-    returns
-    segment-requires
-    value-at-requires
-    returns-2
-    segment-requires-2
-    sub-k
-    loop-less
-    loop-again
-    returns-3)
+    (tie.spec Inv-loop μ-loop (λ c. (search needs, search needs, omega arith, refl)) returns (λ c κs. search needs) (λ c κs. search needs) returns-2
+    (λ c κs. search needs) (λ c. omega arith) (λ c. omega arith) loop-again returns-3)

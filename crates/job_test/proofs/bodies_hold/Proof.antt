@@ -16,9 +16,6 @@ Inv-loop job n p₀ p = (p ≤ n) × (upto (bodyHolds job) (n - p) p ≡ upto (b
 abbrev μ-loop : tie.MeasureT-loop
 μ-loop job n p₀ p = n - p
 
-procedures-requires : tie.Need-procedures-requires Inv-loop μ-loop
-procedures-requires c κs = search needs
-
 loop-holds : tie.Need-loop-holds Inv-loop μ-loop
 loop-holds c = (omega arith, upto-start _ _)
 
@@ -30,12 +27,6 @@ returns c =
     upto-stop _ _ _ (c .before .before .loop-test .taken) (sym (c .before .body-holds .ensures) ∙ not-true _ (c .if1 .taken))
     ∙ c .before .before .before .loop .inv .1 ∙ ap (λ (k : ℕ). upto (bodyHolds (c .before .before .before .before .before .before .args .job .now)) k 0)
     (c .before .before .before .before .procedures .ensures)
-
-add-p : tie.Need-add-p Inv-loop μ-loop
-add-p c = omega arith
-
-loop-less : tie.Need-loop-less Inv-loop μ-loop
-loop-less c = omega arith
 
 loop-again : tie.Need-loop-again Inv-loop μ-loop
 loop-again c = (
@@ -52,14 +43,4 @@ returns-2 c =
 pub bodies-hold-spec : {M : Type 1} → statement M
 bodies-hold-spec =
     tie.close
-    (tie.spec
-    Inv-loop
-    μ-loop
-    procedures-requires
-    loop-holds
-    body-holds-requires
-    returns
-    add-p
-    loop-less
-    loop-again
-    returns-2)
+    (tie.spec Inv-loop μ-loop (λ c κs. search needs) loop-holds body-holds-requires returns (λ c. omega arith) (λ c. omega arith) loop-again returns-2)

@@ -17,39 +17,12 @@ Inv-loop job p o n r i₀ i = (i ≤ n) × (upto (instructionHolds job p) (n - i
 abbrev μ-loop : tie.MeasureT-loop
 μ-loop job p o n r i₀ i = n - i
 
-last-holds-requires : tie.Need-last-holds-requires Inv-loop μ-loop
-last-holds-requires c κs = search needs
-
 returns : tie.Need-returns Inv-loop μ-loop
 unfolding bodyHolds
 returns c = sym (both-off _ (sym (c .before .last-holds .ensures) ∙ not-true _ (c .if1 .taken)))
 
-offset-requires : tie.Need-offset-requires Inv-loop μ-loop
-offset-requires c κs = search needs
-
-cast-o : tie.Need-cast-o Inv-loop μ-loop
-cast-o c = search needs
-
-count-requires : tie.Need-count-requires Inv-loop μ-loop
-count-requires c κs = search needs
-
-rights-requires : tie.Need-rights-requires Inv-loop μ-loop
-rights-requires c κs = search needs
-
 loop-holds : tie.Need-loop-holds Inv-loop μ-loop
 loop-holds c = (omega arith, upto-start _ _)
-
-cast-instruction-holds : tie.Need-cast-instruction-holds Inv-loop μ-loop
-cast-instruction-holds c = omega arith
-
-mul-instruction-holds : tie.Need-mul-instruction-holds Inv-loop μ-loop
-mul-instruction-holds c = omega arith
-
-add-instruction-holds : tie.Need-add-instruction-holds Inv-loop μ-loop
-add-instruction-holds c = omega arith
-
-instruction-holds-requires : tie.Need-instruction-holds-requires Inv-loop μ-loop
-instruction-holds-requires c κs = omega arith
 
 returns-2 : tie.Need-returns-2 Inv-loop μ-loop
 returns-2 c =
@@ -60,12 +33,6 @@ returns-2 c =
     (c .before .before .before .before .before .count .ensures) (c .before .before .before .before .rights .ensures)
     (c .before .instruction-holds .ensures) ∙ not-true _ (c .if2 .taken))
     ∙ c .before .before .before .loop .inv .1)
-
-add-i : tie.Need-add-i Inv-loop μ-loop
-add-i c = omega arith
-
-loop-less : tie.Need-loop-less Inv-loop μ-loop
-loop-less c = omega arith
 
 loop-again : tie.Need-loop-again Inv-loop μ-loop
 loop-again c = (
@@ -85,22 +52,6 @@ returns-3 c =
 pub body-holds-spec : {M : Type 1} → statement M
 body-holds-spec =
     tie.close
-    (tie.spec
-    Inv-loop
-    μ-loop
-    last-holds-requires
-    returns
-    offset-requires
-    cast-o
-    count-requires
-    rights-requires
-    loop-holds
-    cast-instruction-holds
-    mul-instruction-holds
-    add-instruction-holds
-    instruction-holds-requires
-    returns-2
-    add-i
-    loop-less
-    loop-again
-    returns-3)
+    (tie.spec Inv-loop μ-loop (λ c κs. search needs) returns (λ c κs. search needs) (λ c. search needs) (λ c κs. search needs) (λ c κs. search needs)
+    loop-holds (λ c. omega arith) (λ c. omega arith) (λ c. omega arith) (λ c κs. omega arith) returns-2 (λ c. omega arith) (λ c. omega arith)
+    loop-again returns-3)

@@ -17,40 +17,13 @@ Inv-loop job n a₀ p₀ a p = (p ≤ n) × (a ≤ 4 + n * 6 + p * 768) × (entr
 abbrev μ-loop : tie.MeasureT-loop
 μ-loop job n a₀ p₀ a p = n - p
 
-mul-a : tie.Need-mul-a Inv-loop μ-loop
-mul-a c = search needs
-
-add-a : tie.Need-add-a Inv-loop μ-loop
-add-a c = search needs
-
 loop-holds : tie.Need-loop-holds Inv-loop μ-loop
 loop-holds c = (omega arith, omega arith, entries-start _ _ _)
-
-entry-holds-requires : tie.Need-entry-holds-requires Inv-loop μ-loop
-entry-holds-requires c κs = search needs
 
 returns : tie.Need-returns Inv-loop μ-loop
 returns c =
     entries-stop _ _ _ _ (c .before .before .loop-test .taken) (sym (c .before .entry-holds .ensures) ∙ not-true _ (c .if1 .taken))
     ∙ c .before .before .before .loop .inv .2
-
-count-requires : tie.Need-count-requires Inv-loop μ-loop
-count-requires c κs = search needs
-
-cast-a : tie.Need-cast-a Inv-loop μ-loop
-cast-a c = search needs
-
-mul-a-2 : tie.Need-mul-a-2 Inv-loop μ-loop
-mul-a-2 c = omega arith
-
-add-a-2 : tie.Need-add-a-2 Inv-loop μ-loop
-add-a-2 c = omega arith
-
-add-p : tie.Need-add-p Inv-loop μ-loop
-add-p c = omega arith
-
-loop-less : tie.Need-loop-less Inv-loop μ-loop
-loop-less c = omega arith
 
 loop-again : tie.Need-loop-again Inv-loop μ-loop
 loop-again c = (
@@ -70,19 +43,5 @@ returns-2 c = entries-end _ _ _ _ (c .loop-test .left) ∙ c .before .loop .inv 
 pub entries-hold-spec : {M : Type 1} → statement M
 entries-hold-spec =
     tie.close
-    (tie.spec
-    Inv-loop
-    μ-loop
-    mul-a
-    add-a
-    loop-holds
-    entry-holds-requires
-    returns
-    count-requires
-    cast-a
-    mul-a-2
-    add-a-2
-    add-p
-    loop-less
-    loop-again
-    returns-2)
+    (tie.spec Inv-loop μ-loop (λ c. search needs) (λ c. search needs) loop-holds (λ c κs. search needs) returns (λ c κs. search needs)
+    (λ c. search needs) (λ c. omega arith) (λ c. omega arith) (λ c. omega arith) (λ c. omega arith) loop-again returns-2)

@@ -15,21 +15,6 @@ Inv-loop m₀ n i₀ m i = (n ≡ length m₀) × (i ≤ n) × (length m ≡ len
 abbrev μ-loop : tie.MeasureT-loop
 μ-loop m₀ n i₀ m i = n - i
 
-loop-holds : tie.Need-loop-holds Inv-loop μ-loop
-loop-holds c = (refl, omega arith, refl, refl)
-
-mul-m : tie.Need-mul-m Inv-loop μ-loop
-mul-m c = search needs
-
-slice-write-m : tie.Need-slice-write-m Inv-loop μ-loop
-slice-write-m c = search needs
-
-add-i : tie.Need-add-i Inv-loop μ-loop
-add-i c = search needs
-
-loop-less : tie.Need-loop-less Inv-loop μ-loop
-loop-less c = omega arith
-
 loop-again : tie.Need-loop-again Inv-loop μ-loop
 loop-again c = (
   refl,
@@ -37,9 +22,6 @@ loop-again c = (
   length-set (c .before .loop .m) (c .before .loop .i) 0 ∙ c .before .loop .inv .2,
   clear-more (c .before .before .args .m .now) (c .before .loop .m) _ (c .before .loop .i) (c .loop-test .taken) (c .before .loop .inv .3) refl,
 )
-
-same-length : tie.Need-same-length Inv-loop μ-loop
-same-length c = search needs
 
 returns : tie.Need-returns Inv-loop μ-loop
 returns c =
@@ -49,14 +31,5 @@ returns c =
 pub clear-spec : {M : Type 1} → statement M
 clear-spec =
     tie.close
-    (tie.spec
-    Inv-loop
-    μ-loop
-    loop-holds
-    mul-m
-    slice-write-m
-    add-i
-    loop-less
-    loop-again
-    same-length
-    returns)
+    (tie.spec Inv-loop μ-loop (λ c. (refl, omega arith, refl, refl)) (λ c. search needs) (λ c. search needs) (λ c. search needs) (λ c. omega arith)
+    loop-again (λ c. search needs) returns)

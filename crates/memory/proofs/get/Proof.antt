@@ -5,13 +5,9 @@ use borrow.Author.Needs.{needs}
 use Rattle.memory.proofs.get.Statement.{statement}
 use Rattle.memory.proofs.get.Tie as tie
 
-returns : tie.Need-returns
-unfolding load
-returns c = search needs
-
 returns-2 : tie.Need-returns-2
 unfolding load
 returns-2 c = sym (List·getD-eq-default (c .before .args .m .now) 0 (c .if1 .left))
 
 pub get-spec : {M : Type 1} → statement M
-get-spec = tie.close (tie.spec (λ c. search needs) (λ c. search needs) returns returns-2)
+get-spec = tie.close (tie.spec (λ c. search needs) (λ c. search needs) (λ c. unfold load in search needs) returns-2)

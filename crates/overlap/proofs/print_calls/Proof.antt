@@ -15,24 +15,6 @@ Inv-loop job tasks₀ m₀ r₀ before₀ t8 t9 tasks m r before =
 abbrev μ-loop : tie.MeasureT-loop
 μ-loop job tasks₀ m₀ r₀ before₀ t8 t9 tasks m r before = 9223372036854775808 + 1024 - before
 
-loop-holds : tie.Need-loop-holds Inv-loop μ-loop
-loop-holds c = (refl, refl, refl, omega arith)
-
-read-some-requires : tie.Need-read-some-requires Inv-loop μ-loop
-read-some-requires c κs = search needs
-
-enum-known-some : tie.Need-enum-known-some Inv-loop μ-loop
-enum-known-some c = c .match .keys1
-
-enum-told : tie.Need-enum-told Inv-loop μ-loop
-enum-told c = c .match .keys2
-
-slice-aggregate-fail : tie.Need-slice-aggregate-fail Inv-loop μ-loop
-slice-aggregate-fail c = search needs
-
-fail-requires : tie.Need-fail-requires Inv-loop μ-loop
-fail-requires c κs = search needs
-
 same-length : tie.Need-same-length Inv-loop μ-loop
 same-length c =
     c .before .before .before .before .before .before .read-some .kept .1 .0
@@ -44,9 +26,6 @@ same-length-2 c = c .before .before .before .before .before .before .before .bef
 same-length-3 : tie.Need-same-length-3 Inv-loop μ-loop
 same-length-3 c = c .before .before .before .before .before .before .before .before .before .loop .inv .2
 
-returns : tie.Need-returns Inv-loop μ-loop
-returns c = search needs
-
 same-length-4 : tie.Need-same-length-4 Inv-loop μ-loop
 same-length-4 c =
     c .before .before .before .before .before .before .read-some .kept .1 .0
@@ -57,9 +36,6 @@ same-length-5 c = c .before .before .before .before .before .before .before .bef
 
 same-length-6 : tie.Need-same-length-6 Inv-loop μ-loop
 same-length-6 c = c .before .before .before .before .before .before .before .before .before .loop .inv .2
-
-returns-2 : tie.Need-returns-2 Inv-loop μ-loop
-returns-2 c = search needs
 
 slice-reshare-prefix-print-block : tie.Need-slice-reshare-prefix-print-block Inv-loop μ-loop
 slice-reshare-prefix-print-block c =
@@ -83,12 +59,6 @@ print-block-requires c κs = (
   omega arith,
 )
 
-slice-aggregate-fail-2 : tie.Need-slice-aggregate-fail-2 Inv-loop μ-loop
-slice-aggregate-fail-2 c = search needs
-
-fail-requires-2 : tie.Need-fail-requires-2 Inv-loop μ-loop
-fail-requires-2 c κs = search needs
-
 same-length-7 : tie.Need-same-length-7 Inv-loop μ-loop
 same-length-7 c =
     c .before .before .before .before .before .before .before .before .before .before .before .before .before .before .before .before .before .read-some .kept
@@ -107,9 +77,6 @@ same-length-9 c =
     c .before .before .before .before .before .before .before .print-block .kept .1 .1 .1 .0
     ∙ c .before .before .before .before .before .before .before .before .before .before .before .before .before .before .before .before .before .before
     .before .before .loop .inv .2
-
-returns-3 : tie.Need-returns-3 Inv-loop μ-loop
-returns-3 c = search needs
 
 add-before : tie.Need-add-before Inv-loop μ-loop
 add-before c =
@@ -158,51 +125,11 @@ loop-again c =
       omega (arith, h),
     )
 
-same-length-10 : tie.Need-same-length-10 Inv-loop μ-loop
-same-length-10 c = c .before .loop .inv .0
-
-same-length-11 : tie.Need-same-length-11 Inv-loop μ-loop
-same-length-11 c = c .before .loop .inv .1
-
-same-length-12 : tie.Need-same-length-12 Inv-loop μ-loop
-same-length-12 c = c .before .loop .inv .2
-
-returns-4 : tie.Need-returns-4 Inv-loop μ-loop
-returns-4 c = search needs
-
 pub print-calls-spec : {M : Type 1} → statement M
 print-calls-spec =
     tie.close
-    (tie.spec
-    Inv-loop
-    μ-loop
-    loop-holds
-    read-some-requires
-    enum-known-some
-    enum-told
-    slice-aggregate-fail
-    fail-requires
-    same-length
-    same-length-2
-    same-length-3
-    returns
-    same-length-4
-    same-length-5
-    same-length-6
-    returns-2
-    slice-reshare-prefix-print-block
-    slice-aggregate-print-block
-    print-block-requires
-    slice-aggregate-fail-2
-    fail-requires-2
-    same-length-7
-    same-length-8
-    same-length-9
-    returns-3
-    add-before
-    loop-less
-    loop-again
-    same-length-10
-    same-length-11
-    same-length-12
-    returns-4)
+    (tie.spec Inv-loop μ-loop (λ c. (refl, refl, refl, omega arith)) (λ c κs. search needs) (λ c. c .match .keys1) (λ c. c .match .keys2)
+    (λ c. search needs) (λ c κs. search needs) same-length same-length-2 same-length-3 (λ c. search needs) same-length-4 same-length-5 same-length-6
+    (λ c. search needs) slice-reshare-prefix-print-block slice-aggregate-print-block print-block-requires (λ c. search needs) (λ c κs. search needs)
+    same-length-7 same-length-8 same-length-9 (λ c. search needs) add-before loop-less loop-again (λ c. c .before .loop .inv .0)
+    (λ c. c .before .loop .inv .1) (λ c. c .before .loop .inv .2) (λ c. search needs))

@@ -5,24 +5,6 @@ use borrow.Author.Needs.{needs}
 use Rattle.overlap_text.proofs.is_left.Statement.{statement}
 use Rattle.overlap_text.proofs.is_left.Tie as tie
 
-left-at-requires : tie.Need-left-at-requires
-left-at-requires c κs = search needs
-
-enum-told : tie.Need-enum-told
-enum-told c = search needs
-
-enum-told-2 : tie.Need-enum-told-2
-enum-told-2 c = search needs
-
-enum-told-3 : tie.Need-enum-told-3
-enum-told-3 c = search needs
-
-enum-told-4 : tie.Need-enum-told-4
-enum-told-4 c = search needs
-
-enum-told-5 : tie.Need-enum-told-5
-enum-told-5 c = search needs
-
 returns : tie.Need-returns
 unfolding isValue
 returns c = sym (ap isValue (c .enum-told .given .1)) ∙ ap isValue (left-says _ _ _ (c .before .before .left-at .ensures))
@@ -46,15 +28,5 @@ returns-5 c = sym (ap isValue (c .enum-told5 .given .1)) ∙ ap isValue (left-sa
 pub is-left-spec : {M : Type 1} → statement M
 is-left-spec =
     tie.close
-    (tie.spec
-    left-at-requires
-    enum-told
-    enum-told-2
-    enum-told-3
-    enum-told-4
-    enum-told-5
-    returns
-    returns-2
-    returns-3
-    returns-4
-    returns-5)
+    (tie.spec (λ c κs. search needs) (λ c. search needs) (λ c. search needs) (λ c. search needs) (λ c. search needs) (λ c. search needs) returns
+    returns-2 returns-3 returns-4 returns-5)

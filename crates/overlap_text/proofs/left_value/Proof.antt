@@ -5,24 +5,6 @@ use borrow.Author.Needs.{needs}
 use Rattle.overlap_text.proofs.left_value.Statement.{statement}
 use Rattle.overlap_text.proofs.left_value.Tie as tie
 
-left-at-requires : tie.Need-left-at-requires
-left-at-requires c κs = search needs
-
-enum-known-a : tie.Need-enum-known-a
-enum-known-a c = search needs
-
-enum-told : tie.Need-enum-told
-enum-told c = search needs
-
-enum-told-2 : tie.Need-enum-told-2
-enum-told-2 c = search needs
-
-enum-told-3 : tie.Need-enum-told-3
-enum-told-3 c = search needs
-
-enum-told-4 : tie.Need-enum-told-4
-enum-told-4 c = search needs
-
 returns : tie.Need-returns
 unfolding valueOf
 returns c = sym (ap valueOf (c .before .a .given .1)) ∙ ap valueOf (left-says _ _ _ (c .before .before .before .left-at .ensures))
@@ -46,15 +28,5 @@ returns-5 c = sym (ap valueOf (c .enum-told4 .given .1)) ∙ ap valueOf (left-sa
 pub left-value-spec : {M : Type 1} → statement M
 left-value-spec =
     tie.close
-    (tie.spec
-    left-at-requires
-    enum-known-a
-    enum-told
-    enum-told-2
-    enum-told-3
-    enum-told-4
-    returns
-    returns-2
-    returns-3
-    returns-4
-    returns-5)
+    (tie.spec (λ c κs. search needs) (λ c. search needs) (λ c. search needs) (λ c. search needs) (λ c. search needs) (λ c. search needs) returns
+    returns-2 returns-3 returns-4 returns-5)

@@ -15,20 +15,8 @@ abbrev μ-loop : tie.MeasureT-loop
 loop-holds : tie.Need-loop-holds Inv-loop μ-loop
 loop-holds c = (omega arith, omega arith, sym (none-counted _))
 
-unfinished-requires : tie.Need-unfinished-requires Inv-loop μ-loop
-unfinished-requires c κs = search needs
-
-one-requires : tie.Need-one-requires Inv-loop μ-loop
-one-requires c κs = search needs
-
 add-n : tie.Need-add-n Inv-loop μ-loop
 add-n c = let h = one-small _ (c .one .ensures) in omega (arith, h)
-
-add-t : tie.Need-add-t Inv-loop μ-loop
-add-t c = omega arith
-
-loop-less : tie.Need-loop-less Inv-loop μ-loop
-loop-less c = omega arith
 
 loop-again : tie.Need-loop-again Inv-loop μ-loop
 loop-again c = (
@@ -43,14 +31,4 @@ returns c = all-counted _ _ _ (c .loop-test .left) (c .before .loop .inv .0) (c 
 pub unfinished-count-spec : {M : Type 1} → statement M
 unfinished-count-spec =
     tie.close
-    (tie.spec
-    Inv-loop
-    μ-loop
-    loop-holds
-    unfinished-requires
-    one-requires
-    add-n
-    add-t
-    loop-less
-    loop-again
-    returns)
+    (tie.spec Inv-loop μ-loop loop-holds (λ c κs. search needs) (λ c κs. search needs) add-n (λ c. omega arith) (λ c. omega arith) loop-again returns)

@@ -13,35 +13,11 @@ Inv-loop fd bytes₀ n₀ bytes n = (n ≤ length bytes) × (length bytes ≡ le
 abbrev μ-loop : tie.MeasureT-loop
 μ-loop fd bytes₀ n₀ bytes n = length bytes - n
 
-loop-holds : tie.Need-loop-holds Inv-loop μ-loop
-loop-holds c = (omega arith, refl)
-
-sub-read-some : tie.Need-sub-read-some Inv-loop μ-loop
-sub-read-some c = omega arith
-
-part-read-some-start : tie.Need-part-read-some-start Inv-loop μ-loop
-part-read-some-start c = omega arith
-
-part-read-some-end : tie.Need-part-read-some-end Inv-loop μ-loop
-part-read-some-end c = omega arith
-
-read-some-requires : tie.Need-read-some-requires Inv-loop μ-loop
-read-some-requires c κs = search needs
-
-enum-known-some : tie.Need-enum-known-some Inv-loop μ-loop
-enum-known-some c = c .match .keys1
-
-enum-told : tie.Need-enum-told Inv-loop μ-loop
-enum-told c = c .match .keys2
-
 same-length : tie.Need-same-length Inv-loop μ-loop
 same-length c =
     whole-kept (c .before .before .before .before .before .before .before .loop .n) (c .before .before .before .before .before .before .before .loop .bytes)
     (c .before .before .before .before .read-some .last .1 .0) (c .before .before .before .before .read-some .kept .1 .0)
     ∙ c .before .before .before .before .before .before .before .loop .inv .1
-
-returns : tie.Need-returns Inv-loop μ-loop
-returns c = tt
 
 same-length-2 : tie.Need-same-length-2 Inv-loop μ-loop
 same-length-2 c =
@@ -89,31 +65,12 @@ loop-again c =
     (c .before .before .before .before .before .before .read-some .last .1 .0) (c .before .before .before .before .before .before .read-some .kept .1 .0) in
     (omega (arith, e, h), e ∙ c .before .before .before .before .before .before .before .before .before .loop .inv .1)
 
-same-length-3 : tie.Need-same-length-3 Inv-loop μ-loop
-same-length-3 c = c .before .loop .inv .1
-
 returns-3 : tie.Need-returns-3 Inv-loop μ-loop
 returns-3 c = counts _ _ (c .before .loop .inv .0)
 
 pub read-start-spec : {M : Type 1} → statement M
 read-start-spec =
     tie.close
-    (tie.spec
-    Inv-loop
-    μ-loop
-    loop-holds
-    sub-read-some
-    part-read-some-start
-    part-read-some-end
-    read-some-requires
-    enum-known-some
-    enum-told
-    same-length
-    returns
-    same-length-2
-    returns-2
-    add-n
-    loop-less
-    loop-again
-    same-length-3
-    returns-3)
+    (tie.spec Inv-loop μ-loop (λ c. (omega arith, refl)) (λ c. omega arith) (λ c. omega arith) (λ c. omega arith) (λ c κs. search needs)
+    (λ c. c .match .keys1) (λ c. c .match .keys2) same-length (λ c. tt) same-length-2 returns-2 add-n loop-less loop-again
+    (λ c. c .before .loop .inv .1) returns-3)

@@ -42,6 +42,4 @@ returns-5 : tie.Need-returns-5
 returns-5 c = in-none _ _ _ _ (c .before .before .before .if1 .left) (c .before .before .if2 .left) (c .before .if3 .left) (c .if4 .left)
 
 pub lowest-spec : {M : Type 1} → statement M
-lowest-spec =
-    tie.close
-    (tie.spec returns add-result returns-2 add-result-2 returns-3 add-result-3 returns-4 returns-5)
+lowest-spec = tie.close (tie.spec returns add-result returns-2 add-result-2 returns-3 add-result-3 returns-4 returns-5)

@@ -18,20 +18,8 @@ abbrev μ-loop : tie.MeasureT-loop
 loop-holds : tie.Need-loop-holds Inv-loop μ-loop
 loop-holds c = (omega arith, sym (bits-none _ _))
 
-add-step-moves : tie.Need-add-step-moves Inv-loop μ-loop
-add-step-moves c = omega arith
-
-step-moves-requires : tie.Need-step-moves-requires Inv-loop μ-loop
-step-moves-requires c κs = search needs
-
 with-bit-requires : tie.Need-with-bit-requires Inv-loop μ-loop
 with-bit-requires c κs = (below _ _ _ (c .before .before .loop .inv .1), c .before .loop-test .taken)
-
-add-k : tie.Need-add-k Inv-loop μ-loop
-add-k c = omega arith
-
-loop-less : tie.Need-loop-less Inv-loop μ-loop
-loop-less c = omega arith
 
 loop-again : tie.Need-loop-again Inv-loop μ-loop
 loop-again c = (omega arith, one-more _ _ _ (c .before .before .before .loop .inv .1) (c .before .step-moves .ensures) (c .with-bit .ensures))
@@ -42,14 +30,5 @@ returns c = whole _ _ _ (c .before .loop .inv .1) (c .before .loop .inv .0) (c .
 pub word-from-spec : {M : Type 1} → statement M
 word-from-spec =
     tie.close
-    (tie.spec
-    Inv-loop
-    μ-loop
-    loop-holds
-    add-step-moves
-    step-moves-requires
-    with-bit-requires
-    add-k
-    loop-less
-    loop-again
+    (tie.spec Inv-loop μ-loop loop-holds (λ c. omega arith) (λ c κs. search needs) with-bit-requires (λ c. omega arith) (λ c. omega arith) loop-again
     returns)

@@ -19,19 +19,10 @@ loop-holds : tie.Need-loop-holds Inv-loop μ-loop
 unfolding runnerHolds
 loop-holds c = (omega arith, refl)
 
-record-holds-requires : tie.Need-record-holds-requires Inv-loop μ-loop
-record-holds-requires c κs = search needs
-
 returns : tie.Need-returns Inv-loop μ-loop
 returns c =
     upto-stop _ _ _ (c .before .before .loop-test .taken) (sym (c .before .record-holds .ensures) ∙ not-true _ (c .if1 .taken))
     ∙ c .before .before .before .loop .inv .1
-
-add-t : tie.Need-add-t Inv-loop μ-loop
-add-t c = omega arith
-
-loop-less : tie.Need-loop-less Inv-loop μ-loop
-loop-less c = omega arith
 
 loop-again : tie.Need-loop-again Inv-loop μ-loop
 loop-again c = (
@@ -44,15 +35,4 @@ returns-2 : tie.Need-returns-2 Inv-loop μ-loop
 returns-2 c = upto-end _ _ _ (c .loop-test .left) ∙ c .before .loop .inv .1
 
 pub holds-spec : {M : Type 1} → statement M
-holds-spec =
-    tie.close
-    (tie.spec
-    Inv-loop
-    μ-loop
-    loop-holds
-    record-holds-requires
-    returns
-    add-t
-    loop-less
-    loop-again
-    returns-2)
+holds-spec = tie.close (tie.spec Inv-loop μ-loop loop-holds (λ c κs. search needs) returns (λ c. omega arith) (λ c. omega arith) loop-again returns-2)

@@ -19,15 +19,6 @@ Inv-loop d₀ m n h i₀ d i =
 abbrev μ-loop : tie.MeasureT-loop
 μ-loop d₀ m n h i₀ d i = h - i
 
-shared-slice-read-n : tie.Need-shared-slice-read-n Inv-loop μ-loop
-shared-slice-read-n c = search needs
-
-shared-slice-read-h : tie.Need-shared-slice-read-h Inv-loop μ-loop
-shared-slice-read-h c = search needs
-
-cast-h : tie.Need-cast-h Inv-loop μ-loop
-cast-h c = search needs
-
 loop-holds : tie.Need-loop-holds Inv-loop μ-loop
 loop-holds c = (
   omega arith,
@@ -36,27 +27,12 @@ loop-holds c = (
   ap (λ (l : List ℕ). marking l (c .before .before .args .d .now)) (rest-all (c .before .before .args .m .now)),
 )
 
-add-s : tie.Need-add-s Inv-loop μ-loop
-add-s c = omega arith
-
-mul-s : tie.Need-mul-s Inv-loop μ-loop
-mul-s c = search needs
-
-shared-slice-read-s : tie.Need-shared-slice-read-s Inv-loop μ-loop
-shared-slice-read-s c = omega arith
-
 returns : tie.Need-returns Inv-loop μ-loop
 returns c = (
   free-far (c .before .before .before .before .before .before .args .m .now) _ _ _ (c .before .before .loop-test .taken) (omega arith) (c .if1 .taken)
       ∙ c .before .before .before .loop .inv .1,
   λ e. absurd (false≢true e),
 )
-
-cast-if2 : tie.Need-cast-if2 Inv-loop μ-loop
-cast-if2 c = omega arith
-
-element-copy-out-if2 : tie.Need-element-copy-out-if2 Inv-loop μ-loop
-element-copy-out-if2 c = omega arith
 
 returns-2 : tie.Need-returns-2 Inv-loop μ-loop
 returns-2 c = (
@@ -65,18 +41,6 @@ returns-2 c = (
       ∙ c .before .before .before .before .before .loop .inv .1,
   λ e. absurd (false≢true e),
 )
-
-cast-d : tie.Need-cast-d Inv-loop μ-loop
-cast-d c = omega arith
-
-element-write-d : tie.Need-element-write-d Inv-loop μ-loop
-element-write-d c = omega arith
-
-add-i : tie.Need-add-i Inv-loop μ-loop
-add-i c = omega arith
-
-loop-less : tie.Need-loop-less Inv-loop μ-loop
-loop-less c = omega arith
 
 loop-again : tie.Need-loop-again Inv-loop μ-loop
 loop-again c = (
@@ -98,23 +62,6 @@ returns-3 c = (
 pub mark-free-spec : {M : Type 1} → statement M
 mark-free-spec =
     tie.close
-    (tie.spec
-    Inv-loop
-    μ-loop
-    shared-slice-read-n
-    shared-slice-read-h
-    cast-h
-    loop-holds
-    add-s
-    mul-s
-    shared-slice-read-s
-    returns
-    cast-if2
-    element-copy-out-if2
-    returns-2
-    cast-d
-    element-write-d
-    add-i
-    loop-less
-    loop-again
-    returns-3)
+    (tie.spec Inv-loop μ-loop (λ c. search needs) (λ c. search needs) (λ c. search needs) loop-holds (λ c. omega arith) (λ c. search needs)
+    (λ c. omega arith) returns (λ c. omega arith) (λ c. omega arith) returns-2 (λ c. omega arith) (λ c. omega arith) (λ c. omega arith)
+    (λ c. omega arith) loop-again returns-3)

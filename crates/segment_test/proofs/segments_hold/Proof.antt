@@ -16,23 +16,8 @@ Inv-loop m n good₀ s₀ good s = (s ≤ n) × (both good (upto (segmentTest (d
 abbrev μ-loop : tie.MeasureT-loop
 μ-loop m n good₀ s₀ good s = n - s
 
-shared-slice-read-n : tie.Need-shared-slice-read-n Inv-loop μ-loop
-shared-slice-read-n c = search needs
-
-cast-n : tie.Need-cast-n Inv-loop μ-loop
-cast-n c = search needs
-
 loop-holds : tie.Need-loop-holds Inv-loop μ-loop
 loop-holds c = (omega arith, upto-start _ _)
-
-sound-requires : tie.Need-sound-requires Inv-loop μ-loop
-sound-requires c κs = (search needs, omega arith)
-
-add-s : tie.Need-add-s Inv-loop μ-loop
-add-s c = omega arith
-
-loop-less : tie.Need-loop-less Inv-loop μ-loop
-loop-less c = omega arith
 
 loop-again : tie.Need-loop-again Inv-loop μ-loop
 loop-again c = (omega arith, upto-more _ _ _ _ _ (c .before .loop-test .taken) (c .sound .ensures) ∙ c .before .before .loop .inv .1)
@@ -43,14 +28,5 @@ returns c = upto-done _ _ _ _ (c .loop-test .left) ∙ c .before .loop .inv .1
 pub segments-hold-spec : {M : Type 1} → statement M
 segments-hold-spec =
     tie.close
-    (tie.spec
-    Inv-loop
-    μ-loop
-    shared-slice-read-n
-    cast-n
-    loop-holds
-    sound-requires
-    add-s
-    loop-less
-    loop-again
-    returns)
+    (tie.spec Inv-loop μ-loop (λ c. search needs) (λ c. search needs) loop-holds (λ c κs. (search needs, omega arith)) (λ c. omega arith)
+    (λ c. omega arith) loop-again returns)

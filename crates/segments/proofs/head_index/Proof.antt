@@ -16,20 +16,8 @@ abbrev μ-loop : tie.MeasureT-loop
 loop-holds : tie.Need-loop-holds Inv-loop μ-loop
 loop-holds c = (omega arith, head-start _ _ _)
 
-add-task : tie.Need-add-task Inv-loop μ-loop
-add-task c = omega arith
-
-task-requires : tie.Need-task-requires Inv-loop μ-loop
-task-requires c κs = search needs
-
 returns : tie.Need-returns Inv-loop μ-loop
 returns c = head-found _ _ _ _ _ (c .before .before .loop-test .taken) (c .before .task .ensures) (c .if1 .taken) ∙ c .before .before .before .loop .inv .1
-
-add-i : tie.Need-add-i Inv-loop μ-loop
-add-i c = omega arith
-
-loop-less : tie.Need-loop-less Inv-loop μ-loop
-loop-less c = omega arith
 
 loop-again : tie.Need-loop-again Inv-loop μ-loop
 loop-again c = (
@@ -44,14 +32,4 @@ returns-2 c = head-none _ _ _ _ (c .before .loop .inv .0) (c .loop-test .left) �
 pub head-index-spec : {M : Type 1} → statement M
 head-index-spec =
     tie.close
-    (tie.spec
-    Inv-loop
-    μ-loop
-    loop-holds
-    add-task
-    task-requires
-    returns
-    add-i
-    loop-less
-    loop-again
-    returns-2)
+    (tie.spec Inv-loop μ-loop loop-holds (λ c. omega arith) (λ c κs. search needs) returns (λ c. omega arith) (λ c. omega arith) loop-again returns-2)

@@ -15,27 +15,12 @@ Inv-loop m s x₀ k₀ x k = (x < 2 ^ 32) × (seek k (headHere m s) (recordOf m)
 abbrev μ-loop : tie.MeasureT-loop
 μ-loop m s x₀ k₀ x k = k
 
-loop-holds : tie.Need-loop-holds Inv-loop μ-loop
-loop-holds c = (omega arith, refl)
-
 returns : tie.Need-returns Inv-loop μ-loop
 returns c = seek-end _ _ _ _ (c .before .loop-test .taken) (c .if1 .taken) ∙ c .before .before .loop .inv .1
-
-head-here-requires : tie.Need-head-here-requires Inv-loop μ-loop
-head-here-requires c κs = search needs
 
 returns-2 : tie.Need-returns-2 Inv-loop μ-loop
 returns-2 c = seek-here _ _ _ _ (c .before .before .before .loop-test .taken) (c .before .before .if1 .left)
     (sym (c .before .head-here .ensures) ∙ c .if2 .taken) ∙ c .before .before .before .before .loop .inv .1
-
-after-requires : tie.Need-after-requires Inv-loop μ-loop
-after-requires c κs = search needs
-
-sub-k : tie.Need-sub-k Inv-loop μ-loop
-sub-k c = omega arith
-
-loop-less : tie.Need-loop-less Inv-loop μ-loop
-loop-less c = omega arith
 
 loop-again : tie.Need-loop-again Inv-loop μ-loop
 loop-again c = (
@@ -51,15 +36,5 @@ returns-3 c = seek-none _ _ _ _ (c .loop-test .left) ∙ c .before .loop .inv .1
 pub head-task-spec : {M : Type 1} → statement M
 head-task-spec =
     tie.close
-    (tie.spec
-    Inv-loop
-    μ-loop
-    loop-holds
-    returns
-    head-here-requires
-    returns-2
-    after-requires
-    sub-k
-    loop-less
-    loop-again
-    returns-3)
+    (tie.spec Inv-loop μ-loop (λ c. (omega arith, refl)) returns (λ c κs. search needs) returns-2 (λ c κs. search needs) (λ c. omega arith)
+    (λ c. omega arith) loop-again returns-3)

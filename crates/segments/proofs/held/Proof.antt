@@ -16,34 +16,16 @@ Inv-loop m y h i₀ i = (i ≤ h) × (h < 2 ^ 32) × (eqb (occurrences y (rest m
 abbrev μ-loop : tie.MeasureT-loop
 μ-loop m y h i₀ i = h - i
 
-header-requires : tie.Need-header-requires Inv-loop μ-loop
-header-requires c κs = search needs
-
 loop-holds : tie.Need-loop-holds Inv-loop μ-loop
 loop-holds c = (omega arith, search needs, held-start _ _ _ (c .header .ensures))
 
-cast-if1 : tie.Need-cast-if1 Inv-loop μ-loop
-cast-if1 c = omega arith
-
-add-if1 : tie.Need-add-if1 Inv-loop μ-loop
-add-if1 c = omega arith
-
 returns : tie.Need-returns Inv-loop μ-loop
 returns c = held-none _ _ _ _ (rest-out _ _ _ (c .if1 .taken)) ∙ c .before .before .loop .inv .2
-
-free-segment-requires : tie.Need-free-segment-requires Inv-loop μ-loop
-free-segment-requires c κs = search needs
 
 returns-2 : tie.Need-returns-2 Inv-loop μ-loop
 returns-2 c =
     held-found _ _ _ _ _ (c .before .before .before .loop-test .taken) (c .before .before .if1 .left) (c .before .free-segment .ensures) (c .if2 .taken)
     ∙ c .before .before .before .before .loop .inv .2
-
-add-i : tie.Need-add-i Inv-loop μ-loop
-add-i c = omega arith
-
-loop-less : tie.Need-loop-less Inv-loop μ-loop
-loop-less c = omega arith
 
 loop-again : tie.Need-loop-again Inv-loop μ-loop
 loop-again c = (
@@ -59,17 +41,5 @@ returns-3 c = held-none _ _ _ _ (rest-end _ _ _ (c .loop-test .left)) ∙ c .bef
 pub held-spec : {M : Type 1} → statement M
 held-spec =
     tie.close
-    (tie.spec
-    Inv-loop
-    μ-loop
-    header-requires
-    loop-holds
-    cast-if1
-    add-if1
-    returns
-    free-segment-requires
-    returns-2
-    add-i
-    loop-less
-    loop-again
-    returns-3)
+    (tie.spec Inv-loop μ-loop (λ c κs. search needs) loop-holds (λ c. omega arith) (λ c. omega arith) returns (λ c κs. search needs) returns-2
+    (λ c. omega arith) (λ c. omega arith) loop-again returns-3)

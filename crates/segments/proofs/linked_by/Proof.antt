@@ -15,15 +15,6 @@ Inv-loop m s d n y₀ y = (y ≤ n) × (n < 2 ^ 32) × (linkedBy (n - y) m s y �
 abbrev μ-loop : tie.MeasureT-loop
 μ-loop m s d n y₀ y = n - y
 
-slice-aggregate-mark-free : tie.Need-slice-aggregate-mark-free Inv-loop μ-loop
-slice-aggregate-mark-free c = refl
-
-mark-free-requires : tie.Need-mark-free-requires Inv-loop μ-loop
-mark-free-requires c κs = search needs
-
-header-requires : tie.Need-header-requires Inv-loop μ-loop
-header-requires c κs = search needs
-
 loop-holds : tie.Need-loop-holds Inv-loop μ-loop
 loop-holds c = (omega arith, search needs, by-start _ _ _ (c .header .ensures))
 
@@ -34,12 +25,6 @@ next-is-requires c κs = c .before .before .before .before .before .mark-free .e
 returns : tie.Need-returns Inv-loop μ-loop
 returns c = by-found _ _ _ _ (c .before .before .before .loop-test .taken) (sym (c .before .next-is .ensures) ∙ c .if1 .taken)
     ∙ c .before .before .before .before .loop .inv .2
-
-add-y : tie.Need-add-y Inv-loop μ-loop
-add-y c = omega arith
-
-loop-less : tie.Need-loop-less Inv-loop μ-loop
-loop-less c = omega arith
 
 loop-again : tie.Need-loop-again Inv-loop μ-loop
 loop-again c = (
@@ -55,16 +40,5 @@ returns-2 c = by-end _ _ _ _ (c .loop-test .left) ∙ c .before .loop .inv .2
 pub linked-by-spec : {M : Type 1} → statement M
 linked-by-spec =
     tie.close
-    (tie.spec
-    Inv-loop
-    μ-loop
-    slice-aggregate-mark-free
-    mark-free-requires
-    header-requires
-    loop-holds
-    next-is-requires
-    returns
-    add-y
-    loop-less
-    loop-again
-    returns-2)
+    (tie.spec Inv-loop μ-loop (λ c. refl) (λ c κs. search needs) (λ c κs. search needs) loop-holds next-is-requires returns (λ c. omega arith)
+    (λ c. omega arith) loop-again returns-2)

@@ -16,35 +16,11 @@ Inv-loop m d₀ h i₀ d i = (i ≤ h) × (h < 2 ^ 32) × (length d ≡ length d
 abbrev μ-loop : tie.MeasureT-loop
 μ-loop m d₀ h i₀ d i = h - i
 
-header-requires : tie.Need-header-requires Inv-loop μ-loop
-header-requires c κs = search needs
-
 loop-holds : tie.Need-loop-holds Inv-loop μ-loop
 loop-holds c = (omega arith, search needs, refl, marks-start _ _ _ (c .header .ensures))
 
-cast-if1 : tie.Need-cast-if1 Inv-loop μ-loop
-cast-if1 c = omega arith
-
-add-if1 : tie.Need-add-if1 Inv-loop μ-loop
-add-if1 c = omega arith
-
-same-length : tie.Need-same-length Inv-loop μ-loop
-same-length c = c .before .before .loop .inv .2
-
 returns : tie.Need-returns Inv-loop μ-loop
 returns c = marks-none _ _ _ _ (rest-out _ _ _ (c .if1 .taken)) ∙ c .before .before .loop .inv .3
-
-free-segment-requires : tie.Need-free-segment-requires Inv-loop μ-loop
-free-segment-requires c κs = search needs
-
-mark-requires : tie.Need-mark-requires Inv-loop μ-loop
-mark-requires c κs = search needs
-
-add-i : tie.Need-add-i Inv-loop μ-loop
-add-i c = omega arith
-
-loop-less : tie.Need-loop-less Inv-loop μ-loop
-loop-less c = omega arith
 
 loop-again : tie.Need-loop-again Inv-loop μ-loop
 loop-again c = (
@@ -56,28 +32,11 @@ loop-again c = (
       ∙ c .before .before .before .before .before .before .before .loop .inv .3,
 )
 
-same-length-2 : tie.Need-same-length-2 Inv-loop μ-loop
-same-length-2 c = c .before .loop .inv .2
-
 returns-2 : tie.Need-returns-2 Inv-loop μ-loop
 returns-2 c = marks-none _ _ _ _ (rest-end _ _ _ (c .loop-test .left)) ∙ c .before .loop .inv .3
 
 pub mark-free-spec : {M : Type 1} → statement M
 mark-free-spec =
     tie.close
-    (tie.spec
-    Inv-loop
-    μ-loop
-    header-requires
-    loop-holds
-    cast-if1
-    add-if1
-    same-length
-    returns
-    free-segment-requires
-    mark-requires
-    add-i
-    loop-less
-    loop-again
-    same-length-2
-    returns-2)
+    (tie.spec Inv-loop μ-loop (λ c κs. search needs) loop-holds (λ c. omega arith) (λ c. omega arith) (λ c. c .before .before .loop .inv .2) returns
+    (λ c κs. search needs) (λ c κs. search needs) (λ c. omega arith) (λ c. omega arith) loop-again (λ c. c .before .loop .inv .2) returns-2)

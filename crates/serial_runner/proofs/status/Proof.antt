@@ -4,17 +4,12 @@ use borrow.Author.Needs.{needs}
 use Rattle.serial_runner.proofs.status.Statement.{statement}
 use Rattle.serial_runner.proofs.status.Tie as tie
 
-returns : tie.Need-returns
-unfolding statusOf
-returns c = search needs
-
-returns-2 : tie.Need-returns-2
-unfolding statusOf
-returns-2 c = search needs
-
 returns-3 : tie.Need-returns-3
 unfolding statusOf
 returns-3 c = sym (ap statusOf (c .before .e .given .1))
 
 pub status-spec : {M : Type 1} → statement M
-status-spec = tie.close (tie.spec (λ c. search needs) (λ c. search needs) (λ c. search needs) returns returns-2 returns-3)
+status-spec =
+    tie.close
+    (tie.spec (λ c. search needs) (λ c. search needs) (λ c. search needs) (λ c. unfold statusOf in search needs)
+    (λ c. unfold statusOf in search needs) returns-3)

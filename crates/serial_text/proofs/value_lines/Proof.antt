@@ -20,18 +20,6 @@ abbrev μ-loop : tie.MeasureT-loop
 loop-holds : tie.Need-loop-holds Inv-loop μ-loop
 loop-holds c = (omega arith, omega arith, refl, no-lines _ _ _)
 
-add-value-line : tie.Need-add-value-line Inv-loop μ-loop
-add-value-line c = omega arith
-
-value-line-requires : tie.Need-value-line-requires Inv-loop μ-loop
-value-line-requires c κs = search needs
-
-add-i : tie.Need-add-i Inv-loop μ-loop
-add-i c = omega arith
-
-loop-less : tie.Need-loop-less Inv-loop μ-loop
-loop-less c = omega arith
-
 loop-again : tie.Need-loop-again Inv-loop μ-loop
 loop-again c = (
   omega arith,
@@ -39,9 +27,6 @@ loop-again c = (
   c .before .before .value-line .kept .0 ∙ c .before .before .before .before .before .loop .inv .2,
   one-line _ _ _ (c .before .before .before .before .before .loop .inv .3) (c .before .before .value-line .ensures .0),
 )
-
-same-length : tie.Need-same-length Inv-loop μ-loop
-same-length c = c .before .loop .inv .2
 
 returns : tie.Need-returns Inv-loop μ-loop
 returns c =
@@ -51,14 +36,5 @@ returns c =
 pub value-lines-spec : {M : Type 1} → statement M
 value-lines-spec =
     tie.close
-    (tie.spec
-    Inv-loop
-    μ-loop
-    loop-holds
-    add-value-line
-    value-line-requires
-    add-i
-    loop-less
-    loop-again
-    same-length
-    returns)
+    (tie.spec Inv-loop μ-loop loop-holds (λ c. omega arith) (λ c κs. search needs) (λ c. omega arith) (λ c. omega arith) loop-again
+    (λ c. c .before .loop .inv .2) returns)

@@ -35,16 +35,10 @@ returns c = (
 add-xs : tie.Need-add-xs Inv-loop μ-loop
 add-xs c = let a = c .before .before .loop .inv .1 in omega (arith, a)
 
-mul-xs : tie.Need-mul-xs Inv-loop μ-loop
-mul-xs c = search needs
-
 slice-write-xs : tie.Need-slice-write-xs Inv-loop μ-loop
 slice-write-xs c =
     (let a = c .before .loop-test .taken in let b = c .before .before .before .before .before .pre .2 in let d = c .before .before .loop .inv .2 in
     omega (arith, a, b, d))
-
-add-i : tie.Need-add-i Inv-loop μ-loop
-add-i c = search needs
 
 exited-next-requires : tie.Need-exited-next-requires Inv-loop μ-loop
 exited-next-requires c κs = (c .before .before .before .before .before .pre .0, c .before .before .loop .inv .1)
@@ -90,9 +84,6 @@ returns-3 c = (
   let a = c .before .before .before .before .before .loop .inv .0 in omega (arith, a),
 )
 
-loop-less : tie.Need-loop-less Inv-loop μ-loop
-loop-less c = omega arith
-
 loop-again : tie.Need-loop-again Inv-loop μ-loop
 loop-again c = (
   let a = c .before .before .before .before .before .loop .inv .0 in omega (arith, a),
@@ -129,22 +120,5 @@ returns-4 c = (
 pub climb-spec : {M : Type 1} → statement M
 climb-spec =
     tie.close
-    (tie.spec
-    Inv-loop
-    μ-loop
-    loop-holds
-    same-length
-    returns
-    add-xs
-    mul-xs
-    slice-write-xs
-    add-i
-    exited-next-requires
-    same-length-2
-    returns-2
-    same-length-3
-    returns-3
-    loop-less
-    loop-again
-    same-length-4
-    returns-4)
+    (tie.spec Inv-loop μ-loop loop-holds same-length returns add-xs (λ c. search needs) slice-write-xs (λ c. search needs) exited-next-requires
+    same-length-2 returns-2 same-length-3 returns-3 (λ c. omega arith) loop-again same-length-4 returns-4)

@@ -13,9 +13,6 @@ returns c =
     entered-leaf (decode (c .before .before .before .args .m .now)) (c .before .before .before .args .t) _
     (word-at (c .before .before .before .args .m .now) (c .before .before .before .args .t) 5) (c .if1 .taken)
 
-fitting-requires : tie.Need-fitting-requires
-fitting-requires c κs = c .before .before .before .before .pre .0
-
 returns-2 : tie.Need-returns-2
 returns-2 c =
     entered-down (decode (c .before .before .before .before .before .before .args .m .now)) (c .before .before .before .before .before .before .args .t) _
@@ -38,4 +35,4 @@ pub entered-next-spec : {M : Type 1} → statement M
 entered-next-spec =
     tie.close
     (tie.spec (λ c. search needs) (λ c. search needs) (λ c. search needs) (λ c. search needs) (λ c. search needs) (λ c. search needs) returns
-    (λ c. search needs) (λ c. search needs) (λ c. search needs) fitting-requires returns-2 returns-3)
+    (λ c. search needs) (λ c. search needs) (λ c. search needs) (λ c κs. c .before .before .before .before .pre .0) returns-2 returns-3)

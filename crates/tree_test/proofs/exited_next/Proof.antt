@@ -20,9 +20,6 @@ returns-2 c =
     (word-at (c .before .before .before .before .before .args .m .now) (c .before .before .before .before .before .args .t) 2) (c .before .before .if1 .left)
     _ (word-at (c .before .before .before .before .before .args .m .now) (c .before .before .before .before .before .args .t) 3) (c .if2 .taken)
 
-fitting-requires : tie.Need-fitting-requires
-fitting-requires c κs = c .before .before .before .before .before .before .pre .0
-
 returns-3 : tie.Need-returns-3
 returns-3 c =
     exited-over (decode (c .before .before .before .before .before .before .before .before .args .m .now))
@@ -56,4 +53,5 @@ exited-next-spec =
     tie.close
     (tie.spec (λ c. search needs) (λ c. search needs) (λ c. search needs) (λ c. search needs) (λ c. search needs) returns (λ c. search needs)
     (λ c. search needs) (λ c. search needs) (λ c. search needs) returns-2 (λ c. search needs) (λ c. search needs) (λ c. search needs)
-    (λ c. search needs) (λ c. search needs) (λ c. search needs) fitting-requires returns-3 returns-4)
+    (λ c. search needs) (λ c. search needs) (λ c. search needs) (λ c κs. c .before .before .before .before .before .before .pre .0) returns-3
+    returns-4)

@@ -5,15 +5,9 @@ use mathlib.Core.Path.{ap₂, _∙_}
 use Rattle.tree_test.proofs.few_free.Statement.{statement}
 use Rattle.tree_test.proofs.few_free.Tie as tie
 
-header-requires : tie.Need-header-requires
-header-requires c κs = tt
-
-header-requires-2 : tie.Need-header-requires-2
-header-requires-2 c κs = tt
-
 returns : tie.Need-returns
 unfolding size
 returns c = ap₂ leb (c .before .header .ensures) (c .header2 .ensures) ∙ free-few _ (c .before .before .before .pre .0) (c .before .before .before .pre .1)
 
 pub few-free-spec : {M : Type 1} → statement M
-few-free-spec = tie.close (tie.spec header-requires header-requires-2 returns)
+few-free-spec = tie.close (tie.spec (λ c κs. tt) (λ c κs. tt) returns)

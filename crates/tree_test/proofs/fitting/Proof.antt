@@ -37,9 +37,6 @@ returns-5 c =
     (λ e. c .if5 .taken (word-at (c .before .before .before .before .before .before .before .before .before .args .m .now)
     (c .before .before .before .before .before .before .before .before .before .args .t) 4 ∙ e))
 
-subset-requires : tie.Need-subset-requires
-subset-requires c κs = tt
-
 returns-6 : tie.Need-returns-6
 returns-6 c =
     c .subset .ensures ∙ ap (λ (w : ℕ). subset w (c .before .before .before .before .before .before .before .before .before .before .before .args .b))
@@ -60,4 +57,4 @@ fitting-spec =
     tie.close
     (tie.spec returns returns-2 (λ c. search needs) (λ c. search needs) (λ c. search needs) (λ c. search needs) returns-3 (λ c. search needs)
     (λ c. search needs) (λ c. search needs) returns-4 (λ c. search needs) (λ c. search needs) (λ c. search needs) returns-5 (λ c. search needs)
-    (λ c. search needs) (λ c. search needs) subset-requires returns-6)
+    (λ c. search needs) (λ c. search needs) (λ c κs. tt) returns-6)

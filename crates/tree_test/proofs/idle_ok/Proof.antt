@@ -9,9 +9,6 @@ use borrow.Author.Needs.{needs}
 use Rattle.tree_test.proofs.idle_ok.Statement.{statement}
 use Rattle.tree_test.proofs.idle_ok.Tie as tie
 
-header-requires : tie.Need-header-requires
-header-requires c κs = tt
-
 returns : tie.Need-returns
 unfolding size
 returns c =
@@ -50,5 +47,5 @@ returns-4 c =
 pub idle-ok-spec : {M : Type 1} → statement M
 idle-ok-spec =
     tie.close
-    (tie.spec header-requires returns (λ c. search needs) (λ c. search needs) mark-free-requires returns-2 (λ c. search needs) returns-3
+    (tie.spec (λ c κs. tt) returns (λ c. search needs) (λ c. search needs) mark-free-requires returns-2 (λ c. search needs) returns-3
     (λ c. search needs) (λ c κs. search needs) returns-4)

@@ -18,27 +18,12 @@ abbrev μ-loop : tie.MeasureT-loop
 loop-holds : tie.Need-loop-holds Inv-loop μ-loop
 loop-holds c = let w = faults-first (c .args .m .now) (c .args .d .now) (c .args .h) in (omega arith, c .pre .1, omega arith, w .0, w .1)
 
-add-t : tie.Need-add-t Inv-loop μ-loop
-add-t c = omega arith
-
-mul-t : tie.Need-mul-t Inv-loop μ-loop
-mul-t c = omega arith
-
 shared-slice-read-t : tie.Need-shared-slice-read-t Inv-loop μ-loop
 shared-slice-read-t c =
     let a = c .before .before .before .pre .0 in let b = c .before .before .before .pre .2 in let e = c .before .loop-test .taken in omega (arith, a, b, e)
 
 cast-t : tie.Need-cast-t Inv-loop μ-loop
 cast-t c = omega (arith, c .shared-slice-known .given (320 + (c .before .before .loop .i)))
-
-mul-w : tie.Need-mul-w Inv-loop μ-loop
-mul-w c = omega arith
-
-add-w : tie.Need-add-w Inv-loop μ-loop
-add-w c = omega arith
-
-mul-w-2 : tie.Need-mul-w-2 Inv-loop μ-loop
-mul-w-2 c = omega arith
 
 shared-slice-read-w : tie.Need-shared-slice-read-w Inv-loop μ-loop
 shared-slice-read-w c = let a = c .before .before .before .before .pre .0 in omega (arith, a)
@@ -66,12 +51,6 @@ add-w-3 c =
 
 slice-write-d : tie.Need-slice-write-d Inv-loop μ-loop
 slice-write-d c = let a = c .before .before .before .loop .inv .1 in omega (arith, a)
-
-add-i : tie.Need-add-i Inv-loop μ-loop
-add-i c = omega arith
-
-loop-less : tie.Need-loop-less Inv-loop μ-loop
-loop-less c = omega arith
 
 loop-again : tie.Need-loop-again Inv-loop μ-loop
 unfolding load store
@@ -106,24 +85,5 @@ returns c = (
 pub mark-free-spec : {M : Type 1} → statement M
 mark-free-spec =
     tie.close
-    (tie.spec
-    Inv-loop
-    μ-loop
-    loop-holds
-    add-t
-    mul-t
-    shared-slice-read-t
-    cast-t
-    mul-w
-    add-w
-    mul-w-2
-    shared-slice-read-w
-    cast-w
-    add-w-2
-    add-w-3
-    slice-write-d
-    add-i
-    loop-less
-    loop-again
-    same-length
-    returns)
+    (tie.spec Inv-loop μ-loop loop-holds (λ c. omega arith) (λ c. omega arith) shared-slice-read-t cast-t (λ c. omega arith) (λ c. omega arith)
+    (λ c. omega arith) shared-slice-read-w cast-w add-w-2 add-w-3 slice-write-d (λ c. omega arith) (λ c. omega arith) loop-again same-length returns)

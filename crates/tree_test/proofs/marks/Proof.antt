@@ -30,12 +30,6 @@ add-n c =
     let a = c .shared-slice-known .given (c .before .before .loop .i) in let b = c .before .before .loop .inv .1 in let e = c .before .loop-test .taken in
     omega (arith, a, b, e)
 
-add-i : tie.Need-add-i Inv-loop μ-loop
-add-i c = omega arith
-
-loop-less : tie.Need-loop-less Inv-loop μ-loop
-loop-less c = omega arith
-
 loop-again : tie.Need-loop-again Inv-loop μ-loop
 unfolding load
 loop-again c = (
@@ -53,16 +47,4 @@ returns c =
     c .before .loop .inv .2 ∙ ap (λ (k : ℕ). total k (load (c .before .before .args .d .now))) (le-antisymm (c .before .loop .inv .0) (c .loop-test .left))
 
 pub marks-spec : {M : Type 1} → statement M
-marks-spec =
-    tie.close
-    (tie.spec
-    Inv-loop
-    μ-loop
-    loop-holds
-    shared-slice-read-n
-    cast-n
-    add-n
-    add-i
-    loop-less
-    loop-again
-    returns)
+marks-spec = tie.close (tie.spec Inv-loop μ-loop loop-holds shared-slice-read-n cast-n add-n (λ c. omega arith) (λ c. omega arith) loop-again returns)

@@ -93,5 +93,5 @@ returns-3 c = (
 pub onward-spec : {M : Type 1} → statement M
 onward-spec =
     tie.close
-    (tie.spec (λ c. search needs) slice-write-xs entered-next-requires (λ c. search needs) same-length returns (λ c. search needs) same-length-2 returns-2
-    (λ c. search needs) climb-requires same-length-3 returns-3)
+    (tie.spec (λ c. search needs) slice-write-xs entered-next-requires (λ c. search needs) same-length returns (λ c. search needs) same-length-2
+    returns-2 (λ c. search needs) climb-requires same-length-3 returns-3)

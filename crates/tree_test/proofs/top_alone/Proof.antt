@@ -8,15 +8,9 @@ use mathlib.Core.Path.{ap, sym, _∙_}
 use Rattle.tree_test.proofs.top_alone.Statement.{statement}
 use Rattle.tree_test.proofs.top_alone.Tie as tie
 
-task-requires : tie.Need-task-requires
-task-requires c κs = tt
-
 returns : tie.Need-returns
 unfolding topAlone
 returns c = sym (both-off _ (ne-eqb _ _ (λ e. c .if1 .taken (c .before .task .ensures ∙ e))))
-
-task-requires-2 : tie.Need-task-requires-2
-task-requires-2 c κs = tt
 
 returns-2 : tie.Need-returns-2
 unfolding topAlone
@@ -24,18 +18,12 @@ returns-2 c =
     sym (both-on (eq-eqb _ _ (sym (c .before .before .before .task .ensures) ∙ c .before .before .if1 .left))
     ∙ both-off _ (ne-eqb _ _ (λ e. c .if2 .taken (c .before .task2 .ensures ∙ e))))
 
-task-requires-3 : tie.Need-task-requires-3
-task-requires-3 c κs = tt
-
 returns-3 : tie.Need-returns-3
 unfolding topAlone
 returns-3 c =
     sym (both-on (eq-eqb _ _ (sym (c .before .before .before .before .before .task .ensures) ∙ c .before .before .before .before .if1 .left))
     ∙ both-on (eq-eqb _ _ (sym (c .before .before .before .task2 .ensures) ∙ c .before .before .if2 .left))
     ∙ both-off _ (ne-eqb _ _ (λ e. c .if3 .taken (c .before .task3 .ensures ∙ e))))
-
-task-requires-4 : tie.Need-task-requires-4
-task-requires-4 c κs = tt
 
 returns-4 : tie.Need-returns-4
 unfolding topAlone
@@ -47,14 +35,4 @@ returns-4 c =
     ∙ both-on (eq-eqb _ _ (sym (c .before .before .task3 .ensures) ∙ c .before .if3 .left)))
 
 pub top-alone-spec : {M : Type 1} → statement M
-top-alone-spec =
-    tie.close
-    (tie.spec
-    task-requires
-    returns
-    task-requires-2
-    returns-2
-    task-requires-3
-    returns-3
-    task-requires-4
-    returns-4)
+top-alone-spec = tie.close (tie.spec (λ c κs. tt) returns (λ c κs. tt) returns-2 (λ c κs. tt) returns-3 (λ c κs. tt) returns-4)

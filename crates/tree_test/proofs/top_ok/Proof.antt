@@ -3,28 +3,16 @@ use mathlib.Core.Path.{sym, _∙_}
 use Rattle.tree_test.proofs.top_ok.Statement.{statement}
 use Rattle.tree_test.proofs.top_ok.Tie as tie
 
-task-requires : tie.Need-task-requires
-task-requires c κs = tt
-
-top-alone-requires : tie.Need-top-alone-requires
-top-alone-requires c κs = tt
-
 returns : tie.Need-returns
 returns c = c .top-alone .ensures ∙ top-open _ (sym (c .before .before .task .ensures) ∙ c .before .if1 .taken)
 
 returns-2 : tie.Need-returns-2
 returns-2 c = top-other _ (λ e. c .before .if1 .left (c .before .before .task .ensures ∙ e)) (λ e. c .if2 .taken (c .before .before .task .ensures ∙ e))
 
-task-requires-2 : tie.Need-task-requires-2
-task-requires-2 c κs = tt
-
 returns-3 : tie.Need-returns-3
 returns-3 c =
     top-parent _ (λ e. c .before .before .before .if1 .left (c .before .before .before .before .task .ensures ∙ e))
     (λ e. c .if3 .taken (c .before .task2 .ensures ∙ e))
-
-top-alone-requires-2 : tie.Need-top-alone-requires-2
-top-alone-requires-2 c κs = tt
 
 returns-4 : tie.Need-returns-4
 returns-4 c =
@@ -32,14 +20,4 @@ returns-4 c =
     (sym (c .before .before .task2 .ensures) ∙ c .before .if3 .left)
 
 pub top-ok-spec : {M : Type 1} → statement M
-top-ok-spec =
-    tie.close
-    (tie.spec
-    task-requires
-    top-alone-requires
-    returns
-    returns-2
-    task-requires-2
-    returns-3
-    top-alone-requires-2
-    returns-4)
+top-ok-spec = tie.close (tie.spec (λ c κs. tt) (λ c κs. tt) returns returns-2 (λ c κs. tt) returns-3 (λ c κs. tt) returns-4)

@@ -54,16 +54,10 @@ returns-2 c =
     (c .before .before .before .before .before .before .before .before .loop .inv .2)
     (c .before .before .before .before .before .onward .ensures .0 .on (c .before .if2 .left)) .test)
 
-mul-xs : tie.Need-mul-xs Inv-loop μ-loop
-mul-xs c = search needs
-
 slice-write-xs : tie.Need-slice-write-xs Inv-loop μ-loop
 slice-write-xs c =
     let a = c .before .before .before .before .before .onward .kept .1 .0 ∙ c .before .before .before .before .before .before .before .before .loop .inv .1 in
     let b = c .before .before .before .before .before .before .before .before .before .before .before .pre .2 in let d = c .if3 .left in omega (arith, a, b, d)
-
-add-result : tie.Need-add-result Inv-loop μ-loop
-add-result c = search needs
 
 same-length-3 : tie.Need-same-length-3 Inv-loop μ-loop
 same-length-3 c =
@@ -111,21 +105,5 @@ returns-4 c =
 pub tree-ok-spec : {M : Type 1} → statement M
 tree-ok-spec =
     tie.close
-    (tie.spec
-    Inv-loop
-    μ-loop
-    loop-holds
-    onward-requires
-    same-length
-    returns
-    same-length-2
-    returns-2
-    mul-xs
-    slice-write-xs
-    add-result
-    same-length-3
-    returns-3
-    loop-less
-    loop-again
-    same-length-4
-    returns-4)
+    (tie.spec Inv-loop μ-loop loop-holds onward-requires same-length returns same-length-2 returns-2 (λ c. search needs) slice-write-xs
+    (λ c. search needs) same-length-3 returns-3 loop-less loop-again same-length-4 returns-4)

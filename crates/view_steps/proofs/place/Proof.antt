@@ -15,45 +15,21 @@ Inv-loop d₀ m h n s₀ k₀ d s k = (s < 2 ^ 32) × (k ≤ n) × (placing (dec
 abbrev μ-loop : tie.MeasureT-loop
 μ-loop d₀ m h n s₀ k₀ d s k = n - k
 
-shared-slice-read-n : tie.Need-shared-slice-read-n Inv-loop μ-loop
-shared-slice-read-n c = search needs
-
 loop-holds : tie.Need-loop-holds Inv-loop μ-loop
 loop-holds c = (search needs, omega arith, place-start _ _ _)
 
 returns : tie.Need-returns Inv-loop μ-loop
 returns c = place-far _ _ _ _ _ (c .before .loop-test .taken) (c .if1 .taken) ∙ c .before .before .loop .inv .2
 
-cast-if2 : tie.Need-cast-if2 Inv-loop μ-loop
-cast-if2 c = omega arith
-
-element-copy-out-if2 : tie.Need-element-copy-out-if2 Inv-loop μ-loop
-element-copy-out-if2 c = omega arith
-
 returns-2 : tie.Need-returns-2 Inv-loop μ-loop
 returns-2 c =
     place-again _ _ _ _ _ (c .before .before .before .loop-test .taken) (c .before .before .if1 .left) (c .if2 .taken)
     ∙ c .before .before .before .before .loop .inv .2
 
-cast-d : tie.Need-cast-d Inv-loop μ-loop
-cast-d c = omega arith
-
-element-write-d : tie.Need-element-write-d Inv-loop μ-loop
-element-write-d c = omega arith
-
-add-k : tie.Need-add-k Inv-loop μ-loop
-add-k c = omega arith
-
-next-requires : tie.Need-next-requires Inv-loop μ-loop
-next-requires c κs = (search needs, omega arith)
-
 returns-3 : tie.Need-returns-3 Inv-loop μ-loop
 returns-3 c =
     place-last _ _ _ _ _ (c .before .before .before .before .before .loop-test .taken) (c .before .before .before .before .if1 .left)
     (c .before .before .if2 .left) (c .before .next .ensures) (c .if3 .taken) ∙ c .before .before .before .before .before .before .loop .inv .2
-
-count-requires : tie.Need-count-requires Inv-loop μ-loop
-count-requires c κs = (search needs, omega arith)
 
 returns-4 : tie.Need-returns-4 Inv-loop μ-loop
 returns-4 c =
@@ -61,9 +37,6 @@ returns-4 c =
     (c .before .before .before .before .before .before .if1 .left) (c .before .before .before .before .if2 .left) (c .before .before .before .next .ensures) _
     (c .before .before .if3 .left) (sym (c .before .count .ensures) ∙ c .if4 .taken)
     ∙ c .before .before .before .before .before .before .before .before .loop .inv .2
-
-loop-less : tie.Need-loop-less Inv-loop μ-loop
-loop-less c = omega arith
 
 loop-again : tie.Need-loop-again Inv-loop μ-loop
 loop-again c = (
@@ -81,22 +54,6 @@ returns-5 c = place-out _ _ _ _ _ (c .loop-test .left) ∙ c .before .loop .inv 
 pub place-spec : {M : Type 1} → statement M
 place-spec =
     tie.close
-    (tie.spec
-    Inv-loop
-    μ-loop
-    shared-slice-read-n
-    loop-holds
-    returns
-    cast-if2
-    element-copy-out-if2
-    returns-2
-    cast-d
-    element-write-d
-    add-k
-    next-requires
-    returns-3
-    count-requires
-    returns-4
-    loop-less
-    loop-again
-    returns-5)
+    (tie.spec Inv-loop μ-loop (λ c. search needs) loop-holds returns (λ c. omega arith) (λ c. omega arith) returns-2 (λ c. omega arith)
+    (λ c. omega arith) (λ c. omega arith) (λ c κs. (search needs, omega arith)) returns-3 (λ c κs. (search needs, omega arith)) returns-4
+    (λ c. omega arith) loop-again returns-5)

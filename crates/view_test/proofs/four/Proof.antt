@@ -14,38 +14,8 @@ Inv-loop d₀ f₀ w₀ m t k a r₀ q₀ d f w r q = (q ≤ 4) × (r < 2 ^ 32) 
 abbrev μ-loop : tie.MeasureT-loop
 μ-loop d₀ f₀ w₀ m t k a r₀ q₀ d f w r q = 4 - q
 
-mul-a : tie.Need-mul-a Inv-loop μ-loop
-mul-a c = search needs
-
-add-a : tie.Need-add-a Inv-loop μ-loop
-add-a c = search needs
-
-mul-a-2 : tie.Need-mul-a-2 Inv-loop μ-loop
-mul-a-2 c = search needs
-
-add-a-2 : tie.Need-add-a-2 Inv-loop μ-loop
-add-a-2 c = search needs
-
-mul-r : tie.Need-mul-r Inv-loop μ-loop
-mul-r c = search needs
-
-add-r : tie.Need-add-r Inv-loop μ-loop
-add-r c = search needs
-
-mul-r-2 : tie.Need-mul-r-2 Inv-loop μ-loop
-mul-r-2 c = search needs
-
-shared-slice-read-r : tie.Need-shared-slice-read-r Inv-loop μ-loop
-shared-slice-read-r c = search needs
-
 loop-holds : tie.Need-loop-holds Inv-loop μ-loop
 loop-holds c = (omega arith, omega (arith, c .before .shared-slice-known .given (1473 + c .before .before .args .t * 48)), omega arith, left-start _ _ _)
-
-add-view : tie.Need-add-view Inv-loop μ-loop
-add-view c = omega arith
-
-view-requires : tie.Need-view-requires Inv-loop μ-loop
-view-requires c κs = (search needs, omega arith, omega arith)
 
 returns : tie.Need-returns Inv-loop μ-loop
 returns c =
@@ -53,12 +23,6 @@ returns c =
     (c .before .before .before .before .before .before .before .before .before .args .k) _ _ (c .before .before .before .before .before .loop-test .taken)
     (c .before .before .before .before .before .before .loop .inv .2) (c .before .view .ensures)
     (c .before .before .before .before .before .before .loop .inv .3) (not-true _ (c .if1 .taken))
-
-add-q : tie.Need-add-q Inv-loop μ-loop
-add-q c = omega arith
-
-loop-less : tie.Need-loop-less Inv-loop μ-loop
-loop-less c = omega arith
 
 loop-again : tie.Need-loop-again Inv-loop μ-loop
 loop-again c = (
@@ -79,22 +43,6 @@ returns-2 c =
 pub four-spec : {M : Type 1} → statement M
 four-spec =
     tie.close
-    (tie.spec
-    Inv-loop
-    μ-loop
-    mul-a
-    add-a
-    mul-a-2
-    add-a-2
-    mul-r
-    add-r
-    mul-r-2
-    shared-slice-read-r
-    loop-holds
-    add-view
-    view-requires
-    returns
-    add-q
-    loop-less
-    loop-again
-    returns-2)
+    (tie.spec Inv-loop μ-loop (λ c. search needs) (λ c. search needs) (λ c. search needs) (λ c. search needs) (λ c. search needs) (λ c. search needs)
+    (λ c. search needs) (λ c. search needs) loop-holds (λ c. omega arith) (λ c κs. (search needs, omega arith, omega arith)) returns
+    (λ c. omega arith) (λ c. omega arith) loop-again returns-2)

@@ -17,15 +17,6 @@ Inv-loop d₀ f₀ w₀ m xs i₀ d f w i = (i ≤ length xs) × (run (decode m)
 abbrev μ-loop : tie.MeasureT-loop
 μ-loop d₀ f₀ w₀ m xs i₀ d f w i = length xs - i
 
-loop-holds : tie.Need-loop-holds Inv-loop μ-loop
-loop-holds c = (omega arith, refl)
-
-mul-mark : tie.Need-mul-mark Inv-loop μ-loop
-mul-mark c = search needs
-
-shared-slice-read-mark : tie.Need-shared-slice-read-mark Inv-loop μ-loop
-shared-slice-read-mark c = omega arith
-
 mark-requires : tie.Need-mark-requires Inv-loop μ-loop
 mark-requires c κs =
     (search needs, c .before .before .before .before .before .before .before .before .pre .1 _ (c .before .before .before .before .loop-test .taken))
@@ -35,12 +26,6 @@ returns c =
     walk-stop _ _ _ (c .before .before .before .before .before .before .loop-test .taken) (c .before .mark .ensures) (not-true _ (c .if1 .taken))
     ∙ c .before .before .before .before .before .before .before .loop .inv .1
 
-add-i : tie.Need-add-i Inv-loop μ-loop
-add-i c = omega arith
-
-loop-less : tie.Need-loop-less Inv-loop μ-loop
-loop-less c = omega arith
-
 loop-again : tie.Need-loop-again Inv-loop μ-loop
 loop-again c = (
   omega arith,
@@ -48,25 +33,11 @@ loop-again c = (
       (not-false _ (c .if1 .left)) ∙ c .before .before .before .before .before .before .before .loop .inv .1,
 )
 
-whole-requires : tie.Need-whole-requires Inv-loop μ-loop
-whole-requires c κs = search needs
-
 returns-2 : tie.Need-returns-2 Inv-loop μ-loop
 returns-2 c = c .whole .ensures ∙ walk-done _ _ _ _ _ _ (c .before .before .loop-test .left) ∙ c .before .before .before .loop .inv .1
 
 pub walk-spec : {M : Type 1} → statement M
 walk-spec =
     tie.close
-    (tie.spec
-    Inv-loop
-    μ-loop
-    loop-holds
-    mul-mark
-    shared-slice-read-mark
-    mark-requires
-    returns
-    add-i
-    loop-less
-    loop-again
-    whole-requires
-    returns-2)
+    (tie.spec Inv-loop μ-loop (λ c. (omega arith, refl)) (λ c. search needs) (λ c. omega arith) mark-requires returns (λ c. omega arith)
+    (λ c. omega arith) loop-again (λ c κs. search needs) returns-2)

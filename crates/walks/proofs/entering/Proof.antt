@@ -5,9 +5,6 @@ use Rattle.spec_tree.specs.Tour.{entering}
 use Rattle.walks.proofs.entering.Statement.{statement}
 use Rattle.walks.proofs.entering.Tie as tie
 
-exiting-requires : tie.Need-exiting-requires
-exiting-requires c κs = tt
-
 returns : tie.Need-returns
 unfolding entering
 returns c = sym (halt _ _ (lt-ltb _ _ (c .if1 .taken)))
@@ -17,4 +14,4 @@ unfolding entering
 returns-2 c = c .exiting .ensures ∙ sym (pass _ (le-ltb _ _ (c .before .if1 .left)) refl)
 
 pub entering-spec : {M : Type 1} → statement M
-entering-spec = tie.close (tie.spec exiting-requires returns returns-2)
+entering-spec = tie.close (tie.spec (λ c κs. tt) returns returns-2)

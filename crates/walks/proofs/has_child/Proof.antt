@@ -7,12 +7,9 @@ use Rattle.spec_outcomes.specs.Waits.{hasChild}
 use Rattle.walks.proofs.has_child.Statement.{statement}
 use Rattle.walks.proofs.has_child.Tie as tie
 
-task-requires : tie.Need-task-requires
-task-requires c κs = tt
-
 returns : tie.Need-returns
 unfolding hasChild
 returns c = ap (λ (c : ℕ). not (eqb c NONE)) (c .task .ensures)
 
 pub has-child-spec : {M : Type 1} → statement M
-has-child-spec = tie.close (tie.spec task-requires returns)
+has-child-spec = tie.close (tie.spec (λ c κs. tt) returns)

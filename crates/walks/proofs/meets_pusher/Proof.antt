@@ -8,12 +8,6 @@ use Rattle.walks.proofs.Glue.{both-so}
 use Rattle.walks.proofs.meets_pusher.Statement.{statement}
 use Rattle.walks.proofs.meets_pusher.Tie as tie
 
-task-requires : tie.Need-task-requires
-task-requires c κs = tt
-
-pushes-requires : tie.Need-pushes-requires
-pushes-requires c κs = c .before .before .before .pre
-
 returns : tie.Need-returns
 unfolding rightsOf
 returns c =
@@ -24,4 +18,4 @@ returns-2 : tie.Need-returns-2
 returns-2 c = sym (both-off _ (le-ltb _ _ (c .if1 .left)))
 
 pub meets-pusher-spec : {M : Type 1} → statement M
-meets-pusher-spec = tie.close (tie.spec task-requires pushes-requires returns returns-2)
+meets-pusher-spec = tie.close (tie.spec (λ c κs. tt) (λ c κs. c .before .before .before .pre) returns returns-2)

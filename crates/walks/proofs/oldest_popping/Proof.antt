@@ -19,23 +19,8 @@ Inv-loop m t q from p c₀ d₀ n₀ c d n =
 abbrev μ-loop : tie.MeasureT-loop
 μ-loop m t q from p c₀ d₀ n₀ c d n = n
 
-loop-holds : tie.Need-loop-holds Inv-loop μ-loop
-loop-holds c = refl
-
 returns : tie.Need-returns Inv-loop μ-loop
 returns c = oldest-end _ _ _ _ _ (c .before .loop-test .taken) (c .if1 .taken) ∙ c .before .before .loop .inv
-
-heir-or-requires : tie.Need-heir-or-requires Inv-loop μ-loop
-heir-or-requires c κs = c .before .before .before .before .pre
-
-task-requires : tie.Need-task-requires Inv-loop μ-loop
-task-requires c κs = tt
-
-sub-n : tie.Need-sub-n Inv-loop μ-loop
-sub-n c = omega arith
-
-loop-less : tie.Need-loop-less Inv-loop μ-loop
-loop-less c = omega arith
 
 loop-again : tie.Need-loop-again Inv-loop μ-loop
 loop-again c =
@@ -48,14 +33,5 @@ returns-2 c = oldest-none _ _ _ _ _ (c .loop-test .left) ∙ c .before .loop .in
 pub oldest-popping-spec : {M : Type 1} → statement M
 oldest-popping-spec =
     tie.close
-    (tie.spec
-    Inv-loop
-    μ-loop
-    loop-holds
-    returns
-    heir-or-requires
-    task-requires
-    sub-n
-    loop-less
-    loop-again
-    returns-2)
+    (tie.spec Inv-loop μ-loop (λ c. refl) returns (λ c κs. c .before .before .before .before .pre) (λ c κs. tt) (λ c. omega arith) (λ c. omega arith)
+    loop-again returns-2)

@@ -15,17 +15,8 @@ Inv-loop m q from c₀ n₀ c n = sibling n (λ c. pops (rightsOf m c) q) (recor
 abbrev μ-loop : tie.MeasureT-loop
 μ-loop m q from c₀ n₀ c n = n
 
-loop-holds : tie.Need-loop-holds Inv-loop μ-loop
-loop-holds c = refl
-
 returns : tie.Need-returns Inv-loop μ-loop
 returns c = sibling-end _ _ _ _ (c .before .loop-test .taken) (c .if1 .taken) ∙ c .before .before .loop .inv
-
-task-requires : tie.Need-task-requires Inv-loop μ-loop
-task-requires c κs = tt
-
-pops-requires : tie.Need-pops-requires Inv-loop μ-loop
-pops-requires c κs = c .before .before .before .before .before .pre
 
 returns-2 : tie.Need-returns-2 Inv-loop μ-loop
 unfolding rightsOf
@@ -33,15 +24,6 @@ returns-2 c =
     sibling-here _ _ _ _ (c .before .before .before .before .loop-test .taken) (c .before .before .before .if1 .left)
     (ap (λ (w : ℕ). pops w (c .before .before .before .before .before .before .before .args .q)) (sym (c .before .before .task .ensures))
     ∙ sym (c .before .pops .ensures) ∙ c .if2 .taken) ∙ c .before .before .before .before .before .loop .inv
-
-task-requires-2 : tie.Need-task-requires-2 Inv-loop μ-loop
-task-requires-2 c κs = tt
-
-sub-n : tie.Need-sub-n Inv-loop μ-loop
-sub-n c = omega arith
-
-loop-less : tie.Need-loop-less Inv-loop μ-loop
-loop-less c = omega arith
 
 loop-again : tie.Need-loop-again Inv-loop μ-loop
 unfolding rightsOf
@@ -56,16 +38,5 @@ returns-3 c = sibling-none _ _ _ _ (c .loop-test .left) ∙ c .before .loop .inv
 pub popping-spec : {M : Type 1} → statement M
 popping-spec =
     tie.close
-    (tie.spec
-    Inv-loop
-    μ-loop
-    loop-holds
-    returns
-    task-requires
-    pops-requires
-    returns-2
-    task-requires-2
-    sub-n
-    loop-less
-    loop-again
-    returns-3)
+    (tie.spec Inv-loop μ-loop (λ c. refl) returns (λ c κs. tt) (λ c κs. c .before .before .before .before .before .pre) returns-2 (λ c κs. tt)
+    (λ c. omega arith) (λ c. omega arith) loop-again returns-3)

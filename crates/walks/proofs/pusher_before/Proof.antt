@@ -2,14 +2,8 @@ use Rattle.walks.proofs.Glue.{pusher-before}
 use Rattle.walks.proofs.pusher_before.Statement.{statement}
 use Rattle.walks.proofs.pusher_before.Tie as tie
 
-after-requires : tie.Need-after-requires
-after-requires c κs = tt
-
-pushing-requires : tie.Need-pushing-requires
-pushing-requires c κs = c .before .before .pre
-
 returns : tie.Need-returns
 returns c = pusher-before _ _ _ (c .before .after .ensures) (c .pushing .ensures)
 
 pub pusher-before-spec : {M : Type 1} → statement M
-pusher-before-spec = tie.close (tie.spec after-requires pushing-requires returns)
+pusher-before-spec = tie.close (tie.spec (λ c κs. tt) (λ c κs. c .before .before .pre) returns)

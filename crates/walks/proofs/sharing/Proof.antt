@@ -15,17 +15,8 @@ Inv-loop m a from c₀ n₀ c n = sibling n (λ c. sharesPop (rightsOf m c) a) (
 abbrev μ-loop : tie.MeasureT-loop
 μ-loop m a from c₀ n₀ c n = n
 
-loop-holds : tie.Need-loop-holds Inv-loop μ-loop
-loop-holds c = refl
-
 returns : tie.Need-returns Inv-loop μ-loop
 returns c = sibling-end _ _ _ _ (c .before .loop-test .taken) (c .if1 .taken) ∙ c .before .before .loop .inv
-
-task-requires : tie.Need-task-requires Inv-loop μ-loop
-task-requires c κs = tt
-
-shares-pop-requires : tie.Need-shares-pop-requires Inv-loop μ-loop
-shares-pop-requires c κs = tt
 
 returns-2 : tie.Need-returns-2 Inv-loop μ-loop
 unfolding rightsOf
@@ -33,15 +24,6 @@ returns-2 c =
     sibling-here _ _ _ _ (c .before .before .before .before .loop-test .taken) (c .before .before .before .if1 .left)
     (ap (λ (w : ℕ). sharesPop w (c .before .before .before .before .before .before .before .args .a)) (sym (c .before .before .task .ensures))
     ∙ sym (c .before .shares-pop .ensures) ∙ c .if2 .taken) ∙ c .before .before .before .before .before .loop .inv
-
-task-requires-2 : tie.Need-task-requires-2 Inv-loop μ-loop
-task-requires-2 c κs = tt
-
-sub-n : tie.Need-sub-n Inv-loop μ-loop
-sub-n c = omega arith
-
-loop-less : tie.Need-loop-less Inv-loop μ-loop
-loop-less c = omega arith
 
 loop-again : tie.Need-loop-again Inv-loop μ-loop
 unfolding rightsOf
@@ -56,16 +38,5 @@ returns-3 c = sibling-none _ _ _ _ (c .loop-test .left) ∙ c .before .loop .inv
 pub sharing-spec : {M : Type 1} → statement M
 sharing-spec =
     tie.close
-    (tie.spec
-    Inv-loop
-    μ-loop
-    loop-holds
-    returns
-    task-requires
-    shares-pop-requires
-    returns-2
-    task-requires-2
-    sub-n
-    loop-less
-    loop-again
+    (tie.spec Inv-loop μ-loop (λ c. refl) returns (λ c κs. tt) (λ c κs. tt) returns-2 (λ c κs. tt) (λ c. omega arith) (λ c. omega arith) loop-again
     returns-3)

@@ -4,25 +4,16 @@ use borrow.Author.Needs.{needs}
 use Rattle.walks.proofs.stands_at.Statement.{statement}
 use Rattle.walks.proofs.stands_at.Tie as tie
 
-takes-part-requires : tie.Need-takes-part-requires
-takes-part-requires c κs = c .before .pre
-
 returns : tie.Need-returns
 returns c = stands-not _ _ _ (c .before .takes-part .ensures) (not-true _ (c .if1 .taken))
 
 returns-2 : tie.Need-returns-2
 returns-2 c = stands-entered _ _ _ (c .before .before .takes-part .ensures) (not-false _ (c .before .if1 .left)) (c .if2 .taken)
 
-task-requires : tie.Need-task-requires
-task-requires c κs = tt
-
 returns-3 : tie.Need-returns-3
 returns-3 c =
     stands-head _ _ _ (c .before .before .before .before .takes-part .ensures) (not-false _ (c .before .before .before .if1 .left)) (c .before .task .ensures)
     (c .if3 .taken)
-
-task-requires-2 : tie.Need-task-requires-2
-task-requires-2 c κs = tt
 
 returns-4 : tie.Need-returns-4
 returns-4 c =
@@ -32,5 +23,5 @@ returns-4 c =
 pub stands-at-spec : {M : Type 1} → statement M
 stands-at-spec =
     tie.close
-    (tie.spec takes-part-requires returns returns-2 (λ c. search needs) (λ c. search needs) task-requires returns-3 (λ c. search needs)
-    (λ c. search needs) task-requires-2 returns-4)
+    (tie.spec (λ c κs. c .before .pre) returns returns-2 (λ c. search needs) (λ c. search needs) (λ c κs. tt) returns-3 (λ c. search needs)
+    (λ c. search needs) (λ c κs. tt) returns-4)

@@ -4,14 +4,8 @@ use borrow.Author.Needs.{needs}
 use Rattle.hyperqueue.proofs.jobs.hq_job_test.Statement.{statement}
 use Rattle.hyperqueue.proofs.jobs.hq_job_test.Tie as tie
 
-job-test-requires : tie.Need-job-test-requires
-job-test-requires c κs = search needs
-
-pack-requires : tie.Need-pack-requires
-pack-requires c κs = search needs
-
 returns : tie.Need-returns
 returns c = c .pack .ensures ∙ ap packed (c .before .job-test .ensures)
 
 pub hq-job-test-spec : {M : Type 1} → statement M
-hq-job-test-spec = tie.close (tie.spec job-test-requires pack-requires returns)
+hq-job-test-spec = tie.close (tie.spec (λ c κs. search needs) (λ c κs. search needs) returns)
