@@ -17,7 +17,7 @@ use Rattle.spec_answers.specs.declared.Answer.the-variants.{Moved, NotEmpty, Re
 use Rattle.spec_answers.specs.Answers.{Outcome, outcome}
 use Rattle.spec_tree.specs.Rights.{pops}
 use Rattle.spec_answers.specs.declared.Finding.{Finding}
-use Rattle.spec_answers.specs.declared.Finding.the-variants.{Value as Found, Empty as Nothing, Waits as Later}
+use Rattle.spec_answers.specs.declared.Finding.the-variants as Finding
 use Rattle.spec_outcomes.specs.Segments.{valueAt, dropped, released}
 use Rattle.spec_outcomes.specs.Waits.{rightsOf, unfinished, blocked, childPops, pusherBefore}
 use Rattle.spec_outcomes.specs.Find.{hasValue, finding, popped, popGives, testGives, popAllowed, popTested, testTested}
@@ -33,28 +33,28 @@ module _ (m : List ℕ) (t q : ℕ) {s : ℕ} (es : s ≡ read m (task t (16 + q
   by-count h e = ap (λ (x : ℕ). not (eqb x 0)) (e ∙ ap (λ (x : ℕ). read m (segment x 1)) es) ∙ sym (both-on (lt-ltb _ _ (rw es at h)))
 
 module _ (m : List ℕ) (t q : ℕ) {b1 : Bool} (e1 : b1 ≡ blocked m t) where
-  pub sibling-waits : b1 ≡ true → Later ≡ finding m t q
+  pub sibling-waits : b1 ≡ true → Finding.Waits ≡ finding m t q
   unfolding finding
   sibling-waits f = sym (halt _ _ (true-left _ (sym e1 ∙ f)))
 
   module _ {b2 : Bool} (f1 : b1 ≡ false) (e2 : b2 ≡ childPops m t q) where
-    pub child-waits : b2 ≡ true → Later ≡ finding m t q
+    pub child-waits : b2 ≡ true → Finding.Waits ≡ finding m t q
     unfolding finding
     child-waits f = sym (halt _ _ (true-right _ (sym e2 ∙ f)))
 
     module _ {b3 : Bool} (f2 : b2 ≡ false) (e3 : b3 ≡ hasValue m t q) where
-      pub value-found : {s v : ℕ} → b3 ≡ true → s ≡ read m (task t (16 + q)) → v ≡ valueAt m s 0 → Found v ≡ finding m t q
+      pub value-found : {s v : ℕ} → b3 ≡ true → s ≡ read m (task t (16 + q)) → v ≡ valueAt m s 0 → Finding.Value v ≡ finding m t q
       unfolding finding
       value-found f es ev =
-          ap Found (ev ∙ ap (λ (x : ℕ). valueAt m x 0) es)
+          ap Finding.Value (ev ∙ ap (λ (x : ℕ). valueAt m x 0) es)
           ∙ sym (pass _ (neither (sym e1 ∙ f1) (sym e2 ∙ f2)) (halt _ _ (sym e3 ∙ f)))
 
       module _ {b4 : Bool} (f3 : b3 ≡ false) (e4 : b4 ≡ pusherBefore m t q) where
-        pub pusher-waits : b4 ≡ true → Later ≡ finding m t q
+        pub pusher-waits : b4 ≡ true → Finding.Waits ≡ finding m t q
         unfolding finding
         pusher-waits f = sym (pass _ (neither (sym e1 ∙ f1) (sym e2 ∙ f2)) (pass _ (sym e3 ∙ f3) (halt _ _ (sym e4 ∙ f))))
 
-        pub found-empty : b4 ≡ false → Nothing ≡ finding m t q
+        pub found-empty : b4 ≡ false → Finding.Empty ≡ finding m t q
         unfolding finding
         found-empty f = sym (pass _ (neither (sym e1 ∙ f1) (sym e2 ∙ f2)) (pass _ (sym e3 ∙ f3) (pass _ (sym e4 ∙ f) refl)))
 
@@ -96,28 +96,28 @@ head-count m t q e h = rw (sym e) at h
 -- WHERE A FINDING IS TAKEN APART
 pub none-popped : (m : List ℕ) (t q : ℕ) (f : Finding) (a : Answer) → OneOf (1 ∷ 2 ∷ []) (tagOf the-type f) → a ≡ popNothing f → outcome a m ≡ popGives m t q f
 unfolding popGives
-none-popped m t q (Found v) a k e = ⊎-elim (λ x. let z : ⊥ = omega (arith, x) in absurd z) (λ x. let z : ⊥ = omega (arith, x) in absurd z) k
-none-popped m t q Nothing a k e = ap (λ (x : Answer). outcome x m) e
-none-popped m t q Later a k e = ap (λ (x : Answer). outcome x m) e
+none-popped m t q (Finding.Value v) a k e = ⊎-elim (λ x. let z : ⊥ = omega (arith, x) in absurd z) (λ x. let z : ⊥ = omega (arith, x) in absurd z) k
+none-popped m t q Finding.Empty a k e = ap (λ (x : Answer). outcome x m) e
+none-popped m t q Finding.Waits a k e = ap (λ (x : Answer). outcome x m) e
 
 pub none-tested : (m : List ℕ) (f : Finding) (a : Answer) → OneOf (1 ∷ 2 ∷ []) (tagOf the-type f) → a ≡ testNothing f → outcome a m ≡ testGives m f
 unfolding testGives
-none-tested m (Found v) a k e = ⊎-elim (λ x. let z : ⊥ = omega (arith, x) in absurd z) (λ x. let z : ⊥ = omega (arith, x) in absurd z) k
-none-tested m Nothing a k e = ap (λ (x : Answer). outcome x m) e
-none-tested m Later a k e = ap (λ (x : Answer). outcome x m) e
+none-tested m (Finding.Value v) a k e = ⊎-elim (λ x. let z : ⊥ = omega (arith, x) in absurd z) (λ x. let z : ⊥ = omega (arith, x) in absurd z) k
+none-tested m Finding.Empty a k e = ap (λ (x : Answer). outcome x m) e
+none-tested m Finding.Waits a k e = ap (λ (x : Answer). outcome x m) e
 
 pub some-tested : (m : List ℕ) (f : Finding) → OneOf (0 ∷ []) (tagOf the-type f) → outcome NotEmpty m ≡ testGives m f
 unfolding testGives
-some-tested m (Found v) k = refl
-some-tested m Nothing k = let z : ⊥ = omega (arith, k) in absurd z
-some-tested m Later k = let z : ⊥ = omega (arith, k) in absurd z
+some-tested m (Finding.Value v) k = refl
+some-tested m Finding.Empty k = let z : ⊥ = omega (arith, k) in absurd z
+some-tested m Finding.Waits k = let z : ⊥ = omega (arith, k) in absurd z
 
-pub value-popped : (m m' : List ℕ) (t q v : ℕ) {f : Finding} → f ≡ Found v → m' ≡ popped m t q → outcome (Moved v) m' ≡ popGives m t q f
+pub value-popped : (m m' : List ℕ) (t q v : ℕ) {f : Finding} → f ≡ Finding.Value v → m' ≡ popped m t q → outcome (Moved v) m' ≡ popGives m t q f
 unfolding popGives
 value-popped m m' t q v e g = ap (outcome (Moved v)) g ∙ sym (ap (popGives m t q) e)
 
 -- a value is found only where the head's segment has one
-found-value : (a b d : Bool) (v w : ℕ) → pick a Later (pick b (Found w) (pick d Later Nothing)) ≡ Found v → b ≡ true
+found-value : (a b d : Bool) (v w : ℕ) → pick a Finding.Waits (pick b (Finding.Value w) (pick d Finding.Waits Finding.Empty)) ≡ Finding.Value v → b ≡ true
 unfolding pick
 found-value true b d v w e = let k = ap (tagOf the-type) e in let z : ⊥ = omega (arith, k) in absurd z
 found-value false true d v w e = refl
@@ -127,7 +127,7 @@ found-value false false false v w e = let k = ap (tagOf the-type) e in let z : �
 counted : (x : ℕ) → not (eqb x 0) ≡ true → 0 < x
 counted x e = let n = eqb-false x 0 (not-true _ e) in omega (arith, n)
 
-pub value-there : (m : List ℕ) (t q v : ℕ) {f : Finding} → f ≡ finding m t q → f ≡ Found v → 0 < read m (segment (read m (task t (16 + q))) 1)
+pub value-there : (m : List ℕ) (t q v : ℕ) {f : Finding} → f ≡ finding m t q → f ≡ Finding.Value v → 0 < read m (segment (read m (task t (16 + q))) 1)
 unfolding finding hasValue
 value-there m t q v e g =
     let h = found-value _ _ _ v _ (sym e ∙ g) in

@@ -7,19 +7,19 @@ use Rattle.spec_words.specs.Words.{pick}
 use Rattle.spec_answers.specs.declared.Answer.{Answer}
 use Rattle.spec_answers.specs.declared.Answer.the-variants.{Empty, Waits, Refused}
 use Rattle.spec_answers.specs.declared.Finding.{Finding}
-use Rattle.spec_answers.specs.declared.Finding.the-variants.{Value as Found, Empty as Nothing, Waits as Later}
+use Rattle.spec_answers.specs.declared.Finding.the-variants as Finding
 use Rattle.spec_tree.specs.Rights.{pops}
 use Rattle.spec_outcomes.specs.Waits.{rightsOf, unfinished}
 
 abbrev pub popNothing : Finding → Answer
-popNothing (Found v) = Waits
-popNothing Nothing = Refused 7
-popNothing Later = Waits
+popNothing (Finding.Value v) = Waits
+popNothing Finding.Empty = Refused 7
+popNothing Finding.Waits = Waits
 
 abbrev pub testNothing : Finding → Answer
-testNothing (Found v) = Waits
-testNothing Nothing = Empty
-testNothing Later = Waits
+testNothing (Finding.Value v) = Waits
+testNothing Finding.Empty = Empty
+testNothing Finding.Waits = Waits
 
 -- why task t may not pop from queue q, 0 where it may
 unfoldable pub popRefusal : List ℕ → ℕ → ℕ → ℕ

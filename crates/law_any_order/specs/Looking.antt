@@ -11,7 +11,7 @@ use Rattle.spec_words.specs.Words.{pick, halt, both-true, true-both, both}
 use Rattle.spec_tree.specs.Rights.{pops as mayPop}
 use Rattle.spec_answers.specs.declared.Answer.the-variants.{Moved, Empty, NotEmpty, Waits, Refused}
 use Rattle.spec_answers.specs.declared.Finding.{Finding}
-use Rattle.spec_answers.specs.declared.Finding.the-variants.{Value as Found, Empty as Nothing, Waits as Later}
+use Rattle.spec_answers.specs.declared.Finding.the-variants as Finding
 use Rattle.spec_answers.specs.Calls.{pop-call, test-call}
 use Rattle.spec_order.specs.Steps.{Item as Mark, noted, counted}
 use Rattle.spec_order.specs.Waits.{blocked}
@@ -33,7 +33,7 @@ use Rattle.law_job_order.specs.Searches.{value-waits, empty-waits}
 use Rattle.law_job_order.specs.Instructions.{instruction, action-by, which-holds}
 use Rattle.law_job_waits.specs.Able.{LooksIn, Able}
 use Rattle.law_job_order.specs.Finds.{pop-after, pop-empty-after, test-after, test-empty-after}
-use Rattle.spec_runner.specs.declared.StepAnswer.the-variants.{Waits as Held}
+use Rattle.spec_runner.specs.declared.StepAnswer.the-variants as Step
 use Rattle.spec_runner.specs.Step.{callOf, replyOf, runnerAfter, done, replied}
 use Rattle.spec_job.specs.declared.Instruction.{Instruction}
 use Rattle.law_any_order.specs.Answered.{pop-answer, test-answer}
@@ -72,13 +72,13 @@ module _ {j m r : List ℕ} {xs : List Mark} {a b : List (Item Numbered)} {n : N
 
   -- AN INSTRUCTION that looks in its queue: it need not wait where something is found there, or nothing
   module _ (i : Instruction) (is : instructionOf j u ≡ i) where
-    found-able : awaits (operationAt (i .operation)) ≡ false → (f : Finding) → finding t (i .which) xs ≡ f → ¬ (f ≡ Later) → Able j xs n
+    found-able : awaits (operationAt (i .operation)) ≡ false → (f : Finding) → finding t (i .which) xs ≡ f → ¬ (f ≡ Finding.Waits) → Able j xs n
     found-able e f d known = other.able-with p free i is (λ w. absurd (false≢true (sym e ∙ w))) (λ w o. known (sym d ∙ o))
 
     -- and waits where that is not known yet
     for-queue : (b : Bool) (f : Option ℕ → List (Item Runner)) (x : Action Runner) → i .which < 4 → mayPop (rightsOf j (u .task)) (i .which) ≡ true
         → actionBy (operationAt (i .operation)) j u i ≡ pick (canPop (rightsOf j (u .task)) (i .which)) (looks b (i .which) f) x
-        → finding t (i .which) xs ≡ Later → ¬ Able j xs n
+        → finding t (i .which) xs ≡ Finding.Waits → ¬ Able j xs n
     unfolding canPop
     for-queue b f x small may e d able =
         able .finds (i .which) (subst (LooksIn (i .which)) (sym (action-by j u i is ∙ e ∙ halt _ _ (true-both (lt-ltb (i .which) 4 small) may))) refl) d
@@ -97,15 +97,15 @@ module _ {j m r : List ℕ} {xs : List Mark} {a b : List (Item Numbered)} {n : N
       answer f d = pop-answer m xs t (common.is-unfinished p) free q (right .0) (held-right q (right .1)) ∙ ap popAnswer d
 
       go : (f : Finding) → finding t q xs ≡ f → Result
-      go (Found v) d =
-          other.called p free i is (found-able i is refl (Found v) d value-waits) (pop-call t q) refl (Moved v) (answer (Found v) d)
+      go (Finding.Value v) d =
+          other.called p free i is (found-able i is refl (Finding.Value v) d value-waits) (pop-call t q) refl (Moved v) (answer (Finding.Value v) d)
           (some v) v _ refl (pop-after j acc played a b n stands (p .beside) q x v is d) (other.on-written p free i is (some v))
-      go Nothing d =
-          other.called p free i is (found-able i is refl Nothing d empty-waits) (pop-call t q) refl (Refused 7) (answer Nothing d)
+      go Finding.Empty d =
+          other.called p free i is (found-able i is refl Finding.Empty d empty-waits) (pop-call t q) refl (Refused 7) (answer Finding.Empty d)
           none 0 _ refl (pop-empty-after j acc played a b n stands (p .beside) q x is d) (other.on-written p free i is none)
-      go Later d =
-          other.held p free i is (pop-call t q) refl Waits (answer Later d)
-          Held (waits (for-queue i is _ _ _ (right .0) (right .1) refl d)) refl
+      go Finding.Waits d =
+          other.held p free i is (pop-call t q) refl Waits (answer Finding.Waits d)
+          Step.Waits (waits (for-queue i is _ _ _ (right .0) (right .1) refl d)) refl
 
   test-case : (q x : ℕ) → instructionOf j u ≡ instruction 4 q x → Result
   unfolding rowOf operationOf operationAt callOf runnerAfter replyOf replied noted counted whichHolds testAnswer done effect awaits
@@ -121,15 +121,15 @@ module _ {j m r : List ℕ} {xs : List Mark} {a b : List (Item Numbered)} {n : N
       answer f d = test-answer m xs t (common.is-unfinished p) free q (right .0) (held-right q (right .1)) ∙ ap testAnswer d
 
       go : (f : Finding) → finding t q xs ≡ f → Result
-      go (Found v) d =
-          other.called p free i is (found-able i is refl (Found v) d value-waits) (test-call t q) refl NotEmpty (answer (Found v) d)
+      go (Finding.Value v) d =
+          other.called p free i is (found-able i is refl (Finding.Value v) d value-waits) (test-call t q) refl NotEmpty (answer (Finding.Value v) d)
           (some v) 0 _ refl (test-after j acc played a b n stands (p .beside) q x v is d) (other.on-written p free i is (some v))
-      go Nothing d =
-          other.called p free i is (found-able i is refl Nothing d empty-waits) (test-call t q) refl Empty (answer Nothing d)
+      go Finding.Empty d =
+          other.called p free i is (found-able i is refl Finding.Empty d empty-waits) (test-call t q) refl Empty (answer Finding.Empty d)
           none 0 _ refl (test-empty-after j acc played a b n stands (p .beside) q x is d) (other.on-written p free i is none)
-      go Later d =
-          other.held p free i is (test-call t q) refl Waits (answer Later d)
-          Held (waits (for-queue i is _ _ _ (right .0) (right .1) refl d)) refl
+      go Finding.Waits d =
+          other.held p free i is (test-call t q) refl Waits (answer Finding.Waits d)
+          Step.Waits (waits (for-queue i is _ _ _ (right .0) (right .1) refl d)) refl
 
   -- THE STEP OF ANY OPERATION, where no older sibling blocks it
   abbrev Case : ℕ → Type 0

@@ -17,7 +17,7 @@ use Rattle.spec_outcomes.specs.Outcomes.{outcomeOf}
 use Rattle.spec_order.specs.Steps.{Item as Mark, noted, counted, advance, spawns, pushes, finishes}
 use Rattle.spec_order.specs.Waits.{blocked, hasChild}
 use Rattle.spec_order.specs.Finding.{finding}
-use Rattle.spec_answers.specs.declared.Finding.the-variants.{Waits as Unknown}
+use Rattle.spec_answers.specs.declared.Finding.the-variants as Finding
 use Rattle.law_job_times.specs.Kin.{awaits}
 use Rattle.law_job_waits.specs.Able.{Able, searches, looks-only}
 use Rattle.law_order_waits.specs.Played.{Played}
@@ -40,7 +40,7 @@ use Rattle.law_job_order.specs.After.{After}
 use Rattle.law_job_order.specs.Instructions.{instruction, which-holds}
 use Rattle.law_job_order.specs.Puts.{on, go-after, zero-after, add-after, sync-after, push-after, sum-after, finish-after, spawn-after}
 use Rattle.spec_runner.specs.declared.StepAnswer.{StepAnswer}
-use Rattle.spec_runner.specs.declared.StepAnswer.the-variants.{Waits as Later, Refused as TurnedDown}
+use Rattle.spec_runner.specs.declared.StepAnswer.the-variants as Step
 use Rattle.spec_runner.specs.Words.{procedureOf, registerOf, put}
 use Rattle.spec_runner.specs.Answers.{answerWith, outcome}
 use Rattle.spec_runner.specs.Step.{callOf, replyOf, runnerAfter, done, replied, makes, stepOutcome}
@@ -86,7 +86,7 @@ module _ {j m r : List ℕ} {xs : List Mark} {a b : List (Item Numbered)} {n : N
     o = operationAt (i .operation)
 
     -- the task need not wait
-    pub able-with : (awaits o ≡ true → hasChild t xs ≡ false) → (searches o ≡ true → finding t (i .which) xs ≡ Unknown → ⊥) → Able j xs n
+    pub able-with : (awaits o ≡ true → hasChild t xs ≡ false) → (searches o ≡ true → finding t (i .which) xs ≡ Finding.Waits → ⊥) → Able j xs n
     able-with lone f =
         record {
           free = free;
@@ -199,7 +199,7 @@ module _ {j m r : List ℕ} {xs : List Mark} {a b : List (Item Numbered)} {n : N
       ⊎-elim
       (λ d. called i is able (push-call t (i .which) v) which (Moved v) d none v _ same after
       (subst (λ (k : List ℕ). Written k (standing a ++ on n (goesOn u i none) ∷ standing b)) (sym words) (on-written i is none)))
-      (λ d. held i is (push-call t (i .which) v) which (Refused 9) (d .0) (TurnedDown 9)
+      (λ d. held i is (push-call t (i .which) v) which (Refused 9) (d .0) (Step.Refused 9)
       (nine (i .which) v (common.call-is p free i is ∙ which) (d .1) (d .2)) refl)
       (push-answer m xs t (common.is-unfinished p) free (i .which) v small
       (subst (λ (k : ℕ). mayPush k (i .which) ≡ true) (sym (common.rights-is p)) may))
@@ -227,7 +227,7 @@ module _ {j m r : List ℕ} {xs : List Mark} {a b : List (Item Numbered)} {n : N
       ⊎-elim
       (λ d. called i is (able-with i is (λ e. d .0) (λ e. absurd (false≢true e))) (sync-call t) refl (Moved 0) (d .1) none 0 _ refl
       (sync-after j acc played a b n stands (p .beside) q x is) (on-written i is none))
-      (λ d. held i is (sync-call t) refl Waits (d .1) Later (waits (for-child i is refl (d .0))) refl)
+      (λ d. held i is (sync-call t) refl Waits (d .1) Step.Waits (waits (for-child i is refl (d .0))) refl)
       (sync-answer m xs t (common.is-unfinished p) free)
 
   pub finish-case : Case 0
@@ -237,7 +237,7 @@ module _ {j m r : List ℕ} {xs : List Mark} {a b : List (Item Numbered)} {n : N
       ⊎-elim
       (λ d. called i is (able-with i is (λ e. d .0) (λ e. absurd (false≢true e))) (finish-call t) refl (Moved 0) (d .1) none 0 [] refl
       (finish-after j acc played a b n stands (p .beside) q x is) (words.finishes r (standing a) (standing b) n written (apart .0) (apart .1)))
-      (λ d. held i is (finish-call t) refl Waits (d .1) Later (waits (for-child i is refl (d .0))) refl)
+      (λ d. held i is (finish-call t) refl Waits (d .1) Step.Waits (waits (for-child i is refl (d .0))) refl)
       (finish-answer m xs t (common.is-unfinished p) free)
 
   -- A SPAWN moves, or is refused with 8.
@@ -281,7 +281,7 @@ module _ {j m r : List ℕ} {xs : List Mark} {a b : List (Item Numbered)} {n : N
         (λ d.
         called i is (able-plainly i is refl refl) call refl (Moved c) d none c _ refl (spawn-after j acc played a b n stands (p .beside) q x c is)
         (spawn-written d (common.call-state p free i is call refl (Moved c) d)))
-        (λ d. held i is call refl (Refused 8) (d .0) (TurnedDown 8) (eight (rights j q) (common.call-is p free i is) (d .1)) refl)
+        (λ d. held i is call refl (Refused 8) (d .0) (Step.Refused 8) (eight (rights j q) (common.call-is p free i is) (d .1)) refl)
         (spawn-answer m xs t (common.is-unfinished p) free (rights j q)
         (subst (λ (k : ℕ). subset (rights j q) k ≡ true) (sym (common.rights-is p)) (holds .1)))
 

@@ -28,7 +28,7 @@ use Rattle.spec_job.specs.Test.{jobAnswer}
 use Rattle.spec_plain.specs.Machine.{Event, queue}
 use Rattle.spec_plain.specs.Run.{queuesOf, stackOf, stepsOf, run, events, answersOf}
 use Rattle.spec_runner.specs.declared.StepAnswer.{StepAnswer}
-use Rattle.spec_runner.specs.declared.StepAnswer.the-variants.{Spawned, Pushed, Took, Finished, Moved as Went, Empty, NotEmpty, Waits, Refused}
+use Rattle.spec_runner.specs.declared.StepAnswer.the-variants as Step
 use Rattle.spec_runner.specs.Words.{RUNNER, registerOf, instructionFor}
 use Rattle.spec_runner.specs.Answers.{wordOf, hasMoved, Outcome, answerOf, coreOf, runnerOf}
 use Rattle.spec_runner.specs.Open.{openOutcome}
@@ -50,15 +50,15 @@ nameAt t (spot s ∷ xs) = pick (eqb (numberOf s) t) (nameOf s) (nameAt t xs)
 
 -- "a new task's number aside"
 unfoldable pub aside : StepAnswer → ℕ
-aside (Spawned c) = 0
-aside (Pushed v) = v
-aside (Took v) = v
-aside Finished = 0
-aside Went = 0
-aside Empty = 0
-aside NotEmpty = 0
-aside Waits = 0
-aside (Refused k) = 0
+aside (Step.Spawned c) = 0
+aside (Step.Pushed v) = v
+aside (Step.Took v) = v
+aside Step.Finished = 0
+aside Step.Moved = 0
+aside Step.Empty = 0
+aside Step.NotEmpty = 0
+aside Step.Waits = 0
+aside (Step.Refused k) = 0
 
 -- the event of a step of task t that is answered a
 unfoldable pub eventFor : List ℕ → Stand → ℕ → StepAnswer → Event
@@ -108,8 +108,8 @@ AllFinished s = (t : ℕ) → unfinished (s .core) t ≡ false
 -- "refused for want of a task record or segment": 8 where the step spawns and 128 tasks are unfinished; 9 where it pushes, the push needs
 -- a segment and none is free
 pub data Wants (j : List ℕ) (s : Stand) (t : ℕ) : Type 0 where
-  a-record : (r : ℕ) → stepAnswer j s t ≡ Refused 8 → coreCall j (s .runner) t ≡ some (spawn-call t r) → spots (s .order) ≡ 128 → Wants j s t
-  a-segment : (q v : ℕ) → stepAnswer j s t ≡ Refused 9 → coreCall j (s .runner) t ≡ some (push-call t q v) → needsSegment (s .core) t q ≡ true
+  a-record : (r : ℕ) → stepAnswer j s t ≡ Step.Refused 8 → coreCall j (s .runner) t ≡ some (spawn-call t r) → spots (s .order) ≡ 128 → Wants j s t
+  a-segment : (q v : ℕ) → stepAnswer j s t ≡ Step.Refused 9 → coreCall j (s .runner) t ≡ some (push-call t q v) → needsSegment (s .core) t q ≡ true
       → noneFree (s .core) ≡ true → Wants j s t
 
 -- What is promised of a run of job j that stands at s, where the plain machine ends after n steps.
@@ -121,7 +121,7 @@ pub record Agreed (j : List ℕ) (n : ℕ) (s : Stand) : Type 0 where
       → (u : ℕ) × (unfinished (s .core) u ≡ true) × ((hasMoved (stepAnswer j s u) ≡ true) ⊎ Wants j s u)
   -- a call that does not move waits, or is refused with 4 because nobody unfinished has the number, or for want of a record or segment
   pub others : (t : ℕ) → hasMoved (stepAnswer j s t) ≡ false
-      → (stepAnswer j s t ≡ Waits) ⊎ (((stepAnswer j s t ≡ Refused 4) × (unfinished (s .core) t ≡ false)) ⊎ Wants j s t)
+      → (stepAnswer j s t ≡ Step.Waits) ⊎ (((stepAnswer j s t ≡ Step.Refused 4) × (unfinished (s .core) t ≡ false)) ⊎ Wants j s t)
   -- once all have finished: every task has all its answers
   pub all : AllFinished s → (p : Name) → answersOf p (s .events) ≡ answersOf p (events n j)
   -- left gives the plain machine's lists, and 7 past their ends

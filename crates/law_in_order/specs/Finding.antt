@@ -6,7 +6,7 @@ use Prim.Native.Nat.{ℕ, _<_}
 use Rattle.spec_words.specs.Words.{pick, either, neither-true}
 use Rattle.spec_layout.specs.Layout.{queueHead, read}
 use Rattle.spec_answers.specs.declared.Finding.{Finding}
-use Rattle.spec_answers.specs.declared.Finding.the-variants.{Value as Found, Empty as Nothing, Waits as Later}
+use Rattle.spec_answers.specs.declared.Finding.the-variants as Finding
 use Rattle.spec_tree.specs.Rights.{pops as mayPop}
 use Rattle.spec_outcomes.specs.Segments.{valueAt}
 use Rattle.spec_outcomes.specs.Waits.{blocked as blockedIn, childPops as childPopsIn, pusherBefore}
@@ -35,25 +35,25 @@ module _ (m : List ℕ) (ys zs : List Item) (s : Task) (r : Represents m (ys ++ 
   pub finding-same : findingIn m t q ≡ finding t q Old
   unfolding findingIn finding
   finding-same =
-      ap (λ (b : Bool). pick b Later Rest) same-wait ∙ go (either (blocked t Old) (childPops q t Old)) refl
+      ap (λ (b : Bool). pick b Finding.Waits Rest) same-wait ∙ go (either (blocked t Old) (childPops q t Old)) refl
     where
       Rest : Finding
-      Rest = pick (hasValue m t q) (Found (valueAt m (read m (queueHead t q)) 0)) (pick (pusherBefore m t q) Later Nothing)
+      Rest = pick (hasValue m t q) (Finding.Value (valueAt m (read m (queueHead t q)) 0)) (pick (pusherBefore m t q) Finding.Waits Finding.Empty)
 
-      go : (b : Bool) → either (blocked t Old) (childPops q t Old) ≡ b → pick b Later Rest ≡ pick b Later (found (runs q (before t Old) (run false [])))
+      go : (b : Bool) → either (blocked t Old) (childPops q t Old) ≡ b → pick b Finding.Waits Rest ≡ pick b Finding.Waits (found (runs q (before t Old) (run false [])))
       go true e = unfold pick in refl
       go false e = unfold pick in let w = neither-true _ _ e in sym (finds-same m ys zs s r q small may (w .0) (w .1))
 
   -- a case for each wait, each value, and empty
-  pub finding-cases : (C : Finding → Type 0) → C Later
-      → (blocked t Old ≡ false → childPops q t Old ≡ false → hasValue m t q ≡ true → C (Found (valueAt m (read m (queueHead t q)) 0)))
-      → (blocked t Old ≡ false → C Nothing) → C (findingIn m t q)
+  pub finding-cases : (C : Finding → Type 0) → C Finding.Waits
+      → (blocked t Old ≡ false → childPops q t Old ≡ false → hasValue m t q ≡ true → C (Finding.Value (valueAt m (read m (queueHead t q)) 0)))
+      → (blocked t Old ≡ false → C Finding.Empty) → C (findingIn m t q)
   unfolding findingIn
   finding-cases C later value nothing =
       go (either (blockedIn m t) (childPopsIn m t q)) (hasValue m t q) (pusherBefore m t q) refl refl
     where
       go : (b h p : Bool) → either (blockedIn m t) (childPopsIn m t q) ≡ b → hasValue m t q ≡ h
-          → C (pick b Later (pick h (Found (valueAt m (read m (queueHead t q)) 0)) (pick p Later Nothing)))
+          → C (pick b Finding.Waits (pick h (Finding.Value (valueAt m (read m (queueHead t q)) 0)) (pick p Finding.Waits Finding.Empty)))
       go true h p e f = unfold pick in later
       go false true p e f = unfold pick in let w = neither-true _ _ (sym same-wait ∙ e) in value (w .0) (w .1) f
       go false false true e f = unfold pick in later

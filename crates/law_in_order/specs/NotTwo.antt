@@ -9,7 +9,7 @@ use Rattle.spec_words.specs.Words.{pick}
 use Rattle.spec_answers.specs.declared.Answer.{Answer}
 use Rattle.spec_answers.specs.declared.Answer.the-variants.{Moved, Waits, Refused}
 use Rattle.spec_answers.specs.declared.Finding.{Finding}
-use Rattle.spec_answers.specs.declared.Finding.the-variants.{Value as Found, Empty as Nothing, Waits as Later}
+use Rattle.spec_answers.specs.declared.Finding.the-variants as Finding
 use Rattle.spec_answers.specs.Answers.{statusOf}
 use Rattle.spec_answers.specs.Calls.{Call, open-call, spawn-call, push-call, pop-call, test-call, sync-call, finish-call, left-call}
 use Rattle.spec_order.specs.Steps.{Item}
@@ -46,15 +46,15 @@ for-queue q held f = choice _ (refused (λ e. omega (arith, e))) (choice held f 
 
 pop-answer : (f : Finding) → NotTwo (popAnswer f)
 unfolding popAnswer
-pop-answer (Found v) = moved
-pop-answer Nothing = refused (λ e. omega (arith, e))
-pop-answer Later = waits
+pop-answer (Finding.Value v) = moved
+pop-answer Finding.Empty = refused (λ e. omega (arith, e))
+pop-answer Finding.Waits = waits
 
 test-answer : (f : Finding) → NotTwo (testAnswer f)
 unfolding testAnswer statusOf
-test-answer (Found v) = record { no = λ e. omega (arith, e) }
-test-answer Nothing = record { no = λ e. omega (arith, e) }
-test-answer Later = waits
+test-answer (Finding.Value v) = record { no = λ e. omega (arith, e) }
+test-answer Finding.Empty = record { no = λ e. omega (arith, e) }
+test-answer Finding.Waits = waits
 
 left-answer : (o : Option ℕ) → NotTwo (leftAnswer o)
 unfolding leftAnswer

@@ -10,7 +10,7 @@ use borrow.Author.Tests.{ne-eqb}
 use Rattle.spec_words.specs.Words.{pick, halt, pass as skip}
 use Rattle.spec_layout.specs.Layout.{numberWord, queueHead, read}
 use Rattle.spec_tree.specs.Rights.{pops as mayPop}
-use Rattle.spec_answers.specs.declared.Finding.the-variants.{Value as Found, Empty as Nothing, Waits as Later}
+use Rattle.spec_answers.specs.declared.Finding.the-variants as Finding
 use Rattle.spec_outcomes.specs.Waits.{pusherBefore}
 use Rattle.spec_outcomes.specs.Segments.{valueAt}
 use Rattle.spec_outcomes.specs.Find.{hasValue, popped}
@@ -143,24 +143,24 @@ module _ (m : List ℕ) (ys zs : List Item) (s : Task) (r : Represents m (ys ++ 
 
   -- what the words find
   pub finds-same : found (runs q (before t Old) (run false []))
-      ≡ pick (hasValue m t q) (Found (valueAt m (read m (queueHead t q)) 0)) (pick (pusherBefore m t q) Later Nothing)
+      ≡ pick (hasValue m t q) (Finding.Value (valueAt m (read m (queueHead t q)) 0)) (pick (pusherBefore m t q) Finding.Waits Finding.Empty)
   unfolding firstOf
   finds-same = finds q ys zs s (single-spot m ys zs s r) may none-before (parts-of m Old r .time q small) ∙ go (contentsIn m g) refl
     where
       go : (vs : List ℕ) → contentsIn m g ≡ vs
           → firstOf t (timeline (contentsIn m) (r .line q))
-          ≡ pick (hasValue m t q) (Found (valueAt m (read m (queueHead t q)) 0)) (pick (pusherBefore m t q) Later Nothing)
+          ≡ pick (hasValue m t q) (Finding.Value (valueAt m (read m (queueHead t q)) 0)) (pick (pusherBefore m t q) Finding.Waits Finding.Empty)
       go (w ∷ ws) e =
           let k = value-there m t q (task-unfinished m ys zs s r .0) small g (r .sized) g-below head-is w ws e in
           ap (firstOf t) (line-time ∙ ap (λ (l : List ℕ). (values l ++ valuesIn (contentsIn m) c) ++ timeline (contentsIn m) b) e)
-          ∙ ap Found (sym (k .1))
+          ∙ ap Finding.Value (sym (k .1))
           ∙ sym (halt _ _ (k .0))
       go [] e =
           let time-is : timeline (contentsIn m) (r .line q) ≡ timeline (contentsIn m) b =
           line-time ∙ ap₂ (λ (l : List ℕ) (d : List ℕ). (values l ++ valuesIn (contentsIn m) d) ++ timeline (contentsIn m) b) e (empty-alone e) in
           finds-none q ys zs s (single-spot m ys zs s r) may none-before (parts-of m Old r .time q small)
           (subst NoValueFirst (sym time-is) (no-value-first (contentsIn m) b no-base-later))
-          ∙ ap (λ (x : Bool). pick x Later Nothing) (sym (same-pusher m (r .tour) ys zs s (r .linked) (where-it-stands m ys zs s r) q))
+          ∙ ap (λ (x : Bool). pick x Finding.Waits Finding.Empty) (sym (same-pusher m (r .tour) ys zs s (r .linked) (where-it-stands m ys zs s r) q))
           ∙ sym (skip _ (no-value m t q (task-unfinished m ys zs s r .0) small g (r .sized) g-below head-is e) refl)
 
   -- where the words have a value, the first segment has one

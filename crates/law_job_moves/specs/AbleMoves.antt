@@ -7,7 +7,7 @@ use Prim.Native.Nat.{ℕ, _<_}
 use Rattle.spec_tree.specs.Rights.{pops as mayPop, uses}
 use Rattle.spec_tree.specs.Users.{pops-uses}
 use Rattle.spec_answers.specs.declared.Finding.{Finding}
-use Rattle.spec_answers.specs.declared.Finding.the-variants.{Value, Empty, Waits as Later}
+use Rattle.spec_answers.specs.declared.Finding.the-variants as Finding
 use Rattle.spec_order.specs.Steps.{Item as Mark, numberOf, rightsOf}
 use Rattle.spec_order.specs.Finding.{finding}
 use Rattle.law_order_waits.specs.Played.{Played}
@@ -91,7 +91,7 @@ module _ (j : List ℕ) (ticks : ℕ → ℕ) {xs : List Mark} (played : Played 
         )
 
     -- by the action
-    moves-by : (i : Action Runner) → action j u ≡ i → NoReturn i → ((q : ℕ) → LooksIn q i → finding (n .number) q xs ≡ Later → ⊥) → Moving l
+    moves-by : (i : Action Runner) → action j u ≡ i → NoReturn i → ((q : ℕ) → LooksIn q i → finding (n .number) q xs ≡ Finding.Waits → ⊥) → Moving l
     moves-by (returns q v ys) is p f = absurd p
     moves-by (puts ys) is p f =
         (none, _, walked-move j u (puts ys) (unnumbered a) At _ none is refl (walk-puts j u ys is (unnumbered a) (unnumbered b)) ticks c l (e ∙ at-task))
@@ -104,13 +104,13 @@ module _ (j : List ℕ) (ticks : ℕ → ℕ) {xs : List Mark} (played : Played 
         used = pops-uses (jobRights j (u .task)) q (right .1)
 
         go : (o : Finding) → finding (n .number) q xs ≡ o → Moving l
-        go (Value v) d =
+        go (Finding.Value v) d =
             unfold taskOf numberOf rightsOf in
-            let m = meets j played a b n h q (Value v) (right .0) (right .1) value-waits d in
+            let m = meets j played a b n h q (Finding.Value v) (right .0) (right .1) value-waits d in
             finding-it k q v g is (first-value j q b n used v a (m .quiet) (m .first))
-        go Empty d =
+        go Finding.Empty d =
             unfold taskOf numberOf rightsOf in
-            let m = meets j played a b n h q Empty (right .0) (right .1) empty-waits d in (
+            let m = meets j played a b n h q Finding.Empty (right .0) (right .1) empty-waits d in (
               none,
               _,
               walked-move j u (looks k q g) (unnumbered a) At _ none is refl
@@ -118,7 +118,7 @@ module _ (j : List ℕ) (ticks : ℕ → ℕ) {xs : List Mark} (played : Played 
                   (past-bare j k q a (first-nothing j q b n used a (others j played a b n h) (m .first))))
                   ticks c l (e ∙ at-task),
             )
-        go Later d = absurd (f q refl d)
+        go Finding.Waits d = absurd (f q refl d)
 
   pub able-moves : Able j xs n → (l : List (Timed Runner)) → untimed l ≡ Whole → Moving l
   able-moves able l e = moves-by l e (nobody-halts j played a b n h able) (action j u) refl (no-return j u) (able .finds)

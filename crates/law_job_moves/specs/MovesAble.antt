@@ -10,7 +10,7 @@ use borrow.Author.Tests.{lt-ltb, eq-eqb}
 use Rattle.spec_words.specs.Words.{halt, pass, both-true, true-both, refuted, neither}
 use Rattle.spec_tree.specs.Rights.{pushes as mayPush, pops as mayPop, uses}
 use Rattle.spec_tree.specs.Users.{pops-uses, uses-pushes}
-use Rattle.spec_answers.specs.declared.Finding.the-variants.{Empty, Waits as Later}
+use Rattle.spec_answers.specs.declared.Finding.the-variants as Finding
 use Rattle.spec_order.specs.Steps.{Task, Item as Mark, spot as place, nameOf, numberOf, rightsOf}
 use Rattle.spec_order.specs.Waits.{blocked, childPops}
 use Rattle.spec_order.specs.Finding.{finding}
@@ -124,11 +124,11 @@ module _ (j : List ℕ) (q : ℕ) (small : q < 4) where
 
   -- the first point of the queue is a value, or the task itself
   search-first : (b : List (Item Numbered)) (n : Numbered) → uses (rightsOf (taskOf j n)) q ≡ true → (a : List (Item Numbered))
-      → Searched (jobTasks j) q (unnumbered a) → firstOf (numberOf (taskOf j n)) (pointsOf j q (a ++ spot n ∷ b)) ≡ Later → ⊥
+      → Searched (jobTasks j) q (unnumbered a) → firstOf (numberOf (taskOf j n)) (pointsOf j q (a ++ spot n ∷ b)) ≡ Finding.Waits → ⊥
   unfolding unnumbered taskOf rightsOf firstOf numberOf
   search-first b n used [] h e =
       empty-waits
-      (sym (halt Empty Later (eq-eqb (n .number) (n .number) refl))
+      (sym (halt Finding.Empty Finding.Waits (eq-eqb (n .number) (n .number) refl))
       ∙ sym (unfold taskOf rightsOf numberOf in ap (firstOf (n .number)) (point-is j q n b ∙ halt _ _ used))
       ∙ e)
   search-first b n used (value p v ∷ a) (inl h) e =
@@ -187,7 +187,7 @@ module _ (j : List ℕ) (ticks : ℕ → ℕ) {xs : List Mark} (played : Played 
 
   -- it waits for no queue
   no-wait : (q : ℕ) → q < 4 → mayPop (jobRights j (u .task)) q ≡ true → blocked (n .number) xs ≡ false → Searched (jobTasks j) q (unnumbered a)
-      → finding (n .number) q xs ≡ Later → ⊥
+      → finding (n .number) q xs ≡ Finding.Waits → ⊥
   unfolding taskOf nameOf numberOf rightsOf finding childPops
   no-wait q small may unblocked went e =
       search-first j q small b n (pops-uses (jobRights j (u .task)) q may) a went
@@ -226,7 +226,7 @@ module _ (j : List ℕ) (ticks : ℕ → ℕ) {xs : List Mark} (played : Played 
           unblocked = never-blocked j played a b n h clear
 
           waits : (i : Action Runner) → action j u ≡ i → Went (jobTasks j) W u (startOf i none-back) (untimed l) → (q : ℕ) → LooksIn q i
-              → finding (n .number) q xs ≡ Later → ⊥
+              → finding (n .number) q xs ≡ Finding.Waits → ⊥
           waits (puts ys) is c q k d = k
           waits (returns p v ys) is c q k d = k
           waits (looks b p g) is c q k d =

@@ -7,7 +7,7 @@ use Prim.Native.Nat.{ℕ, _<_}
 use borrow.Author.Tests.{ltb-true}
 use Rattle.spec_words.specs.Words.{both-true}
 use Rattle.spec_tree.specs.Rights.{pops as mayPop}
-use Rattle.spec_answers.specs.declared.Finding.the-variants.{Waits as Later}
+use Rattle.spec_answers.specs.declared.Finding.the-variants as Finding
 use Rattle.spec_order.specs.Steps.{Item as Mark}
 use Rattle.spec_order.specs.Waits.{blocked, hasChild}
 use Rattle.spec_order.specs.Finding.{finding}
@@ -36,7 +36,7 @@ Awaits j u = awaits (operationAt (instructionOf j u .operation)) ≡ true
 pub record Able (j : List ℕ) (xs : List Mark) (n : Numbered) : Type 0 where
   pub free : blocked (n .number) xs ≡ false
   pub childless : Awaits j (n .runner) → hasChild (n .number) xs ≡ false
-  pub finds : (q : ℕ) → LooksIn q (action j (n .runner)) → finding (n .number) q xs ≡ Later → ⊥
+  pub finds : (q : ℕ) → LooksIn q (action j (n .runner)) → finding (n .number) q xs ≡ Finding.Waits → ⊥
 
 -- THE OPERATIONS THAT LOOK in a queue
 unfoldable pub searches : Operation → Bool

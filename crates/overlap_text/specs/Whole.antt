@@ -17,7 +17,7 @@ use Rattle.spec_runner.specs.Words.{RUNNER}
 use Rattle.spec_runner.specs.Answers.{hasMoved, statusOf, Outcome, answerOf, coreOf, runnerOf}
 use Rattle.spec_runner.specs.Open.{openOutcome}
 use Rattle.spec_runner.specs.Run.{stepsFrom}
-use Rattle.spec_serial.specs.declared.End.the-variants.{Refused as TurnedDown}
+use Rattle.spec_serial.specs.declared.End.the-variants as End
 use Rattle.run_text.specs.Lines.{line, leftLine, openLine, endLine}
 use Rattle.serial_text.specs.Whole.{linesFrom}
 use Rattle.runner_run.specs.Rows.{numbered, printed}
@@ -68,7 +68,7 @@ endText m = pick (unfinished m 0) (openLine (unfinishedIn m)) (linesFrom (queueL
 unfoldable pub textFrom : List ℕ → List ℕ → Outcome → List ℕ
 textFrom j ts o =
     let s = stepsFrom j ts (coreOf o) (runnerOf o) in
-    pick (hasMoved (answerOf o)) (callLines 0 ts (s .answers) ++ endText (s .core)) (endLine (TurnedDown (statusOf (answerOf o))))
+    pick (hasMoved (answerOf o)) (callLines 0 ts (s .answers) ++ endText (s .core)) (endLine (End.Refused (statusOf (answerOf o))))
 
 -- THE TEXT of job j, or of any bytes, under the calls of tasks ts, on words that are all 0
 unfoldable pub overlapText : List ℕ → List ℕ → List ℕ

@@ -16,7 +16,7 @@ use Rattle.spec_outcomes.specs.Keeps.{Keeps, keeps}
 use Rattle.spec_job.specs.declared.Instruction.{Instruction}
 use Rattle.spec_job.specs.Operations.{operationAt}
 use Rattle.spec_runner.specs.declared.StepAnswer.{StepAnswer}
-use Rattle.spec_runner.specs.declared.StepAnswer.the-variants.{Waits as Later, Refused as TurnedDown}
+use Rattle.spec_runner.specs.declared.StepAnswer.the-variants as Step
 use Rattle.spec_runner.specs.Words.{registerOf, instructionFor}
 use Rattle.spec_runner.specs.Answers.{outcome}
 use Rattle.spec_runner.specs.Laws.{core-outcome}
@@ -71,7 +71,7 @@ module _ (j m n r : List ℕ) (t : ℕ) {s : Instruction} {x : ℕ} (es : s ≡ 
     unfolding replyOf replied foundWith
     popped-none {k} h z d =
         d .does n
-        ∙ ap (λ (y : Reply). replied t s y n m r) (sym (halt (goes none 0) (stops (TurnedDown k)) (eq-eqb k 7 z)))
+        ∙ ap (λ (y : Reply). replied t s y n m r) (sym (halt (goes none 0) (stops (Step.Refused k)) (eq-eqb k 7 z)))
         ∙ ap (λ (a : Answer). replied t s (replyOf a) n m r) (sym h)
         ∙ replied-is
 
@@ -80,17 +80,17 @@ module _ (j m n r : List ℕ) (t : ℕ) {s : Instruction} {x : ℕ} (es : s ≡ 
     kept : Keeps m (answered a n)
     kept = subst (Keeps m) (sym e) (keeps-called m em rules call)
 
-    pub waits : a ≡ Waits → outcome Later n r ≡ acted j m r t
+    pub waits : a ≡ Waits → outcome Step.Waits n r ≡ acted j m r t
     unfolding replyOf replied
     waits h =
-        ap (λ (l : List ℕ). outcome Later l r) (subst (λ (a : Answer). Keeps m (answered a n)) h kept)
+        ap (λ (l : List ℕ). outcome Step.Waits l r) (subst (λ (a : Answer). Keeps m (answered a n)) h kept)
         ∙ ap (λ (a : Answer). replied t s (replyOf a) n m r) (sym h)
         ∙ replied-is
 
-    pub turned-down : {k : ℕ} → a ≡ Refused k → (k ≡ 7 → ⊥) → outcome (TurnedDown k) n r ≡ acted j m r t
+    pub turned-down : {k : ℕ} → a ≡ Refused k → (k ≡ 7 → ⊥) → outcome (Step.Refused k) n r ≡ acted j m r t
     unfolding replyOf replied
     turned-down {k} h z =
-        ap (λ (l : List ℕ). outcome (TurnedDown k) l r) (subst (λ (a : Answer). Keeps m (answered a n)) h kept)
+        ap (λ (l : List ℕ). outcome (Step.Refused k) l r) (subst (λ (a : Answer). Keeps m (answered a n)) h kept)
         ∙ ap (λ (y : Reply). replied t s y n m r) (sym (pass (goes none 0) (ne-eqb k 7 z) refl))
         ∙ ap (λ (a : Answer). replied t s (replyOf a) n m r) (sym h)
         ∙ replied-is

@@ -23,7 +23,7 @@ use Rattle.spec_serial.specs.Serial.{STEPS, stopOf, serial}
 use Rattle.spec_serial.specs.Working.{WORKING, firstAt, countAt, ringFrom, ring, lists}
 use Rattle.spec_serial.specs.Outcome.{ANSWERS, Outcome, outcome, shown, turnedDown, serialOutcome}
 use Rattle.spec_serial.specs.declared.End.{End}
-use Rattle.spec_serial.specs.declared.End.the-variants.{Ended, Spent, Refused as Stopped}
+use Rattle.spec_serial.specs.declared.End.the-variants as End
 use Rattle.serial_runner.specs.declared.Ran.{Ran}
 use Rattle.serial_runner.specs.Onward.{onward, onward-stops}
 use Rattle.serial_runner.specs.Turns.{task}
@@ -139,9 +139,9 @@ cleared w u e = ap lists e ∙ all (length w)
 -- with no task left the run has ended
 over : (e : End) (j : List ℕ) (n c : ℕ) (us : List (List ℕ)) (b : List ℕ) → resumed e j n c [] [] us b ≡ outcome e (STEPS - n) us b
 unfolding resumed stepsOf queuesOf stopOf
-over Ended j n c us b = onward-stops j n c [] (state us [] (STEPS - n)) b Ended refl
-over Spent j n c us b = refl
-over (Stopped k) j n c us b = refl
+over End.Ended j n c us b = onward-stops j n c [] (state us [] (STEPS - n)) b End.Ended refl
+over End.Spent j n c us b = refl
+over (End.Refused k) j n c us b = refl
 
 pub top-runs : (j a : List ℕ) (qs : List (List ℕ)) (e : Ran) (us : List (List ℕ)) (b : List ℕ) → qs ≡ [] ∷ [] ∷ [] ∷ [] ∷ []
     → BodyRuns j 0 0 0 1 65535 1 qs a e us b

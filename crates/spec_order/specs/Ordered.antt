@@ -8,7 +8,7 @@ use Rattle.spec_words.specs.Words.{pick, either}
 use Rattle.spec_answers.specs.declared.Answer.{Answer}
 use Rattle.spec_answers.specs.declared.Answer.the-variants.{Moved, Empty, NotEmpty, Waits, Refused}
 use Rattle.spec_answers.specs.declared.Finding.{Finding}
-use Rattle.spec_answers.specs.declared.Finding.the-variants.{Value as Found, Empty as Nothing, Waits as Later}
+use Rattle.spec_answers.specs.declared.Finding.the-variants as Finding
 use Rattle.spec_answers.specs.Answers.{statusOf, valueOf}
 use Rattle.spec_answers.specs.Calls.{Call, open-call, spawn-call, push-call, pop-call, test-call, sync-call, finish-call, left-call}
 use Rattle.spec_tree.specs.Rights.{pushes as mayPush, pops as mayPop, subset}
@@ -38,15 +38,15 @@ forQueue q held a = pick (leb 4 q) (Refused 5) (pick held a (Refused 6))
 
 -- "Pop takes it"; "pop is refused with 7"
 unfoldable pub popAnswer : Finding → Answer
-popAnswer (Found v) = Moved v
-popAnswer Nothing = Refused 7
-popAnswer Later = Waits
+popAnswer (Finding.Value v) = Moved v
+popAnswer Finding.Empty = Refused 7
+popAnswer Finding.Waits = Waits
 
 -- "test says "not empty""; "Test says "empty""
 unfoldable pub testAnswer : Finding → Answer
-testAnswer (Found v) = NotEmpty
-testAnswer Nothing = Empty
-testAnswer Later = Waits
+testAnswer (Finding.Value v) = NotEmpty
+testAnswer Finding.Empty = Empty
+testAnswer Finding.Waits = Waits
 
 unfoldable pub leftAnswer : Option ℕ → Answer
 leftAnswer (some v) = Moved v

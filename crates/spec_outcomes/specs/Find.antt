@@ -7,7 +7,7 @@ use Rattle.spec_words.specs.Words.{pick, both, either}
 use Rattle.spec_layout.specs.Layout.{NONE, NL, count, next, queueHead, read, write}
 use Rattle.spec_answers.specs.declared.Answer.the-variants.{Moved, Empty, NotEmpty, Waits, Refused}
 use Rattle.spec_answers.specs.declared.Finding.{Finding}
-use Rattle.spec_answers.specs.declared.Finding.the-variants.{Value as Found, Empty as Nothing, Waits as Later}
+use Rattle.spec_answers.specs.declared.Finding.the-variants as Finding
 use Rattle.spec_answers.specs.Answers.{Outcome, outcome}
 use Rattle.spec_tree.specs.Rights.{pops}
 use Rattle.spec_outcomes.specs.Segments.{valueAt, dropped, released}
@@ -21,9 +21,9 @@ hasValue m t q = both (ltb (read m (queueHead t q)) NL) (not (eqb (read m (count
 -- the three waits, a value, "empty when nothing is pending and no pusher's spot stands before the caller's", else a wait
 unfoldable pub finding : List ℕ → ℕ → ℕ → Finding
 finding m t q =
-    pick (either (blocked m t) (childPops m t q)) Later
-    (pick (hasValue m t q) (Found (valueAt m (read m (queueHead t q)) 0))
-    (pick (pusherBefore m t q) Later Nothing))
+    pick (either (blocked m t) (childPops m t q)) Finding.Waits
+    (pick (hasValue m t q) (Finding.Value (valueAt m (read m (queueHead t q)) 0))
+    (pick (pusherBefore m t q) Finding.Waits Finding.Empty))
 
 -- the first value of queue q is gone; a segment that it leaves empty and that has a next is freed
 unfoldable pub popped : List ℕ → ℕ → ℕ → List ℕ
@@ -35,14 +35,14 @@ popped m t q =
 
 -- "Pop takes it"; "pop is refused with 7"
 unfoldable pub popGives : List ℕ → ℕ → ℕ → Finding → Outcome
-popGives m t q (Found v) = outcome (Moved v) (popped m t q)
-popGives m t q Nothing = outcome (Refused 7) m
-popGives m t q Later = outcome Waits m
+popGives m t q (Finding.Value v) = outcome (Moved v) (popped m t q)
+popGives m t q Finding.Empty = outcome (Refused 7) m
+popGives m t q Finding.Waits = outcome Waits m
 
 unfoldable pub testGives : List ℕ → Finding → Outcome
-testGives m (Found v) = outcome NotEmpty m
-testGives m Nothing = outcome Empty m
-testGives m Later = outcome Waits m
+testGives m (Finding.Value v) = outcome NotEmpty m
+testGives m Finding.Empty = outcome Empty m
+testGives m Finding.Waits = outcome Waits m
 
 -- 4, 5, 6 "right not held (for test, pop)", else o
 unfoldable pub popAllowed : List ℕ → ℕ → ℕ → Outcome → Outcome

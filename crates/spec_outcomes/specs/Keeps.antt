@@ -8,7 +8,7 @@ use Rattle.spec_layout.specs.Layout.{queueHead, read}
 use Rattle.spec_answers.specs.declared.Answer.{Answer}
 use Rattle.spec_answers.specs.declared.Answer.the-variants.{Moved, Empty, NotEmpty, Waits, Refused}
 use Rattle.spec_answers.specs.declared.Finding.{Finding}
-use Rattle.spec_answers.specs.declared.Finding.the-variants.{Value as Found, Empty as Nothing, Waits as Later}
+use Rattle.spec_answers.specs.declared.Finding.the-variants as Finding
 use Rattle.spec_answers.specs.Answers.{Outcome, outcome, wordsOf}
 use Rattle.spec_answers.specs.Calls.{Call, open-call, spawn-call, push-call, pop-call, test-call, sync-call, finish-call, left-call}
 use Rattle.spec_outcomes.specs.Waits.{tested}
@@ -83,15 +83,15 @@ keeps-allowed m t q o p = keeps-pick m _ _ _ refl (keeps-pick m _ _ _ refl (keep
 
 keeps-popped : (m : List ℕ) (t q : ℕ) (f : Finding) → Keeps m (popGives m t q f)
 unfolding popGives
-keeps-popped m t q (Found v) = tt
-keeps-popped m t q Nothing = refl
-keeps-popped m t q Later = refl
+keeps-popped m t q (Finding.Value v) = tt
+keeps-popped m t q Finding.Empty = refl
+keeps-popped m t q Finding.Waits = refl
 
 keeps-found : (m : List ℕ) (f : Finding) → Keeps m (testGives m f)
 unfolding testGives
-keeps-found m (Found v) = refl
-keeps-found m Nothing = refl
-keeps-found m Later = refl
+keeps-found m (Finding.Value v) = refl
+keeps-found m Finding.Empty = refl
+keeps-found m Finding.Waits = refl
 
 keeps-reduced : (m : List ℕ) (t : ℕ) (b : Bool) (o : Outcome) → Keeps m o → Keeps m (whenReduced m t b o)
 unfolding whenReduced
@@ -120,9 +120,9 @@ same-tested m o p = same-pick m _ _ _ refl (same-pick m _ _ _ refl p)
 
 same-found : (m : List ℕ) (f : Finding) → wordsOf (testGives m f) ≡ m
 unfolding testGives wordsOf
-same-found m (Found v) = refl
-same-found m Nothing = refl
-same-found m Later = refl
+same-found m (Finding.Value v) = refl
+same-found m Finding.Empty = refl
+same-found m Finding.Waits = refl
 
 -- "Pop takes it; test says "not empty"": a test takes nothing, so it changes no word, whatever it finds.
 pub test-keeps : (t q : ℕ) (m : List ℕ) → wordsOf (outcomeOf (test-call t q) m) ≡ m

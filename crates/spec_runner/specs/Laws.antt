@@ -24,7 +24,7 @@ use Rattle.spec_job.specs.Test.{jobAnswer}
 use Rattle.spec_job.specs.Accepted.{passed}
 use Rattle.spec_job.specs.Operations.{Operation, operationAt, rowOf, operationOf}
 use Rattle.spec_job.specs.Effects.{Word, spawned, pushed, took, moved, finished, empty, notEmpty, waits, refused as turned-down, sum, effect, moves, always-moves}
-use Rattle.spec_runner.specs.declared.StepAnswer.the-variants.{Spawned, Waits as Later, Refused as TurnedDown}
+use Rattle.spec_runner.specs.declared.StepAnswer.the-variants as Step
 use Rattle.spec_runner.specs.Words.{RUNNER, procedureOf, positionOf, registerOf, put, instructionFor}
 use Rattle.spec_runner.specs.Answers.{answerWith, hasMoved, Outcome, outcome, answerOf, coreOf, runnerOf}
 use Rattle.spec_runner.specs.Rules.{runnerHolds, refused, jobTested, tested}
@@ -71,7 +71,7 @@ job-passes j m r e sm sr o =
 
 -- 2 "the memory rules fail": the runner's words have rules too, and whatever the core's words are, a step tests them
 pub runner-tested : (j m r : List ℕ) (t : ℕ) → jobAnswer j ≡ Moved 0 → size m ≡ WORDS → size r ≡ RUNNER → runnerHolds j m r ≡ false
-    → stepOutcome j m r t ≡ outcome (TurnedDown 2) m r
+    → stepOutcome j m r t ≡ outcome (Step.Refused 2) m r
 unfolding stepOutcome tested refused
 runner-tested j m r t e sm sr h = job-passes j m r e sm sr _ ∙ halt _ _ (ap not (both-right-off (rulesHold m) h))
 
@@ -127,12 +127,12 @@ module _ (m r : List ℕ) where
   open-keeps j = fair-says (openOutcome j m r) (job-fair j (jobOpened j) (λ e. absurd (false≢true (sym e))))
 
   -- A TASK THAT AN OLDER SIBLING BLOCKS WAITS, whatever its operation.
-  pub blocked-waits : (j : List ℕ) (t : ℕ) → unfinished m t ≡ true → blocked m t ≡ true → stepTested j m r t ≡ outcome Later m r
+  pub blocked-waits : (j : List ℕ) (t : ℕ) → unfinished m t ≡ true → blocked m t ≡ true → stepTested j m r t ≡ outcome Step.Waits m r
   unfolding stepTested
   blocked-waits j t u b = pass _ (ap not u) (halt _ _ b)
 
   -- a core call that waits makes the step wait
-  pub call-waits : (t : ℕ) (s : Instruction) (c : Call) (n : List ℕ) → coreOutcome c m ≡ answered Waits n → makes t s (some c) m r ≡ outcome Later m r
+  pub call-waits : (t : ℕ) (s : Instruction) (c : Call) (n : List ℕ) → coreOutcome c m ≡ answered Waits n → makes t s (some c) m r ≡ outcome Step.Waits m r
   unfolding makes repliedTo replyOf replied
   call-waits t s c n e = ap (λ (o : CoreOutcome). repliedTo t s o m r) e
 
@@ -140,6 +140,6 @@ module _ (m r : List ℕ) where
   -- operand.
   pub spawn-leaves : (t w x c : ℕ) (n : List ℕ) → let s : Instruction = record { operation = 8; which = w; operand = x } in
       done t s none c n r
-      ≡ outcome (Spawned c) n (put (put r t (procedureOf r t) (positionOf r t + 1) (registerOf r t)) c w 0 (sum (registerOf r t) x))
+      ≡ outcome (Step.Spawned c) n (put (put r t (procedureOf r t) (positionOf r t + 1) (registerOf r t)) c w 0 (sum (registerOf r t) x))
   unfolding done operationAt operationOf rowOf effect answerWith runnerAfter
   spawn-leaves t w x c n = refl

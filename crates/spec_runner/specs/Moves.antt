@@ -9,7 +9,7 @@ use Rattle.spec_layout.specs.Layout.{NL, USER, lengthWord, freeTasks, count, re
 use Rattle.spec_answers.specs.declared.Answer.{Answer}
 use Rattle.spec_answers.specs.declared.Answer.the-variants.{Moved, Empty, NotEmpty, Waits, Refused}
 use Rattle.spec_answers.specs.declared.Finding.{Finding}
-use Rattle.spec_answers.specs.declared.Finding.the-variants.{Value as Found, Empty as Nothing, Waits as Later}
+use Rattle.spec_answers.specs.declared.Finding.the-variants as Finding
 use Rattle.spec_tree.specs.Rights.{pushes, pops, subset, eachQueue}
 use Rattle.spec_rules.specs.Views.{view}
 use Rattle.spec_outcomes.specs.Segments.{noneFree, nextFree}
@@ -52,9 +52,9 @@ unfoldable pub spawnMoves : List ℕ → ℕ → ℕ → Bool
 spawnMoves m t a = both (subset a (rightsOf m t)) (not (eqb (read m freeTasks) 0))
 
 unfoldable pub decided : Finding → Bool
-decided (Found v) = true
-decided Nothing = true
-decided Later = false
+decided (Finding.Value v) = true
+decided Finding.Empty = true
+decided Finding.Waits = false
 
 -- pop and test
 unfoldable pub findMoves : List ℕ → ℕ → ℕ → Bool

@@ -10,7 +10,7 @@ use Rattle.spec_layout.specs.Layout.{NL, USER, lengthWord, count, read}
 use Rattle.spec_answers.specs.declared.Answer.{Answer}
 use Rattle.spec_answers.specs.declared.Answer.the-variants.{Moved, Empty, NotEmpty, Waits, Refused}
 use Rattle.spec_answers.specs.declared.Finding.{Finding}
-use Rattle.spec_answers.specs.declared.Finding.the-variants.{Value as Found, Empty as Nothing, Waits as Later}
+use Rattle.spec_answers.specs.declared.Finding.the-variants as Finding
 use Rattle.spec_answers.specs.Answers.{Outcome as CoreOutcome, outcome as answered, answerOf as coreAnswer}
 use Rattle.spec_tree.specs.Rights.{pushes, pops, subset}
 use Rattle.spec_outcomes.specs.Segments.{noneFree}
@@ -24,7 +24,7 @@ use Rattle.spec_outcomes.specs.Finish.{finishTested}
 use Rattle.spec_job.specs.declared.Instruction.{Instruction}
 use Rattle.spec_job.specs.Fields.{rights}
 use Rattle.spec_job.specs.Operations.{Operation, return, push, pushSum, pop, goIfEmpty, go, goIfZero, add, spawn, sync, operationAt}
-use Rattle.spec_runner.specs.declared.StepAnswer.the-variants.{Waits as Wait, Refused as TurnedDown}
+use Rattle.spec_runner.specs.declared.StepAnswer.the-variants as Step
 use Rattle.spec_runner.specs.Words.{instructionFor, registerOf}
 use Rattle.spec_runner.specs.Answers.{hasMoved, Outcome, outcome, answerOf}
 use Rattle.spec_runner.specs.Rules.{tested}
@@ -112,18 +112,18 @@ module _ (m : List ℕ) (t : ℕ) (alive : unfinished m t ≡ true) (free : bloc
   pop-moves q = allowed q _ (go (finding m t q))
     where
       go : (f : Finding) → goesOn (popGives m t q f) ≡ decided f
-      go (Found v) = unfold goesOn in unfold popGives in unfold moves in unfold coreAnswer in unfold decided in refl
-      go Nothing = unfold goesOn in unfold popGives in unfold moves in unfold coreAnswer in unfold decided in refl
-      go Later = unfold goesOn in unfold popGives in unfold moves in unfold coreAnswer in unfold decided in refl
+      go (Finding.Value v) = unfold goesOn in unfold popGives in unfold moves in unfold coreAnswer in unfold decided in refl
+      go Finding.Empty = unfold goesOn in unfold popGives in unfold moves in unfold coreAnswer in unfold decided in refl
+      go Finding.Waits = unfold goesOn in unfold popGives in unfold moves in unfold coreAnswer in unfold decided in refl
 
   pub test-moves : (q : ℕ) → moves (coreAnswer (testTested m t q)) ≡ findMoves m t q
   unfolding goesOn testTested
   test-moves q = allowed q _ (go (finding m t q))
     where
       go : (f : Finding) → goesOn (testGives m f) ≡ decided f
-      go (Found v) = unfold goesOn in unfold testGives in unfold moves in unfold coreAnswer in unfold decided in refl
-      go Nothing = unfold goesOn in unfold testGives in unfold moves in unfold coreAnswer in unfold decided in refl
-      go Later = unfold goesOn in unfold testGives in unfold moves in unfold coreAnswer in unfold decided in refl
+      go (Finding.Value v) = unfold goesOn in unfold testGives in unfold moves in unfold coreAnswer in unfold decided in refl
+      go Finding.Empty = unfold goesOn in unfold testGives in unfold moves in unfold coreAnswer in unfold decided in refl
+      go Finding.Waits = unfold goesOn in unfold testGives in unfold moves in unfold coreAnswer in unfold decided in refl
 
   reduces : (a : Bool) (v : ℕ) (w : List ℕ) → goesOn (whenReduced m t a (answered (Moved v) w)) ≡ both (not (hasChild m t)) a
   unfolding whenReduced either
@@ -157,7 +157,7 @@ replied-moves t s NotEmpty n m r = done-moves t s (some 0) 0 n r
 replied-moves t s Waits n m r = unfold answerOf in unfold hasMoved in refl
 replied-moves t s (Refused k) n m r = turn (eqb k 7)
   where
-    turn : (b : Bool) → hasMoved (answerOf (replied t s (pick b (goes none 0) (stops (TurnedDown k))) n m r)) ≡ b
+    turn : (b : Bool) → hasMoved (answerOf (replied t s (pick b (goes none 0) (stops (Step.Refused k))) n m r)) ≡ b
     turn true = unfold pick in done-moves t s none 0 n r
     turn false = unfold pick in unfold answerOf in unfold hasMoved in refl
 
@@ -191,7 +191,7 @@ module _ (j m r : List ℕ) (t : ℕ) where
       o = operationAt (s .operation)
 
       turn : (a b : Bool) → unfinished m t ≡ a → blocked m t ≡ b
-          → hasMoved (answerOf (pick (not a) (outcome (TurnedDown 4) m r) (pick b (outcome Wait m r) (makes t s (callOf o j t (registerOf r t) s) m r))))
+          → hasMoved (answerOf (pick (not a) (outcome (Step.Refused 4) m r) (pick b (outcome Step.Waits m r) (makes t s (callOf o j t (registerOf r t) s) m r))))
           ≡ both a (both (not b) (instructionMoves o j m t s))
       turn true true e f = unfold pick in unfold both in unfold answerOf in unfold hasMoved in refl
       turn true false e f = unfold pick in unfold both in made e f o (registerOf r t) s

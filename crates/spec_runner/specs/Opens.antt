@@ -11,7 +11,7 @@ use Rattle.spec_answers.specs.declared.Answer.the-variants.{Moved}
 use Rattle.spec_job.specs.Fields.{segmentLength}
 use Rattle.spec_job.specs.Test.{jobAnswer}
 use Rattle.spec_job.specs.Accepted.{accepted}
-use Rattle.spec_runner.specs.declared.StepAnswer.the-variants.{Moved as Went, Refused}
+use Rattle.spec_runner.specs.declared.StepAnswer.the-variants as Step
 use Rattle.spec_runner.specs.Answers.{Outcome, outcome, answerOf}
 use Rattle.spec_runner.specs.Rules.{refused, jobTested}
 use Rattle.spec_runner.specs.Open.{segmentsFor, jobOpened, openOutcome}
@@ -39,14 +39,14 @@ in-range j e =
     upto-says fitting 64 1 each-fits (segmentLength j) low (omega (arith, high))
 
 -- a test that an opening which moves has passed
-passed : (b : Bool) (k : ℕ) (m r : List ℕ) (o p : Outcome) → (answerOf o ≡ Went → o ≡ p)
-    → answerOf (pick b (outcome (Refused k) m r) o) ≡ Went → pick b (outcome (Refused k) m r) o ≡ p
+passed : (b : Bool) (k : ℕ) (m r : List ℕ) (o p : Outcome) → (answerOf o ≡ Step.Moved → o ≡ p)
+    → answerOf (pick b (outcome (Step.Refused k) m r) o) ≡ Step.Moved → pick b (outcome (Step.Refused k) m r) o ≡ p
 unfolding pick answerOf
 passed true k m r o p f e = let z : _≡_ {A = ℕ} 0 1 = cc in absurd (omega (arith, z))
 passed false k m r o p f e = f e
 
 -- "opening may find any words in the lent memory": where it moves, it leaves what the job alone says, and nothing of them
-pub open-forgets : (j m r : List ℕ) → answerOf (openOutcome j m r) ≡ Went → openOutcome j m r ≡ jobOpened j
+pub open-forgets : (j m r : List ℕ) → answerOf (openOutcome j m r) ≡ Step.Moved → openOutcome j m r ≡ jobOpened j
 unfolding openOutcome jobTested refused
 open-forgets j m r =
     passed _ 1 _ _ _ _ (passed _ 1 _ _ _ _ (passed _ 10 _ _ _ _ (passed _ 11 _ _ _ _ (passed _ 12 _ _ _ _ (λ e. refl)))))

@@ -22,7 +22,7 @@ use Rattle.spec_job.specs.Fields.{rights}
 use Rattle.spec_job.specs.Operations.{Operation, return, push, pushSum, pop, goIfEmpty, go, goIfZero, add, spawn, sync, operationAt}
 use Rattle.spec_job.specs.Effects.{Effect, sum, effect}
 use Rattle.spec_runner.specs.declared.StepAnswer.{StepAnswer}
-use Rattle.spec_runner.specs.declared.StepAnswer.the-variants.{Waits as Later, Refused as TurnedDown}
+use Rattle.spec_runner.specs.declared.StepAnswer.the-variants as Step
 use Rattle.spec_runner.specs.Words.{procedureOf, positionOf, registerOf, put, instructionFor}
 use Rattle.spec_runner.specs.Answers.{answerWith, Outcome, outcome}
 use Rattle.spec_runner.specs.Rules.{tested}
@@ -50,8 +50,8 @@ unfoldable pub replyOf : Answer → Reply
 replyOf (Moved v) = goes (some v) v
 replyOf Empty = goes none 0
 replyOf NotEmpty = goes (some 0) 0
-replyOf Waits = stops Later
-replyOf (Refused k) = pick (eqb k 7) (goes none 0) (stops (TurnedDown k))
+replyOf Waits = stops Step.Waits
+replyOf (Refused k) = pick (eqb k 7) (goes none 0) (stops (Step.Refused k))
 
 -- task t goes on with effect e
 abbrev pub goesOn : ℕ → Effect → List ℕ → List ℕ
@@ -105,8 +105,8 @@ makes t s none m r = done t s none 0 m r
 unfoldable pub stepTested : List ℕ → List ℕ → List ℕ → ℕ → Outcome
 stepTested j m r t =
     let s = instructionFor j r t in
-    pick (not (unfinished m t)) (outcome (TurnedDown 4) m r)
-    (pick (blocked m t) (outcome Later m r)
+    pick (not (unfinished m t)) (outcome (Step.Refused 4) m r)
+    (pick (blocked m t) (outcome Step.Waits m r)
     (makes t s (callOf (operationAt (s .operation)) j t (registerOf r t) s) m r))
 
 unfoldable pub stepOutcome : List ℕ → List ℕ → List ℕ → ℕ → Outcome

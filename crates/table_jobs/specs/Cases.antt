@@ -3,7 +3,7 @@ use mathlib.Core.Path.{_≡_, refl}
 use mathlib.Core.Bool.{true}
 use mathlib.Core.List.{List, [], _∷_}
 use Prim.Native.Nat.{ℕ}
-use Rattle.spec_answers.specs.declared.Answer.the-variants.{Moved as Gives, Refused as NoMore}
+use Rattle.spec_answers.specs.declared.Answer.the-variants as Answer
 use Rattle.spec_job.specs.Examples.{head, entry, ins, alone, fullRun, wrapping, wrappedSpawn}
 use Rattle.spec_runner.specs.declared.StepAnswer.the-variants.{Spawned, Pushed, Took, Finished, Moved, Empty, Waits, Refused}
 use Rattle.spec_runner.specs.Ready.{noMap}
@@ -25,7 +25,7 @@ blockedJob =
 abbrev pub fullSteps : List Row
 fullSteps =
     step 0 (Spawned 1) ∷ step 0 (Spawned 2) ∷ step 0 (Spawned 3) ∷ step 3 (Pushed 20) ∷ step 2 Waits ∷ step 1 (Pushed 10) ∷ step 2 (Took 10)
-    ∷ step 1 Finished ∷ step 2 Finished ∷ step 3 Finished ∷ step 0 Moved ∷ step 0 Finished ∷ left 0 0 (Gives 20) ∷ left 0 1 (NoMore 7) ∷ []
+    ∷ step 1 Finished ∷ step 2 Finished ∷ step 3 Finished ∷ step 0 Moved ∷ step 0 Finished ∷ left 0 0 (Answer.Moved 20) ∷ left 0 1 (Answer.Refused 7) ∷ []
 
 pub full-run : right fullRun fullSteps lent lentRunner ≡ true
 unfolding right

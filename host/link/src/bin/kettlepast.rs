@@ -1,10 +1,10 @@
-//! For the fitter at the bench: a job with overlap against the same job
+//! The tool for users: a job with overlap against the same job
 //! without, and a picture of a run; all runs through the proved library.
 //!
-//! `fitter compare JOB [--orders N] [--seed S]` runs the job without overlap
+//! `kettlepast compare JOB [--orders N] [--seed S]` runs the job without overlap
 //! and N times in random orders, and says that every task gets the same
 //! answers, or where not.
-//! `fitter draw JOB TASKS` prints a picture (SVG) of the run in which the tasks
+//! `kettlepast draw JOB TASKS` prints a picture (SVG) of the run in which the tasks
 //! of TASKS are called, one after the other: numbers with spaces between them.
 //! JOB is a job as text (.txt) or a job file.
 
@@ -17,8 +17,8 @@ use std::fs;
 use std::process::ExitCode;
 use std::time::{Duration, Instant};
 
-const USAGE: &str = "fitter compare JOB [--orders N] [--seed S]
-fitter draw JOB TASKS";
+const USAGE: &str = "kettlepast compare JOB [--orders N] [--seed S]
+kettlepast draw JOB TASKS";
 
 const ORDERS: u64 = 100;
 
