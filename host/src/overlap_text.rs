@@ -57,7 +57,8 @@ impl Open<'_> {
     }
 }
 
-fn line(number: usize, task: u8, answer: Stepped) -> String {
+/// The line of a call.
+pub fn line(number: usize, task: u8, answer: Stepped) -> String {
     let said = match answer {
         Stepped::Moved(reply) => reply.to_string(),
         Stepped::Waits => "waits -".to_string(),

@@ -23,3 +23,4 @@ pub mod runner_pair;
 pub mod scenes;
 pub mod serial_pair;
 pub mod shrink;
+pub mod tool;

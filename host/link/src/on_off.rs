@@ -6,6 +6,7 @@ use crate::proved_run::ProvedRun;
 use host::overlap::{Path, Replies};
 use host::plain::Reply;
 use host::random::Random;
+use host::runner::Stepped;
 use std::collections::BTreeMap;
 
 /// A run without overlap, as the proved serial runner gives it.
@@ -17,9 +18,10 @@ pub struct Off {
     pub stopped: Option<String>,
 }
 
-fn reply(number: u32, value: u32) -> Reply {
+/// The reply that a number of the serial runner stands for.
+pub fn reply(number: u32, value: u32) -> Reply {
     match number {
-        0 => Reply::Spawned(0),
+        0 => Reply::Spawned(value),
         1 => Reply::Pushed(value),
         2 => Reply::Took(value),
         3 => Reply::Moved,
@@ -41,7 +43,8 @@ fn by_path(words: &[u32]) -> Replies {
             paths.insert(value, (new, 0));
             paths.insert(task, (path.clone(), children + 1));
         }
-        replies.entry(path).or_default().push(reply(number, value));
+        let aside = if number == 0 { 0 } else { value };
+        replies.entry(path).or_default().push(reply(number, aside));
     }
     replies
 }
@@ -65,62 +68,92 @@ pub fn off(job: &[u8]) -> Result<Off, u32> {
     })
 }
 
+/// Why a run under some order stopped before its end.
+#[derive(Clone, Copy, Debug, PartialEq, Eq, PartialOrd, Ord)]
+pub enum Stop {
+    /// No task could go on; 8 or 9.
+    Refused(u32),
+    /// The most calls of one run were made.
+    Calls,
+}
+
 /// How a run under some order went.
 pub struct On {
     pub calls: u64,
+    /// Calls that waited or were refused.
     pub waits: u64,
-    /// No task could go on for want of a task record or a segment.
-    pub stuck: bool,
+    pub stopped: Option<Stop>,
+    /// How many answers of each task were compared.
+    pub compared: BTreeMap<Path, usize>,
 }
 
-/// Most calls of one run, where the serial run did not end.
-const MOST_CALLS: u64 = 400_000;
+/// Most calls of one run.
+pub const MOST_CALLS: u64 = 400_000;
 
 /// One run under a random order. Mostly a task that is ready is called, now and
 /// then any other. Says what differs from the serial run.
 pub fn on(job: &[u8], off: &Off, r: &mut Random) -> Result<On, String> {
-    let mut run = ProvedRun::open(job).map_err(|number| format!("refused {number}"))?;
-    let mut went = On {
-        calls: 0,
-        waits: 0,
-        stuck: false,
-    };
-    while !run.log.unfinished().is_empty() && went.calls < MOST_CALLS {
+    let mut run = ProvedRun::open(job).map_err(|number| format!("job refused {number}"))?;
+    let (mut calls, mut waits, mut stopped) = (0, 0, None);
+    while !run.log.unfinished().is_empty() {
         let ready = run.ready();
         if ready.is_empty() {
-            went.stuck = true;
+            stopped = Some(Stop::Refused(want(&mut run)));
+            break;
+        }
+        if calls == MOST_CALLS {
+            stopped = Some(Stop::Calls);
             break;
         }
         let any = run.log.unfinished();
         let list = if r.chance(20) { &any } else { &ready };
         let t = r.pick(list);
-        went.calls += 1;
-        went.waits += u64::from(!run.step(t).moved());
+        calls += 1;
+        waits += u64::from(!run.step(t).moved());
     }
-    differs(&mut run, off).map_or(Ok(went), Err)
+    Ok(On {
+        calls,
+        waits,
+        stopped,
+        compared: compared(&mut run, off)?,
+    })
 }
 
-/// Each task's replies are the first ones of its counterpart; once all have
-/// finished all of them, and the same values are left.
-fn differs(run: &mut ProvedRun, off: &Off) -> Option<String> {
+/// The number that a task gets where none can go on.
+fn want(run: &mut ProvedRun) -> u32 {
+    let tasks = run.log.unfinished();
+    let number = |t: &u32| match run.step(*t) {
+        Stepped::Refused(number) => Some(number),
+        _ => None,
+    };
+    tasks.iter().find_map(number).unwrap_or(0)
+}
+
+/// How many answers of each task were compared. Each task's replies are the
+/// first ones of its counterpart; once all have finished all of them, and the
+/// same values are left. Otherwise it says what differs.
+fn compared(run: &mut ProvedRun, off: &Off) -> Result<BTreeMap<Path, usize>, String> {
+    let mut compared = BTreeMap::new();
     for (path, given) in run.log.replies() {
         let due = off.replies.get(path).map_or(&[][..], |due| &due[..]);
         let both = given.len().min(due.len());
         let beyond = off.stopped.is_none() && given.len() > due.len();
         if given[..both] != due[..both] || beyond {
             let at = (0..both).find(|i| given[*i] != due[*i]).unwrap_or(both);
-            return Some(format!("{}: answer {}", name(path), at + 1));
+            return Err(format!("{}: answer {}", name(path), at + 1));
         }
+        compared.insert(path.clone(), both);
     }
     if off.stopped.is_some() || !run.log.unfinished().is_empty() {
-        return None;
+        return Ok(compared);
     }
     if *run.log.replies() != off.replies || run.log.moves() != off.steps as u64 {
-        return Some("a task's answers are missing".to_string());
+        return Err("a task's answers are missing".to_string());
     }
-    (0..4)
-        .find(|q| run.left(*q) != off.queues[*q as usize])
-        .map(|q| format!("the values left in queue {q}"))
+    match (0..4).find(|q| run.left(*q) != off.queues[*q as usize]) {
+        Some(q) => Err(format!("the values left in queue {q}")),
+        None => Ok(compared),
+    }
 }
 
 /// A task by its place in the tree of spawns: the top, or "top.0.2".

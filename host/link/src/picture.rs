@@ -1,10 +1,13 @@
 //! A picture of a run: a row a task, a mark a step, waits in grey, an arrow
-//! from each push to the pop that took its value. The calls are numbered.
+//! from each push to the pop that took its value. The calls are numbered, a
+//! mark has the number of its queue in it, and says more where one points at it.
 
 use crate::on_off::name;
 use crate::proved_run::ProvedRun;
 use host::job::Job;
+use host::operations::{Which, OPERATIONS};
 use host::overlap::Path;
+use host::overlap_text::line;
 use host::plain::Reply;
 use host::runner::Stepped;
 use std::collections::VecDeque;
@@ -13,15 +16,20 @@ use std::collections::VecDeque;
 const ACROSS: usize = 34;
 const DOWN: usize = 30;
 const MARGIN: usize = 40;
+/// The names of the rows stand in front of every so many calls.
+const REPEATED: usize = 24;
 /// Pixels across that the legend takes.
-const LEGEND: usize = 700;
+const LEGEND: usize = 860;
 /// Room for the names of tasks: so many pixels a letter.
 const LETTER: usize = 7;
 
 struct Mark {
     call: usize,
+    task: u32,
     /// The row of the task; none where no unfinished task had the number.
     row: Option<usize>,
+    /// The queue that its instruction uses.
+    queue: Option<u8>,
     answer: Stepped,
 }
 
@@ -34,7 +42,8 @@ enum Item {
 
 #[derive(Default)]
 struct Drawing {
-    rows: Vec<Path>,
+    /// Each task with the procedure that it runs.
+    rows: Vec<(Path, usize)>,
     marks: Vec<Mark>,
     /// From the call of a push to the call of the pop that took its value.
     arrows: Vec<(usize, usize)>,
@@ -42,10 +51,10 @@ struct Drawing {
 }
 
 impl Drawing {
-    fn row(&mut self, path: &Path) -> usize {
-        let found = self.rows.iter().position(|row| row == path);
+    fn row(&mut self, path: &Path, procedure: usize) -> usize {
+        let found = self.rows.iter().position(|(row, _)| row == path);
         found.unwrap_or_else(|| {
-            self.rows.push(path.clone());
+            self.rows.push((path.clone(), procedure));
             self.rows.len() - 1
         })
     }
@@ -82,7 +91,6 @@ impl Drawing {
             }
             Reply::Spawned(_) => {
                 let child = child.expect("a new task has a path");
-                self.row(&child);
                 self.order.insert(at, Item::Spot(child));
             }
             Reply::Finished => {
@@ -91,30 +99,50 @@ impl Drawing {
             _ => {}
         }
     }
-}
 
-fn drawing(bytes: &[u8], tasks: &[u32]) -> Result<Drawing, String> {
-    let mut run = ProvedRun::open(bytes).map_err(|number| format!("job refused {number}"))?;
-    let job = Job::read(bytes).map_err(|refusal| format!("job refused {}", refusal.number()))?;
-    let mut drawing = Drawing::default();
-    drawing.row(&Path::default());
-    drawing.order.push(Item::Spot(Path::default()));
-    for (call, t) in tasks.iter().enumerate() {
-        let path = run.log.path(*t).cloned();
-        let queue = path.as_ref().map_or(0, |_| {
-            let (procedure, at) = run.place(*t);
-            job.procedures()[procedure].body[at].which
+    /// Makes the step of a task and notes it.
+    fn step(&mut self, run: &mut ProvedRun, job: &Job, call: usize, task: u32) {
+        let path = run.log.path(task).cloned();
+        let at = path.as_ref().map(|_| run.place(task));
+        let instruction = at.map(|(procedure, at)| &job.procedures()[procedure].body[at]);
+        let queue = instruction.and_then(|i| match OPERATIONS[usize::from(i.operation)].which {
+            Which::Queue(_) => Some(i.which),
+            _ => None,
         });
-        let answer = run.step(*t);
-        let row = path.as_ref().map(|path| drawing.row(path));
-        drawing.marks.push(Mark { call, row, answer });
+        let answer = run.step(task);
+        let row = path
+            .as_ref()
+            .zip(at)
+            .map(|(path, (procedure, _))| self.row(path, procedure));
+        self.marks.push(Mark {
+            call,
+            task,
+            row,
+            queue,
+            answer,
+        });
         if let (Stepped::Moved(reply), Some(path)) = (answer, path) {
             let child = match reply {
                 Reply::Spawned(number) => run.log.path(number).cloned(),
                 _ => None,
             };
-            drawing.note(&path, child, queue, call, reply);
+            if let (Some(child), Some(i)) = (&child, instruction) {
+                self.row(child, usize::from(i.which));
+            }
+            self.note(&path, child, queue.unwrap_or(0), call, reply);
         }
+    }
+}
+
+/// The drawing, or the number with which the job is refused.
+fn drawing(bytes: &[u8], tasks: &[u32]) -> Result<Drawing, u32> {
+    let mut run = ProvedRun::open(bytes)?;
+    let job = Job::read(bytes).map_err(|refusal| refusal.number())?;
+    let mut drawing = Drawing::default();
+    drawing.row(&Path::default(), 0);
+    drawing.order.push(Item::Spot(Path::default()));
+    for (call, task) in tasks.iter().enumerate() {
+        drawing.step(&mut run, &job, call, *task);
     }
     Ok(drawing)
 }
@@ -149,9 +177,15 @@ fn y(row: usize) -> usize {
     MARGIN + DOWN * row
 }
 
+/// Text as it may stand in the picture.
+fn escaped(text: &str) -> String {
+    text.replace('&', "&amp;").replace('<', "&lt;")
+}
+
 impl Page {
+    /// The names stand again in front of each part of the calls.
     fn x(&self, call: usize) -> usize {
-        self.left + ACROSS * (call + 1)
+        self.left * (call / REPEATED + 1) + ACROSS * (call + 1)
     }
 
     fn put(&mut self, element: String) {
@@ -159,37 +193,46 @@ impl Page {
         self.out.push('\n');
     }
 
+    /// Text with a white rim, so that an arrow behind it leaves it legible.
     fn text(&mut self, x: usize, y: usize, anchor: &str, colour: &str, text: &str) {
+        let text = escaped(text);
         self.put(format!(
-            "<text x=\"{x}\" y=\"{y}\" text-anchor=\"{anchor}\" fill=\"{colour}\">{text}</text>"
+            "<text x=\"{x}\" y=\"{y}\" text-anchor=\"{anchor}\" fill=\"{colour}\" \
+             stroke=\"white\" stroke-width=\"3\" paint-order=\"stroke\">{text}</text>"
         ));
     }
 
-    fn dot(&mut self, x: usize, y: usize, colour: &str) {
+    fn dot(&mut self, x: usize, y: usize, colour: &str, inside: &str, title: &str) {
+        let title = escaped(title);
         self.put(format!(
-            "<circle cx=\"{x}\" cy=\"{y}\" r=\"6\" fill=\"{colour}\"/>"
+            "<g><title>{title}</title><circle cx=\"{x}\" cy=\"{y}\" r=\"6\" fill=\"{colour}\"/>\
+             <text x=\"{x}\" y=\"{}\" text-anchor=\"middle\" font-size=\"8\" fill=\"white\">{inside}</text></g>",
+            y + 3
         ));
     }
 
     fn head(&mut self, height: usize) {
         let width = self.width;
         self.put(format!(
-            "<svg xmlns=\"http://www.w3.org/2000/svg\" width=\"{width}\" height=\"{height}\" \
-             font-family=\"sans-serif\" font-size=\"11\">\n\
+            "<svg xmlns=\"http://www.w3.org/2000/svg\" viewBox=\"0 0 {width} {height}\" \
+             width=\"{width}\" height=\"{height}\" font-family=\"sans-serif\" font-size=\"11\">\n\
              <defs><marker id=\"tip\" markerWidth=\"7\" markerHeight=\"7\" refX=\"6\" \
              refY=\"3\" orient=\"auto\"><path d=\"M0,0 L6,3 L0,6 z\" fill=\"#555\"/></marker>\
              </defs>\n<rect width=\"100%\" height=\"100%\" fill=\"white\"/>"
         ));
     }
 
-    fn rows(&mut self, names: &[String]) {
+    fn rows(&mut self, names: &[String], calls: usize) {
         let (left, right) = (self.left, self.width - MARGIN);
         for (row, name) in names.iter().enumerate() {
             let at = y(row);
             self.put(format!(
                 "<line x1=\"{left}\" y1=\"{at}\" x2=\"{right}\" y2=\"{at}\" stroke=\"#e4e4e4\"/>"
             ));
-            self.text(left - 6, at + 4, "end", "#222", name);
+            for first in (0..calls.max(1)).step_by(REPEATED) {
+                let end = self.x(first) - ACROSS;
+                self.text(end - 6, at + 4, "end", "#222", name);
+            }
         }
     }
 
@@ -205,14 +248,38 @@ impl Page {
         ));
     }
 
+    fn mark(&mut self, mark: &Mark, y: usize, name: &str) {
+        let x = self.x(mark.call);
+        let (colour, text) = look(mark.answer);
+        let queue = mark.queue.map_or(String::new(), |queue| queue.to_string());
+        self.dot(x, y, colour, &queue, &title(mark, name));
+        self.text(x, y - 9, "middle", colour, &text);
+        self.text(x, 14, "middle", "#999", &(mark.call + 1).to_string());
+    }
+
     fn legend(&mut self, y: usize) {
         let mut x = self.left;
         for (colour, word) in KINDS {
-            self.dot(x, y, colour);
+            self.dot(x, y, colour, "", word);
             self.text(x + 9, y + 4, "start", "#222", word);
             x += 30 + LETTER * word.len();
         }
+        self.text(x, y + 4, "start", "#222", "in a mark: its queue");
     }
+}
+
+/// What is said where one points at a mark.
+fn title(mark: &Mark, name: &str) -> String {
+    let queue = mark
+        .queue
+        .map_or(String::new(), |queue| format!(", queue {queue}"));
+    let said = line(mark.call + 1, mark.task as u8, mark.answer);
+    let answer = said.splitn(3, ' ').last().unwrap_or("").trim_end();
+    format!(
+        "call {}, task {} ({name}){queue}: {answer}",
+        mark.call + 1,
+        mark.task
+    )
 }
 
 const KINDS: [(&str, &str); 8] = [
@@ -226,10 +293,19 @@ const KINDS: [(&str, &str); 8] = [
     ("#c0392b", "refused"),
 ];
 
-/// The picture of a run as SVG.
-pub fn svg(bytes: &[u8], tasks: &[u32]) -> Result<String, String> {
+/// The name of a row: the task's place in the tree of spawns and its procedure.
+fn row_name((path, procedure): &(Path, usize), procedures: &[String]) -> String {
+    match procedures.get(*procedure) {
+        Some(known) if !path.is_empty() || known != "top" => format!("{} {known}", name(path)),
+        _ => name(path),
+    }
+}
+
+/// The picture of a run as SVG, or the number with which the job is refused.
+pub fn svg(bytes: &[u8], procedures: &[String], tasks: &[u32]) -> Result<String, u32> {
     let drawing = drawing(bytes, tasks)?;
-    let mut names: Vec<String> = drawing.rows.iter().map(name).collect();
+    let named = drawing.rows.iter().map(|row| row_name(row, procedures));
+    let mut names: Vec<String> = named.collect();
     let nobody = names.len();
     if drawing.marks.iter().any(|mark| mark.row.is_none()) {
         names.push("no task".to_string());
@@ -239,24 +315,19 @@ pub fn svg(bytes: &[u8], tasks: &[u32]) -> Result<String, String> {
     let mut page = Page {
         out: String::new(),
         left,
-        width: (left + ACROSS * (tasks.len() + 1) + MARGIN).max(left + LEGEND),
+        width: 0,
     };
+    page.width = (page.x(tasks.len().max(1) - 1) + ACROSS + MARGIN).max(left + LEGEND);
     page.head(y(names.len()) + MARGIN);
-    page.rows(&names);
+    page.rows(&names, tasks.len());
     let row = |mark: &Mark| mark.row.unwrap_or(nobody);
-    let places: Vec<(usize, usize)> = drawing
-        .marks
-        .iter()
-        .map(|mark| (page.x(mark.call), y(row(mark))))
-        .collect();
+    let place = |mark: &Mark, page: &Page| (page.x(mark.call), y(row(mark)));
     for (from, to) in &drawing.arrows {
-        page.arrow(places[*from], places[*to]);
+        let ends = [from, to].map(|call| place(&drawing.marks[*call], &page));
+        page.arrow(ends[0], ends[1]);
     }
-    for (mark, (x, y)) in drawing.marks.iter().zip(&places) {
-        let (colour, text) = look(mark.answer);
-        page.dot(*x, *y, colour);
-        page.text(*x, y - 9, "middle", colour, &text);
-        page.text(*x, 14, "middle", "#999", &(mark.call + 1).to_string());
+    for mark in &drawing.marks {
+        page.mark(mark, y(row(mark)), &names[row(mark)]);
     }
     page.legend(y(names.len()) + 10);
     page.put("</svg>".to_string());

@@ -1,6 +1,6 @@
 //! Random programs on the model and on program order, compared call by call.
 //!
-//! `fuzz COUNT SEED` makes at least COUNT calls; `stats` as a third word adds
+//! `programs SEED CALLS` makes at least so many calls; `stats` as a third word adds
 //! how often each answer came.
 
 use host::call::Call;
@@ -81,19 +81,26 @@ fn show(stats: &Stats) {
     );
 }
 
+/// The numbers of `SEED CALLS`, and whether the counts are wanted.
+fn asked(words: &[&str]) -> Option<(u64, u64, bool)> {
+    let number = |word: &str| word.parse().ok();
+    match words {
+        [seed, calls] => Some((number(seed)?, number(calls)?, false)),
+        [seed, calls, "stats"] => Some((number(seed)?, number(calls)?, true)),
+        _ => None,
+    }
+}
+
 fn main() -> ExitCode {
     let words: Vec<String> = std::env::args().skip(1).collect();
-    let number = |i: usize, otherwise| {
-        let word = words.get(i).map(|word| word.parse::<u64>());
-        word.map_or(Ok(otherwise), |parsed| parsed)
-    };
-    let (Ok(count), Ok(seed)) = (number(0, 1_000_000), number(1, 1)) else {
-        eprintln!("fuzz COUNT SEED");
-        return ExitCode::FAILURE;
+    let words: Vec<&str> = words.iter().map(String::as_str).collect();
+    let Some((seed, calls, counts)) = asked(&words) else {
+        eprintln!("programs SEED CALLS [stats]");
+        return ExitCode::from(2);
     };
     let mut stats = Stats::default();
-    let outcome = run(count, seed, &mut stats);
-    if words.get(2).is_some() {
+    let outcome = run(calls, seed, &mut stats);
+    if counts {
         show(&stats);
     }
     match outcome {

@@ -1,16 +1,11 @@
-//! Jobs from text to bytes and back.
+//! The model's own runs, which the programs and the library are compared with.
 //!
-//! `job asm FILE.txt OUT.job` writes the job that a text describes;
-//! `job dis FILE.job` prints a text that gives the same job;
-//! `job run FILE.job` prints the run of any bytes without overlap;
-//! `job overlap FILE.job TASKS` prints the run of any bytes with overlap, where each byte of the file TASKS makes a step;
-//! `job order SEED MOST FILE.job OUT` writes a random order of at most MOST calls as such a file;
-//! `job random SEED OUT.job` writes a random job.
+//! `model serial FILE` prints the run of any bytes without overlap;
+//! `model overlap FILE TASKS` prints the run of any bytes with overlap, where each byte of the file TASKS makes a step;
+//! `model order SEED MOST FILE OUT` writes a random order of at most MOST calls as such a file;
+//! `model random SEED OUT` writes a random job.
 
-use host::asm::assemble;
 use host::command::status;
-use host::dis::disassemble;
-use host::job::Job;
 use host::overlap_text;
 use host::random::Random;
 use host::random_jobs::accepted;
@@ -19,12 +14,10 @@ use std::fs;
 use std::process::ExitCode;
 use std::str::FromStr;
 
-const USAGE: &str = "job asm FILE.txt OUT.job
-job dis FILE.job
-job run FILE.job
-job overlap FILE.job TASKS
-job order SEED MOST FILE.job OUT
-job random SEED OUT.job";
+const USAGE: &str = "model serial FILE
+model overlap FILE TASKS
+model order SEED MOST FILE OUT
+model random SEED OUT";
 
 fn read(file: &str) -> Result<Vec<u8>, String> {
     fs::read(file).map_err(|e| format!("{file}: {e}"))
@@ -34,13 +27,7 @@ fn write(file: &str, bytes: Vec<u8>) -> Result<(), String> {
     fs::write(file, bytes).map_err(|e| format!("{file}: {e}"))
 }
 
-fn asm(text: &str, out: &str) -> Result<(), String> {
-    let read = fs::read_to_string(text).map_err(|e| format!("{text}: {e}"))?;
-    let bytes = assemble(&read).map_err(|fault| format!("{text}: {fault}"))?;
-    write(out, bytes)
-}
-
-fn run(file: &str) -> Result<(), String> {
+fn serial_run(file: &str) -> Result<(), String> {
     print!("{}", serial::text(&read(file)?));
     Ok(())
 }
@@ -66,26 +53,11 @@ fn random(seed: &str, out: &str) -> Result<(), String> {
     write(out, accepted(&mut Random::new(number(seed)?)))
 }
 
-fn dis(file: &str) -> Result<(), String> {
-    let bytes = read(file)?;
-    let refused = |r| {
-        format!(
-            "{file}: job refused {}: {r}",
-            host::refusal::Refusal::number(r)
-        )
-    };
-    let job = Job::read(&bytes).map_err(refused)?;
-    print!("{}", disassemble(&job));
-    Ok(())
-}
-
 fn main() -> ExitCode {
     let words: Vec<String> = std::env::args().skip(1).collect();
     let words: Vec<&str> = words.iter().map(String::as_str).collect();
     let outcome = match words[..] {
-        ["asm", text, out] => asm(text, out),
-        ["dis", file] => dis(file),
-        ["run", file] => run(file),
+        ["serial", file] => serial_run(file),
         ["overlap", file, tasks] => overlap(file, tasks),
         ["order", seed, most, file, out] => order(seed, most, file, out),
         ["random", seed, out] => random(seed, out),

@@ -1,0 +1,85 @@
+//! The words of a command line: a job, what stands behind it, and options.
+
+use super::help::{Behind, Command};
+use super::Fault;
+use std::io::Read;
+
+pub struct Words<'a> {
+    command: &'a Command,
+    pub file: &'a str,
+    behind: Vec<&'a str>,
+    options: Vec<(&'a str, u64)>,
+}
+
+impl<'a> Words<'a> {
+    pub fn new(command: &'a Command, words: &'a [String]) -> Result<Words<'a>, Fault> {
+        let fault = |what: String| {
+            let Command { name, form, .. } = command;
+            Fault(format!("{name}: {what}\nkettlepast {form}"))
+        };
+        let (mut plain, mut options) = (Vec::new(), Vec::new());
+        let mut rest = words.iter().map(String::as_str);
+        while let Some(word) = rest.next() {
+            if !word.starts_with("--") {
+                plain.push(word);
+                continue;
+            }
+            if !command.options.contains(&word) {
+                return Err(fault(format!("no option {word}")));
+            }
+            if options.iter().any(|(known, _)| *known == word) {
+                return Err(fault(format!("{word} is given twice")));
+            }
+            let number = rest.next().and_then(|number| number.parse().ok());
+            let number = number.ok_or_else(|| fault(format!("{word} needs a number")))?;
+            options.push((word, number));
+        }
+        if plain.is_empty() {
+            return Err(fault("the job is missing".to_string()));
+        }
+        let (file, behind) = (plain[0], plain.split_off(1));
+        match command.behind {
+            Behind::None if !behind.is_empty() => Err(fault(format!("{} is too much", behind[0]))),
+            Behind::One if behind.is_empty() => {
+                Err(fault("the file to write is missing".to_string()))
+            }
+            Behind::One if behind.len() > 1 => Err(fault(format!("{} is too much", behind[1]))),
+            _ => Ok(Words {
+                command,
+                file,
+                behind,
+                options,
+            }),
+        }
+    }
+
+    pub fn fault(&self, what: String) -> Fault {
+        Fault(format!("{}: {what}", self.command.name))
+    }
+
+    /// The one word behind the job.
+    pub fn out(&self) -> &str {
+        self.behind[0]
+    }
+
+    /// The number of an option, or what it is without.
+    pub fn option(&self, name: &str, without: u64) -> u64 {
+        let given = self.options.iter().find(|(known, _)| *known == name);
+        given.map_or(without, |(_, number)| *number)
+    }
+
+    /// The numbers of tasks behind the job.
+    pub fn tasks(&self) -> Result<Vec<u8>, Fault> {
+        let mut text = self.behind.join(" ");
+        if self.behind == ["-"] {
+            text.clear();
+            let read = std::io::stdin().read_to_string(&mut text);
+            read.map_err(|e| self.fault(format!("standard input: {e}")))?;
+        }
+        let number = |word: &str| {
+            let known = word.parse().ok();
+            known.ok_or_else(|| self.fault(format!("{word} is no task number, which are 0 to 255")))
+        };
+        text.split_whitespace().map(number).collect()
+    }
+}
