@@ -48,7 +48,7 @@ fn other_runner_word(job: &[u8], m: &mut [u32], runner: &mut [u32], t: u32) -> u
 }
 
 fn other_map(job: &[u8], m: &[u32], runner: &[u32], map: &mut Map) -> u64 {
-    let answer = linked_runner::ready_into(job, m, runner, map);
+    let answer = linked_runner::ready(job, m, runner, map);
     map[1] ^= u32::from(strange(m));
     answer
 }

@@ -152,7 +152,8 @@ mod tests {
         let mut jobs = 0;
         for _ in 0..300 {
             let ground = Ground::reached(r);
-            let (answer, _) = linked_runner::ready(&ground.job, &ground.core, &ground.runner);
+            let answer =
+                linked_runner::ready(&ground.job, &ground.core, &ground.runner, &mut [0; 6]);
             let number = answer >> 32;
             jobs += u32::from(number == 44);
             assert!([2, 10, 11, 12, 44].contains(&number), "{number}");

@@ -1,107 +1,20 @@
-//! The library's runner, made safe: any bytes, any words and any task number
-//! give an answer, and only the words of the slices are read or written.
+//! The library's runner with its answers in one number, and the model's
+//! answers in that form.
 
 use host::runner::{Ready, Stepped};
-use std::mem::MaybeUninit;
+use hyperqueue::runner;
+pub use hyperqueue::runner::Map;
 
-extern "C" {
-    fn hq_job_open(
-        job: *const u8,
-        job_len: usize,
-        words: *mut u32,
-        len: usize,
-        runner: *mut u32,
-        runner_len: usize,
-    ) -> u64;
-    fn hq_job_step(
-        job: *const u8,
-        job_len: usize,
-        words: *mut u32,
-        len: usize,
-        runner: *mut u32,
-        runner_len: usize,
-        task: u32,
-    ) -> u64;
-    fn hq_job_ready(
-        job: *const u8,
-        job_len: usize,
-        words: *const u32,
-        len: usize,
-        runner: *const u32,
-        runner_len: usize,
-        out: *mut u32,
-    ) -> u64;
+pub fn open(job: &[u8], core: &mut [u32], words: &mut [u32]) -> u64 {
+    runner::open(job, core, words).packed()
 }
 
-pub fn open(job: &[u8], core: &mut [u32], runner: &mut [u32]) -> u64 {
-    unsafe {
-        hq_job_open(
-            job.as_ptr(),
-            job.len(),
-            core.as_mut_ptr(),
-            core.len(),
-            runner.as_mut_ptr(),
-            runner.len(),
-        )
-    }
+pub fn step(job: &[u8], core: &mut [u32], words: &mut [u32], task: u32) -> u64 {
+    runner::step(job, core, words, task).packed()
 }
 
-/// The same on words that nobody has written yet.
-pub fn open_unset(
-    job: &[u8],
-    core: &mut [MaybeUninit<u32>],
-    runner: &mut [MaybeUninit<u32>],
-) -> u64 {
-    unsafe {
-        hq_job_open(
-            job.as_ptr(),
-            job.len(),
-            core.as_mut_ptr().cast(),
-            core.len(),
-            runner.as_mut_ptr().cast(),
-            runner.len(),
-        )
-    }
-}
-
-pub fn step(job: &[u8], core: &mut [u32], runner: &mut [u32], task: u32) -> u64 {
-    unsafe {
-        hq_job_step(
-            job.as_ptr(),
-            job.len(),
-            core.as_mut_ptr(),
-            core.len(),
-            runner.as_mut_ptr(),
-            runner.len(),
-            task,
-        )
-    }
-}
-
-/// The ready map, the number of set bits, the lowest ready task or the mark for
-/// none.
-pub type Map = [u32; 6];
-
-/// The answer and the map.
-pub fn ready(job: &[u8], core: &[u32], runner: &[u32]) -> (u64, Map) {
-    let mut out = [9; 6];
-    let answer = ready_into(job, core, runner, &mut out);
-    (answer, out)
-}
-
-/// The same with the six words lent.
-pub fn ready_into(job: &[u8], core: &[u32], runner: &[u32], out: &mut Map) -> u64 {
-    unsafe {
-        hq_job_ready(
-            job.as_ptr(),
-            job.len(),
-            core.as_ptr(),
-            core.len(),
-            runner.as_ptr(),
-            runner.len(),
-            out.as_mut_ptr(),
-        )
-    }
+pub fn ready(job: &[u8], core: &[u32], words: &[u32], out: &mut Map) -> u64 {
+    runner::ready(job, core, words, out).packed()
 }
 
 /// The model's answer as the library gives it.

@@ -1,12 +1,13 @@
 //! Overlap on against overlap off: the serial run of a job beside runs of it
 //! under random orders, all through the proved library.
 
-use crate::linked_jobs::{self, ANSWERS, WORKING};
 use crate::proved_run::ProvedRun;
 use host::overlap::{Path, Replies};
 use host::plain::Reply;
 use host::random::Random;
 use host::runner::Stepped;
+use hyperqueue::jobs::{self, ANSWERS, WORKING};
+use hyperqueue::Answer;
 use std::collections::BTreeMap;
 
 /// A run without overlap, as the proved serial runner gives it.
@@ -52,18 +53,18 @@ fn by_path(words: &[u32]) -> Replies {
 /// The serial run, or the number with which the job is refused.
 pub fn off(job: &[u8]) -> Result<Off, u32> {
     let (mut working, mut answers) = (vec![0; WORKING], vec![0; ANSWERS]);
-    let given = linked_jobs::run_serially(job, &mut working, &mut answers);
-    let (status, steps) = ((given >> 32) as u32, given as u32 as usize);
-    let stopped = match status {
-        0 => None,
-        35 => Some("spent".to_string()),
+    let given = jobs::run_serially(job, &mut working, &mut answers);
+    let steps = given.value as usize;
+    let stopped = match given.status {
+        Answer::MOVED => None,
+        Answer::SPENT => Some("spent".to_string()),
         number if number >= 10 => return Err(number),
         number => Some(format!("refused {number}")),
     };
     Ok(Off {
         replies: by_path(&answers[..3 * steps]),
         steps,
-        queues: linked_jobs::queues(&working),
+        queues: jobs::queues(&working),
         stopped,
     })
 }

@@ -1,10 +1,11 @@
 //! A run of a job through the proved runner, with the paths of its tasks.
 
-use crate::linked_runner;
 use host::layout::WORDS;
 use host::overlap::Log;
 use host::plain::Reply;
 use host::runner::{Stepped, RUNNER};
+use hyperqueue::runner::{self, FINISHED, MOVED, PUSHED, SPAWNED, TOOK};
+use hyperqueue::{core, Answer};
 
 pub struct ProvedRun<'a> {
     job: &'a [u8],
@@ -13,18 +14,17 @@ pub struct ProvedRun<'a> {
     pub log: Log,
 }
 
-/// The answer that a number of the library stands for.
-fn stepped(answer: u64) -> Stepped {
-    let (status, value) = ((answer >> 32) as u32, answer as u32);
+/// The answer of the library as the model says it.
+fn stepped(Answer { status, value }: Answer) -> Stepped {
     Stepped::Moved(match status {
-        32 => return Stepped::Waits,
-        33 => Reply::Empty,
-        34 => Reply::Not,
-        40 => Reply::Spawned(value),
-        41 => Reply::Pushed(value),
-        42 => Reply::Took(value),
-        43 => Reply::Finished,
-        44 => Reply::Moved,
+        Answer::WAITS => return Stepped::Waits,
+        Answer::EMPTY => Reply::Empty,
+        Answer::NOT_EMPTY => Reply::Not,
+        SPAWNED => Reply::Spawned(value),
+        PUSHED => Reply::Pushed(value),
+        TOOK => Reply::Took(value),
+        FINISHED => Reply::Finished,
+        MOVED => Reply::Moved,
         number => return Stepped::Refused(number),
     })
 }
@@ -38,14 +38,14 @@ impl<'a> ProvedRun<'a> {
             runner: vec![0; RUNNER],
             log: Log::default(),
         };
-        match stepped(linked_runner::open(job, &mut run.core, &mut run.runner)) {
+        match stepped(runner::open(job, &mut run.core, &mut run.runner)) {
             Stepped::Refused(number) => Err(number),
             _ => Ok(run),
         }
     }
 
     pub fn step(&mut self, t: u32) -> Stepped {
-        let given = linked_runner::step(self.job, &mut self.core, &mut self.runner, t);
+        let given = runner::step(self.job, &mut self.core, &mut self.runner, t);
         let answer = stepped(given);
         self.log.note(t, answer);
         answer
@@ -59,16 +59,17 @@ impl<'a> ProvedRun<'a> {
 
     /// The tasks whose next step would move.
     pub fn ready(&self) -> Vec<u32> {
-        let (_, out) = linked_runner::ready(self.job, &self.core, &self.runner);
+        let mut out = [0; 6];
+        if runner::ready(self.job, &self.core, &self.runner, &mut out).status != MOVED {
+            return Vec::new();
+        }
         let bit = |t: &u32| out[(t / 32) as usize] >> (t % 32) & 1 == 1;
         (0..128).filter(bit).collect()
     }
 
     /// The values left in a queue once the top has finished.
     pub fn left(&mut self, queue: u32) -> Vec<u32> {
-        let core = &mut self.core;
-        let value = |index| crate::linked::left(core, queue, index);
-        let moved = |answer: u64| (answer >> 32 == 0).then_some(answer as u32);
-        (0..).map(value).map_while(moved).collect()
+        let value = |index| core::left(&mut self.core, queue, index).moved();
+        (0..).map_while(value).collect()
     }
 }

@@ -17,7 +17,7 @@ pub struct RunnerLibrary {
 pub const LINKED: RunnerLibrary = RunnerLibrary {
     open: linked_runner::open,
     step: linked_runner::step,
-    ready: linked_runner::ready_into,
+    ready: linked_runner::ready,
 };
 
 pub struct RunnerPair {

@@ -10,9 +10,10 @@ use host::layout::WORDS;
 use host::random::Random;
 use host::random_jobs::accepted;
 use host::runner::RUNNER;
+use hyperqueue::jobs::run_serially_unset;
 use link::fuzzing::{calls, Made};
 use link::ground::Ground;
-use link::linked_jobs::{job_test, run_serially_unset, ANSWERS, WORKING};
+use link::linked_jobs::{job_test, ANSWERS, WORKING};
 use link::linked_runner::Map;
 use link::rounds::random_of;
 use link::{linked, linked_runner};
@@ -51,7 +52,7 @@ impl Lent {
             Made::Core(call) => linked::make(call, core),
             Made::Open => linked_runner::open(job, core, runner),
             Made::Step(task) => linked_runner::step(job, core, runner, task),
-            Made::Ready => linked_runner::ready_into(job, core, runner, map),
+            Made::Ready => linked_runner::ready(job, core, runner, map),
         };
         answer >> 32
     }
@@ -78,10 +79,10 @@ fn every_call(r: &mut Random, ground: &Ground, made: &mut [u64; 2]) {
 fn on_unset_words(r: &mut Random) {
     let job = accepted(r).into_boxed_slice();
     let mut core = Box::new_uninit_slice(WORDS);
-    linked::open_unset(&mut core, r.within(1, 32), r.within(4, 256));
+    let _ = hyperqueue::core::open_unset(&mut core, r.within(1, 32), r.within(4, 256));
     let mut core = Box::new_uninit_slice(WORDS);
     let mut runner = Box::new_uninit_slice(RUNNER);
-    linked_runner::open_unset(&job, &mut core, &mut runner);
+    let _ = hyperqueue::runner::open_unset(&job, &mut core, &mut runner);
     // Both were opened, as the job is one.
     let ground = Ground {
         core: unsafe { core.assume_init() }.into_vec(),
@@ -91,9 +92,9 @@ fn on_unset_words(r: &mut Random) {
     every_call(r, &ground, &mut [0; 2]);
     let mut working = Box::new_uninit_slice(WORKING);
     let mut answers = Box::new_uninit_slice(ANSWERS);
-    run_serially_unset(&job, &mut working, &mut answers);
+    let _ = run_serially_unset(&job, &mut working, &mut answers);
     // A word too few is refused.
-    run_serially_unset(&job, &mut working[1..], &mut answers);
+    let _ = run_serially_unset(&job, &mut working[1..], &mut answers);
 }
 
 fn run(seed: u64, memories: u64) {
@@ -117,7 +118,7 @@ fn run(seed: u64, memories: u64) {
 fn unset() {
     // The error is the purpose: the checker has to see it.
     let mut words = unsafe { Box::new_uninit_slice(WORDS).assume_init() };
-    println!("answer {}", linked::sync(&mut words, 0) >> 32);
+    println!("answer {}", hyperqueue::core::sync(&mut words, 0).status);
 }
 
 /// Opens a core on a block that is one word too short.
@@ -125,7 +126,7 @@ fn beyond() {
     let mut block = vec![0u32; WORDS - 1].into_boxed_slice();
     // The error is the purpose: the checker has to see it.
     let words = unsafe { std::slice::from_raw_parts_mut(block.as_mut_ptr(), WORDS) };
-    println!("answer {}", linked::open(words, 4, 64) >> 32);
+    println!("answer {}", hyperqueue::core::open(words, 4, 64).status);
 }
 
 fn main() -> ExitCode {

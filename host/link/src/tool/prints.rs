@@ -3,7 +3,6 @@
 use super::input::{self, Input};
 use super::words::Words;
 use super::{Fault, Said};
-use crate::linked_jobs::{self, ANSWERS, WORKING};
 use crate::on_off::reply;
 use crate::picture::svg;
 use crate::proved_run::ProvedRun;
@@ -11,6 +10,8 @@ use host::dis::disassemble as text_of;
 use host::job::Job;
 use host::overlap_text::line;
 use host::runner::Stepped;
+use hyperqueue::jobs::{self, ANSWERS, WORKING};
+use hyperqueue::Answer;
 use std::fmt::Write;
 use std::fs;
 
@@ -51,8 +52,8 @@ pub fn run(words: &Words) -> Result<Said, Fault> {
 pub fn serial(words: &Words) -> Result<Said, Fault> {
     let Input { bytes, .. } = input::job(words.file)?;
     let (mut working, mut answers) = (vec![0; WORKING], vec![0; ANSWERS]);
-    let given = linked_jobs::run_serially(&bytes, &mut working, &mut answers);
-    let (status, steps) = ((given >> 32) as u32, given as u32 as usize);
+    let Answer { status, value } = jobs::run_serially(&bytes, &mut working, &mut answers);
+    let steps = value as usize;
     if (10..=12).contains(&status) {
         return Ok(refused(status));
     }
@@ -61,17 +62,17 @@ pub fn serial(words: &Words) -> Result<Said, Fault> {
         let _ = writeln!(out, "{number} {} {}", row[0], reply(row[1], row[2]));
     }
     match status {
-        0 => {
-            for (queue, values) in linked_jobs::queues(&working).iter().enumerate() {
+        Answer::MOVED => {
+            for (queue, values) in jobs::queues(&working).iter().enumerate() {
                 left(&mut out, queue, values);
             }
         }
-        35 => out += "spent\n",
+        Answer::SPENT => out += "spent\n",
         number => {
             let _ = writeln!(out, "refused {number}");
         }
     }
-    Ok(Said::only(status == 0, out))
+    Ok(Said::only(status == Answer::MOVED, out))
 }
 
 pub fn draw(words: &Words) -> Result<Said, Fault> {
@@ -99,7 +100,7 @@ fn told(bytes: &[u8], number: u32) -> Said {
 
 /// The job, or the number with which the library refuses it.
 fn accepted(bytes: &[u8]) -> Result<Job, u32> {
-    let number = (linked_jobs::job_test(bytes) >> 32) as u32;
+    let number = jobs::test(bytes).status;
     if number != 0 {
         return Err(number);
     }

@@ -1,4 +1,4 @@
-//! Says where the proved core's library stands, seen from this package.
+//! Says where the proved library stands, seen from this package.
 
 use std::env;
 use std::path::Path;
@@ -8,6 +8,5 @@ fn main() {
     let folder = Path::new(&manifest).join("../../target/staticlib");
     let library = folder.join("libhyperqueue.a");
     println!("cargo:rustc-link-search=native={}", folder.display());
-    println!("cargo:rustc-link-lib=static=hyperqueue");
     println!("cargo:rerun-if-changed={}", library.display());
 }

@@ -1,0 +1,54 @@
+//! The eight calls of the core.
+
+use crate::declared::*;
+use crate::Answer;
+use std::mem::MaybeUninit;
+
+/// The words that a core needs.
+pub const WORDS: usize = 16_384;
+
+/// The right to push to a queue from 0 to 3, and the right to pop.
+pub const fn may_push(queue: u32) -> u32 {
+    1 << (2 * queue)
+}
+
+pub const fn may_pop(queue: u32) -> u32 {
+    2 << (2 * queue)
+}
+
+pub fn open(words: &mut [u32], length: u32, segments: u32) -> Answer {
+    Answer::of(unsafe { hq_open(words.as_mut_ptr(), words.len(), length, segments) })
+}
+
+/// The same on words that nobody has written yet.
+pub fn open_unset(words: &mut [MaybeUninit<u32>], length: u32, segments: u32) -> Answer {
+    Answer::of(unsafe { hq_open(words.as_mut_ptr().cast(), words.len(), length, segments) })
+}
+
+pub fn spawn(words: &mut [u32], task: u32, rights: u32) -> Answer {
+    Answer::of(unsafe { hq_spawn(words.as_mut_ptr(), words.len(), task, rights) })
+}
+
+pub fn push(words: &mut [u32], task: u32, queue: u32, value: u32) -> Answer {
+    Answer::of(unsafe { hq_push(words.as_mut_ptr(), words.len(), task, queue, value) })
+}
+
+pub fn pop(words: &mut [u32], task: u32, queue: u32) -> Answer {
+    Answer::of(unsafe { hq_pop(words.as_mut_ptr(), words.len(), task, queue) })
+}
+
+pub fn test(words: &mut [u32], task: u32, queue: u32) -> Answer {
+    Answer::of(unsafe { hq_test(words.as_mut_ptr(), words.len(), task, queue) })
+}
+
+pub fn sync(words: &mut [u32], task: u32) -> Answer {
+    Answer::of(unsafe { hq_sync(words.as_mut_ptr(), words.len(), task) })
+}
+
+pub fn finish(words: &mut [u32], task: u32) -> Answer {
+    Answer::of(unsafe { hq_finish(words.as_mut_ptr(), words.len(), task) })
+}
+
+pub fn left(words: &mut [u32], queue: u32, index: u32) -> Answer {
+    Answer::of(unsafe { hq_left(words.as_mut_ptr(), words.len(), queue, index) })
+}

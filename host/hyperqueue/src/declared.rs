@@ -1,0 +1,48 @@
+//! The functions of the library, as `include/hyperqueue.h` declares them.
+
+#[link(name = "hyperqueue", kind = "static")]
+extern "C" {
+    pub fn hq_open(words: *mut u32, len: usize, length: u32, segments: u32) -> u64;
+    pub fn hq_spawn(words: *mut u32, len: usize, task: u32, rights: u32) -> u64;
+    pub fn hq_push(words: *mut u32, len: usize, task: u32, queue: u32, value: u32) -> u64;
+    pub fn hq_pop(words: *mut u32, len: usize, task: u32, queue: u32) -> u64;
+    pub fn hq_test(words: *mut u32, len: usize, task: u32, queue: u32) -> u64;
+    pub fn hq_sync(words: *mut u32, len: usize, task: u32) -> u64;
+    pub fn hq_finish(words: *mut u32, len: usize, task: u32) -> u64;
+    pub fn hq_left(words: *mut u32, len: usize, queue: u32, index: u32) -> u64;
+    pub fn hq_job_test(job: *const u8, len: usize) -> u64;
+    pub fn hq_job_open(
+        job: *const u8,
+        job_len: usize,
+        words: *mut u32,
+        len: usize,
+        runner: *mut u32,
+        runner_len: usize,
+    ) -> u64;
+    pub fn hq_job_step(
+        job: *const u8,
+        job_len: usize,
+        words: *mut u32,
+        len: usize,
+        runner: *mut u32,
+        runner_len: usize,
+        task: u32,
+    ) -> u64;
+    pub fn hq_job_ready(
+        job: *const u8,
+        job_len: usize,
+        words: *const u32,
+        len: usize,
+        runner: *const u32,
+        runner_len: usize,
+        out: *mut u32,
+    ) -> u64;
+    pub fn hq_run_serially(
+        job: *const u8,
+        len: usize,
+        working: *mut u32,
+        working_len: usize,
+        answers: *mut u32,
+        answers_len: usize,
+    ) -> u64;
+}

@@ -1,0 +1,43 @@
+//! The proved queue core for hosts in Rust. `include/hyperqueue.h` says what
+//! each call does; here they are safe functions on slices: any contents, any
+//! lengths and any arguments give an answer, and nothing outside the slices is
+//! read or written.
+
+pub mod core;
+mod declared;
+pub mod jobs;
+pub mod runner;
+
+/// What a call answers: a status, and a value that is 0 unless the call moved.
+#[must_use]
+#[derive(Clone, Copy, Debug, PartialEq, Eq)]
+pub struct Answer {
+    pub status: u32,
+    pub value: u32,
+}
+
+impl Answer {
+    pub const MOVED: u32 = 0;
+    pub const WAITS: u32 = 32;
+    pub const EMPTY: u32 = 33;
+    pub const NOT_EMPTY: u32 = 34;
+    /// A run without overlap that made all its steps and has not ended.
+    pub const SPENT: u32 = 35;
+
+    fn of(number: u64) -> Answer {
+        Answer {
+            status: (number >> 32) as u32,
+            value: number as u32,
+        }
+    }
+
+    /// Status and value as one number, as hosts in C get them.
+    pub fn packed(self) -> u64 {
+        u64::from(self.status) << 32 | u64::from(self.value)
+    }
+
+    /// The value of a call that moved.
+    pub fn moved(self) -> Option<u32> {
+        (self.status == Answer::MOVED).then_some(self.value)
+    }
+}

@@ -1,0 +1,79 @@
+//! A job's run with overlap: opening it, a step of a task, the ready map.
+
+use crate::declared::*;
+use crate::Answer;
+use std::mem::MaybeUninit;
+
+/// The words that the runner needs beside the core's.
+pub const WORDS: usize = 384;
+
+/// The statuses of a step that moved.
+pub const SPAWNED: u32 = 40;
+pub const PUSHED: u32 = 41;
+pub const TOOK: u32 = 42;
+pub const FINISHED: u32 = 43;
+pub const MOVED: u32 = 44;
+
+pub fn open(job: &[u8], core: &mut [u32], runner: &mut [u32]) -> Answer {
+    Answer::of(unsafe {
+        hq_job_open(
+            job.as_ptr(),
+            job.len(),
+            core.as_mut_ptr(),
+            core.len(),
+            runner.as_mut_ptr(),
+            runner.len(),
+        )
+    })
+}
+
+/// The same on words that nobody has written yet.
+pub fn open_unset(
+    job: &[u8],
+    core: &mut [MaybeUninit<u32>],
+    runner: &mut [MaybeUninit<u32>],
+) -> Answer {
+    Answer::of(unsafe {
+        hq_job_open(
+            job.as_ptr(),
+            job.len(),
+            core.as_mut_ptr().cast(),
+            core.len(),
+            runner.as_mut_ptr().cast(),
+            runner.len(),
+        )
+    })
+}
+
+pub fn step(job: &[u8], core: &mut [u32], runner: &mut [u32], task: u32) -> Answer {
+    Answer::of(unsafe {
+        hq_job_step(
+            job.as_ptr(),
+            job.len(),
+            core.as_mut_ptr(),
+            core.len(),
+            runner.as_mut_ptr(),
+            runner.len(),
+            task,
+        )
+    })
+}
+
+/// The ready map, the number of set bits, the lowest ready task or the mark for
+/// none.
+pub type Map = [u32; 6];
+
+/// The answer, with the map in the six words lent.
+pub fn ready(job: &[u8], core: &[u32], runner: &[u32], out: &mut Map) -> Answer {
+    Answer::of(unsafe {
+        hq_job_ready(
+            job.as_ptr(),
+            job.len(),
+            core.as_ptr(),
+            core.len(),
+            runner.as_ptr(),
+            runner.len(),
+            out.as_mut_ptr(),
+        )
+    })
+}
