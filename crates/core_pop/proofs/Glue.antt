@@ -81,12 +81,12 @@ module _ (m m1 : List ℕ) (t q : ℕ) {s n : ℕ} (es : s ≡ read m (task t (1
     unfolding popped
     some-left f = drop-same ∙ sym (halt _ _ (true-right _ (ap not (ne-eqb _ _ (λ e. f (count-same ∙ e))))))
 
-    pub segment-freed : (m2 m3 : List ℕ) → k ≡ 0 → m2 ≡ write m1 (task t (16 + q)) n → m3 ≡ released m2 s → m3 ≡ popped m t q
+    pub segment-freed : (m2 m3 : List ℕ) → k ≡ 0 → m2 ≡ write m1 (task t (16 + q)) n → m3 ≡ released m2 q s → m3 ≡ popped m t q
     unfolding popped
     segment-freed m2 m3 f g h =
         h
-        ∙ ap (released m2) es
-        ∙ ap (λ (x : List ℕ). released x H)
+        ∙ ap (released m2 q) es
+        ∙ ap (λ (x : List ℕ). released x q H)
         (g ∙ ap (λ (x : List ℕ). write x (task t (16 + q)) n) drop-same ∙ ap (write (dropped m H) (task t (16 + q))) next-same)
         ∙ sym (pass _ (neither (ne-eqb _ _ (λ e. f1 (next-same ∙ e))) (ap not (eq-eqb _ _ (sym count-same ∙ f)))) refl)
 

@@ -59,7 +59,7 @@ fn take_first(m: &mut [u32], t: u32, q: u32)
         return;
     }
     memory::set_task(m, t, 16 + q, n);
-    segments::release(m, s);
+    segments::release(m, q, s);
 }
 
 // Pop where nothing is to be taken.

@@ -28,9 +28,9 @@ unfolding kindAt
 at-exited x h = sym (pass _ (le-ltb x 128 h) refl)
 
 -- the new segment apart: s is taken, y and k are the task and the kind of the view at mark x
-module _ (m : List ℕ) (t q v x : ℕ) {s y k h e : ℕ} {b : Bool} (es : s ≡ nextFree m) (ey : y ≡ taskAt x) (ek : k ≡ kindAt x)
+module _ (m : List ℕ) (t q v x : ℕ) {s y k h e : ℕ} {b : Bool} (es : s ≡ nextFree m q) (ey : y ≡ taskAt x) (ek : k ≡ kindAt x)
     (eh : h ≡ read m (head k y q)) (ee : e ≡ read m (tail k y q)) (eb : b ≡ reducible (view h e) (view s NL)) where
-  same : b ≡ reducible (viewOf m q (taskAt x) (kindAt x)) (view (nextFree m) NL)
+  same : b ≡ reducible (viewOf m q (taskAt x) (kindAt x)) (view (nextFree m q) NL)
   unfolding viewOf
   same = eb ∙ rw (eh, ee, es, ey, ek) refl
 
@@ -38,24 +38,24 @@ module _ (m : List ℕ) (t q v x : ℕ) {s y k h e : ℕ} {b : Bool} (es : s ≡
   unfolding pushedApart
   left-out f = sym (halt _ _ (ap not (sym same) ∙ f))
 
-  pub apart : (m1 m2 m3 : List ℕ) → not b ≡ false → m1 ≡ taken m v → m2 ≡ joined m1 q y k (view s NL) → m3 ≡ setView m2 q t USER (view NL s)
+  pub apart : (m1 m2 m3 : List ℕ) → not b ≡ false → m1 ≡ taken m q v → m2 ≡ joined m1 q y k (view s NL) → m3 ≡ setView m2 q t USER (view NL s)
       → outcome (Moved v) m3 ≡ pushedApart m t q v x
   unfolding pushedApart
   apart m1 m2 m3 f e1 e2 e3 = ap (outcome (Moved v)) (e3 ∙ rw (e2, e1, es, ey, ek) refl) ∙ sym (pass _ (ap not (sym same) ∙ f) refl)
 
-pub behind : (m m1 m2 m3 : List ℕ) (t q v e s : ℕ) → s ≡ nextFree m → m1 ≡ taken m v → m2 ≡ write m1 (segment e 2) s → m3 ≡ write m2 (tail USER t q) s
+pub behind : (m m1 m2 m3 : List ℕ) (t q v e s : ℕ) → s ≡ nextFree m q → m1 ≡ taken m q v → m2 ≡ write m1 (segment e 2) s → m3 ≡ write m2 (tail USER t q) s
     → outcome (Moved v) m3 ≡ pushedBehind m t q v e
 unfolding pushedBehind
 behind m m1 m2 m3 t q v e s es e1 e2 e3 = ap (outcome (Moved v)) (e3 ∙ rw (e2, e1, es) refl)
 
 -- what the rules promise to a push
 module _ (m : List ℕ) (t q : ℕ) (big : size m ≡ 16384) (ok : rulesHold m ≡ true) (alive : unfinished m t ≡ true) (l : q < 4) where
-  room : (noneFree m ≡ false) → (0 < read m freeSegments) × (nextFree m < read m numberWord)
+  room : (noneFree m q ≡ false) → (0 < read m freeSegments) × (nextFree m q < read m numberWord)
   unfolding nextFree
-  room e = let p = some-left m e in (p, rules-sound m big ok .free-open _ (omega (arith, p)))
+  room e = let p = some-left m q e in (p, rules-sound m big ok .free-open _ (omega (arith, p)))
 
-  pub can-take : {b : Bool} → b ≡ noneFree m → b ≡ false
-      → (size m ≡ 16384) × (0 < read m freeSegments) × (nextFree m < read m numberWord) × (0 < read m lengthWord)
+  pub can-take : {b : Bool} → b ≡ noneFree m q → b ≡ false
+      → (size m ≡ 16384) × (0 < read m freeSegments) × (nextFree m q < read m numberWord) × (0 < read m lengthWord)
       × (read m lengthWord * read m numberWord ≤ 8192)
   can-take e f =
       let s = rules-sound m big ok in
@@ -77,11 +77,11 @@ module _ (m : List ℕ) (t q v : ℕ) {h e : ℕ} {b : Bool} (ee : e ≡ read m 
   empty-same = eb ∙ rw (eh, ee) refl
 
   module _ (f : b ≡ true) where
-    pub none-apart : {b2 : Bool} → b2 ≡ noneFree m → b2 ≡ true → outcome (Refused 9) m ≡ pushed m t q v
+    pub none-apart : {b2 : Bool} → b2 ≡ noneFree m q → b2 ≡ true → outcome (Refused 9) m ≡ pushed m t q v
     unfolding pushed
     none-apart e2 g = sym (halt _ _ (sym empty-same ∙ f) ∙ halt _ _ (sym e2 ∙ g))
 
-    pub goes-apart : {b2 : Bool} {x : ℕ} {o : Outcome} → b2 ≡ noneFree m → b2 ≡ false → x ≡ justBefore m q t → o ≡ pushedApart m t q v x → o ≡ pushed m t q v
+    pub goes-apart : {b2 : Bool} {x : ℕ} {o : Outcome} → b2 ≡ noneFree m q → b2 ≡ false → x ≡ justBefore m q t → o ≡ pushedApart m t q v x → o ≡ pushed m t q v
     unfolding pushed
     goes-apart e2 g ex eo = eo ∙ ap (pushedApart m t q v) ex ∙ sym (halt _ _ (sym empty-same ∙ f) ∙ pass _ (sym e2 ∙ g) refl)
 
@@ -101,7 +101,7 @@ module _ (m : List ℕ) (t q v : ℕ) {h e : ℕ} {b : Bool} (ee : e ≡ read m 
           ap (outcome (Moved v)) (e1 ∙ ap (λ (x : ℕ). stored m x v) tail-same)
           ∙ sym (pass _ (sym empty-same ∙ f) (pass _ (lt-leb NL _ (rw tail-same at g)) (halt _ _ (lt-ltb _ _ (rw (en, ek, tail-same) at p)))))
 
-      module _ {b2 : Bool} (p : k ≤ n) (e2 : b2 ≡ noneFree m) where
+      module _ {b2 : Bool} (p : k ≤ n) (e2 : b2 ≡ noneFree m q) where
         pub none-behind : b2 ≡ true → outcome (Refused 9) m ≡ pushed m t q v
         unfolding pushed
         none-behind r =

@@ -23,11 +23,11 @@ pub fn kind_at(x: u32) -> u32
 
 // The user view is empty: the new segment's head goes into the view at mark x.
 fn push_apart(m: &mut [u32], t: u32, q: u32, v: u32, x: u32) -> Answer
-    requires { ⌜ (size (now m) ≡ 16384) × (0 < read (now m) freeSegments) × (nextFree (now m) < read (now m) numberWord)
+    requires { ⌜ (size (now m) ≡ 16384) × (0 < read (now m) freeSegments) × (nextFree (now m) q < read (now m) numberWord)
         × (0 < read (now m) lengthWord) × (read (now m) lengthWord * read (now m) numberWord ≤ 8192) ⌝ }
     ensures { λ a. ⌜ outcome a (now (m .exit)) ≡ pushedApart (now (m .entry)) t q v x ⌝ }
 {
-    let s = segments::next_free(m);
+    let s = segments::next_free(m, q);
     let y = walks::task_at(x);
     let k = kind_at(x);
     if !views::reducible(
@@ -38,7 +38,7 @@ fn push_apart(m: &mut [u32], t: u32, q: u32, v: u32, x: u32) -> Answer
     ) {
         return Answer::Refused(2);
     }
-    segments::take(m, v);
+    segments::take(m, q, v);
     views::join(m, q, y, k, s, 4294967294);
     views::set_view(m, q, t, 1, 4294967294, s);
     Answer::Moved(v)
@@ -46,12 +46,12 @@ fn push_apart(m: &mut [u32], t: u32, q: u32, v: u32, x: u32) -> Answer
 
 // The tail segment e is full: the new segment becomes its next.
 fn push_behind(m: &mut [u32], t: u32, q: u32, v: u32, e: u32) -> Answer
-    requires { ⌜ (size (now m) ≡ 16384) × (0 < read (now m) freeSegments) × (nextFree (now m) < read (now m) numberWord)
+    requires { ⌜ (size (now m) ≡ 16384) × (0 < read (now m) freeSegments) × (nextFree (now m) q < read (now m) numberWord)
         × (0 < read (now m) lengthWord) × (read (now m) lengthWord * read (now m) numberWord ≤ 8192) ⌝ }
     ensures { λ a. ⌜ outcome a (now (m .exit)) ≡ pushedBehind (now (m .entry)) t q v e ⌝ }
 {
-    let s = segments::next_free(m);
-    segments::take(m, v);
+    let s = segments::next_free(m, q);
+    segments::take(m, q, v);
     memory::set_segment(m, e, 2, s);
     views::set_tail(m, 1, t, q, s);
     Answer::Moved(v)
@@ -64,7 +64,7 @@ fn push_value(m: &mut [u32], t: u32, q: u32, v: u32) -> Answer
 {
     let e = views::tail(m, 1, t, q);
     if views::is_empty(views::head(m, 1, t, q), e) {
-        if segments::none_free(m) {
+        if segments::none_free(m, q) {
             return Answer::Refused(9);
         }
         return push_apart(m, t, q, v, walks::just_before(m, q, t));
@@ -76,7 +76,7 @@ fn push_value(m: &mut [u32], t: u32, q: u32, v: u32) -> Answer
         segments::store_one(m, e, v);
         return Answer::Moved(v);
     }
-    if segments::none_free(m) {
+    if segments::none_free(m, q) {
         return Answer::Refused(9);
     }
     push_behind(m, t, q, v, e)

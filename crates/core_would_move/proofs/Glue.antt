@@ -38,28 +38,28 @@ module _ (m : List ℕ) (t q : ℕ) (f : ℕ → ℕ → Bool) (x : Bool) where
     is-held r g k = on held g k ∙ sym (both-on (ap not (lt-leb 4 q h)))
 
 -- A PUSH
-pub apart-fits : (m : List ℕ) (q x : ℕ) {s y k h e : ℕ} {b : Bool} → s ≡ nextFree m → y ≡ taskAt x → k ≡ kindAt x → h ≡ read m (head k y q)
+pub apart-fits : (m : List ℕ) (q x : ℕ) {s y k h e : ℕ} {b : Bool} → s ≡ nextFree m q → y ≡ taskAt x → k ≡ kindAt x → h ≡ read m (head k y q)
     → e ≡ read m (tail k y q) → b ≡ reducible (view h e) (view s NL) → b ≡ fitsApart m q x
 unfolding fitsApart viewOf
 apart-fits m q x es ey ek eh ee eb = eb ∙ rw (eh, ee, es, ey, ek) refl
 
-module _ (m : List ℕ) (e : ℕ) {n k : ℕ} (en : n ≡ read m (segment e 1)) (ek : k ≡ read m lengthWord) where
-  pub tail-room : n < k → true ≡ hasRoom m e
+module _ (m : List ℕ) (q e : ℕ) {n k : ℕ} (en : n ≡ read m (segment e 1)) (ek : k ≡ read m lengthWord) where
+  pub tail-room : n < k → true ≡ hasRoom m q e
   unfolding hasRoom
   tail-room h = sym (true-left _ (lt-ltb _ _ (rw (en, ek) at h)))
 
-  pub free-room : {b : Bool} → k ≤ n → b ≡ noneFree m → not b ≡ hasRoom m e
+  pub free-room : {b : Bool} → k ≤ n → b ≡ noneFree m q → not b ≡ hasRoom m q e
   unfolding hasRoom either
   free-room h eb = sym (pass _ (le-ltb _ _ (rw (en, ek) at h)) (ap not (sym eb)))
 
-pub some-free : (m : List ℕ) {b : Bool} → b ≡ noneFree m → b ≡ false → 0 < read m freeSegments
-some-free m e f = some-left m (sym e ∙ f)
+pub some-free : (m : List ℕ) (q : ℕ) {b : Bool} → b ≡ noneFree m q → b ≡ false → 0 < read m freeSegments
+some-free m q e f = some-left m q (sym e ∙ f)
 
 module _ (m : List ℕ) (t q : ℕ) {h e : ℕ} {b : Bool} (ee : e ≡ read m (tail USER t q)) (eh : h ≡ read m (head USER t q)) (eb : b ≡ isEmpty (view h e)) where
   empty-same : b ≡ isEmpty (viewOf m q t USER)
   empty-same = empty-is m q t USER h e b eh ee eb
 
-  module _ {b2 : Bool} (f : b ≡ true) (e2 : b2 ≡ noneFree m) where
+  module _ {b2 : Bool} (f : b ≡ true) (e2 : b2 ≡ noneFree m q) where
     pub none-left : b2 ≡ true → false ≡ valueFits m t q
     unfolding valueFits
     none-left g = sym (halt _ _ (sym empty-same ∙ f) ∙ both-off _ (ap not (sym e2 ∙ g)))
@@ -77,9 +77,9 @@ module _ (m : List ℕ) (t q : ℕ) {h e : ℕ} {b : Bool} (ee : e ≡ read m (t
     unfolding valueFits
     ends-away g = sym (pass _ (sym empty-same ∙ f) (both-off _ (ap not (le-leb NL _ (rw tail-same at g)))))
 
-    pub goes-behind : {r : Bool} → e < NL → r ≡ hasRoom m e → r ≡ valueFits m t q
+    pub goes-behind : {r : Bool} → e < NL → r ≡ hasRoom m q e → r ≡ valueFits m t q
     unfolding valueFits
-    goes-behind g er = er ∙ ap (hasRoom m) tail-same ∙ sym (pass _ (sym empty-same ∙ f) (both-on (ap not (lt-leb NL _ (rw tail-same at g)))))
+    goes-behind g er = er ∙ ap (hasRoom m q) tail-same ∙ sym (pass _ (sym empty-same ∙ f) (both-on (ap not (lt-leb NL _ (rw tail-same at g)))))
 
 -- A SPAWN
 module _ (m : List ℕ) (t a : ℕ) {w : ℕ} {b : Bool} (ew : w ≡ read m (task t RIGHTS)) (e : b ≡ subset a w) where

@@ -23,17 +23,17 @@ fn fits_apart(m: &[u32], q: u32, x: u32) -> bool
     let k = core_push::kind_at(x);
     let h = views::head(m, k, y, q);
     let e = views::tail(m, k, y, q);
-    views::reducible(h, e, segments::next_free(m), NL)
+    views::reducible(h, e, segments::next_free(m, q), NL)
 }
 
 // The tail segment e has room, or a segment is free.
-fn has_room(m: &[u32], e: u32) -> bool
-    ensures { λ b. ⌜ b ≡ hasRoom (now (m .entry)) e ⌝ }
+fn has_room(m: &[u32], q: u32, e: u32) -> bool
+    ensures { λ b. ⌜ b ≡ hasRoom (now (m .entry)) q e ⌝ }
 {
     if memory::segment(m, e, 1) < memory::header(m, 0) {
         return true;
     }
-    !segments::none_free(m)
+    !segments::none_free(m, q)
 }
 
 // A value can be pushed to the user view of task t.
@@ -43,7 +43,7 @@ fn value_fits(m: &[u32], t: u32, q: u32) -> bool
 {
     let e = views::tail(m, USER, t, q);
     if views::is_empty(views::head(m, USER, t, q), e) {
-        if segments::none_free(m) {
+        if segments::none_free(m, q) {
             return false;
         }
         return fits_apart(m, q, walks::just_before(m, q, t));
@@ -51,7 +51,7 @@ fn value_fits(m: &[u32], t: u32, q: u32) -> bool
     if NL <= e {
         return false;
     }
-    has_room(m, e)
+    has_room(m, q, e)
 }
 
 pub fn push_moves(m: &[u32], t: u32, q: u32) -> bool

@@ -28,16 +28,16 @@ module _ (m : List ℕ) (xs : List Item) (t : ℕ) (there : unfinished t xs ≡ 
   -- a push moves, or is refused with 9: it needs a segment and none is free
   pub push-answer : (q v : ℕ) → q < 4 → mayPush (rightsAt t xs) q ≡ true
       → (answered (push-call t q v) m xs ≡ Moved v)
-      ⊎ ((answered (push-call t q v) m xs ≡ Refused 9) × (needsSegment m t q ≡ true) × (noneFree m ≡ true))
+      ⊎ ((answered (push-call t q v) m xs ≡ Refused 9) × (needsSegment m t q ≡ true) × (noneFree m q ≡ true))
   unfolding answered ordered decided statusOf
-  push-answer q v small e = go (both (needsSegment m t q) (noneFree m)) refl
+  push-answer q v small e = go (both (needsSegment m t q) (noneFree m q)) refl
     where
       is : (a : Answer) → decided (push-call t q v) m ≡ a → answered (push-call t q v) m xs ≡ pick (eqb (statusOf a) 9) (Refused 9) (Moved v)
       is a d = unfold answered ordered in queue-passes q _ _ small e ∙ pass _ free (ap (λ (b : Answer). pick (eqb (statusOf b) 9) (Refused 9) (Moved v)) d)
 
-      go : (b : Bool) → both (needsSegment m t q) (noneFree m) ≡ b
+      go : (b : Bool) → both (needsSegment m t q) (noneFree m q) ≡ b
           → (answered (push-call t q v) m xs ≡ Moved v)
-          ⊎ ((answered (push-call t q v) m xs ≡ Refused 9) × (needsSegment m t q ≡ true) × (noneFree m ≡ true))
+          ⊎ ((answered (push-call t q v) m xs ≡ Refused 9) × (needsSegment m t q ≡ true) × (noneFree m q ≡ true))
       go true d = let w = both-true _ _ d in inr (is (Refused 9) (unfold decided in halt _ _ d) ∙ (unfold statusOf in halt _ _ refl), w .0, w .1)
       go false d = inl (is (Moved v) (unfold decided in pass _ d refl) ∙ (unfold statusOf in pass _ refl refl))
 

@@ -48,7 +48,7 @@ use Rattle.law_any_order.specs.Tested.{stands-at, tests-pass}
 pub data Stays (j m r : List ℕ) (xs : List Mark) (n : Numbered) : StepAnswer → Type 0 where
   waits : ¬ Able j xs n → Stays j m r xs n Waits
   eight : (k : ℕ) → coreCall j r (n .number) ≡ some (spawn-call (n .number) k) → spots xs ≡ 128 → Stays j m r xs n (Refused 8)
-  nine : (q v : ℕ) → coreCall j r (n .number) ≡ some (push-call (n .number) q v) → needsSegment m (n .number) q ≡ true → noneFree m ≡ true
+  nine : (q v : ℕ) → coreCall j r (n .number) ≡ some (push-call (n .number) q v) → needsSegment m (n .number) q ≡ true → noneFree m q ≡ true
       → Stays j m r xs n (Refused 9)
 
 -- a step that moves: what it found, the number of a new task, and what it leaves

@@ -110,7 +110,7 @@ AllFinished s = (t : ℕ) → unfinished (s .core) t ≡ false
 pub data Wants (j : List ℕ) (s : Stand) (t : ℕ) : Type 0 where
   a-record : (r : ℕ) → stepAnswer j s t ≡ Refused 8 → coreCall j (s .runner) t ≡ some (spawn-call t r) → spots (s .order) ≡ 128 → Wants j s t
   a-segment : (q v : ℕ) → stepAnswer j s t ≡ Refused 9 → coreCall j (s .runner) t ≡ some (push-call t q v) → needsSegment (s .core) t q ≡ true
-      → noneFree (s .core) ≡ true → Wants j s t
+      → noneFree (s .core) q ≡ true → Wants j s t
 
 -- What is promised of a run of job j that stands at s, where the plain machine ends after n steps.
 pub record Agreed (j : List ℕ) (n : ℕ) (s : Stand) : Type 0 where

@@ -29,7 +29,7 @@ nextTask m = read m (freeTask (read m freeTasks - 1))
 unfoldable pub decided : Call → List ℕ → Answer
 decided (open-call l n) m = pick (inRange l n) (Moved 0) (Refused 3)
 decided (spawn-call t r) m = Moved (nextTask m)
-decided (push-call t q v) m = pick (both (needsSegment m t q) (noneFree m)) (Refused 9) (Moved v)
+decided (push-call t q v) m = pick (both (needsSegment m t q) (noneFree m q)) (Refused 9) (Moved v)
 decided (pop-call t q) m = Waits
 decided (test-call t q) m = Waits
 decided (sync-call t) m = Waits

@@ -48,9 +48,9 @@ use Rattle.law_in_order.specs.Does.{Does, refuses, waits, chooses, never
 use Rattle.law_in_order.specs.Ladder.{for-task, for-queue, rights-are, rights-same, blocked-same}
 
 -- a free segment, where there is one
-pub some-free : (m : List ℕ) → noneFree m ≡ false → (g : ℕ) × (rest : List ℕ) × (freeIn m ≡ g ∷ rest)
+pub some-free : (m : List ℕ) (q : ℕ) → noneFree m q ≡ false → (g : ℕ) × (rest : List ℕ) × (freeIn m ≡ g ∷ rest)
 unfolding noneFree freeIn stack
-some-free m e = go (read m freeSegments) (eqb-false (read m freeSegments) 0 e)
+some-free m q e = go (read m freeSegments) (eqb-false (read m freeSegments) 0 e)
   where
     go : (n : ℕ) → (n ≡ 0 → ⊥) → (g : ℕ) × (rest : List ℕ) × (stack (λ i. read m (freeSegment i)) n ≡ g ∷ rest)
     go zero k = absurd (k refl)
@@ -117,21 +117,21 @@ module _ (P : List ℕ → List Item → Type 0) (runs : (m : List ℕ) (xs : Li
         omega (arith, i, j, k, e, f, b)
 
     abbrev Answers : Answer
-    Answers = pick (both (needsSegment m t q) (noneFree m)) (Refused 9) (Moved v)
+    Answers = pick (both (needsSegment m t q) (noneFree m q)) (Refused 9) (Moved v)
 
     -- the user view is empty
     apart : queueMemory m q .user t ≡ vacant → Does P Old c (pushed m t q v) Answers
     unfolding pushed pushedApart
     apart d =
         let e = vacant-empty u (view-is d) in
-        does-as P _ _ _ (pick (noneFree m) (Refused 9) (Moved v)) (halt _ _ e) (ap (λ (b : Bool). pick b (Refused 9) (Moved v)) (needed e))
-        (chooses P (noneFree m) (noneFree m) refl (λ b. none-left) (λ b.
-        let f = some-free m b in
-        never P (outcome (Refused 2) m) (not (reducible (viewOf m q (taskAt (justBefore m q t)) (kindAt (justBefore m q t))) (view (nextFree m) NL)))
+        does-as P _ _ _ (pick (noneFree m q) (Refused 9) (Moved v)) (halt _ _ e) (ap (λ (b : Bool). pick b (Refused 9) (Moved v)) (needed e))
+        (chooses P (noneFree m q) (noneFree m q) refl (λ b. none-left) (λ b.
+        let f = some-free m q b in
+        never P (outcome (Refused 2) m) (not (reducible (viewOf m q (taskAt (justBefore m q t)) (kindAt (justBefore m q t))) (view (nextFree m q) NL)))
         (ap not (apart-reducible m ys zs s r q v small may (f .0) (f .1) (f .2) d))
         (moves _ (push-apart m ys zs s r q v small may (f .0) (f .1) (f .2) d play))))
       where
-        needed : isEmpty u ≡ true → both (needsSegment m t q) (noneFree m) ≡ noneFree m
+        needed : isEmpty u ≡ true → both (needsSegment m t q) (noneFree m q) ≡ noneFree m q
         needed e = unfold needsSegment in both-on (true-left _ e)
 
     -- the tail segment of the user view is z
@@ -139,7 +139,7 @@ module _ (P : List ℕ → List Item → Type 0) (runs : (m : List ℕ) (xs : Li
     unfolding pushed pushedBehind viewOf tailOf
     behind h z d =
         let e = extent-filled u h (local z) (view-is d) in
-        does-as P _ _ _ (pick (not (ltb (read m (count e0)) (read m lengthWord))) (pick (noneFree m) (Refused 9) (Moved v)) (Moved v))
+        does-as P _ _ _ (pick (not (ltb (read m (count e0)) (read m lengthWord))) (pick (noneFree m q) (Refused 9) (Moved v)) (Moved v))
         (skip _ e (skip _ (lt-leb NL e0 (let l = low in let k = r .sized .number-range .1 in omega (arith, l, k, tail-is))) refl)) (needed e)
         (go (ltb (read m (count e0)) (read m lengthWord)) refl)
       where
@@ -152,10 +152,10 @@ module _ (P : List ℕ → List Item → Type 0) (runs : (m : List ℕ) (xs : Li
         low : z < read m numberWord
         low = segment-below m Old r q z small (tail-held h z d)
 
-        needed : isEmpty u ≡ false → Answers ≡ pick (not (ltb (read m (count e0)) (read m lengthWord))) (pick (noneFree m) (Refused 9) (Moved v)) (Moved v)
+        needed : isEmpty u ≡ false → Answers ≡ pick (not (ltb (read m (count e0)) (read m lengthWord))) (pick (noneFree m q) (Refused 9) (Moved v)) (Moved v)
         needed e =
-            unfold needsSegment either viewOf tailOf in ap (λ (b : Bool). pick (both b (noneFree m)) (Refused 9) (Moved v)) (skip _ e refl)
-            ∙ cases (not (ltb (read m (count e0)) (read m lengthWord))) (noneFree m)
+            unfold needsSegment either viewOf tailOf in ap (λ (b : Bool). pick (both b (noneFree m q)) (Refused 9) (Moved v)) (skip _ e refl)
+            ∙ cases (not (ltb (read m (count e0)) (read m lengthWord))) (noneFree m q)
           where
             cases : (x y : Bool) → pick (both x y) (Refused 9) (Moved v) ≡ pick x (pick y (Refused 9) (Moved v)) (Moved v)
             cases true y = unfold both pick in refl
@@ -180,8 +180,8 @@ module _ (P : List ℕ → List Item → Type 0) (runs : (m : List ℕ) (xs : Li
             omega (arith, a, b, k)
 
         go : (b : Bool) → ltb (read m (count e0)) (read m lengthWord) ≡ b
-            → Does P Old c (pick b (outcome (Moved v) (stored m e0 v)) (pick (noneFree m) (outcome (Refused 9) m) (pushedBehind m t q v e0)))
-            (pick (not b) (pick (noneFree m) (Refused 9) (Moved v)) (Moved v))
+            → Does P Old c (pick b (outcome (Moved v) (stored m e0 v)) (pick (noneFree m q) (outcome (Refused 9) m) (pushedBehind m t q v e0)))
+            (pick (not b) (pick (noneFree m q) (Refused 9) (Moved v)) (Moved v))
         go true f =
             unfold pick in
             subst (λ (x : ℕ). Does P Old c (outcome (Moved v) (stored m x v)) (Moved v)) (sym tail-is)
@@ -189,10 +189,10 @@ module _ (P : List ℕ → List Item → Type 0) (runs : (m : List ℕ) (xs : Li
             play))
         go false f =
             unfold pick pushedBehind in
-            chooses P (noneFree m) (noneFree m) refl (λ b. none-left) (λ b.
-            let k = some-free m b in
+            chooses P (noneFree m q) (noneFree m q) refl (λ b. none-left) (λ b.
+            let k = some-free m q b in
             let w = filled (contentsIn m z) refl (λ l. let j = ltb-false (read m (count e0)) (read m lengthWord) f in omega (arith, l, j, count-is)) in
-            subst (λ (x : ℕ). Does P Old c (outcome (Moved v) (write (write (taken m v) (next x) (nextFree m)) (tail USER t q) (nextFree m))) (Moved v))
+            subst (λ (x : ℕ). Does P Old c (outcome (Moved v) (write (write (taken m q v) (next x) (nextFree m q)) (tail USER t q) (nextFree m q))) (Moved v))
             (sym tail-is)
             (moves _ (push-behind m ys zs s r q v small may h z (k .0) (k .1) (w .0) (w .1) d low (k .2) (w .2) (apart-from (k .0) (k .1) (k .2)) play)))
 
@@ -207,13 +207,13 @@ module _ (P : List ℕ → List Item → Type 0) (runs : (m : List ℕ) (xs : Li
 
   pub push-does : (m : List ℕ) (xs : List Item) (t q v : ℕ) → Represents m xs
       → Does P xs (push-call t q v) (pushTested m t q v)
-      (forTask t xs (forQueue q (mayPush (rightsAt t xs) q) (pick (blocked t xs) Waits (pick (both (needsSegment m t q) (noneFree m)) (Refused 9) (Moved v)))))
+      (forTask t xs (forQueue q (mayPush (rightsAt t xs) q) (pick (blocked t xs) Waits (pick (both (needsSegment m t q) (noneFree m q)) (Refused 9) (Moved v)))))
   unfolding pushTested
   push-does m xs t q v =
       for-task P runs (λ t. push-call t q v)
       (λ t. pick (leb 4 q) (outcome (Refused 5) m)
       (pick (not (mayPush (rightsIn m t) q)) (outcome (Refused 6) m) (pick (blockedIn m t) (outcome Waits m) (pushed m t q v))))
-      (λ t xs. forQueue q (mayPush (rightsAt t xs) q) (pick (blocked t xs) Waits (pick (both (needsSegment m t q) (noneFree m)) (Refused 9) (Moved v)))) m
+      (λ t xs. forQueue q (mayPush (rightsAt t xs) q) (pick (blocked t xs) Waits (pick (both (needsSegment m t q) (noneFree m q)) (Refused 9) (Moved v)))) m
       (λ ys zs s r.
       for-queue P runs m q (mayPush (rightsIn m (numberOf s)) q) (mayPush (rightsAt (numberOf s) (ys ++ spot s ∷ zs)) q)
       (ap (λ (x : ℕ). mayPush x q) (rights-same m ys zs s r)) (runs m (ys ++ spot s ∷ zs) r) (λ small may.

@@ -35,11 +35,11 @@ use Rattle.law_invariant.specs.Room.{free-below, held-free}
 use Rattle.law_invariant.specs.At.{At, laid-at}
 
 -- taking a segment writes no word of a task
-taken-task : (m : List ℕ) (v x k : ℕ) → nextFree m < 256 → x < 128 → k < 48 → read (taken m v) (task x k) ≡ read m (task x k)
+taken-task : (m : List ℕ) (q v x k : ℕ) → nextFree m q < 256 → x < 128 → k < 48 → read (taken m q v) (task x k) ≡ read m (task x k)
 unfolding taken read write address
-taken-task m v x k s l i =
-    load-other _ (8192 + nextFree m * load m 0) (1472 + x * 48 + k) v (λ e. omega (arith, e, l, i))
-    ∙ block-other (0 ∷ 1 ∷ NONE ∷ []) _ (448 + nextFree m * 4 + 0) (1472 + x * 48 + k) (λ j b e. omega (arith, e, s, b))
+taken-task m q v x k s l i =
+    load-other _ (8192 + nextFree m q * load m 0) (1472 + x * 48 + k) v (λ e. omega (arith, e, l, i))
+    ∙ block-other (0 ∷ 1 ∷ NONE ∷ []) _ (448 + nextFree m q * 4 + 0) (1472 + x * 48 + k) (λ j b e. omega (arith, e, s, b))
     ∙ load-other m 2 (1472 + x * 48 + k) _ (λ e. omega (arith, e))
 
 module _ (m : List ℕ) (ys zs : List Item) (s : Task) (r : Represents m (ys ++ spot s ∷ zs)) (q : ℕ) (small : q < 4) (here : At m ys zs s r q)
@@ -71,13 +71,13 @@ module _ (m : List ℕ) (ys zs : List Item) (s : Task) (r : Represents m (ys ++ 
       omega (arith, e, f, k, p)
 
   abbrev n : List ℕ
-  n = taken m v
+  n = taken m q v
 
-  pub low-free : nextFree m < 256
-  low-free = let e = next-free m g rest ef in let l = g-below in let k = r .sized .number-range .1 in omega (arith, e, l, k)
+  pub low-free : nextFree m q < 256
+  low-free = let e = next-free m q g rest ef in let l = g-below in let k = r .sized .number-range .1 in omega (arith, e, l, k)
 
   is-taken : Becomes m n (takenIn (meaningOf m) g rest v)
-  is-taken = segment-taken m v g rest (r .sized) ef g-below
+  is-taken = segment-taken m q v g rest (r .sized) ef g-below
 
   -- the tour and the heads of views are as they were
   same-tour : tour MARKS (recordOf n) 0 ≡ r .tour
@@ -91,8 +91,8 @@ module _ (m : List ℕ) (ys zs : List Item) (s : Task) (r : Represents m (ys ++ 
         task-range = w .task-range;
         queue-range = w .queue-range;
         there = w .there;
-        names = taken-task m v (holders m Old r q) (16 + q) low-free (w .task-range) (omega (arith, small)) ∙ w .names;
-        only = λ y i l p j d. w .only y i l p j (sym (taken-task m v y (16 + i) low-free l (omega (arith, j))) ∙ d);
+        names = taken-task m q v (holders m Old r q) (16 + q) low-free (w .task-range) (omega (arith, small)) ∙ w .names;
+        only = λ y i l p j d. w .only y i l p j (sym (taken-task m q v y (16 + i) low-free l (omega (arith, j))) ∙ d);
       })
 
   less-free : length (freeIn n) < read n numberWord

@@ -138,7 +138,7 @@ module _ (m : List ℕ) (ys zs : List Item) (s : Task) (r : Represents m (ys ++ 
   -- A NEW SEGMENT BEHIND THE TAIL SEGMENT, which is full.
   pub push-behind : (h : End) (z g : ℕ) (rest : List ℕ) (w : ℕ) (ws : List ℕ) → queueMemory m q .user t ≡ extent h (local z) → z < read m numberWord
       → freeIn m ≡ g ∷ rest → contentsIn m z ≡ w ∷ ws → (z ≡ g → ⊥) → Played New
-      → Represents (write (write (taken m v) (next z) (nextFree m)) (tail USER t q) (nextFree m)) New
+      → Represents (write (write (taken m q v) (next z) (nextFree m q)) (tail USER t q) (nextFree m q)) New
   unfolding queueMemory ofTasks pushedBehind
   push-behind h z g rest w ws u low ef filled ne play =
       pushed _ (behindIn (meaningOf m) q t h z g rest v) (pushedBehind holder t h z g rest v (queueMemory m q))

@@ -69,31 +69,31 @@ module _ (m : List ℕ) (ys zs : List Item) (s : Task) (r : Represents m (ys ++ 
   segment-there = g-below m ys zs s r q small here v g rest ef
 
   -- the view there, and what its reduction with the new head needs
-  links : Links (taken m v) q (holders m Old r q) (viewIn m q (kindAt y) (taskAt y)) (extent (local g) nonlocal)
-  links = subst (λ (e : Extent). Links (taken m v) q (holders m Old r q) e (extent (local g) nonlocal)) (sym (placed .by-words)) (go found)
+  links : Links (taken m q v) q (holders m Old r q) (viewIn m q (kindAt y) (taskAt y)) (extent (local g) nonlocal)
+  links = subst (λ (e : Extent). Links (taken m q v) q (holders m Old r q) e (extent (local g) nonlocal)) (sym (placed .by-words)) (go found)
     where
       go : Found (queueMemory m q .children) (queueMemory m q .right) a (placeAt y)
-          → Links (taken m v) q (holders m Old r q) (viewAt (queueMemory m q .children) (queueMemory m q .right) (placeAt y)) (extent (local g) nonlocal)
-      go (nothing e k) = subst (λ (w : Extent). Links (taken m v) q (holders m Old r q) w (extent (local g) nonlocal)) (sym e) tt
+          → Links (taken m q v) q (holders m Old r q) (viewAt (queueMemory m q .children) (queueMemory m q .right) (placeAt y)) (extent (local g) nonlocal)
+      go (nothing e k) = subst (λ (w : Extent). Links (taken m q v) q (holders m Old r q) w (extent (local g) nonlocal)) (sym e) tt
       go (Found.tail h p c e k) =
-          subst (λ (w : Extent). Links (taken m v) q (holders m Old r q) w (extent (local g) nonlocal)) (sym e)
+          subst (λ (w : Extent). Links (taken m q v) q (holders m Old r q) w (extent (local g) nonlocal)) (sym e)
           (linkable m ys zs s r q small here v g rest ef p c k)
 
   -- the late refusal 2 does not come
-  pub apart-reducible : reducible (viewOf m q (taskAt (justBefore m q t)) (kindAt (justBefore m q t))) (view (nextFree m) NL) ≡ true
+  pub apart-reducible : reducible (viewOf m q (taskAt (justBefore m q t)) (kindAt (justBefore m q t))) (view (nextFree m q) NL) ≡ true
   apart-reducible =
-      ap (λ (z : ℕ). reducible (viewOf m q (taskAt z) (kindAt z)) (view (nextFree m) NL)) search-is
-      ∙ reducible-extents (viewOf m q (taskAt y) (kindAt y)) (view (nextFree m) NL)
+      ap (λ (z : ℕ). reducible (viewOf m q (taskAt z) (kindAt z)) (view (nextFree m q) NL)) search-is
+      ∙ reducible-extents (viewOf m q (taskAt y) (kindAt y)) (view (nextFree m q) NL)
       ∙ ap₂ reduces (sym (view-at m q (kindAt y) (taskAt y) small (kind-below y) (placed .range)) ∙ placed .by-words) new-view
       ∙ go found
     where
-      not-mark : nextFree m ≡ NL → ⊥
+      not-mark : nextFree m q ≡ NL → ⊥
       not-mark e = let l = low-free m ys zs s r q small here v g rest ef in omega (arith, e, l)
 
-      new-view : extentOf (view (nextFree m) NL) ≡ extent (local g) nonlocal
+      new-view : extentOf (view (nextFree m q) NL) ≡ extent (local g) nonlocal
       new-view =
-          tailed-extent (nextFree m) NL (λ e. omega (arith, e))
-          ∙ ap₂ extent (end-local (nextFree m) not-mark ∙ ap local (next-free m g rest ef)) (end-nonlocal NL refl)
+          tailed-extent (nextFree m q) NL (λ e. omega (arith, e))
+          ∙ ap₂ extent (end-local (nextFree m q) not-mark ∙ ap local (next-free m q g rest ef)) (end-nonlocal NL refl)
 
       go : Found (queueMemory m q .children) (queueMemory m q .right) a (placeAt y)
           → reduces (viewAt (queueMemory m q .children) (queueMemory m q .right) (placeAt y)) (extent (local g) nonlocal) ≡ true
@@ -115,10 +115,10 @@ module _ (m : List ℕ) (ys zs : List Item) (s : Task) (r : Represents m (ys ++ 
 
   pub push-apart : Played New
       → Represents
-      (setView (joined (taken m v) q (taskAt (justBefore m q t)) (kindAt (justBefore m q t)) (view (nextFree m) NL)) q t USER (view NL (nextFree m))) New
+      (setView (joined (taken m q v) q (taskAt (justBefore m q t)) (kindAt (justBefore m q t)) (view (nextFree m q) NL)) q t USER (view NL (nextFree m q))) New
   unfolding queueMemory ofTasks pushedApart
   push-apart play =
-      subst (λ (z : ℕ). Represents (setView (joined (taken m v) q (taskAt z) (kindAt z) (view (nextFree m) NL)) q t USER (view NL (nextFree m))) New)
+      subst (λ (z : ℕ). Represents (setView (joined (taken m q v) q (taskAt z) (kindAt z) (view (nextFree m q) NL)) q t USER (view NL (nextFree m q))) New)
       (sym search-is)
       (pushed m ys zs s r q v small may _ (apartIn (meaningOf m) q (holders m Old r q) t (kindAt y) (taskAt y) g rest v) after
       (pushed-apart m t q v g rest (r .sized) (task-unfinished m ys zs s r .0) small ef segment-there (taskAt y) (kindAt y) (holders m Old r q) (placed .range)

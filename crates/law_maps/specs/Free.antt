@@ -104,9 +104,9 @@ unfolding freeIn
 height-length m = sym (stack-length (λ i. read m (freeSegment i)) (read m freeSegments))
 
 -- the segment used next is the front of the free ones
-pub next-free : (m : List ℕ) (g : ℕ) (r : List ℕ) → freeIn m ≡ g ∷ r → nextFree m ≡ g
+pub next-free : (m : List ℕ) (q g : ℕ) (r : List ℕ) → freeIn m ≡ g ∷ r → nextFree m q ≡ g
 unfolding freeIn nextFree
-next-free m g r e =
+next-free m q g r e =
     let j = stack-first (λ i. read m (freeSegment i)) (read m freeSegments) g r e in
     ap (λ (i : ℕ). read m (freeSegment i)) (let a = j .1 in let w : read m freeSegments - 1 ≡ j .0 = omega (arith, a) in w) ∙ j .2
 
@@ -210,27 +210,27 @@ segment-emptied m s z hs =
     (free-kept m n s z hs' o) refl refl
 
 -- A FREE SEGMENT TAKEN, with v as its only value and no next
-pub segment-taken : (m : List ℕ) (v g : ℕ) (r : List ℕ) → Sized m → freeIn m ≡ g ∷ r → g < read m numberWord
-    → Becomes m (taken m v) (withFree (withContents (withNext (meaningOf m) g none) g (v ∷ [])) r)
+pub segment-taken : (m : List ℕ) (q v g : ℕ) (r : List ℕ) → Sized m → freeIn m ≡ g ∷ r → g < read m numberWord
+    → Becomes m (taken m q v) (withFree (withContents (withNext (meaningOf m) g none) g (v ∷ [])) r)
 unfolding taken
-segment-taken m v g r z e hg =
+segment-taken m q v g r z e hg =
     let m1 = write m freeSegments (read m freeSegments - 1) in
     let a = stack-lowered m g r z e in
     let b = segment-made m1 g (read m lengthWord) v (a .sized) (rw (a .kept .number) hg) (a .kept .length) in
     let c = becomes-then (λ M. withContents (withNext M g none) g (v ∷ [])) a b in
     becomes-at (sym (made m1)) c
   where
-    made : (m1 : List ℕ) → write (storeAll m1 (address (segment (nextFree m) 0)) (0 ∷ 1 ∷ NONE ∷ [])) (value (nextFree m * read m lengthWord)) v
+    made : (m1 : List ℕ) → write (storeAll m1 (address (segment (nextFree m q) 0)) (0 ∷ 1 ∷ NONE ∷ [])) (value (nextFree m q * read m lengthWord)) v
         ≡ write (recordSet m1 g 0 1 NONE) (value (g * read m lengthWord)) v
     made m1 =
-        ap (λ (s : ℕ). write (storeAll m1 (address (segment s 0)) (0 ∷ 1 ∷ NONE ∷ [])) (value (s * read m lengthWord)) v) (next-free m g r e)
+        ap (λ (s : ℕ). write (storeAll m1 (address (segment s 0)) (0 ∷ 1 ∷ NONE ∷ [])) (value (s * read m lengthWord)) v) (next-free m q g r e)
         ∙ ap (λ (l : List ℕ). write l (value (g * read m lengthWord)) v) (record-set m1 g 0 1 NONE)
 
 -- SEGMENT s GIVEN BACK
-pub segment-released : (m : List ℕ) (s : ℕ) → Sized m → s < read m numberWord → length (freeIn m) < read m numberWord
-    → Becomes m (released m s) (withFree (withContents (withNext (meaningOf m) s (some 0)) s []) (s ∷ freeIn m))
+pub segment-released : (m : List ℕ) (q s : ℕ) → Sized m → s < read m numberWord → length (freeIn m) < read m numberWord
+    → Becomes m (released m q s) (withFree (withContents (withNext (meaningOf m) s (some 0)) s []) (s ∷ freeIn m))
 unfolding released
-segment-released m s z hs room =
+segment-released m q s z hs room =
     let m1 = recordSet m s 0 0 0 in
     let o = set-only m s 0 0 0 (z .words) (number-below z hs) in
     let a = segment-emptied m s z hs in
@@ -241,7 +241,7 @@ segment-released m s z hs room =
     hh : read m freeSegments < read m numberWord
     hh = rw (height-length m) room
 
-    given : (m1 : List ℕ) → storeAll m (address (segment s 0)) (0 ∷ 0 ∷ 0 ∷ []) ≡ m1 → read m1 freeSegments ≡ read m freeSegments → released m s
+    given : (m1 : List ℕ) → storeAll m (address (segment s 0)) (0 ∷ 0 ∷ 0 ∷ []) ≡ m1 → read m1 freeSegments ≡ read m freeSegments → released m q s
         ≡ write (write m1 (freeSegment (read m1 freeSegments)) s) freeSegments (read m1 freeSegments + 1)
     given m1 e h =
         halt _ _ (lt-ltb _ _ (number-below z hh))

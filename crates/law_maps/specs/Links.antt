@@ -50,41 +50,41 @@ unfolding recordOf write address store
 next-records m s h hs = fun-ext λ t. drop-set-lt (1472 + t * 48) m (448 + s * 4 + 2) h (omega arith)
 
 -- WHAT NAMES s NAMES h
-pub head-renamed : (m : List ℕ) (s h t q : ℕ) → NamedBy m s t q → renamed m s h ≡ write m (queueHead t q) h
+pub head-renamed : (m : List ℕ) (s h t q : ℕ) → NamedBy m s t q → renamed m q s h ≡ write m (queueHead t q) h
 unfolding renamed
 head-renamed m s h t q d =
     halt _ _ (lt-ltb (headTask m s) 128 (rw (d .task) (d .task-range)))
     ∙ ap (λ (x : ℕ). write m (task x (16 + headIndex m s x)) h) (d .task)
     ∙ ap (λ (i : ℕ). write m (task t (16 + i)) h) (d .index)
 
-module _ (m : List ℕ) (s h : ℕ) (z : Sized m) (hs : s < read m numberWord) (hh : h ≡ NONE → ⊥) where
+module _ (m : List ℕ) (q s h : ℕ) (z : Sized m) (hs : s < read m numberWord) (hh : h ≡ NONE → ⊥) where
   next-some : Becomes m (write m (next s) h) (withNext (meaningOf m) s (some h))
   next-some = becomes-as (ap (withNext (meaningOf m) s) (optional-some h hh)) (next-written m s h z (number-below z hs))
 
   -- A LINK FROM A SEGMENT WITH VALUES
-  pub segment-linked : (w : ℕ) (r : List ℕ) → contentsIn m s ≡ w ∷ r → Becomes m (linked m s h) (withNext (meaningOf m) s (some h))
+  pub segment-linked : (w : ℕ) (r : List ℕ) → contentsIn m s ≡ w ∷ r → Becomes m (linked m q s h) (withNext (meaningOf m) s (some h))
   unfolding linked
   segment-linked w r e =
       let n = count-length m s (number-below z hs) ∙ ap length e in
       becomes-at (sym (pass _ (ne-eqb (read m (count s)) 0 (λ q. let a : 0 ≡ suc (length r) = sym q ∙ n in omega (arith, a))) refl)) next-some
 
   -- A LINK FROM AN EMPTY SEGMENT, which is freed
-  pub segment-freed : (t q : ℕ) → NamedBy m s t q → contentsIn m s ≡ [] → length (freeIn m) < read m numberWord
-      → Becomes m (linked m s h) (withHead (withFree (withNext (meaningOf m) s (some 0)) (s ∷ freeIn m)) q t (some h))
+  pub segment-freed : (t : ℕ) → NamedBy m s t q → contentsIn m s ≡ [] → length (freeIn m) < read m numberWord
+      → Becomes m (linked m q s h) (withHead (withFree (withNext (meaningOf m) s (some 0)) (s ∷ freeIn m)) q t (some h))
   unfolding linked
-  segment-freed t q d e room =
+  segment-freed t d e room =
       let M = meaningOf m in
       let m1 = write m (next s) h in
       let m2 = write m1 (queueHead t q) h in
       let a = next-some in
       let b = becomes-as (ap (withHead (meaningOf m1) q t) (optional-some h hh)) (head-written m1 t q h (a .sized) (d .task-range) (d .queue-range)) in
       let ab = becomes-then (λ N. withHead N q t (some h)) a b in
-      let c = segment-released m2 s (ab .sized) (rw (ab .kept .number) hs) (rw (ap (λ N. length (N .free)) (ab .means), ab .kept .number) room) in
+      let c = segment-released m2 q s (ab .sized) (rw (ab .kept .number) hs) (rw (ap (λ N. length (N .free)) (ab .means), ab .kept .number) room) in
       let all = becomes-then (λ N. withFree (withContents (withNext N s (some 0)) s []) (s ∷ N .free)) ab c in
       let named = named-same m m1 s t q (next-records m s h (number-below z hs)) d in
       becomes-at
       (sym (halt _ _ (eq-eqb _ _ (count-length m s (number-below z hs) ∙ ap length e))
-      ∙ ap (λ (l : List ℕ). released l s) (head-renamed m1 s h t q named)))
+      ∙ ap (λ (l : List ℕ). released l q s) (head-renamed m1 s h t q named)))
       (becomes-as
       (meaning-path _ (withHead (withFree (withNext M s (some 0)) (s ∷ freeIn m)) q t (some h))
       (put-twice (nextIn m) s (some h) (some 0)) (put-self (contentsIn m) s [] e) refl refl refl)
@@ -98,16 +98,16 @@ pub record Linkable (m : List ℕ) (q holder s h : ℕ) : Type 0 where
   pub freed : contentsIn m s ≡ [] → NamedBy m s holder q × (length (freeIn m) < read m numberWord)
 
 pub link-made : (m : List ℕ) (q holder s h : ℕ) → Sized m → Linkable m q holder s h
-    → Becomes m (linked m s h) (withStore (meaningOf m) q (storeLinked holder s h (storeIn m q)))
+    → Becomes m (linked m q s h) (withStore (meaningOf m) q (storeLinked holder s h (storeIn m q)))
 link-made m q holder s h z l = go (contentsIn m s) refl
   where
     hh : h ≡ NONE → ⊥
     hh e = let a = l .to in omega (arith, a, e)
 
-    go : (xs : List ℕ) → contentsIn m s ≡ xs → Becomes m (linked m s h) (withStore (meaningOf m) q (linkedHolding xs holder s h (storeIn m q)))
-    go [] e = let d = l .freed e in segment-freed m s h z (l .from) hh holder q (d .0) e (d .1)
+    go : (xs : List ℕ) → contentsIn m s ≡ xs → Becomes m (linked m q s h) (withStore (meaningOf m) q (linkedHolding xs holder s h (storeIn m q)))
+    go [] e = let d = l .freed e in segment-freed m q s h z (l .from) hh holder (d .0) e (d .1)
     go (w ∷ r) e =
         becomes-as
         (meaning-path _ (withStore (meaningOf m) q (linkedHolding (w ∷ r) holder s h (storeIn m q))) refl refl refl
         (sym (put-self (headsIn m) q (headsIn m q) refl)) refl)
-        (segment-linked m s h z (l .from) hh w r e)
+        (segment-linked m q s h z (l .from) hh w r e)

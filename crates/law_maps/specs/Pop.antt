@@ -59,7 +59,7 @@ module _ (m : List ℕ) (t q s w : ℕ) (r : List ℕ) (z : Sized m) (ht : t < 1
   after x =
       let m1 = dropped m x in
       pick (either (eqb (read m (next x)) NONE) (not (eqb (read m1 (count x)) 0))) m1
-      (released (write m1 (queueHead t q) (read m (next x))) x)
+      (released (write m1 (queueHead t q) (read m (next x))) q x)
 
   words : popped m t q ≡ after s
   unfolding popped
@@ -85,7 +85,7 @@ module _ (m : List ℕ) (t q s w : ℕ) (r : List ℕ) (z : Sized m) (ht : t < 1
       let a = becomes-as (ap (withContents M s) er) gone in
       let b = becomes-as (ap (withHead (meaningOf m1) q t) link) (head-written m1 t q (read m (next s)) (a .sized) ht hq) in
       let ab = becomes-then (λ N. withHead N q t (some h)) a b in
-      let c = segment-released m2 s (ab .sized) (rw (ab .kept .number) hs) (rw (ap (λ N. length (N .free)) (ab .means), ab .kept .number) room) in
+      let c = segment-released m2 q s (ab .sized) (rw (ab .kept .number) hs) (rw (ap (λ N. length (N .free)) (ab .means), ab .kept .number) room) in
       let all = becomes-then (λ N. withFree (withContents (withNext N s (some 0)) s []) (s ∷ N .free)) ab c in
       becomes-at
       (sym (words ∙ pass _ (neither (ne-eqb (read m (next s)) NONE (some-word (read m (next s)) h link)) (ap not (eq-eqb _ _ (left ∙ ap length er)))) refl))

@@ -37,10 +37,10 @@ module _ (m : List ℕ) (t q v g : ℕ) (rest : List ℕ) (z : Sized m) (ht : t 
   M = meaningOf m
 
   abbrev n : List ℕ
-  n = taken m v
+  n = taken m q v
 
   is-taken : Becomes m n (takenIn M g rest v)
-  is-taken = segment-taken m v g rest z ef hg
+  is-taken = segment-taken m q v g rest z ef hg
 
   not-none : g ≡ NONE → ⊥
   not-none e = let a = number-below z hg in omega (arith, a, e)
@@ -50,7 +50,7 @@ module _ (m : List ℕ) (t q v g : ℕ) (rest : List ℕ) (z : Sized m) (ht : t 
 
   -- A NEW SEGMENT BEHIND e
   pub pushed-behind : (e : ℕ) (h x : End) → e < read m numberWord → viewIn m q USER t ≡ extent h x
-      → Becomes m (write (write n (next e) (nextFree m)) (tail USER t q) (nextFree m)) (behindIn M q t h e g rest v)
+      → Becomes m (write (write n (next e) (nextFree m q)) (tail USER t q) (nextFree m q)) (behindIn M q t h e g rest v)
   pushed-behind e h x he ev =
       let n1 = write n (next e) g in
       let a = is-taken in
@@ -61,7 +61,7 @@ module _ (m : List ℕ) (t q v g : ℕ) (rest : List ℕ) (z : Sized m) (ht : t 
       let c = becomes-as
       (ap (withView (meaningOf n1) q USER t) (tailed-extent (read n1 (head USER t q)) g not-none ∙ ap₂ extent (kept n1 same) (end-local g not-far)))
       (tail-written n1 q USER t (ab .sized) hq (omega arith) ht g) in
-      becomes-at (sym (ap (λ (s : ℕ). write (write n (next e) s) (tail USER t q) s) (next-free m g rest ef)))
+      becomes-at (sym (ap (λ (s : ℕ). write (write n (next e) s) (tail USER t q) s) (next-free m q g rest ef)))
       (becomes-then (λ N. withView N q USER t (extent h (local g))) ab c)
     where
       kept : (l : List ℕ) → extentOf (viewOf l q t USER) ≡ extent h x → endOf (read l (head USER t q)) ≡ h
@@ -69,7 +69,7 @@ module _ (m : List ℕ) (t q v g : ℕ) (rest : List ℕ) (z : Sized m) (ht : t 
 
   -- A NEW SEGMENT FOR AN EMPTY USER VIEW: its head goes to view k of u
   pub pushed-apart : (u k holder : ℕ) → u < 128 → k < 3 → Links n q holder (viewIn m q k u) (extent (local g) nonlocal)
-      → Becomes m (setView (joined n q u k (view (nextFree m) NL)) q t USER (view NL (nextFree m))) (apartIn M q holder t k u g rest v)
+      → Becomes m (setView (joined n q u k (view (nextFree m q) NL)) q t USER (view NL (nextFree m q))) (apartIn M q holder t k u g rest v)
   pushed-apart u k holder hu hk links =
       let a = is-taken in
       let eg : extentOf (view g NL) ≡ extent (local g) nonlocal =
@@ -82,5 +82,5 @@ module _ (m : List ℕ) (t q v g : ℕ) (rest : List ℕ) (z : Sized m) (ht : t 
       let ab = becomes-then (λ N. joinedIn N q holder k u (extent (local g) nonlocal)) a b in
       let n2 = joined n q u k (view g NL) in
       let c = becomes-as (ap (withView (meaningOf n2) q USER t) eu) (view-set n2 q USER t (ab .sized) hq (omega arith) ht (view NL g)) in
-      becomes-at (sym (ap (λ (s : ℕ). setView (joined n q u k (view s NL)) q t USER (view NL s)) (next-free m g rest ef)))
+      becomes-at (sym (ap (λ (s : ℕ). setView (joined n q u k (view s NL)) q t USER (view NL s)) (next-free m q g rest ef)))
       (becomes-then (λ N. withView N q USER t (extent nonlocal (local g))) ab c)

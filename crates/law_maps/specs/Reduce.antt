@@ -82,9 +82,9 @@ module _ (m : List ℕ) (q t k holder : ℕ) (z : Sized m) (hq : q < 4) (hk : k 
         (tail-written m q k t z hq hk ht y)
 
     -- x and g are linked
-    tail-linked : Linkable m q holder x g → Becomes m (write (linked m x g) (tail k t q) y) (After (local x) (local g))
+    tail-linked : Linkable m q holder x g → Becomes m (write (linked m q x g) (tail k t q) y) (After (local x) (local g))
     tail-linked l =
-        let n = linked m x g in
+        let n = linked m q x g in
         let a = link-made m q holder x g z l in
         let same : extentOf (viewOf n q t k) ≡ extent (endOf h) (endOf x) =
         sym (view-at n q k t hq hk ht) ∙ ap (λ (N : Meaning). N .views q k t) (a .means) ∙ ev in
@@ -97,7 +97,7 @@ module _ (m : List ℕ) (q t k holder : ℕ) (z : Sized m) (hq : q < 4) (hk : k 
         kept n = unfold viewOf in λ e. extent-ends (read n (head k t q)) (read n (tail k t q)) (endOf h) (endOf x) e .0
 
     abbrev linkedWords : List ℕ
-    linkedWords = pick (both (ltb x NL) (ltb g NL)) (linked m x g) m
+    linkedWords = pick (both (ltb x NL) (ltb g NL)) (linked m q x g) m
 
     ends-joined : Links m q holder (extent (endOf h) (endOf x)) (extent (endOf g) (endOf y))
         → Becomes m (write linkedWords (tail k t q) y) (After (endOf x) (endOf g))
@@ -109,7 +109,7 @@ module _ (m : List ℕ) (q t k holder : ℕ) (z : Sized m) (hq : q < 4) (hk : k 
         (λ e. becomes-at (sym (ap end (unlinked (both-right-off (ltb x NL) (le-ltb g NL (omega (arith, e)))))))
         (becomes-as (ap₂ After (sym (end-local x n)) (sym (end-nonlocal g e))) tail-taken))
         (λ d. let c = subst₂ (λ (w u : End). Links m q holder (extent (endOf h) w) (extent u (endOf y))) (end-local x n) (end-local g d) l in
-        becomes-at (sym (ap end (halt (linked m x g) m (true-both (lt-ltb x NL (let a = number-below z (c .from) in omega (arith, a))) (lt-ltb g NL (c .to))))))
+        becomes-at (sym (ap end (halt (linked m q x g) m (true-both (lt-ltb x NL (let a = number-below z (c .from) in omega (arith, a))) (lt-ltb g NL (c .to))))))
         (becomes-as (ap₂ After (sym (end-local x n)) (sym (end-local g d))) (tail-linked c)))
         (equal? g NL))
         (equal? x NL)
@@ -118,7 +118,7 @@ module _ (m : List ℕ) (q t k holder : ℕ) (z : Sized m) (hq : q < 4) (hk : k 
         end l = write l (tail k t q) y
 
         unlinked : both (ltb x NL) (ltb g NL) ≡ false → linkedWords ≡ m
-        unlinked e = pass (linked m x g) e refl
+        unlinked e = pass (linked m q x g) e refl
 
   -- ONE IS VACANT
   joined-none : joinedIn M q holder k t vacant ≡ M
@@ -145,7 +145,7 @@ module _ (m : List ℕ) (q t k holder : ℕ) (z : Sized m) (hq : q < 4) (hk : k 
       x = read m (tail k t q)
 
       both-there : isEmpty (view h x) ≡ false → isEmpty (view g y) ≡ false
-          → Becomes m (write (pick (both (ltb x NL) (ltb g NL)) (linked m x g) m) (tail k t q) y) (joinedIn M q holder k t (extentOf (view g y)))
+          → Becomes m (write (pick (both (ltb x NL) (ltb g NL)) (linked m q x g) m) (tail k t q) y) (joinedIn M q holder k t (extentOf (view g y)))
       both-there f e =
           let eb = filled-extent g y e in
           let ea : viewIn m q k t ≡ extent (endOf h) (endOf x) = view-at m q k t hq hk ht ∙ filled-extent h x f in

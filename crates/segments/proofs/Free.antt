@@ -16,8 +16,8 @@ use Rattle.spec_rules.specs.Stack.{rest, rest-start, rest-next}
 use Rattle.segments.specs.Names.{freeStack, held, freeMarks}
 
 module _ (m : List ℕ) (h : ℕ) where
-  rest-whole : h ≡ read m freeSegments → rest m h 0 ≡ freeStack m
-  rest-whole e = rest-start m h ∙ ap (λ (k : ℕ). take k (drop 64 m)) e
+  rest-whole : (q : ℕ) → h ≡ read m freeSegments → rest m h 0 ≡ freeStack m q
+  rest-whole q e = rest-start m h ∙ ap (λ (k : ℕ). take k (drop 64 m)) e
 
   module _ (i : ℕ) where
     rest-cons : (w : ℕ) → i < h → 64 + i < length m → w ≡ read m (freeSegment i) → rest m h i ≡ w ∷ rest m h (i + 1)
@@ -30,9 +30,9 @@ module _ (m : List ℕ) (h : ℕ) where
 
   -- LOOKING FOR segment y
   module _ (y : ℕ) where
-    pub held-start : h ≡ read m freeSegments → eqb (occurrences y (rest m h 0)) 0 ≡ held m y
+    pub held-start : (q : ℕ) → h ≡ read m freeSegments → eqb (occurrences y (rest m h 0)) 0 ≡ held m q y
     unfolding held
-    held-start e = ap (λ (xs : List ℕ). eqb (occurrences y xs) 0) (rest-whole e)
+    held-start q e = ap (λ (xs : List ℕ). eqb (occurrences y xs) 0) (rest-whole q e)
 
     pub held-none : (i : ℕ) → rest m h i ≡ [] → true ≡ eqb (occurrences y (rest m h i)) 0
     held-none i e = sym (eq-eqb _ _ (ap (occurrences y) e ∙ occurs-nil y))
@@ -47,8 +47,8 @@ module _ (m : List ℕ) (h : ℕ) where
       held-next n = ap (λ (k : ℕ). eqb k 0) (sym (ap (occurrences y) (rest-cons i w l g e) ∙ occurs-past w y (rest m h (i + 1)) n))
 
   -- MARKING them all
-  pub marks-start : (d : List ℕ) → h ≡ read m freeSegments → marking (rest m h 0) d ≡ marking (freeStack m) d
-  marks-start d e = ap (λ (xs : List ℕ). marking xs d) (rest-whole e)
+  pub marks-start : (q : ℕ) (d : List ℕ) → h ≡ read m freeSegments → marking (rest m h 0) d ≡ marking (freeStack m q) d
+  marks-start q d e = ap (λ (xs : List ℕ). marking xs d) (rest-whole q e)
 
   pub marks-next : (d d' : List ℕ) (i w : ℕ) → i < h → 64 + i < length m → w ≡ read m (freeSegment i) → d' ≡ store d w 1
       → marking (rest m h (i + 1)) d' ≡ marking (rest m h i) d
@@ -61,6 +61,6 @@ module _ (m : List ℕ) (h : ℕ) where
   marks-none d i e = sym (ap (λ (xs : List ℕ). marking xs d) e)
 
 -- a segment below 256 is held where it has no mark
-pub unmarked-held : (m d : List ℕ) (y : ℕ) → d ≡ freeMarks m → y < 256 → eqb (getD d y 0) 0 ≡ held m y
+pub unmarked-held : (m d : List ℕ) (q y : ℕ) → d ≡ freeMarks m q → y < 256 → eqb (getD d y 0) 0 ≡ held m q y
 unfolding held freeMarks load
-unmarked-held m d y e l = ap (λ (x : List ℕ). eqb (getD x y 0) 0) e ∙ marked-occurs 256 (freeStack m) y l
+unmarked-held m d q y e l = ap (λ (x : List ℕ). eqb (getD x y 0) 0) e ∙ marked-occurs 256 (freeStack m q) y l

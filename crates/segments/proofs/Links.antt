@@ -68,39 +68,39 @@ head-none m s t i h g =
     omega (arith, a, b)
 
 -- THE SEGMENT BEFORE s
-pub next-other : (m : List ℕ) (s y w : ℕ) → w ≡ read m (segment y 2) → (w ≡ s → ⊥) → false ≡ nextIs m s y
+pub next-other : (m : List ℕ) (q s y w : ℕ) → w ≡ read m (segment y 2) → (w ≡ s → ⊥) → false ≡ nextIs m q s y
 unfolding nextIs both
-next-other m s y w ew e = sym (pass _ (ne-eqb _ _ (λ q. e (ew ∙ q))) refl)
+next-other m q s y w ew e = sym (pass _ (ne-eqb _ _ (λ r. e (ew ∙ r))) refl)
 
-pub next-same : (m : List ℕ) (s y w : ℕ) (b : Bool) → w ≡ read m (segment y 2) → w ≡ s → b ≡ held m y → b ≡ nextIs m s y
+pub next-same : (m : List ℕ) (q s y w : ℕ) (b : Bool) → w ≡ read m (segment y 2) → w ≡ s → b ≡ held m q y → b ≡ nextIs m q s y
 unfolding nextIs both
-next-same m s y w b ew e eb = eb ∙ sym (halt _ _ (eq-eqb _ _ (sym ew ∙ e)))
+next-same m q s y w b ew e eb = eb ∙ sym (halt _ _ (eq-eqb _ _ (sym ew ∙ e)))
 
-by-one : (k : ℕ) (m : List ℕ) (s y : ℕ) → nextIs m s y ≡ true → linkedBy (suc k) m s y ≡ y
+by-one : (k : ℕ) (m : List ℕ) (q s y : ℕ) → nextIs m q s y ≡ true → linkedBy (suc k) m q s y ≡ y
 unfolding linkedBy nextIs held
-by-one k m s y e = halt _ _ e
+by-one k m q s y e = halt _ _ e
 
-by-more : (k : ℕ) (m : List ℕ) (s y : ℕ) → nextIs m s y ≡ false → linkedBy (suc k) m s y ≡ linkedBy k m s (y + 1)
+by-more : (k : ℕ) (m : List ℕ) (q s y : ℕ) → nextIs m q s y ≡ false → linkedBy (suc k) m q s y ≡ linkedBy k m q s (y + 1)
 unfolding linkedBy nextIs held
-by-more k m s y e = pass _ e refl
+by-more k m q s y e = pass _ e refl
 
-pub by-start : (m : List ℕ) (s n : ℕ) → n ≡ read m numberWord → linkedBy (n - 0) m s 0 ≡ linkedBy (read m numberWord) m s 0
-by-start m s n e = ap (λ (k : ℕ). linkedBy k m s 0) (whole n ∙ e)
+pub by-start : (m : List ℕ) (q s n : ℕ) → n ≡ read m numberWord → linkedBy (n - 0) m q s 0 ≡ linkedBy (read m numberWord) m q s 0
+by-start m q s n e = ap (λ (k : ℕ). linkedBy k m q s 0) (whole n ∙ e)
   where
     whole : (k : ℕ) → k - 0 ≡ k
     whole k = omega arith
 
-pub by-found : (m : List ℕ) (s n y : ℕ) → y < n → nextIs m s y ≡ true → y ≡ linkedBy (n - y) m s y
-by-found m s n y h e = sym (ap (λ (k : ℕ). linkedBy k m s y) (turn-left n y h) ∙ by-one _ m s y e)
+pub by-found : (m : List ℕ) (q s n y : ℕ) → y < n → nextIs m q s y ≡ true → y ≡ linkedBy (n - y) m q s y
+by-found m q s n y h e = sym (ap (λ (k : ℕ). linkedBy k m q s y) (turn-left n y h) ∙ by-one _ m q s y e)
 
-pub by-next : (m : List ℕ) (s n y : ℕ) → y < n → nextIs m s y ≡ false → linkedBy (n - (y + 1)) m s (y + 1) ≡ linkedBy (n - y) m s y
-by-next m s n y h e = sym (ap (λ (k : ℕ). linkedBy k m s y) (turn-left n y h) ∙ by-more _ m s y e)
+pub by-next : (m : List ℕ) (q s n y : ℕ) → y < n → nextIs m q s y ≡ false → linkedBy (n - (y + 1)) m q s (y + 1) ≡ linkedBy (n - y) m q s y
+by-next m q s n y h e = sym (ap (λ (k : ℕ). linkedBy k m q s y) (turn-left n y h) ∙ by-more _ m q s y e)
 
-pub by-end : (m : List ℕ) (s n y : ℕ) → n ≤ y → y ≡ linkedBy (n - y) m s y
-by-end m s n y h = sym (ap (λ (k : ℕ). linkedBy k m s y) (turns-over n y h) ∙ last m s y)
+pub by-end : (m : List ℕ) (q s n y : ℕ) → n ≤ y → y ≡ linkedBy (n - y) m q s y
+by-end m q s n y h = sym (ap (λ (k : ℕ). linkedBy k m q s y) (turns-over n y h) ∙ last m q s y)
   where
-    last : (m : List ℕ) (s y : ℕ) → linkedBy 0 m s y ≡ y
-    last m s y = unfold linkedBy in refl
+    last : (m : List ℕ) (q s y : ℕ) → linkedBy 0 m q s y ≡ y
+    last m q s y = unfold linkedBy in refl
 
 -- THE TASK with s as a head
 pub head-elsewhere : (m : List ℕ) (s x : ℕ) → 128 ≤ x → false ≡ headHere m s x
@@ -124,27 +124,27 @@ pub head-few : (m : List ℕ) (s t : ℕ) → headIndex m s t ≤ 16
 unfolding headIndex
 head-few m s t = index-few s 16 (drop 16 (recordOf m t))
 
-module _ (m : List ℕ) (s h t : ℕ) (et : t ≡ seek MARKS (headHere m s) (recordOf m) 0) where
-  pub rename-head : (m1 : List ℕ) (i : ℕ) → t < 128 → i ≡ headIndex m s t → m1 ≡ write m (task t (16 + i)) h → m1 ≡ renamed m s h
+module _ (m : List ℕ) (q s h t : ℕ) (et : t ≡ seek MARKS (headHere m s) (recordOf m) 0) where
+  pub rename-head : (m1 : List ℕ) (i : ℕ) → t < 128 → i ≡ headIndex m s t → m1 ≡ write m (task t (16 + i)) h → m1 ≡ renamed m q s h
   unfolding renamed headHere
   rename-head m1 i l ei e = e ∙ (rw (ei, et)) ∙ sym (halt _ _ (ap (λ (x : ℕ). ltb x 128) (sym et) ∙ lt-ltb t 128 l))
 
-  module _ (y n : ℕ) (ey : y ≡ linkedBy (read m numberWord) m s 0) (en : n ≡ read m numberWord) (l : 128 ≤ t) where
-    pub rename-next : (m1 : List ℕ) → y < n → m1 ≡ write m (segment y 2) h → m1 ≡ renamed m s h
+  module _ (y n : ℕ) (ey : y ≡ linkedBy (read m numberWord) m q s 0) (en : n ≡ read m numberWord) (l : 128 ≤ t) where
+    pub rename-next : (m1 : List ℕ) → y < n → m1 ≡ write m (segment y 2) h → m1 ≡ renamed m q s h
     unfolding renamed headHere
     rename-next m1 g e =
         e ∙ (rw ey) ∙ sym (pass _ (ap (λ (x : ℕ). ltb x 128) (sym et) ∙ le-ltb t 128 l) (halt _ _ (lt-ltb _ _ (rw (ey, en) at g))))
 
-    pub rename-none : n ≤ y → m ≡ renamed m s h
+    pub rename-none : n ≤ y → m ≡ renamed m q s h
     unfolding renamed headHere
     rename-none g = sym (pass _ (ap (λ (x : ℕ). ltb x 128) (sym et) ∙ le-ltb t 128 l) (pass _ (le-ltb _ _ (rw (ey, en) at g)) refl))
 
 -- LINKING
-module _ (m m1 : List ℕ) (s h n : ℕ) (en : n ≡ read m (segment s 1)) (e1 : m1 ≡ write m (segment s 2) h) where
-  pub link-full : (n ≡ 0 → ⊥) → m1 ≡ linked m s h
+module _ (m m1 : List ℕ) (q s h n : ℕ) (en : n ≡ read m (segment s 1)) (e1 : m1 ≡ write m (segment s 2) h) where
+  pub link-full : (n ≡ 0 → ⊥) → m1 ≡ linked m q s h
   unfolding linked
-  link-full g = e1 ∙ sym (pass _ (ne-eqb _ _ (λ q. g (en ∙ q))) refl)
+  link-full g = e1 ∙ sym (pass _ (ne-eqb _ _ (λ r. g (en ∙ r))) refl)
 
-  pub link-empty : (m2 m3 : List ℕ) → n ≡ 0 → m2 ≡ renamed m1 s h → m3 ≡ released m2 s → m3 ≡ linked m s h
+  pub link-empty : (m2 m3 : List ℕ) → n ≡ 0 → m2 ≡ renamed m1 q s h → m3 ≡ released m2 q s → m3 ≡ linked m q s h
   unfolding linked
-  link-empty m2 m3 g e2 e3 = e3 ∙ ap (λ (k : List ℕ). released k s) (e2 ∙ ap (λ (k : List ℕ). renamed k s h) e1) ∙ sym (halt _ _ (eq-eqb _ _ (sym en ∙ g)))
+  link-empty m2 m3 g e2 e3 = e3 ∙ ap (λ (k : List ℕ). released k q s) (e2 ∙ ap (λ (k : List ℕ). renamed k q s h) e1) ∙ sym (halt _ _ (eq-eqb _ _ (sym en ∙ g)))

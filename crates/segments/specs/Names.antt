@@ -11,20 +11,20 @@ use Rattle.spec_layout.specs.Layout.{freeSegments, next, read}
 use Rattle.spec_outcomes.specs.Segments.{headIndex}
 
 -- the stack of free segments
-abbrev pub freeStack : List ℕ → List ℕ
-freeStack m = take (read m freeSegments) (drop 64 m)
+abbrev pub freeStack : List ℕ → ℕ → List ℕ
+freeStack m q = take (read m freeSegments) (drop 64 m)
 
 -- segment y is not on it
-unfoldable pub held : List ℕ → ℕ → Bool
-held m y = eqb (occurrences y (freeStack m)) 0
+unfoldable pub held : List ℕ → ℕ → ℕ → Bool
+held m q y = eqb (occurrences y (freeStack m q)) 0
 
 -- a mark for each free segment below 256
-unfoldable pub freeMarks : List ℕ → List ℕ
-freeMarks m = marking (freeStack m) (replicate 256 0)
+unfoldable pub freeMarks : List ℕ → ℕ → List ℕ
+freeMarks m q = marking (freeStack m q) (replicate 256 0)
 
 -- segment y is held and has s as its next
-unfoldable pub nextIs : List ℕ → ℕ → ℕ → Bool
-nextIs m s y = both (eqb (read m (next y)) s) (held m y)
+unfoldable pub nextIs : List ℕ → ℕ → ℕ → ℕ → Bool
+nextIs m q s y = both (eqb (read m (next y)) s) (held m q y)
 
 -- mark x meets a task with s as the head of a view
 unfoldable pub headHere : List ℕ → ℕ → ℕ → Bool

@@ -92,16 +92,16 @@ pub fn drop_one(m: &mut [u32], s: u32)
     memory::set_segment(m, s, 1, r.count);
 }
 
-pub fn none_free(m: &[u32]) -> bool
-    ensures { λ r. ⌜ r ≡ noneFree (now (m .entry)) ⌝ }
+pub fn none_free(m: &[u32], q: u32) -> bool
+    ensures { λ r. ⌜ r ≡ noneFree (now (m .entry)) q ⌝ }
 {
     memory::header(m, 2) == 0
 }
 
 // The segment that is taken next.
-pub fn next_free(m: &[u32]) -> u32
+pub fn next_free(m: &[u32], q: u32) -> u32
     requires { ⌜ 0 < read (now m) freeSegments ⌝ }
-    ensures { λ r. ⌜ r ≡ nextFree (now (m .entry)) ⌝ }
+    ensures { λ r. ⌜ r ≡ nextFree (now (m .entry)) q ⌝ }
 {
     memory::free_segment(m, memory::header(m, 2) - 1)
 }
@@ -116,10 +116,10 @@ fn set_record(m: &mut [u32], s: u32, f: u32, n: u32, x: u32)
 }
 
 // The next free segment gets v as its only value, and no next.
-pub fn take(m: &mut [u32], v: u32)
-    requires { ⌜ (size (now m) ≡ 16384) × (0 < read (now m) freeSegments) × (nextFree (now m) < read (now m) numberWord)
+pub fn take(m: &mut [u32], q: u32, v: u32)
+    requires { ⌜ (size (now m) ≡ 16384) × (0 < read (now m) freeSegments) × (nextFree (now m) q < read (now m) numberWord)
         × (0 < read (now m) lengthWord) × (read (now m) lengthWord * read (now m) numberWord ≤ 8192) ⌝ }
-    ensures { λ _. ⌜ now (m .exit) ≡ taken (now (m .entry)) v ⌝ }
+    ensures { λ _. ⌜ now (m .exit) ≡ taken (now (m .entry)) q v ⌝ }
 {
     let l = memory::header(m, 0);
     let n = memory::header(m, 2);
@@ -130,8 +130,8 @@ pub fn take(m: &mut [u32], v: u32)
 }
 
 // Segment s is free, and is the one taken next.
-pub fn release(m: &mut [u32], s: u32)
-    ensures { λ _. ⌜ now (m .exit) ≡ released (now (m .entry)) s ⌝ }
+pub fn release(m: &mut [u32], q: u32, s: u32)
+    ensures { λ _. ⌜ now (m .exit) ≡ released (now (m .entry)) q s ⌝ }
 {
     let n = memory::header(m, 2);
     set_record(m, s, 0, 0, 0);
@@ -185,8 +185,8 @@ fn head_task(m: &[u32], s: u32) -> u32
 }
 
 // Segment y is not on the stack of free segments.
-fn held(m: &[u32], y: u32) -> bool
-    ensures { λ r. ⌜ r ≡ held (now (m .entry)) y ⌝ }
+fn held(m: &[u32], q: u32, y: u32) -> bool
+    ensures { λ r. ⌜ r ≡ held (now (m .entry)) q y ⌝ }
 {
     let h = memory::header(m, 2);
     let mut i: u32 = 0;
@@ -213,8 +213,8 @@ fn mark(d: &mut [u8], y: u32)
 }
 
 // Marks the free segments.
-fn mark_free(m: &[u32], d: &mut [u8])
-    ensures { λ _. ⌜ now (d .exit) ≡ marking (freeStack (now (m .entry))) (now (d .entry)) ⌝ }
+fn mark_free(m: &[u32], q: u32, d: &mut [u8])
+    ensures { λ _. ⌜ now (d .exit) ≡ marking (freeStack (now (m .entry)) q) (now (d .entry)) ⌝ }
 {
     let h = memory::header(m, 2);
     let mut i: u32 = 0;
@@ -229,9 +229,9 @@ fn mark_free(m: &[u32], d: &mut [u8])
 
 // Segment y is held and has s as its next. The free segments below 256 are marked in d. Memory that passes the rules
 // has no others, so the stack is not looked through for each segment.
-fn next_is(m: &[u32], d: &[u8; 256], s: u32, y: u32) -> bool
-    requires { ⌜ now d ≡ freeMarks (now m) ⌝ }
-    ensures { λ r. ⌜ r ≡ nextIs (now (m .entry)) s y ⌝ }
+fn next_is(m: &[u32], q: u32, d: &[u8; 256], s: u32, y: u32) -> bool
+    requires { ⌜ now d ≡ freeMarks (now m) q ⌝ }
+    ensures { λ r. ⌜ r ≡ nextIs (now (m .entry)) q s y ⌝ }
 {
     if memory::segment(m, y, 2) != s {
         return false;
@@ -239,19 +239,19 @@ fn next_is(m: &[u32], d: &[u8; 256], s: u32, y: u32) -> bool
     if y < 256 {
         return d[y as usize] == 0;
     }
-    held(m, y)
+    held(m, q, y)
 }
 
 // The segment with s as its next; the number of segments where there is none.
-pub fn linked_by(m: &[u32], s: u32) -> u32
-    ensures { λ r. ⌜ r ≡ linkedBy (read (now (m .entry)) numberWord) (now (m .entry)) s 0 ⌝ }
+pub fn linked_by(m: &[u32], q: u32, s: u32) -> u32
+    ensures { λ r. ⌜ r ≡ linkedBy (read (now (m .entry)) numberWord) (now (m .entry)) q s 0 ⌝ }
 {
     let mut d = [0u8; 256];
-    mark_free(m, &mut d);
+    mark_free(m, q, &mut d);
     let n = memory::header(m, 1);
     let mut y: u32 = 0;
     while y < n {
-        if next_is(m, &d, s, y) {
+        if next_is(m, q, &d, s, y) {
             return y;
         }
         y += 1;
@@ -260,8 +260,8 @@ pub fn linked_by(m: &[u32], s: u32) -> u32
 }
 
 // What names segment s names h instead.
-pub fn rename(m: &mut [u32], s: u32, h: u32)
-    ensures { λ _. ⌜ now (m .exit) ≡ renamed (now (m .entry)) s h ⌝ }
+pub fn rename(m: &mut [u32], q: u32, s: u32, h: u32)
+    ensures { λ _. ⌜ now (m .exit) ≡ renamed (now (m .entry)) q s h ⌝ }
 {
     let t = head_task(m, s);
     if t < 128 {
@@ -269,21 +269,21 @@ pub fn rename(m: &mut [u32], s: u32, h: u32)
         memory::set_task(m, t, 16 + i, h);
         return;
     }
-    let y = linked_by(m, s);
+    let y = linked_by(m, q, s);
     if y < memory::header(m, 1) {
         memory::set_segment(m, y, 2, h);
     }
 }
 
 // Segment s gets h as its next. Where s is empty, h takes its place and s is free.
-pub fn link(m: &mut [u32], s: u32, h: u32)
-    ensures { λ _. ⌜ now (m .exit) ≡ linked (now (m .entry)) s h ⌝ }
+pub fn link(m: &mut [u32], q: u32, s: u32, h: u32)
+    ensures { λ _. ⌜ now (m .exit) ≡ linked (now (m .entry)) q s h ⌝ }
 {
     let n = memory::segment(m, s, 1);
     memory::set_segment(m, s, 2, h);
     if n != 0 {
         return;
     }
-    rename(m, s, h);
-    release(m, s);
+    rename(m, q, s, h);
+    release(m, q, s);
 }

@@ -31,7 +31,7 @@ popped m t q =
     let s = read m (queueHead t q) in
     let m1 = dropped m s in
     pick (either (eqb (read m (next s)) NONE) (not (eqb (read m1 (count s)) 0))) m1
-    (released (write m1 (queueHead t q) (read m (next s))) s)
+    (released (write m1 (queueHead t q) (read m (next s))) q s)
 
 -- "Pop takes it"; "pop is refused with 7"
 unfoldable pub popGives : List ℕ → ℕ → ℕ → Finding → Outcome

@@ -18,26 +18,26 @@ use Rattle.spec_outcomes.specs.Waits.{tested, rightsOf, unfinished, bloc
 -- paper leaves out gets 2."
 unfoldable pub pushedApart : List ℕ → ℕ → ℕ → ℕ → ℕ → Outcome
 pushedApart m t q v x =
-    let s = nextFree m in
-    let m1 = joined (taken m v) q (taskAt x) (kindAt x) (view s NL) in
+    let s = nextFree m q in
+    let m1 = joined (taken m q v) q (taskAt x) (kindAt x) (view s NL) in
     pick (not (reducible (viewOf m q (taskAt x) (kindAt x)) (view s NL))) (outcome (Refused 2) m)
     (outcome (Moved v) (setView m1 q t USER (view NL s)))
 
 -- ".. or its tail segment holds L values": the new segment becomes the next of the tail e, and the tail
 unfoldable pub pushedBehind : List ℕ → ℕ → ℕ → ℕ → ℕ → Outcome
 pushedBehind m t q v e =
-    let s = nextFree m in
-    outcome (Moved v) (write (write (taken m v) (next e) s) (tail USER t q) s)
+    let s = nextFree m q in
+    outcome (Moved v) (write (write (taken m q v) (next e) s) (tail USER t q) s)
 
 -- 9 "push needs a segment, none free". A user view that is not empty and ends non-locally cannot be pushed to.
 unfoldable pub pushed : List ℕ → ℕ → ℕ → ℕ → Outcome
 pushed m t q v =
     let u = viewOf m q t USER in
     let e = tailOf u in
-    pick (isEmpty u) (pick (noneFree m) (outcome (Refused 9) m) (pushedApart m t q v (justBefore m q t)))
+    pick (isEmpty u) (pick (noneFree m q) (outcome (Refused 9) m) (pushedApart m t q v (justBefore m q t)))
     (pick (leb NL e) (outcome (Refused 2) m)
     (pick (ltb (read m (count e)) (read m lengthWord)) (outcome (Moved v) (stored m e v))
-    (pick (noneFree m) (outcome (Refused 9) m) (pushedBehind m t q v e))))
+    (pick (noneFree m q) (outcome (Refused 9) m) (pushedBehind m t q v e))))
 
 -- 4, 5, 6, the wait for older siblings
 unfoldable pub pushTested : List ℕ → ℕ → ℕ → ℕ → Outcome

@@ -32,25 +32,26 @@ dropped m s =
     let m1 = write m (first s) (place (read m lengthWord) (read m (first s)) 1) in
     write m1 (count s) (read m (count s) - 1)
 
+-- THE FREE SEGMENTS OF QUEUE q: the four queues share one stack, so none of these looks at q yet.
 -- no segment is free
-unfoldable pub noneFree : List ℕ → Bool
-noneFree m = eqb (read m freeSegments) 0
+unfoldable pub noneFree : List ℕ → ℕ → Bool
+noneFree m q = eqb (read m freeSegments) 0
 
 -- the free segment that is used next: "the last freed first"
-unfoldable pub nextFree : List ℕ → ℕ
-nextFree m = read m (freeSegment (read m freeSegments - 1))
+unfoldable pub nextFree : List ℕ → ℕ → ℕ
+nextFree m q = read m (freeSegment (read m freeSegments - 1))
 
 -- it is taken, with v as its only value and no next
-unfoldable pub taken : List ℕ → ℕ → List ℕ
-taken m v =
-    let s = nextFree m in
+unfoldable pub taken : List ℕ → ℕ → ℕ → List ℕ
+taken m q v =
+    let s = nextFree m q in
     let m1 = write m freeSegments (read m freeSegments - 1) in
     let m2 = storeAll m1 (address (segment s 0)) (0 ∷ 1 ∷ NONE ∷ []) in
     write m2 (value (s * read m lengthWord)) v
 
 -- segment s is given back. Its height is below 256 on every memory that passes the rules.
-unfoldable pub released : List ℕ → ℕ → List ℕ
-released m s =
+unfoldable pub released : List ℕ → ℕ → ℕ → List ℕ
+released m q s =
     let m1 = storeAll m (address (segment s 0)) (0 ∷ 0 ∷ 0 ∷ []) in
     let m2 = write m1 (freeSegment (read m freeSegments)) s in
     pick (ltb (read m freeSegments) 256) (write m2 freeSegments (read m freeSegments + 1)) m1
@@ -65,22 +66,22 @@ unfoldable pub headIndex : List ℕ → ℕ → ℕ → ℕ
 headIndex m s t = indexOf s 16 (drop 16 (recordOf m t))
 
 -- the first of the k segments from y on that is held and has s as its next; y + k where there is none
-unfoldable pub linkedBy : ℕ → List ℕ → ℕ → ℕ → ℕ
-linkedBy zero m s y = y
-linkedBy (suc k) m s y =
-    let rest = linkedBy k m s (y + 1) in
+unfoldable pub linkedBy : ℕ → List ℕ → ℕ → ℕ → ℕ → ℕ
+linkedBy zero m q s y = y
+linkedBy (suc k) m q s y =
+    let rest = linkedBy k m q s (y + 1) in
     pick (both (eqb (read m (next y)) s) (eqb (occurrences y (take (read m freeSegments) (drop 64 m))) 0)) y rest
 
 -- What names segment s, a view's head or a next, names h instead. (In memory that the core alone wrote it is always a
 -- queue view's head, and nobody but the caller's queue is concerned.)
-unfoldable pub renamed : List ℕ → ℕ → ℕ → List ℕ
-renamed m s h =
+unfoldable pub renamed : List ℕ → ℕ → ℕ → ℕ → List ℕ
+renamed m q s h =
     let t = seek MARKS (λ x. both (ltb x 128) (ltb (headIndex m s x) 16)) (recordOf m) 0 in
-    let y = linkedBy (read m numberWord) m s 0 in
+    let y = linkedBy (read m numberWord) m q s 0 in
     pick (ltb t 128) (write m (task t (16 + headIndex m s t)) h) (pick (ltb y (read m numberWord)) (write m (next y) h) m)
 
 -- s gets h as its next; "a segment that is empty and has a next has been freed"
-unfoldable pub linked : List ℕ → ℕ → ℕ → List ℕ
-linked m s h =
+unfoldable pub linked : List ℕ → ℕ → ℕ → ℕ → List ℕ
+linked m q s h =
     let m1 = write m (next s) h in
-    pick (eqb (read m (count s)) 0) (released (renamed m1 s h) s) m1
+    pick (eqb (read m (count s)) 0) (released (renamed m1 q s h) q s) m1

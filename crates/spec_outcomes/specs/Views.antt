@@ -57,7 +57,7 @@ setView m q t k (view h e) = write (write m (head k t q) h) (tail k t q) e
 unfoldable pub joined : List ℕ → ℕ → ℕ → ℕ → View → List ℕ
 joined m q t k b =
     let a = viewOf m q t k in
-    let m1 = pick (both (ltb (tailOf a) NL) (ltb (headOf b) NL)) (linked m (tailOf a) (headOf b)) m in
+    let m1 = pick (both (ltb (tailOf a) NL) (ltb (headOf b) NL)) (linked m q (tailOf a) (headOf b)) m in
     pick (isEmpty b) m (pick (isEmpty a) (setView m q t k b) (write m1 (tail k t q) (tailOf b)))
 
 -- the same where b is view k' of task t', which becomes empty

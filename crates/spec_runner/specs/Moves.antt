@@ -33,17 +33,17 @@ moves (Refused k) = eqb k 7
 
 -- a new segment's head can be reduced into the view at mark x
 unfoldable pub fitsApart : List ℕ → ℕ → ℕ → Bool
-fitsApart m q x = reducible (viewOf m q (taskAt x) (kindAt x)) (view (nextFree m) NL)
+fitsApart m q x = reducible (viewOf m q (taskAt x) (kindAt x)) (view (nextFree m q) NL)
 
 -- the tail segment e has room, or a segment is free
-unfoldable pub hasRoom : List ℕ → ℕ → Bool
-hasRoom m e = either (ltb (read m (count e)) (read m lengthWord)) (not (noneFree m))
+unfoldable pub hasRoom : List ℕ → ℕ → ℕ → Bool
+hasRoom m q e = either (ltb (read m (count e)) (read m lengthWord)) (not (noneFree m q))
 
 -- a value can be pushed to the user view of task t
 unfoldable pub valueFits : List ℕ → ℕ → ℕ → Bool
 valueFits m t q =
     let u = viewOf m q t USER in
-    pick (isEmpty u) (both (not (noneFree m)) (fitsApart m q (justBefore m q t))) (both (not (leb NL (tailOf u))) (hasRoom m (tailOf u)))
+    pick (isEmpty u) (both (not (noneFree m q)) (fitsApart m q (justBefore m q t))) (both (not (leb NL (tailOf u))) (hasRoom m q (tailOf u)))
 
 unfoldable pub pushMoves : List ℕ → ℕ → ℕ → Bool
 pushMoves m t q = both (not (leb 4 q)) (both (pushes (rightsOf m t) q) (valueFits m t q))

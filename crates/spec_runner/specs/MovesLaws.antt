@@ -78,7 +78,7 @@ module _ (m : List ℕ) (t : ℕ) (alive : unfinished m t ≡ true) (free : bloc
   fits q v =
       chosen _ _ _
       ∙ ap₂ (pick (isEmpty (viewOf m q t USER)))
-      (turned _ 9 _ _ refl ∙ ap (both (not (noneFree m))) (apart q v (justBefore m q t)))
+      (turned _ 9 _ _ refl ∙ ap (both (not (noneFree m q))) (apart q v (justBefore m q t)))
       (turned _ 2 _ _ refl
       ∙ ap (both (not (leb NL (tailOf (viewOf m q t USER)))))
       (chosen _ _ _

@@ -32,12 +32,12 @@ module _ (m : List ℕ) (q t k h e a b : ℕ) (n : isEmpty (view h e) ≡ false)
   join-first m1 g e1 = e1 ∙ sym (pass _ n (halt _ _ (same ∙ g)))
 
   module _ (g : isEmpty (view a b) ≡ false) where
-    pub join-local : (m1 m2 : List ℕ) → both (ltb b NL) (ltb h NL) ≡ true → m1 ≡ linked m b h → m2 ≡ write m1 (tail k t q) e
+    pub join-local : (m1 m2 : List ℕ) → both (ltb b NL) (ltb h NL) ≡ true → m1 ≡ linked m q b h → m2 ≡ write m1 (tail k t q) e
         → m2 ≡ joined m q t k (view h e)
     unfolding joined viewOf headOf tailOf
     join-local m1 m2 l e1 e2 =
         e2 ∙ ap (λ (x : List ℕ). write x (tail k t q) e)
-        (e1 ∙ ap (λ (x : ℕ). linked m x h) eb ∙ sym (halt _ _ (ap (λ (x : ℕ). both (ltb x NL) (ltb h NL)) (sym eb) ∙ l)))
+        (e1 ∙ ap (λ (x : ℕ). linked m q x h) eb ∙ sym (halt _ _ (ap (λ (x : ℕ). both (ltb x NL) (ltb h NL)) (sym eb) ∙ l)))
         ∙ sym (pass _ n (pass _ (same ∙ g) refl))
 
     pub join-apart : (m1 : List ℕ) → both (ltb b NL) (ltb h NL) ≡ false → m1 ≡ write m (tail k t q) e → m1 ≡ joined m q t k (view h e)

@@ -171,7 +171,7 @@ pub fn join(m: &mut [u32], q: u32, t: u32, k: u32, h: u32, e: u32)
         return;
     }
     if local(b, h) {
-        segments::link(m, b, h);
+        segments::link(m, q, b, h);
         set_tail(m, k, t, q, e);
         return;
     }

@@ -9,7 +9,7 @@ returns c =
     (c .before .before .before .is-empty .ensures) (c .before .before .if1 .taken) (c .before .none-free .ensures) (c .if2 .taken)
 
 fits-apart-requires : tie.Need-fits-apart-requires
-fits-apart-requires c κs = some-free _ (c .before .before .none-free .ensures) (c .before .if2 .left)
+fits-apart-requires c κs = some-free _ _ (c .before .before .none-free .ensures) (c .before .if2 .left)
 
 returns-2 : tie.Need-returns-2
 returns-2 c =

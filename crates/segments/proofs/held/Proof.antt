@@ -11,13 +11,13 @@ use Rattle.segments.proofs.held.Statement.{statement}
 use Rattle.segments.proofs.held.Tie as tie
 
 abbrev Inv-loop : tie.InvT-loop
-Inv-loop m y h i₀ i = (i ≤ h) × (h < 2 ^ 32) × (eqb (occurrences y (rest m h i)) 0 ≡ held m y)
+Inv-loop m q y h i₀ i = (i ≤ h) × (h < 2 ^ 32) × (eqb (occurrences y (rest m h i)) 0 ≡ held m q y)
 
 abbrev μ-loop : tie.MeasureT-loop
-μ-loop m y h i₀ i = h - i
+μ-loop m q y h i₀ i = h - i
 
 loop-holds : tie.Need-loop-holds Inv-loop μ-loop
-loop-holds c = (omega arith, search needs, held-start _ _ _ (c .header .ensures))
+loop-holds c = (omega arith, search needs, held-start _ _ _ _ (c .header .ensures))
 
 returns : tie.Need-returns Inv-loop μ-loop
 returns c = held-none _ _ _ _ (rest-out _ _ _ (c .if1 .taken)) ∙ c .before .before .loop .inv .2

@@ -10,32 +10,32 @@ use Rattle.segments.proofs.linked_by.Statement.{statement}
 use Rattle.segments.proofs.linked_by.Tie as tie
 
 abbrev Inv-loop : tie.InvT-loop
-Inv-loop m s d n y₀ y = (y ≤ n) × (n < 2 ^ 32) × (linkedBy (n - y) m s y ≡ linkedBy (read m numberWord) m s 0)
+Inv-loop m q s d n y₀ y = (y ≤ n) × (n < 2 ^ 32) × (linkedBy (n - y) m q s y ≡ linkedBy (read m numberWord) m q s 0)
 
 abbrev μ-loop : tie.MeasureT-loop
-μ-loop m s d n y₀ y = n - y
+μ-loop m q s d n y₀ y = n - y
 
 loop-holds : tie.Need-loop-holds Inv-loop μ-loop
-loop-holds c = (omega arith, search needs, by-start _ _ _ (c .header .ensures))
+loop-holds c = (omega arith, search needs, by-start _ _ _ _ (c .header .ensures))
 
 next-is-requires : tie.Need-next-is-requires Inv-loop μ-loop
 unfolding freeMarks
 next-is-requires c κs = c .before .before .before .before .before .mark-free .ensures
 
 returns : tie.Need-returns Inv-loop μ-loop
-returns c = by-found _ _ _ _ (c .before .before .before .loop-test .taken) (sym (c .before .next-is .ensures) ∙ c .if1 .taken)
+returns c = by-found _ _ _ _ _ (c .before .before .before .loop-test .taken) (sym (c .before .next-is .ensures) ∙ c .if1 .taken)
     ∙ c .before .before .before .before .loop .inv .2
 
 loop-again : tie.Need-loop-again Inv-loop μ-loop
 loop-again c = (
   omega arith,
   omega arith,
-  by-next _ _ _ _ (c .before .before .before .loop-test .taken)
+  by-next _ _ _ _ _ (c .before .before .before .loop-test .taken)
       (sym (c .before .next-is .ensures) ∙ c .if1 .left) ∙ c .before .before .before .before .loop .inv .2,
 )
 
 returns-2 : tie.Need-returns-2 Inv-loop μ-loop
-returns-2 c = by-end _ _ _ _ (c .loop-test .left) ∙ c .before .loop .inv .2
+returns-2 c = by-end _ _ _ _ _ (c .loop-test .left) ∙ c .before .loop .inv .2
 
 pub linked-by-spec : {M : Type 1} → statement M
 linked-by-spec =

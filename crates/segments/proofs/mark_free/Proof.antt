@@ -11,13 +11,13 @@ use Rattle.segments.proofs.mark_free.Statement.{statement}
 use Rattle.segments.proofs.mark_free.Tie as tie
 
 abbrev Inv-loop : tie.InvT-loop
-Inv-loop m d₀ h i₀ d i = (i ≤ h) × (h < 2 ^ 32) × (length d ≡ length d₀) × (marking (rest m h i) d ≡ marking (freeStack m) d₀)
+Inv-loop m q d₀ h i₀ d i = (i ≤ h) × (h < 2 ^ 32) × (length d ≡ length d₀) × (marking (rest m h i) d ≡ marking (freeStack m q) d₀)
 
 abbrev μ-loop : tie.MeasureT-loop
-μ-loop m d₀ h i₀ d i = h - i
+μ-loop m q d₀ h i₀ d i = h - i
 
 loop-holds : tie.Need-loop-holds Inv-loop μ-loop
-loop-holds c = (omega arith, search needs, refl, marks-start _ _ _ (c .header .ensures))
+loop-holds c = (omega arith, search needs, refl, marks-start _ _ (c .before .before .before .args .q) _ (c .header .ensures))
 
 returns : tie.Need-returns Inv-loop μ-loop
 returns c = marks-none _ _ _ _ (rest-out _ _ _ (c .if1 .taken)) ∙ c .before .before .loop .inv .3

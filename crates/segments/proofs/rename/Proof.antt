@@ -9,18 +9,18 @@ add-set-task c = let e = c .before .head-index .ensures in let h = head-few (c .
     (c .before .before .before .before .before .before .before .args .s) (c .before .before .before .before .head-task .result) in omega (arith, e, h)
 
 returns : tie.Need-returns
-returns c = rename-head _ _ _ _ (c .before .before .before .before .before .before .before .head-task .ensures) _ _
+returns c = rename-head _ _ _ _ _ (c .before .before .before .before .before .before .before .head-task .ensures) _ _
     (c .before .before .before .before .before .before .if1 .taken) (c .before .before .before .before .head-index .ensures)
     (c .before .before .set-task .ensures)
 
 returns-2 : tie.Need-returns-2
-returns-2 c = rename-next _ _ _ _ (c .before .before .before .before .before .before .before .before .before .before .head-task .ensures) _ _
+returns-2 c = rename-next _ _ _ _ _ (c .before .before .before .before .before .before .before .before .before .before .head-task .ensures) _ _
     (c .before .before .before .before .before .before .before .linked-by .ensures) (c .before .before .before .before .before .header .ensures)
     (c .before .before .before .before .before .before .before .before .before .if1 .left) _ (c .before .before .before .before .if2 .taken)
     (c .before .before .set-segment .ensures)
 
 returns-3 : tie.Need-returns-3
-returns-3 c = rename-none _ _ _ _ (c .before .before .before .before .before .before .head-task .ensures) _ _
+returns-3 c = rename-none _ _ _ _ _ (c .before .before .before .before .before .before .head-task .ensures) _ _
     (c .before .before .before .linked-by .ensures) (c .before .header .ensures) (c .before .before .before .before .before .if1 .left) (c .if2 .left)
 
 pub rename-spec : {M : Type 1} → statement M

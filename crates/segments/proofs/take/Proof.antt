@@ -10,7 +10,7 @@ store-at-requires c κs = (
   search needs,
   values-inside _ _ _ _
       (c .before .before .before .before .before .before .before .before .before .before .before .before .before .before .before .before .pre .0)
-      (below _ _ _ (top-of _ _ _ (c .before .before .before .before .before .before .before .before .before .before .before .header2 .ensures)
+      (below _ _ _ (top-of _ _ _ _ (c .before .before .before .before .before .before .before .before .before .before .before .header2 .ensures)
       (c .before .before .before .before .before .before .before .before .before .free-segment .ensures))
       (c .before .before .before .before .before .before .before .before .before .before .before .before .before .before .before .before .pre .2))
       (c .before .before .before .before .before .before .before .before .before .before .before .before .before .before .before .before .pre .4)
@@ -19,7 +19,7 @@ store-at-requires c κs = (
 )
 
 returns : tie.Need-returns
-returns c = take-it _ _ _ _ _ _ _ _
+returns c = take-it _ _ _ _ _ _ _ _ _
     (c .before .before .before .before .before .before .before .before .before .before .before .before .before .before .before .before .header
     .ensures) (c .before .before .before .before .before .before .before .before .before .before .before .before .before .before .header2 .ensures)
     (c .before .before .before .before .before .before .before .before .before .before .before .before .free-segment .ensures)
