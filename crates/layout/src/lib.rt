@@ -84,6 +84,9 @@ pub const USER_TAILS: u32 = 36;
 
 pub const RIGHT_TAILS: u32 = 40;
 
+// How many words from QUEUE_HEADS on are heads.
+pub const VIEW_HEADS: u32 = 16;
+
 // The kinds of views that have heads and tails: those of kind k stand 4 * k words behind those of the first kind.
 pub const CHILDREN: u32 = 0;
 

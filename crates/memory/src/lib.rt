@@ -34,7 +34,7 @@ pub fn put(m: &mut [u32], a: usize, v: u32)
 }
 
 // The words w0 to w3 from address a on.
-fn put4(m: &mut [u32], a: usize, w0: u32, w1: u32, w2: u32, w3: u32)
+fn put_four(m: &mut [u32], a: usize, w0: u32, w1: u32, w2: u32, w3: u32)
     requires { ⌜ a < 2 ^ 48 ⌝ }
     ensures { λ _. ⌜ now (m .exit) ≡ storeAll (now (m .entry)) a (w0 ∷ w1 ∷ w2 ∷ w3 ∷ []) ⌝ }
 {
@@ -42,6 +42,13 @@ fn put4(m: &mut [u32], a: usize, w0: u32, w1: u32, w2: u32, w3: u32)
     put(m, a + 1, w1);
     put(m, a + 2, w2);
     put(m, a + 3, w3);
+}
+
+// The same for every address that a word can hold.
+pub fn put4(m: &mut [u32], a: u32, w0: u32, w1: u32, w2: u32, w3: u32)
+    ensures { λ _. ⌜ now (m .exit) ≡ storeAll (now (m .entry)) a (w0 ∷ w1 ∷ w2 ∷ w3 ∷ []) ⌝ }
+{
+    put_four(m, a as usize, w0, w1, w2, w3);
 }
 
 // Every word 0.
@@ -56,13 +63,13 @@ pub fn clear(m: &mut [u32])
     }
 }
 
-pub fn header(m: &[u32], k: u32) -> u32
+fn header(m: &[u32], k: u32) -> u32
     ensures { λ r. ⌜ r ≡ read (now (m .entry)) (header k) ⌝ }
 {
     get(m, k as usize)
 }
 
-pub fn set_header(m: &mut [u32], k: u32, v: u32)
+fn set_header(m: &mut [u32], k: u32, v: u32)
     ensures { λ _. ⌜ now (m .exit) ≡ write (now (m .entry)) (header k) v ⌝ }
 {
     put(m, k as usize, v);
@@ -95,13 +102,13 @@ pub fn set_free_task(m: &mut [u32], i: u32, v: u32)
 }
 
 // Word k of the record of segment s.
-pub fn segment(m: &[u32], s: u32, k: u32) -> u32
+fn segment(m: &[u32], s: u32, k: u32) -> u32
     ensures { λ r. ⌜ r ≡ read (now (m .entry)) (segment s k) ⌝ }
 {
     get(m, SEGMENT_RECORDS + s as usize * SEGMENT_WORDS + k as usize)
 }
 
-pub fn set_segment(m: &mut [u32], s: u32, k: u32, v: u32)
+fn set_segment(m: &mut [u32], s: u32, k: u32, v: u32)
     ensures { λ _. ⌜ now (m .exit) ≡ write (now (m .entry)) (segment s k) v ⌝ }
 {
     put(
@@ -168,7 +175,7 @@ pub fn set_free_tasks(m: &mut [u32], v: u32)
 pub fn write_header(m: &mut [u32], length: u32, number: u32, segments: u32, tasks: u32)
     ensures { λ _. ⌜ now (m .exit) ≡ storeAll (now (m .entry)) 0 (length ∷ number ∷ segments ∷ tasks ∷ []) ⌝ }
 {
-    put4(m, layout::HEADER, length, number, segments, tasks);
+    put_four(m, layout::HEADER, length, number, segments, tasks);
 }
 
 // A SEGMENT. Its first place, its count and its next.
@@ -273,7 +280,7 @@ pub fn set_youngest(m: &mut [u32], t: u32, v: u32)
 pub fn set_four(m: &mut [u32], t: u32, k: u32, w0: u32, w1: u32, w2: u32, w3: u32)
     ensures { λ _. ⌜ now (m .exit) ≡ storeAll (now (m .entry)) (address (task t k)) (w0 ∷ w1 ∷ w2 ∷ w3 ∷ []) ⌝ }
 {
-    put4(
+    put_four(
         m,
         TASK_RECORDS + t as usize * TASK_WORDS + k as usize,
         w0,

@@ -10,13 +10,15 @@ ghost use Rattle.spec_tree.specs.Rights.{pushes, pops, sharesPop};
 ghost use Rattle.spec_tree.specs.Tour.{MARKS, exiting, entering, after, seek, sibling, oldest};
 ghost use Rattle.spec_rules.specs.Views.{view};
 ghost use Rattle.spec_outcomes.specs.Waits.{rightsOf, unfinished, blocked, childPops, hasChild, pusherBefore};
-ghost use Rattle.spec_outcomes.specs.Views.{taskAt, takesPart, standsAt, justBefore, returnedTo};
+ghost use Rattle.spec_outcomes.specs.Views.{taskAt, kindAt, takesPart, standsAt, justBefore, returnedTo};
 ghost use Rattle.spec_outcomes.specs.Finish.{heir};
+ghost use Rattle.walks.specs.Asked.{asked};
 use layout::CHILDREN;
 use layout::END;
 use layout::MARKS;
 use layout::NL;
 use layout::NONE;
+use layout::RIGHT;
 use layout::TASKS;
 use layout::UNFINISHED;
 
@@ -83,31 +85,11 @@ pub fn blocked(m: &[u32], t: u32) -> bool
     sharing(m, a, c) != NONE
 }
 
-// The first of `from` and its older siblings that may pop q.
-fn popping(m: &[u32], q: u32, from: u32) -> u32
-    requires { ⌜ q < 4 ⌝ }
-    ensures { λ r. ⌜ r ≡ sibling 128 (λ c. pops (rightsOf (now (m .entry)) c) q) (recordOf (now (m .entry))) from ⌝ }
-{
-    let mut c = from;
-    let mut n: u32 = TASKS;
-    while 0 < n {
-        if TASKS <= c {
-            return NONE;
-        }
-        if rights::pops(memory::rights(m, c), q) {
-            return c;
-        }
-        c = memory::older(m, c);
-        n -= 1;
-    }
-    NONE
-}
-
 pub fn child_pops(m: &[u32], t: u32, q: u32) -> bool
     requires { ⌜ q < 4 ⌝ }
     ensures { λ r. ⌜ r ≡ childPops (now (m .entry)) t q ⌝ }
 {
-    popping(m, q, memory::youngest(m, t)) != NONE
+    sharing(m, rights::pop_right(q), memory::youngest(m, t)) != NONE
 }
 
 pub fn has_child(m: &[u32], t: u32) -> bool
@@ -128,33 +110,6 @@ fn meets_pusher(m: &[u32], q: u32, x: u32) -> bool
     }
 }
 
-// The first mark from `from` on where a task is entered that may push to q.
-fn pushing(m: &[u32], q: u32, from: u32) -> u32
-    requires { ⌜ q < 4 ⌝ }
-    ensures { λ r. ⌜ r ≡ seek MARKS (λ x. both (ltb x 128) (pushes (rightsOf (now (m .entry)) x) q)) (recordOf (now (m .entry))) from ⌝ }
-{
-    let mut x = from;
-    let mut n: u32 = MARKS;
-    while 0 < n {
-        if END <= x {
-            return END;
-        }
-        if meets_pusher(m, q, x) {
-            return x;
-        }
-        x = after(m, x);
-        n -= 1;
-    }
-    END
-}
-
-pub fn pusher_before(m: &[u32], t: u32, q: u32) -> bool
-    requires { ⌜ q < 4 ⌝ }
-    ensures { λ r. ⌜ r ≡ pusherBefore (now (m .entry)) t q ⌝ }
-{
-    pushing(m, q, after(m, t)) != END
-}
-
 // The task that is entered or exited at mark x.
 pub fn task_at(x: u32) -> u32
     ensures { λ r. ⌜ r ≡ taskAt x ⌝ }
@@ -162,7 +117,14 @@ pub fn task_at(x: u32) -> u32
     if x < TASKS { x } else { x - TASKS }
 }
 
-pub fn takes_part(m: &[u32], q: u32, x: u32) -> bool
+// The kind of the view that stands at mark x.
+pub fn kind_at(x: u32) -> u32
+    ensures { λ k. ⌜ k ≡ kindAt x ⌝ }
+{
+    if x < TASKS { RIGHT } else { CHILDREN }
+}
+
+fn takes_part(m: &[u32], q: u32, x: u32) -> bool
     requires { ⌜ q < 4 ⌝ }
     ensures { λ r. ⌜ r ≡ takesPart (now (m .entry)) q x ⌝ }
 {
@@ -170,7 +132,7 @@ pub fn takes_part(m: &[u32], q: u32, x: u32) -> bool
 }
 
 // The mark TASKS is where the top is exited: its children view stands there even if empty.
-pub fn stands_at(m: &[u32], q: u32, x: u32) -> bool
+fn stands_at(m: &[u32], q: u32, x: u32) -> bool
     requires { ⌜ q < 4 ⌝ }
     ensures { λ r. ⌜ r ≡ standsAt (now (m .entry)) q x ⌝ }
 {
@@ -186,10 +148,29 @@ pub fn stands_at(m: &[u32], q: u32, x: u32) -> bool
     memory::tail(m, CHILDREN, x - TASKS, q) != NONE
 }
 
-// The first mark from `from` on whose task has a right to q.
-fn taking(m: &[u32], q: u32, from: u32) -> u32
+// What a walk over the tour asks of a mark: is a task entered there that may push to the queue, has its task a right to it, does a view of it
+// stand there?
+enum Asks {
+    Pushes,
+    TakesPart,
+    Stands,
+}
+
+fn holds(m: &[u32], a: Asks, q: u32, x: u32) -> bool
     requires { ⌜ q < 4 ⌝ }
-    ensures { λ r. ⌜ r ≡ seek MARKS (takesPart (now (m .entry)) q) (recordOf (now (m .entry))) from ⌝ }
+    ensures { λ r. ⌜ r ≡ asked a (now (m .entry)) q x ⌝ }
+{
+    match a {
+        Asks::Pushes => meets_pusher(m, q, x),
+        Asks::TakesPart => takes_part(m, q, x),
+        Asks::Stands => stands_at(m, q, x),
+    }
+}
+
+// The first mark from `from` on for which it holds.
+fn seek(m: &[u32], a: Asks, q: u32, from: u32) -> u32
+    requires { ⌜ q < 4 ⌝ }
+    ensures { λ r. ⌜ r ≡ seek MARKS (asked a (now (m .entry)) q) (recordOf (now (m .entry))) from ⌝ }
 {
     let mut x = from;
     let mut n: u32 = MARKS;
@@ -197,7 +178,7 @@ fn taking(m: &[u32], q: u32, from: u32) -> u32
         if END <= x {
             return END;
         }
-        if takes_part(m, q, x) {
+        if holds(m, a, q, x) {
             return x;
         }
         x = after(m, x);
@@ -206,31 +187,18 @@ fn taking(m: &[u32], q: u32, from: u32) -> u32
     END
 }
 
-// The first mark from `from` on where a view of q stands.
-fn standing(m: &[u32], q: u32, from: u32) -> u32
+pub fn pusher_before(m: &[u32], t: u32, q: u32) -> bool
     requires { ⌜ q < 4 ⌝ }
-    ensures { λ r. ⌜ r ≡ seek MARKS (standsAt (now (m .entry)) q) (recordOf (now (m .entry))) from ⌝ }
+    ensures { λ r. ⌜ r ≡ pusherBefore (now (m .entry)) t q ⌝ }
 {
-    let mut x = from;
-    let mut n: u32 = MARKS;
-    while 0 < n {
-        if END <= x {
-            return END;
-        }
-        if stands_at(m, q, x) {
-            return x;
-        }
-        x = after(m, x);
-        n -= 1;
-    }
-    END
+    seek(m, Asks::Pushes, q, after(m, t)) != END
 }
 
 pub fn just_before(m: &[u32], q: u32, t: u32) -> u32
     requires { ⌜ q < 4 ⌝ }
     ensures { λ r. ⌜ r ≡ justBefore (now (m .entry)) q t ⌝ }
 {
-    standing(m, q, after(m, t))
+    seek(m, Asks::Stands, q, after(m, t))
 }
 
 // The view (h, e) goes by its head alone.
@@ -240,9 +208,9 @@ pub fn returned_to(m: &[u32], q: u32, t: u32, h: u32, e: u32) -> u32
 {
     let x = after(m, t + TASKS);
     if h == NL {
-        taking(m, q, x)
+        seek(m, Asks::TakesPart, q, x)
     } else {
-        standing(m, q, x)
+        seek(m, Asks::Stands, q, x)
     }
 }
 

@@ -5,7 +5,7 @@ use Rattle.memory.proofs.set_four.Tie as tie
 
 returns : tie.Need-returns
 unfolding address
-returns c = c .before .before .put4 .ensures
+returns c = c .before .before .put-four .ensures
 
 pub set-four-spec : {M : Type 1} → statement M
 set-four-spec =

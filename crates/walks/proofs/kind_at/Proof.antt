@@ -1,6 +1,6 @@
-use Rattle.core_push.proofs.Glue.{at-entered, at-exited}
-use Rattle.core_push.proofs.kind_at.Statement.{statement}
-use Rattle.core_push.proofs.kind_at.Tie as tie
+use Rattle.walks.proofs.Glue.{at-entered, at-exited}
+use Rattle.walks.proofs.kind_at.Statement.{statement}
+use Rattle.walks.proofs.kind_at.Tie as tie
 
 returns : tie.Need-returns
 returns c = at-entered _ (c .if1 .taken)
