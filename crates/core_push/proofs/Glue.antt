@@ -6,7 +6,7 @@ use Prim.Native.Nat.{ℕ, _+_, _*_, _<_, _≤_}
 use native.Mathlib.Omega.{arith}
 use borrow.Author.Tests.{lt-ltb, le-ltb, le-leb, lt-leb}
 use Rattle.spec_words.specs.Words.{size, halt, pass}
-use Rattle.spec_layout.specs.Layout.{NL, CHILDREN, USER, RIGHT, RIGHTS, lengthWord, numberWord, freeSegments, count, segment, task, head, tail, read, write}
+use Rattle.spec_layout.specs.Layout.{NL, USER, RIGHTS, lengthWord, numberWord, freeSegments, count, segment, task, head, tail, read, write}
 use Rattle.spec_answers.specs.declared.Answer.the-variants.{Moved, Waits, Refused}
 use Rattle.spec_answers.specs.Answers.{Outcome, outcome}
 use Rattle.spec_tree.specs.Rights.{pushes}
@@ -18,14 +18,6 @@ use Rattle.spec_outcomes.specs.Views.{viewOf, isEmpty, tailOf, reducible, setVi
 use Rattle.spec_outcomes.specs.Waits.{rightsOf, unfinished, blocked}
 use Rattle.spec_outcomes.specs.Push.{pushedApart, pushedBehind, pushed, pushTested}
 use Rattle.law_in_range.specs.Sound.{rules-sound, unfinished-live}
-
-pub at-entered : (x : ℕ) → x < 128 → RIGHT ≡ kindAt x
-unfolding kindAt
-at-entered x h = sym (halt _ _ (lt-ltb x 128 h))
-
-pub at-exited : (x : ℕ) → 128 ≤ x → CHILDREN ≡ kindAt x
-unfolding kindAt
-at-exited x h = sym (pass _ (le-ltb x 128 h) refl)
 
 -- the new segment apart: s is taken, y and k are the task and the kind of the view at mark x
 module _ (m : List ℕ) (t q v x : ℕ) {s y k h e : ℕ} {b : Bool} (es : s ≡ nextFree m q) (ey : y ≡ taskAt x) (ek : k ≡ kindAt x)

@@ -9,17 +9,12 @@ ghost use Rattle.spec_rules.specs.Test.{rulesHold};
 ghost use Rattle.spec_answers.specs.Answers.{Outcome};
 ghost use Rattle.spec_answers.specs.Answers.Outcome.{outcome};
 ghost use Rattle.spec_outcomes.specs.Segments.{nextFree};
-ghost use Rattle.spec_outcomes.specs.Views.{kindAt};
 ghost use Rattle.spec_outcomes.specs.Waits.{unfinished};
 ghost use Rattle.spec_outcomes.specs.Push.{pushedApart, pushedBehind, pushed, pushTested};
+use layout::NL;
+use layout::QUEUES;
+use layout::USER;
 use spec_answers::Answer;
-
-// Which view stands at mark x of the tour.
-pub fn kind_at(x: u32) -> u32
-    ensures { λ k. ⌜ k ≡ kindAt x ⌝ }
-{
-    if x < 128 { 2 } else { 0 }
-}
 
 // The user view is empty: the new segment's head goes into the view at mark x.
 fn push_apart(m: &mut [u32], t: u32, q: u32, v: u32, x: u32) -> Answer
@@ -29,18 +24,13 @@ fn push_apart(m: &mut [u32], t: u32, q: u32, v: u32, x: u32) -> Answer
 {
     let s = segments::next_free(m, q);
     let y = walks::task_at(x);
-    let k = kind_at(x);
-    if !views::reducible(
-        views::head(m, k, y, q),
-        views::tail(m, k, y, q),
-        s,
-        4294967294,
-    ) {
+    let k = walks::kind_at(x);
+    if !views::reducible(memory::head(m, k, y, q), memory::tail(m, k, y, q), s, NL) {
         return Answer::Refused(2);
     }
     segments::take(m, q, v);
-    views::join(m, q, y, k, s, 4294967294);
-    views::set_view(m, q, t, 1, 4294967294, s);
+    views::join(m, q, y, k, s, NL);
+    views::set_view(m, q, t, USER, NL, s);
     Answer::Moved(v)
 }
 
@@ -52,8 +42,8 @@ fn push_behind(m: &mut [u32], t: u32, q: u32, v: u32, e: u32) -> Answer
 {
     let s = segments::next_free(m, q);
     segments::take(m, q, v);
-    memory::set_segment(m, e, 2, s);
-    views::set_tail(m, 1, t, q, s);
+    memory::set_next(m, e, s);
+    memory::set_tail(m, USER, t, q, s);
     Answer::Moved(v)
 }
 
@@ -62,17 +52,17 @@ fn push_value(m: &mut [u32], t: u32, q: u32, v: u32) -> Answer
     requires { ⌜ (length (now m) ≡ 16384) × (rulesHold (now m) ≡ true) × (unfinished (now m) t ≡ true) × (q < 4) ⌝ }
     ensures { λ a. ⌜ outcome a (now (m .exit)) ≡ pushed (now (m .entry)) t q v ⌝ }
 {
-    let e = views::tail(m, 1, t, q);
-    if views::is_empty(views::head(m, 1, t, q), e) {
+    let e = memory::tail(m, USER, t, q);
+    if views::is_empty(memory::head(m, USER, t, q), e) {
         if segments::none_free(m, q) {
             return Answer::Refused(9);
         }
         return push_apart(m, t, q, v, walks::just_before(m, q, t));
     }
-    if e >= 4294967294 {
+    if e >= NL {
         return Answer::Refused(2);
     }
-    if memory::segment(m, e, 1) < memory::header(m, 0) {
+    if memory::count(m, e) < memory::length_of(m, e) {
         segments::store_one(m, e, v);
         return Answer::Moved(v);
     }
@@ -90,10 +80,10 @@ pub fn push(m: &mut [u32], t: u32, q: u32, v: u32) -> Answer
     if !walks::unfinished(m, t) {
         return Answer::Refused(4);
     }
-    if q >= 4 {
+    if q >= QUEUES {
         return Answer::Refused(5);
     }
-    if !rights::pushes(memory::task(m, t, 1), q) {
+    if !rights::pushes(memory::rights(m, t), q) {
         return Answer::Refused(6);
     }
     if walks::blocked(m, t) {

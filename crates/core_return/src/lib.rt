@@ -5,27 +5,14 @@ ghost use lib.Dec.{eqb};
 ghost use Rattle.spec_words.specs.Words.{pick};
 ghost use Rattle.spec_layout.specs.Layout.{NL};
 ghost use Rattle.spec_rules.specs.Views.View.{view};
-ghost use Rattle.spec_outcomes.specs.Views.{viewOf, isEmpty, kindAt};
+ghost use Rattle.spec_outcomes.specs.Views.{viewOf, isEmpty};
 ghost use Rattle.spec_outcomes.specs.Finish.{finishes, viewsReturned, queueReturned, finishedQueue};
 ghost use Rattle.core_return.specs.Returning.{noViews, fits, rightFits, viewReturned};
-
-const NONE: u32 = 4294967295;
-
-const NL: u32 = 4294967294;
-
-// The kinds of views.
-const CHILDREN: u32 = 0;
-
-const USER: u32 = 1;
-
-const RIGHT: u32 = 2;
-
-// The kind of the view that stands at mark x.
-fn kind_at(x: u32) -> u32
-    ensures { λ r. ⌜ r ≡ kindAt x ⌝ }
-{
-    if x < 128 { RIGHT } else { CHILDREN }
-}
+use layout::CHILDREN;
+use layout::NL;
+use layout::NONE;
+use layout::RIGHT;
+use layout::USER;
 
 // The view from h to e can be reduced into the view that it goes to.
 fn view_fits(m: &[u32], t: u32, q: u32, h: u32, e: u32) -> bool
@@ -36,10 +23,10 @@ fn view_fits(m: &[u32], t: u32, q: u32, h: u32, e: u32) -> bool
         return true;
     }
     let x = walks::returned_to(m, q, t, h, e);
-    let k = kind_at(x);
+    let k = walks::kind_at(x);
     let s = walks::task_at(x);
-    let h2 = views::head(m, k, s, q);
-    views::reducible(h2, views::tail(m, k, s, q), h, e)
+    let h2 = memory::head(m, k, s, q);
+    views::reducible(h2, memory::tail(m, k, s, q), h, e)
 }
 
 // The right view can be reduced with children view and user view, and the result returned.
@@ -49,8 +36,8 @@ fn right_fits(m: &[u32], t: u32, q: u32, h1: u32, e1: u32, h2: u32, e2: u32) -> 
 {
     let h = views::reduced_head(m, h1, e1, h2, e2);
     let e = views::reduced_tail(h1, e1, h2, e2);
-    let h0 = views::head(m, RIGHT, t, q);
-    let e3 = views::tail(m, RIGHT, t, q);
+    let h0 = memory::head(m, RIGHT, t, q);
+    let e3 = memory::tail(m, RIGHT, t, q);
     let h3 = views::head_behind(m, h1, e1, h2, e2, h0);
     if !views::reducible(h, e, h3, e3) {
         return false;
@@ -62,8 +49,8 @@ fn right_fits(m: &[u32], t: u32, q: u32, h1: u32, e1: u32, h2: u32, e2: u32) -> 
 fn empty_view(m: &[u32], k: u32, t: u32, q: u32) -> bool
     ensures { λ r. ⌜ r ≡ isEmpty (viewOf (now (m .entry)) q t k) ⌝ }
 {
-    let h = views::head(m, k, t, q);
-    views::is_empty(h, views::tail(m, k, t, q))
+    let h = memory::head(m, k, t, q);
+    views::is_empty(h, memory::tail(m, k, t, q))
 }
 
 // Task t has nothing to return for queue q.
@@ -87,10 +74,10 @@ pub fn finishes(m: &[u32], t: u32, q: u32) -> bool
     if no_views(m, t, q) {
         return true;
     }
-    let h1 = views::head(m, CHILDREN, t, q);
-    let e1 = views::tail(m, CHILDREN, t, q);
-    let h2 = views::head(m, USER, t, q);
-    let e2 = views::tail(m, USER, t, q);
+    let h1 = memory::head(m, CHILDREN, t, q);
+    let e1 = memory::tail(m, CHILDREN, t, q);
+    let h2 = memory::head(m, USER, t, q);
+    let e2 = memory::tail(m, USER, t, q);
     if !views::reducible(h1, e1, h2, e2) {
         return false;
     }
@@ -108,18 +95,18 @@ fn way(h: u32, nonlocal: u32, local: u32) -> u32
 fn return_view(m: &mut [u32], t: u32, q: u32, nonlocal: u32, local: u32)
     ensures { λ _. ⌜ now (m .exit) ≡ viewReturned (now (m .entry)) t q nonlocal local ⌝ }
 {
-    let h = views::head(m, CHILDREN, t, q);
-    if views::is_empty(h, views::tail(m, CHILDREN, t, q)) {
+    let h = memory::head(m, CHILDREN, t, q);
+    if views::is_empty(h, memory::tail(m, CHILDREN, t, q)) {
         return;
     }
     let x = way(h, nonlocal, local);
-    let k = kind_at(x);
+    let k = walks::kind_at(x);
     views::merge(m, q, walks::task_at(x), k, t, CHILDREN);
 }
 
 // Where the view goes depends on the memory as it was and on the head that the reductions give. So both marks are looked
 // for before the memory changes.
-pub fn views_returned(m: &mut [u32], t: u32, q: u32)
+fn views_returned(m: &mut [u32], t: u32, q: u32)
     requires { ⌜ (q < 4) × (t < 128) ⌝ }
     ensures { λ _. ⌜ now (m .exit) ≡ viewsReturned (now (m .entry)) t q ⌝ }
 {
@@ -134,17 +121,17 @@ pub fn views_returned(m: &mut [u32], t: u32, q: u32)
 }
 
 // The queue view goes to the heir.
-pub fn queue_returned(m: &mut [u32], t: u32, q: u32)
+fn queue_returned(m: &mut [u32], t: u32, q: u32)
     requires { ⌜ q < 4 ⌝ }
     ensures { λ _. ⌜ now (m .exit) ≡ queueReturned (now (m .entry)) t q ⌝ }
 {
-    let h = memory::task(m, t, 16 + q);
+    let h = memory::queue_head(m, t, q);
     if h == NONE {
         return;
     }
     let c = walks::heir(m, t, q);
-    memory::set_task(m, t, 16 + q, NONE);
-    memory::set_task(m, c, 16 + q, h);
+    memory::set_queue_head(m, t, q, NONE);
+    memory::set_queue_head(m, c, q, h);
 }
 
 pub fn finished_queue(m: &mut [u32], t: u32, q: u32)

@@ -1,14 +1,16 @@
 -- The child's record, four words at a time. No store reaches a word that is read later.
 use mathlib.Core.Path.{_≡_, refl, ap, sym, _∙_}
+use mathlib.Core.Bool.{Bool}
 use mathlib.Core.List.{List, [], _∷_, _++_}
 use mathlib.Core.Logic.{_⊎_, inl, inr}
 use Prim.Native.Nat.{ℕ, suc, _+_, _*_, _<_, _≤_}
 use native.Mathlib.Omega.{arith}
 use lib.ListN.{length}
 use borrow.Author.Tests.{eq-eqb, ne-eqb}
-use Rattle.spec_words.specs.Words.{store, halt, pass}
-use Rattle.spec_words.specs.Blocks.{storeAll, store-none, store-more, store-append, block-other}
+use Rattle.spec_words.specs.Words.{pick, halt, pass}
+use Rattle.spec_words.specs.Blocks.{storeAll, store-append, block-other}
 use Rattle.spec_layout.specs.Layout.{NONE, UNFINISHED, USER, YOUNGER, YOUNGEST, task, head, tail, queueHead, address, read, write}
+use Rattle.spec_tree.specs.Rights.{pops, uses}
 use Rattle.spec_outcomes.specs.Spawn.{forQueues, passedUser, passedQueue, keptUser, keptQueue, noWords, childViews, passedOn, childMade, queues-four}
 
 -- words k of all records, where words j to j + n - 1 of a record are stored
@@ -44,8 +46,8 @@ module _ (c t : ℕ) where
       → read m' (task t k) ≡ read m (task t k)
   stays m m' j k ws l a b e = ap (λ (x : List ℕ). read x (task t k)) e ∙ others-stay m c j t k 4 ws l (omega (arith, a, b)) b (inr a)
 
-  pub views-made : (r : ℕ) (m m1 m2 m3 m4 m5 m6 m7 : List ℕ)
-      → m1 ≡ storeAll m (address (task c 16)) (forQueues (λ q. passedQueue r (read m (task t (16 + q))) q))
+  pub views-made : (r p : ℕ) (m m1 m2 m3 m4 m5 m6 m7 : List ℕ) → ((q : ℕ) → q < 4 → uses p q ≡ pops r q)
+      → m1 ≡ storeAll m (address (task c 16)) (forQueues (λ q. passedUser p (read m (task t (16 + q))) q))
       → m2 ≡ storeAll m1 (address (task c 20)) noWords
       → m3 ≡ storeAll m2 (address (task c 24)) (forQueues (λ q. passedUser r (read m2 (task t (24 + q))) q))
       → m4 ≡ storeAll m3 (address (task c 28)) noWords
@@ -53,10 +55,11 @@ module _ (c t : ℕ) where
       → m6 ≡ storeAll m5 (address (task c 36)) (forQueues (λ q. passedUser r (read m5 (task t (36 + q))) q))
       → m7 ≡ storeAll m6 (address (task c 40)) noWords
       → m7 ≡ storeAll m (address (task c 16)) (childViews m t r)
-  unfolding childViews
-  views-made r m m1 m2 m3 m4 m5 m6 m7 e1 e2 e3 e4 e5 e6 e7 =
+  unfolding childViews passedUser passedQueue
+  views-made r p m m1 m2 m3 m4 m5 m6 m7 only e1 e2 e3 e4 e5 e6 e7 =
       sym
-      (more-four m m1 c 16 _ _ (queues-four _) e1
+      (more-four m m1 c 16 _ _ (queues-four _)
+      (e1 ∙ ap (storeAll m (address (task c 16))) (queues-same _ _ (λ q l. ap (λ (b : Bool). pick b (read m (queueHead t q)) NONE) (only q l))))
       ∙ more-four m1 m2 c 20 noWords _ refl e2
       ∙ more-four m2 m3 c 24 _ _ (queues-four _) (e3 ∙ ap (storeAll m2 (address (task c 24))) (queues-same _ _ heads))
       ∙ more-four m3 m4 c 28 noWords _ refl e4
@@ -80,19 +83,20 @@ module _ (c t : ℕ) where
       tails : (q : ℕ) → q < 4 → passedUser r (read m5 (task t (36 + q))) q ≡ passedUser r (read m (tail USER t q)) q
       tails q l = ap (λ (w : ℕ). passedUser r w q) (five (36 + q) (omega arith) (omega (arith, l)))
 
-pub kept-made : (t r : ℕ) (m m1 m2 m3 : List ℕ)
-    → m1 ≡ storeAll m (address (task t 16)) (forQueues (λ q. keptQueue r (read m (task t (16 + q))) q))
+pub kept-made : (t r p : ℕ) (m m1 m2 m3 : List ℕ) → ((q : ℕ) → q < 4 → uses p q ≡ pops r q)
+    → m1 ≡ storeAll m (address (task t 16)) (forQueues (λ q. keptUser p (read m (task t (16 + q))) q))
     → m2 ≡ storeAll m1 (address (task t 24)) (forQueues (λ q. keptUser r (read m1 (task t (24 + q))) q))
     → m3 ≡ storeAll m2 (address (task t 36)) (forQueues (λ q. keptUser r (read m2 (task t (36 + q))) q))
     → m3 ≡ passedOn m t r
-unfolding passedOn
-kept-made t r m m1 m2 m3 e1 e2 e3 =
+unfolding passedOn keptUser keptQueue
+kept-made t r p m m1 m2 m3 only e1 e2 e3 =
     e3
     ∙ ap (storeAll m2 (address (task t 36))) (queues-same _ (λ q. keptUser r (read m (tail USER t q)) q) tails)
     ∙ ap (λ (x : List ℕ). storeAll x (address (task t 36)) (forQueues (λ q. keptUser r (read m (tail USER t q)) q)))
     (e2
     ∙ ap (storeAll m1 (address (task t 24))) (queues-same _ (λ q. keptUser r (read m (head USER t q)) q) heads)
-    ∙ ap (λ (x : List ℕ). storeAll x (address (task t 24)) (forQueues (λ q. keptUser r (read m (head USER t q)) q))) e1)
+    ∙ ap (λ (x : List ℕ). storeAll x (address (task t 24)) (forQueues (λ q. keptUser r (read m (head USER t q)) q)))
+    (e1 ∙ ap (storeAll m (address (task t 16))) (queues-same _ _ (λ q l. ap (λ (b : Bool). pick b NONE (read m (queueHead t q))) (only q l)))))
   where
     one : (k : ℕ) → 20 ≤ k → k < 48 → read m1 (task t k) ≡ read m (task t k)
     one k a b = stays t t m m1 16 k _ (queues-four _) (omega (arith, a)) b e1
@@ -104,22 +108,6 @@ kept-made t r m m1 m2 m3 e1 e2 e3 =
     tails q l =
         ap (λ (w : ℕ). keptUser r w q)
         (stays t t m1 m2 24 (36 + q) _ (queues-four _) (omega arith) (omega (arith, l)) e2 ∙ one (36 + q) (omega arith) (omega (arith, l)))
-
-pub links-made : (c r t o : ℕ) (m m1 m2 m3 : List ℕ) → m1 ≡ storeAll m (address (task c 0)) (UNFINISHED ∷ r ∷ t ∷ o ∷ [])
-    → m2 ≡ write m1 (task c 4) NONE → m3 ≡ write m2 (task c 5) NONE
-    → m3 ≡ storeAll m (address (task c 0)) (UNFINISHED ∷ r ∷ t ∷ o ∷ NONE ∷ NONE ∷ [])
-unfolding write address
-links-made c r t o m m1 m2 m3 e1 e2 e3 =
-    sym
-    (store-append (UNFINISHED ∷ r ∷ t ∷ o ∷ []) m (1472 + c * 48 + 0) (NONE ∷ NONE ∷ [])
-    ∙ ap (λ (x : List ℕ). storeAll x (1472 + c * 48 + 0 + 4) (NONE ∷ NONE ∷ [])) (sym e1)
-    ∙ store-more m1 (1472 + c * 48 + 0 + 4) NONE (NONE ∷ [])
-    ∙ ap (λ (x : List ℕ). storeAll x (suc (1472 + c * 48 + 0 + 4)) (NONE ∷ []))
-    (ap (λ (a : ℕ). store m1 a NONE) (let z : 1472 + c * 48 + 0 + 4 ≡ 1472 + c * 48 + 4 = omega arith in z) ∙ sym e2)
-    ∙ store-more m2 (suc (1472 + c * 48 + 0 + 4)) NONE []
-    ∙ store-none _ _
-    ∙ ap (λ (a : ℕ). store m2 a NONE) (let z : suc (1472 + c * 48 + 0 + 4) ≡ 1472 + c * 48 + 5 = omega arith in z)
-    ∙ sym e3)
 
 views-same : (t r : ℕ) (m m' : List ℕ) → ((k : ℕ) → 16 ≤ k → k < 48 → read m' (task t k) ≡ read m (task t k)) → childViews m' t r ≡ childViews m t r
 unfolding childViews

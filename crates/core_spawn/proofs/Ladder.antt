@@ -2,19 +2,16 @@
 use mathlib.Core.Path.{_≡_, refl, ap, sym, _∙_}
 use mathlib.Core.Bool.{Bool, true, false, not}
 use mathlib.Core.List.{List}
-use Prim.Native.Nat.{ℕ, _-_, _<_}
-use native.Mathlib.Omega.{arith}
+use Prim.Native.Nat.{ℕ, _-_}
 use lib.Dec.{eqb}
-use borrow.Author.Tests.{eq-eqb, ne-eqb, not-false}
-use Rattle.spec_words.specs.Words.{size, pick, halt, pass}
+use borrow.Author.Tests.{eq-eqb, ne-eqb}
+use Rattle.spec_words.specs.Words.{pick, halt, pass}
 use Rattle.spec_layout.specs.Layout.{RIGHTS, freeTasks, freeTask, task, read, write}
 use Rattle.spec_answers.specs.declared.Answer.the-variants.{Moved, Waits, Refused}
 use Rattle.spec_answers.specs.Answers.{Outcome, outcome}
 use Rattle.spec_tree.specs.Rights.{subset}
-use Rattle.spec_rules.specs.Test.{rulesHold}
 use Rattle.spec_outcomes.specs.Waits.{rightsOf, unfinished, blocked}
 use Rattle.spec_outcomes.specs.Spawn.{childMade, spawned, spawnTested}
-use Rattle.law_in_range.specs.Sound.{rules-sound, unfinished-says}
 
 module _ (m : List ℕ) (t r : ℕ) {b1 : Bool} (e1 : b1 ≡ unfinished m t) where
   pub not-unfinished : not b1 ≡ true → outcome (Refused 4) m ≡ spawnTested m t r
@@ -50,12 +47,3 @@ module _ (m : List ℕ) (t r : ℕ) {b1 : Bool} (e1 : b1 ≡ unfinished m t) whe
             made : outcome (Moved c) m2 ≡ outcome (Moved (read m (freeTask (read m freeTasks - 1))))
                 (childMade (write m freeTasks (read m freeTasks - 1)) t r (read m (freeTask (read m freeTasks - 1))))
             made = rw (g2, g1, ec, eh) refl
-
--- the record taken and the caller are tasks
-pub tasks-fit : (m : List ℕ) (t c h : ℕ) {b : Bool} → size m ≡ 16384 → rulesHold m ≡ true → b ≡ unfinished m t → not b ≡ false → h ≡ read m freeTasks
-    → (h ≡ 0 → ⊥)
-    → c ≡ read m (freeTask (h - 1)) → (c < 128) × (t < 128)
-tasks-fit m t c h big ok e f eh n ec =
-    let s = rules-sound m big ok in
-    let a = s .idle-tasks (h - 1) (omega (arith, eh, n)) in
-    (omega (arith, ec, a), unfinished-says m t (sym e ∙ not-false _ f) .0)

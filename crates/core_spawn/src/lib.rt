@@ -1,16 +1,24 @@
 // spawn (task, rights)
 ghost use mathlib.Core.Path.{_≡_};
 ghost use mathlib.Core.Bool.{true};
-ghost use mathlib.Core.List.{[], _∷_};
 ghost use Prim.Native.Nat.{_+_, _<_, _≤_};
 ghost use lib.ListN.{length};
 ghost use Rattle.spec_words.specs.Words.{pick};
 ghost use Rattle.spec_words.specs.Blocks.{storeAll};
-ghost use Rattle.spec_layout.specs.Layout.{task, address, read, UNFINISHED, NONE};
-ghost use Rattle.spec_outcomes.specs.Spawn.{forQueues, passedUser, passedQueue, keptUser, keptQueue, noWords, childViews, passedOn, childMade, spawnTested};
+ghost use Rattle.spec_layout.specs.Layout.{task, address, read};
+ghost use Rattle.spec_outcomes.specs.Spawn.{forQueues, passedUser, keptUser, noWords, childViews, passedOn, childMade, spawnTested};
 ghost use Rattle.spec_rules.specs.Test.{rulesHold};
 ghost use Rattle.spec_answers.specs.Answers.{Outcome};
 ghost use Rattle.spec_answers.specs.Answers.Outcome.{outcome};
+use layout::CHILDREN_HEADS;
+use layout::CHILDREN_TAILS;
+use layout::NONE;
+use layout::QUEUE_HEADS;
+use layout::RIGHT_HEADS;
+use layout::RIGHT_TAILS;
+use layout::UNFINISHED;
+use layout::USER_HEADS;
+use layout::USER_TAILS;
 use spec_answers::Answer;
 
 fn choose(b: bool, v: u32, w: u32) -> u32
@@ -19,146 +27,87 @@ fn choose(b: bool, v: u32, w: u32) -> u32
     if b { v } else { w }
 }
 
-// What the child gets of the queue view of q, and of word k + q of its spawner's user views.
-fn passed_queue(m: &[u32], t: u32, r: u32, q: u32) -> u32
-    requires { ⌜ q < 4 ⌝ }
-    ensures { λ w. ⌜ w ≡ passedQueue r (read (now (m .entry)) (task t (16 + q))) q ⌝ }
-{
-    choose(rights::pops(r, q), memory::task(m, t, 16 + q), 4294967295)
-}
-
-fn passed_user(m: &[u32], t: u32, r: u32, k: u32, q: u32) -> u32
+// What the child gets of word k + q of the record of t: the word where a has a right to q.
+fn passed(m: &[u32], t: u32, a: u32, k: u32, q: u32) -> u32
     requires { ⌜ (q < 4) × (k ≤ 40) ⌝ }
-    ensures { λ w. ⌜ w ≡ passedUser r (read (now (m .entry)) (task t (k + q))) q ⌝ }
+    ensures { λ w. ⌜ w ≡ passedUser a (read (now (m .entry)) (task t (k + q))) q ⌝ }
 {
-    choose(rights::uses(r, q), memory::task(m, t, k + q), 4294967295)
+    choose(rights::uses(a, q), memory::task(m, t, k + q), NONE)
 }
 
-// What the spawner keeps.
-fn kept_queue(m: &[u32], t: u32, r: u32, q: u32) -> u32
-    requires { ⌜ q < 4 ⌝ }
-    ensures { λ w. ⌜ w ≡ keptQueue r (read (now (m .entry)) (task t (16 + q))) q ⌝ }
-{
-    choose(rights::pops(r, q), 4294967295, memory::task(m, t, 16 + q))
-}
-
-fn kept_user(m: &[u32], t: u32, r: u32, k: u32, q: u32) -> u32
+// What t keeps of it.
+fn kept(m: &[u32], t: u32, a: u32, k: u32, q: u32) -> u32
     requires { ⌜ (q < 4) × (k ≤ 40) ⌝ }
-    ensures { λ w. ⌜ w ≡ keptUser r (read (now (m .entry)) (task t (k + q))) q ⌝ }
+    ensures { λ w. ⌜ w ≡ keptUser a (read (now (m .entry)) (task t (k + q))) q ⌝ }
 {
-    choose(rights::uses(r, q), 4294967295, memory::task(m, t, k + q))
+    choose(rights::uses(a, q), NONE, memory::task(m, t, k + q))
 }
 
-// Four words from word k of the record of c on.
-fn set_four(m: &mut [u32], c: u32, k: u32, w0: u32, w1: u32, w2: u32, w3: u32)
-    requires { ⌜ (c < 128) × (k < 48) ⌝ }
-    ensures { λ _. ⌜ now (m .exit) ≡ storeAll (now (m .entry)) (address (task c k)) (w0 ∷ w1 ∷ w2 ∷ w3 ∷ []) ⌝ }
+// The four words from word k on of the record of child c of t.
+fn pass(m: &mut [u32], c: u32, t: u32, a: u32, k: u32)
+    requires { ⌜ k ≤ 40 ⌝ }
+    ensures { λ _. ⌜ now (m .exit) ≡ storeAll (now (m .entry)) (address (task c k))
+        (forQueues (λ q. passedUser a (read (now (m .entry)) (task t (k + q))) q)) ⌝ }
 {
-    memory::put4(m, 1472 + c * 48 + k, w0, w1, w2, w3);
+    let w0 = passed(m, t, a, k, 0);
+    let w1 = passed(m, t, a, k, 1);
+    let w2 = passed(m, t, a, k, 2);
+    let w3 = passed(m, t, a, k, 3);
+    memory::set_four(m, c, k, w0, w1, w2, w3);
+}
+
+fn keep(m: &mut [u32], t: u32, a: u32, k: u32)
+    requires { ⌜ k ≤ 40 ⌝ }
+    ensures { λ _. ⌜ now (m .exit) ≡ storeAll (now (m .entry)) (address (task t k)) (forQueues (λ q. keptUser a (read (now (m .entry)) (task t (k + q))) q)) ⌝ }
+{
+    let w0 = kept(m, t, a, k, 0);
+    let w1 = kept(m, t, a, k, 1);
+    let w2 = kept(m, t, a, k, 2);
+    let w3 = kept(m, t, a, k, 3);
+    memory::set_four(m, t, k, w0, w1, w2, w3);
 }
 
 fn set_none(m: &mut [u32], c: u32, k: u32)
-    requires { ⌜ (c < 128) × (k < 48) ⌝ }
     ensures { λ _. ⌜ now (m .exit) ≡ storeAll (now (m .entry)) (address (task c k)) noWords ⌝ }
 {
-    set_four(m, c, k, 4294967295, 4294967295, 4294967295, 4294967295);
+    memory::set_four(m, c, k, NONE, NONE, NONE, NONE);
 }
 
-fn pass_queues(m: &mut [u32], c: u32, t: u32, r: u32)
-    requires { ⌜ c < 128 ⌝ }
-    ensures { λ _. ⌜ now (m .exit) ≡ storeAll (now (m .entry)) (address (task c 16))
-        (forQueues (λ q. passedQueue r (read (now (m .entry)) (task t (16 + q))) q)) ⌝ }
-{
-    let w0 = passed_queue(m, t, r, 0);
-    let w1 = passed_queue(m, t, r, 1);
-    let w2 = passed_queue(m, t, r, 2);
-    let w3 = passed_queue(m, t, r, 3);
-    set_four(m, c, 16, w0, w1, w2, w3);
-}
-
-fn pass_users(m: &mut [u32], c: u32, t: u32, r: u32, k: u32)
-    requires { ⌜ (c < 128) × (k ≤ 40) ⌝ }
-    ensures { λ _. ⌜ now (m .exit) ≡ storeAll (now (m .entry)) (address (task c k))
-        (forQueues (λ q. passedUser r (read (now (m .entry)) (task t (k + q))) q)) ⌝ }
-{
-    let w0 = passed_user(m, t, r, k, 0);
-    let w1 = passed_user(m, t, r, k, 1);
-    let w2 = passed_user(m, t, r, k, 2);
-    let w3 = passed_user(m, t, r, k, 3);
-    set_four(m, c, k, w0, w1, w2, w3);
-}
-
-fn keep_queues(m: &mut [u32], t: u32, r: u32)
-    requires { ⌜ t < 128 ⌝ }
-    ensures { λ _. ⌜ now (m .exit) ≡ storeAll (now (m .entry)) (address (task t 16))
-        (forQueues (λ q. keptQueue r (read (now (m .entry)) (task t (16 + q))) q)) ⌝ }
-{
-    let w0 = kept_queue(m, t, r, 0);
-    let w1 = kept_queue(m, t, r, 1);
-    let w2 = kept_queue(m, t, r, 2);
-    let w3 = kept_queue(m, t, r, 3);
-    set_four(m, t, 16, w0, w1, w2, w3);
-}
-
-fn keep_users(m: &mut [u32], t: u32, r: u32, k: u32)
-    requires { ⌜ (t < 128) × (k ≤ 40) ⌝ }
-    ensures { λ _. ⌜ now (m .exit) ≡ storeAll (now (m .entry)) (address (task t k)) (forQueues (λ q. keptUser r (read (now (m .entry)) (task t (k + q))) q)) ⌝ }
-{
-    let w0 = kept_user(m, t, r, k, 0);
-    let w1 = kept_user(m, t, r, k, 1);
-    let w2 = kept_user(m, t, r, k, 2);
-    let w3 = kept_user(m, t, r, k, 3);
-    set_four(m, t, k, w0, w1, w2, w3);
-}
-
-// The views of child c of task t.
+// The views of child c of task t. The queue views go by the pop rights alone.
 fn child_views(m: &mut [u32], c: u32, t: u32, r: u32)
-    requires { ⌜ c < 128 ⌝ }
     ensures { λ _. ⌜ now (m .exit) ≡ storeAll (now (m .entry)) (address (task c 16)) (childViews (now (m .entry)) t r) ⌝ }
 {
-    pass_queues(m, c, t, r);
-    set_none(m, c, 20);
-    pass_users(m, c, t, r, 24);
-    set_none(m, c, 28);
-    set_none(m, c, 32);
-    pass_users(m, c, t, r, 36);
-    set_none(m, c, 40);
+    pass(m, c, t, rights::pop_rights(r), QUEUE_HEADS);
+    set_none(m, c, CHILDREN_HEADS);
+    pass(m, c, t, r, USER_HEADS);
+    set_none(m, c, RIGHT_HEADS);
+    set_none(m, c, CHILDREN_TAILS);
+    pass(m, c, t, r, USER_TAILS);
+    set_none(m, c, RIGHT_TAILS);
 }
 
 // What t keeps of its views.
 fn pass_on(m: &mut [u32], t: u32, r: u32)
-    requires { ⌜ t < 128 ⌝ }
     ensures { λ _. ⌜ now (m .exit) ≡ passedOn (now (m .entry)) t r ⌝ }
 {
-    keep_queues(m, t, r);
-    keep_users(m, t, r, 24);
-    keep_users(m, t, r, 36);
-}
-
-// The links of child c of task t, with the sibling o next to it.
-fn child_links(m: &mut [u32], c: u32, r: u32, t: u32, o: u32)
-    requires { ⌜ c < 128 ⌝ }
-    ensures { λ _. ⌜ now (m .exit) ≡ storeAll (now (m .entry)) (address (task c 0)) (UNFINISHED ∷ r ∷ t ∷ o ∷ NONE ∷ NONE ∷ []) ⌝ }
-{
-    set_four(m, c, 0, 1, r, t, o);
-    memory::set_task(m, c, 4, 4294967295);
-    memory::set_task(m, c, 5, 4294967295);
+    keep(m, t, rights::pop_rights(r), QUEUE_HEADS);
+    keep(m, t, r, USER_HEADS);
+    keep(m, t, r, USER_TAILS);
 }
 
 // Child c of t, with rights r: the youngest child from now on.
 fn make_child(m: &mut [u32], t: u32, r: u32, c: u32)
-    requires { ⌜ (c < 128) × (t < 128) ⌝ }
     ensures { λ _. ⌜ now (m .exit) ≡ childMade (now (m .entry)) t r c ⌝ }
 {
-    let o = memory::task(m, t, 5);
-    child_links(m, c, r, t, o);
+    let o = memory::youngest(m, t);
+    memory::set_links(m, c, UNFINISHED, r, t, o, NONE, NONE);
     child_views(m, c, t, r);
     pass_on(m, t, r);
-    memory::set_task(m, t, 5, c);
-    if o == 4294967295 {
+    memory::set_youngest(m, t, c);
+    if o == NONE {
         return;
     }
-    memory::set_task(m, o, 4, c);
+    memory::set_younger(m, o, c);
 }
 
 // Spawn on memory that passes the rules.
@@ -169,18 +118,18 @@ pub fn spawn(m: &mut [u32], t: u32, r: u32) -> Answer
     if !walks::unfinished(m, t) {
         return Answer::Refused(4);
     }
-    if !rights::subset(r, memory::task(m, t, 1)) {
+    if !rights::subset(r, memory::rights(m, t)) {
         return Answer::Refused(6);
     }
     if walks::blocked(m, t) {
         return Answer::Waits;
     }
-    let h = memory::header(m, 3);
+    let h = memory::free_tasks(m);
     if h == 0 {
         return Answer::Refused(8);
     }
     let c = memory::free_task(m, h - 1);
-    memory::set_header(m, 3, h - 1);
+    memory::set_free_tasks(m, h - 1);
     make_child(m, t, r, c);
     Answer::Moved(c)
 }

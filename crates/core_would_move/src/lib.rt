@@ -3,16 +3,10 @@ ghost use mathlib.Core.Path.{_≡_};
 ghost use Prim.Native.Nat.{_<_};
 ghost use Rattle.spec_layout.specs.Layout.{freeSegments, read};
 ghost use Rattle.spec_runner.specs.Moves.{fitsApart, hasRoom, valueFits, pushMoves, spawnMoves, decided, findMoves, syncMoves, finishMoves};
+use layout::NL;
+use layout::QUEUES;
+use layout::USER;
 use spec_answers::Finding;
-
-const NL: u32 = 4294967294;
-
-const USER: u32 = 1;
-
-const RIGHTS: u32 = 1;
-
-// The header's word with the height of the stack of free records.
-const FREE_TASKS: u32 = 3;
 
 // A new segment's head can be reduced into the view at mark x.
 fn fits_apart(m: &[u32], q: u32, x: u32) -> bool
@@ -20,9 +14,9 @@ fn fits_apart(m: &[u32], q: u32, x: u32) -> bool
     ensures { λ b. ⌜ b ≡ fitsApart (now (m .entry)) q x ⌝ }
 {
     let y = walks::task_at(x);
-    let k = core_push::kind_at(x);
-    let h = views::head(m, k, y, q);
-    let e = views::tail(m, k, y, q);
+    let k = walks::kind_at(x);
+    let h = memory::head(m, k, y, q);
+    let e = memory::tail(m, k, y, q);
     views::reducible(h, e, segments::next_free(m, q), NL)
 }
 
@@ -30,7 +24,7 @@ fn fits_apart(m: &[u32], q: u32, x: u32) -> bool
 fn has_room(m: &[u32], q: u32, e: u32) -> bool
     ensures { λ b. ⌜ b ≡ hasRoom (now (m .entry)) q e ⌝ }
 {
-    if memory::segment(m, e, 1) < memory::header(m, 0) {
+    if memory::count(m, e) < memory::length_of(m, e) {
         return true;
     }
     !segments::none_free(m, q)
@@ -41,8 +35,8 @@ fn value_fits(m: &[u32], t: u32, q: u32) -> bool
     requires { ⌜ q < 4 ⌝ }
     ensures { λ b. ⌜ b ≡ valueFits (now (m .entry)) t q ⌝ }
 {
-    let e = views::tail(m, USER, t, q);
-    if views::is_empty(views::head(m, USER, t, q), e) {
+    let e = memory::tail(m, USER, t, q);
+    if views::is_empty(memory::head(m, USER, t, q), e) {
         if segments::none_free(m, q) {
             return false;
         }
@@ -57,10 +51,10 @@ fn value_fits(m: &[u32], t: u32, q: u32) -> bool
 pub fn push_moves(m: &[u32], t: u32, q: u32) -> bool
     ensures { λ b. ⌜ b ≡ pushMoves (now (m .entry)) t q ⌝ }
 {
-    if 4 <= q {
+    if QUEUES <= q {
         return false;
     }
-    if !rights::pushes(memory::task(m, t, RIGHTS), q) {
+    if !rights::pushes(memory::rights(m, t), q) {
         return false;
     }
     value_fits(m, t, q)
@@ -70,10 +64,10 @@ pub fn push_moves(m: &[u32], t: u32, q: u32) -> bool
 pub fn spawn_moves(m: &[u32], t: u32, a: u32) -> bool
     ensures { λ b. ⌜ b ≡ spawnMoves (now (m .entry)) t a ⌝ }
 {
-    if !rights::subset(a, memory::task(m, t, RIGHTS)) {
+    if !rights::subset(a, memory::rights(m, t)) {
         return false;
     }
-    memory::header(m, FREE_TASKS) != 0
+    memory::free_tasks(m) != 0
 }
 
 fn decided(f: Finding) -> bool
@@ -90,10 +84,10 @@ fn decided(f: Finding) -> bool
 pub fn find_moves(m: &[u32], t: u32, q: u32) -> bool
     ensures { λ b. ⌜ b ≡ findMoves (now (m .entry)) t q ⌝ }
 {
-    if 4 <= q {
+    if QUEUES <= q {
         return false;
     }
-    if !rights::pops(memory::task(m, t, RIGHTS), q) {
+    if !rights::pops(memory::rights(m, t), q) {
         return false;
     }
     decided(core_pop::find(m, t, q))

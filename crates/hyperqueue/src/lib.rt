@@ -19,7 +19,7 @@ use spec_answers::Answer;
 fn refusal(m: &[u32]) -> u32
     ensures { λ k. ⌜ k ≡ memoryRefusal (now (m .entry)) ⌝ }
 {
-    if m.len() != 16384 {
+    if m.len() != layout::WORDS {
         return 1;
     }
     if !memory_test::rules_hold(m) {

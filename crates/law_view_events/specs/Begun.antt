@@ -20,7 +20,7 @@ use Rattle.spec_rules.specs.Contents.{decode}
 use Rattle.spec_rules.specs.Test.{within, inRange, topTest, idleTest, treeTest, segmentTest, viewTests}
 use Rattle.law_rules_views.specs.Marks.{yes-no}
 use Rattle.spec_view_events.specs.Events.{events}
-use Rattle.spec_view_events.specs.Run.{run}
+use Rattle.spec_view_events.specs.Run.{PLACED, run}
 use Rattle.spec_view_events.specs.Does.{Ready}
 use Rattle.spec_view_events.specs.Walk.{Marks}
 use Rattle.spec_view_events.specs.Parts.{number-at}
@@ -103,14 +103,14 @@ module _ (m xs : List ℕ) (b : Begun m xs) where
       no-free e = sym (both-on (first ∙ good) ∙ both-off _ (sym free ∙ e)) ∙ law
 
       pub all-views : (d : List ℕ) → y ≡ true → d ≡ marking (decode m .free) (replicate 256 0)
-          → run (decode m) (events (decode m) xs) d d (set (replicate 12 0) 8 (getD m 2 0)) ≡ viewTests (decode m) xs
+          → run (decode m) (events (decode m) xs) d d (set (replicate 12 0) PLACED (getD m 2 0)) ≡ viewTests (decode m) xs
       unfolding coded store
       all-views d e p =
-          ap (λ (l : List ℕ). run (decode m) (events (decode m) xs) l l (set (replicate 12 0) 8 (getD m 2 0))) p
+          ap (λ (l : List ℕ). run (decode m) (events (decode m) xs) l l (set (replicate 12 0) PLACED (getD m 2 0))) p
           ∙ ap
           (λ (k : ℕ).
           run (decode m) (events (decode m) xs) (marking (decode m .free) (replicate 256 0)) (marking (decode m .free) (replicate 256 0))
-          (set (replicate 12 0) 8 k))
+          (set (replicate 12 0) PLACED k))
           (sym free-length)
           ∙ sym (both-on (first ∙ good) ∙ both-on (sym free ∙ e))
           ∙ law

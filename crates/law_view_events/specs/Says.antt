@@ -19,7 +19,7 @@ use Rattle.spec_rules.specs.Test.{chains}
 use Rattle.law_rules_views.specs.Marks.{yes-no}
 use Rattle.spec_view_events.specs.Events.{Event}
 use Rattle.spec_view_events.specs.Events.Event.{entry, owner, order, tail, head}
-use Rattle.spec_view_events.specs.Run.{fourOnes, whole, run, raised}
+use Rattle.spec_view_events.specs.Run.{ORDERS, SEEN, PLACED, HEADS, TAILS, fourOnes, whole, run, raised}
 use Rattle.law_view_events.specs.Good.{Good, Queued, allowed, orderFrom, ownersOf, tailsOf, headsOf}
 use Rattle.law_view_events.specs.State.{Reads, reads-order, reads-owner, reads-tail, reads-head}
 use Rattle.law_view_events.specs.Conses.{same-good, same-back, no-owner, no-order, no-tail, no-head, add-entry, off-entry, add-owner, off-owner, add-order}
@@ -57,8 +57,8 @@ module _ (c : Contents) (small : c .number ≤ 256) where
         let j = sym (r .heads) ∙ eqb-true _ _ (z .1) ∙ r .tails in
         record {
           words = refl;
-          ordered = λ q l. sym (r .order q l) ∙ ap (load w) (let k : q ≡ 0 + q = omega arith in k) ∙ ones-says w 0 (x .0) q l;
-          owned = λ q l. let k = sym (r .owner q l) ∙ ones-says w 4 (y .0) q l in omega (arith, k);
+          ordered = λ q l. sym (r .order q l) ∙ ap (load w) (let k : q ≡ 0 + q = omega arith in k) ∙ ones-says w ORDERS (x .0) q l;
+          owned = λ q l. let k = sym (r .owner q l) ∙ ones-says w SEEN (y .0) q l in omega (arith, k);
           heads = record { placed = refl; full = refl; sum = omega (arith, i, small) };
           tails = record { new = refl; lasts = refl };
           many = omega (arith, j);
@@ -67,8 +67,8 @@ module _ (c : Contents) (small : c .number ≤ 256) where
     says-end : Good c [] d f o p a b e → whole c w ≡ true
     unfolding whole allowed orderFrom ownersOf tailsOf headsOf chains
     says-end g =
-        true-both (says-ones w 0 (λ q l. ap (load w) (let k : 0 + q ≡ q = omega arith in k) ∙ r .order q l ∙ g .ordered q l))
-        (true-both (says-ones w 4 (λ q l. r .owner q l ∙ (let k = g .owned q l in omega (arith, k))))
+        true-both (says-ones w ORDERS (λ q l. ap (load w) (let k : 0 + q ≡ q = omega arith in k) ∙ r .order q l ∙ g .ordered q l))
+        (true-both (says-ones w SEEN (λ q l. r .owner q l ∙ (let k = g .owned q l in omega (arith, k))))
         (true-both (eq-eqb _ _ (r .placed ∙ (let k = g .heads .sum in let i = r .placed-fits in omega (arith, k, i))))
         (eq-eqb _ _ (r .heads ∙ (let k = g .many in let i = r .heads-fits in let j = r .tails-fits in omega (arith, k, i, j)) ∙ sym (r .tails)))))
 
@@ -83,7 +83,7 @@ module _ (c : Contents) (small : c .number ≤ 256) where
       let k = both-true _ _ (sym (pass _ (ne-eqb _ _ z) refl) ∙ t) in
       let m = both-true _ _ (k .1) in
       add-owner i x (q .0) z (eqb-false _ _ (not-true _ (k .0))) (sym (r .owner i (q .0)) ∙ eqb-true _ _ (m .0))
-      (run-says es d f (store w (4 + i) 1) (q .1) (reads-owner r i (q .0)) (m .1)))
+      (run-says es d f (store w (SEEN + i) 1) (q .1) (reads-owner r i (q .0)) (m .1)))
       (equal? x NONE)
   run-says (order u i h x ∷ es) d f w q r t =
       ⊎-elim
@@ -99,7 +99,7 @@ module _ (c : Contents) (small : c .number ≤ 256) where
       let k = both-true _ _ (sym (pass _ z refl) ∙ t) in
       let m = both-true _ _ (k .1) in
       let n = both-true _ _ (m .1) in
-      add-tail c es d f o p a b e x (leb-false _ _ z) (k .0) (m .0) (n .0) (run-says es d (store f x 1) (raised w 10 1) q (reads-tail r) (n .1)))
+      add-tail c es d f o p a b e x (leb-false _ _ z) (k .0) (m .0) (n .0) (run-says es d (store f x 1) (raised w TAILS 1) q (reads-tail r) (n .1)))
       (yes-no (leb NL x))
   run-says (head x ∷ es) d f w {o} {p} {a} {b} {e} q r t =
       ⊎-elim
@@ -108,7 +108,7 @@ module _ (c : Contents) (small : c .number ≤ 256) where
       let k = both-true _ _ (sym (pass _ z refl) ∙ t) in
       let m = both-true _ _ (k .1) in
       add-head c es d f o p a b e x (leb-false _ _ z) (k .0) (m .0)
-      (run-says es (marking (segs c x) d) f (raised (raised w 8 (length (segs c x))) 9 1) q (reads-head r (length (segs c x))) (m .1)))
+      (run-says es (marking (segs c x) d) f (raised (raised w PLACED (length (segs c x))) HEADS 1) q (reads-head r (length (segs c x))) (m .1)))
       (yes-no (leb NL x))
 
   pub says-run : (es : List Event) (d f w : List ℕ) {o p : ℕ → ℕ} {a b e : ℕ} → Queued es → Reads w o p a b e → Good c es d f o p a b e → run c es d f w ≡ true
@@ -122,7 +122,7 @@ module _ (c : Contents) (small : c .number ≤ 256) where
       let k = off-owner i x (q .0) z g in
       pass _ (ne-eqb _ _ z)
       (true-both (ap not (ne-eqb _ _ (k .0)))
-      (true-both (eq-eqb _ _ (r .owner i (q .0) ∙ k .1)) (says-run es d f (store w (4 + i) 1) (q .1) (reads-owner r i (q .0)) (k .2)))))
+      (true-both (eq-eqb _ _ (r .owner i (q .0) ∙ k .1)) (says-run es d f (store w (SEEN + i) 1) (q .1) (reads-owner r i (q .0)) (k .2)))))
       (equal? x NONE)
   says-run (order u i h x ∷ es) d f w q r g =
       ⊎-elim
@@ -136,7 +136,7 @@ module _ (c : Contents) (small : c .number ≤ 256) where
       (λ z. halt _ _ z ∙ says-run es d f w q r (same-good (same-back (no-tail es x (leb-true _ _ z))) g))
       (λ z.
       let k = off-tail c es d f o p a b e x (leb-false _ _ z) g in
-      pass _ z (true-both (k .0) (true-both (k .1) (true-both (k .2) (says-run es d (store f x 1) (raised w 10 1) q (reads-tail r) (k .3))))))
+      pass _ z (true-both (k .0) (true-both (k .1) (true-both (k .2) (says-run es d (store f x 1) (raised w TAILS 1) q (reads-tail r) (k .3))))))
       (yes-no (leb NL x))
   says-run (head x ∷ es) d f w {o} {p} {a} {b} {e} q r g =
       ⊎-elim
@@ -144,5 +144,5 @@ module _ (c : Contents) (small : c .number ≤ 256) where
       (λ z.
       let k = off-head c es d f o p a b e x (leb-false _ _ z) g in
       pass _ z (true-both (k .0) (true-both (k .1)
-      (says-run es (marking (segs c x) d) f (raised (raised w 8 (length (segs c x))) 9 1) q (reads-head r (length (segs c x))) (k .2)))))
+      (says-run es (marking (segs c x) d) f (raised (raised w PLACED (length (segs c x))) HEADS 1) q (reads-head r (length (segs c x))) (k .2)))))
       (yes-no (leb NL x))

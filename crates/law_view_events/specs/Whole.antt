@@ -20,7 +20,7 @@ use Rattle.law_rules_tasks.specs.Visits.{marks-once}
 use Rattle.law_rules_tasks.specs.Tasks.{tour-whole, entered-holders, marks-held, holders-exited}
 use Rattle.law_rules_views.specs.Toured.{Toured}
 use Rattle.spec_view_events.specs.Events.{events}
-use Rattle.spec_view_events.specs.Run.{run}
+use Rattle.spec_view_events.specs.Run.{PLACED, run}
 use Rattle.law_view_events.specs.Good.{tailsOf, headsOf}
 use Rattle.law_view_events.specs.State.{Reads}
 use Rattle.law_view_events.specs.Says.{run-says, says-run}
@@ -30,7 +30,7 @@ use Rattle.law_view_events.specs.Held.{D, holds-held, held-holds, held-c
 
 -- the state at the start, where n segments are free
 abbrev pub W : ℕ → List ℕ
-W n = store (replicate 12 0) 8 n
+W n = store (replicate 12 0) PLACED n
 
 -- the test that the code makes
 unfoldable pub coded : Contents → List ℕ → Bool

@@ -2,12 +2,13 @@
 ghost use mathlib.Core.Path.{_≡_};
 ghost use lib.ListN.{length};
 ghost use Rattle.spec_rules.specs.Test.{rulesHold};
+use layout::MARKS;
 
 pub fn rules_hold(m: &[u32]) -> bool
     requires { ⌜ length (now m) ≡ 16384 ⌝ }
     ensures { λ r. ⌜ r ≡ rulesHold (now (m .entry)) ⌝ }
 {
-    if !tree_test::in_range(memory::header(m, 0), memory::header(m, 1)) {
+    if !tree_test::in_range(memory::length_of(m, 0), memory::number(m)) {
         return false;
     }
     if !tree_test::few_free(m) {
@@ -19,7 +20,7 @@ pub fn rules_hold(m: &[u32]) -> bool
     if !tree_test::idle_ok(m) {
         return false;
     }
-    let k = 256 - 2 * memory::header(m, 3);
+    let k = MARKS - 2 * memory::free_tasks(m);
     let mut xs = [0u32; 256];
     if !tree_test::tree_ok(m, &mut xs, k) {
         return false;

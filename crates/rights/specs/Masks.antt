@@ -6,11 +6,10 @@ use native.Mathlib.Omega.{arith}
 use lib.Dec.{eqb}
 use lib.Bits.{bitAnd, and-zero-r, and-lt, and-block, and-shr, and-mod}
 use borrow.Author.Tests.{lt-ltb, le-ltb, eq-eqb, ne-eqb, eqb-true, eqb-false}
-use Rattle.spec_words.specs.Words.{pick, both, both-right-on, either, pass, both-on}
-use Rattle.spec_tree.specs.Rights.{bits, pushes, pops, eachQueue, someQueue, sharesPop, subset}
+use Rattle.spec_words.specs.Words.{pick, both, both-right-on, both-right-off, either, pass, both-on}
+use Rattle.spec_tree.specs.Rights.{bits, pushes, pops, uses, eachQueue, someQueue, sharesPop, subset}
 use Rattle.spec_tree.specs.Queues.{by-four}
 
--- a fact of the numbers below 4 by its four cases
 -- the shift by 2q
 pub shift : (r q : ℕ) → q < 4 → r / 2 ^ (q * 2) % 4 ≡ bits r q
 unfolding bits
@@ -172,3 +171,30 @@ subset-mask a b h =
 pub subset-wide : (a b : ℕ) → 256 ≤ a → false ≡ subset a b
 unfolding subset both
 subset-wide a b h = sym (pass _ (le-ltb a 256 h) refl)
+
+-- POP RIGHTS ALONE
+pair-pops : (u : ℕ) → u < 4 → not (eqb (bitAnd u 2) 0) ≡ popPair u
+pair-pops u h = by-four (λ u. not (eqb (bitAnd u 2) 0) ≡ popPair u) refl refl refl refl u h
+
+pops-kept : (r k : ℕ) → 170 / 2 ^ k % 4 ≡ 2 → not (eqb (bitAnd r 170 / 2 ^ k % 4) 0) ≡ popPair (r / 2 ^ k % 4)
+pops-kept r k e =
+    ap (λ (n : ℕ). not (eqb n 0)) (ap (λ (n : ℕ). n % 4) (and-shr r 170 k) ∙ and-mod (r / 2 ^ k) (170 / 2 ^ k) 2 ∙ ap (bitAnd (r / 2 ^ k % 4)) e)
+    ∙ pair-pops (r / 2 ^ k % 4) (omega arith)
+
+pub pops-mask : (r q : ℕ) → q < 4 → uses (bitAnd r 170) q ≡ pops r q
+unfolding uses pops bits
+pops-mask r q h =
+    by-four (λ q. not (eqb (bitAnd r 170 / 4 ^ q % 4) 0) ≡ popPair (r / 4 ^ q % 4))
+    (pops-kept r 0 refl) (pops-kept r 2 refl) (pops-kept r 4 refl) (pops-kept r 6 refl) q h
+
+-- a pop right alone is shared by who has it
+either-no : (b : Bool) → either false b ≡ b
+unfolding either pick
+either-no b = refl
+
+pub shares-one : (q : ℕ) → q < 4 → (r : ℕ) → sharesPop r (2 * 2 ^ (q * 2) % 2 ^ 32) ≡ pops r q
+unfolding sharesPop someQueue pops bits
+shares-one q h r =
+    by-four (λ q. sharesPop r (2 * 2 ^ (q * 2) % 2 ^ 32) ≡ pops r q)
+    (simp (both-right-on, both-right-off, either-no, either-false)) (simp (both-right-on, both-right-off, either-no, either-false))
+    (simp (both-right-on, both-right-off, either-no, either-false)) (simp (both-right-on, both-right-off, either-no)) q h

@@ -9,16 +9,25 @@ ghost use Rattle.spec_lists.specs.Marks.{marking};
 ghost use Rattle.spec_rules.specs.Contents.{decode};
 ghost use Rattle.spec_rules.specs.Test.{segmentTest};
 ghost use Rattle.spec_view_events.specs.Does.{Ready};
-
-const NONE: u32 = 4294967295;
+use layout::COUNT_AT;
+use layout::FIRST_AT;
+use layout::FREE_SEGMENTS_AT;
+use layout::LENGTH_AT;
+use layout::NEXT_AT;
+use layout::NONE;
+use layout::NUMBER_AT;
+use layout::SEGMENT_STACK;
+use layout::SEGMENT_WORDS;
 
 // First place, count and next of segment s. All three are looked at, so that a loop over segments has no early exit.
 fn sound(m: &[u32], s: usize) -> bool
     requires { ⌜ (length (now m) ≡ 16384) × (s < 256) ⌝ }
     ensures { λ b. ⌜ b ≡ segmentTest (decode (now (m .entry))) s ⌝ }
 {
-    let next = m[450 + s * 4];
-    (m[448 + s * 4] < m[0]) & (m[449 + s * 4] <= m[0]) & ((next < m[1]) | (next == NONE))
+    let next = m[NEXT_AT + s * SEGMENT_WORDS];
+    (m[FIRST_AT + s * SEGMENT_WORDS] < m[LENGTH_AT])
+        & (m[COUNT_AT + s * SEGMENT_WORDS] <= m[LENGTH_AT])
+        & ((next < m[NUMBER_AT]) | (next == NONE))
 }
 
 // All segments opened.
@@ -26,7 +35,7 @@ pub fn segments_hold(m: &[u32]) -> bool
     requires { ⌜ Ready (now m) ⌝ }
     ensures { λ b. ⌜ b ≡ upto (segmentTest (decode (now (m .entry)))) (getD (now (m .entry)) 1 0) 0 ⌝ }
 {
-    let n = m[1] as usize;
+    let n = m[NUMBER_AT] as usize;
     let mut good = true;
     let mut s: usize = 0;
     while s < n {
@@ -42,11 +51,11 @@ pub fn mark_free(d: &mut [u8; 256], m: &[u32]) -> bool
     ensures { λ b. ⌜ (b ≡ fresh (decode (now (m .entry)) .number) (decode (now (m .entry)) .free) (now (d .entry)))
         × (b ≡ true → now (d .exit) ≡ marking (decode (now (m .entry)) .free) (now (d .entry))) ⌝ }
 {
-    let n = m[1];
-    let h = m[2] as usize;
+    let n = m[NUMBER_AT];
+    let h = m[FREE_SEGMENTS_AT] as usize;
     let mut i: usize = 0;
     while i < h {
-        let s = m[64 + i];
+        let s = m[SEGMENT_STACK + i];
         if s >= n {
             return false;
         }

@@ -12,9 +12,18 @@ ghost use Rattle.spec_tree.specs.Tour.{MARKS, seek};
 ghost use Rattle.spec_outcomes.specs.Segments.{place, valueAt, stored, dropped, noneFree, nextFree, taken, released};
 ghost use Rattle.spec_outcomes.specs.Segments.{headIndex, linkedBy, renamed, linked};
 ghost use Rattle.segments.specs.Names.{freeStack, held, freeMarks, nextIs, headHere};
+use layout::END;
+use layout::MARKS;
+use layout::NONE;
+use layout::QUEUE_HEADS;
+use layout::SEGMENT_STACK;
+use layout::SEGMENTS;
+use layout::TASKS;
+use layout::VALUES;
+use layout::VIEW_HEADS;
 
 // The place of value number k in a ring of l places, the first value at place f.
-pub fn place(l: u32, f: u32, k: u32) -> u32
+fn place(l: u32, f: u32, k: u32) -> u32
     ensures { λ r. ⌜ r ≡ place l f k ⌝ }
 {
     let n = l as usize;
@@ -33,9 +42,9 @@ pub fn place(l: u32, f: u32, k: u32) -> u32
 pub fn value_at(m: &[u32], s: u32, k: u32) -> u32
     ensures { λ r. ⌜ r ≡ valueAt (now (m .entry)) s k ⌝ }
 {
-    let l = memory::header(m, 0);
-    let p = place(l, memory::segment(m, s, 0), k);
-    memory::get(m, 8192 + (s as usize * l as usize + p as usize))
+    let l = memory::length_of(m, s);
+    let p = place(l, memory::first(m, s), k);
+    memory::get(m, VALUES + (s as usize * l as usize + p as usize))
 }
 
 // It is lent the values of one segment.
@@ -50,7 +59,7 @@ fn store_at(m: &mut [u32], s: u32, l: u32, at: u32, v: u32)
     requires { ⌜ (at < l) × (8192 + (s * l + l) ≤ length (now m)) ⌝ }
     ensures { λ _. ⌜ now (m .exit) ≡ write (now (m .entry)) (value (s * l + at)) v ⌝ }
 {
-    let a = 8192 + s as usize * l as usize;
+    let a = VALUES + s as usize * l as usize;
     let b = a + l as usize;
     store(&mut m[a..b], at, v);
 }
@@ -61,9 +70,9 @@ fn read_record(m: &[u32], s: u32) -> Record
         × (r .next ≡ read (now (m .entry)) (next s)) ⌝ }
 {
     Record {
-        first: memory::segment(m, s, 0),
-        count: memory::segment(m, s, 1),
-        next: memory::segment(m, s, 2),
+        first: memory::first(m, s),
+        count: memory::count(m, s),
+        next: memory::next(m, s),
     }
 }
 
@@ -73,11 +82,11 @@ pub fn store_one(m: &mut [u32], s: u32, v: u32)
         × (read (now m) lengthWord * read (now m) numberWord ≤ 8192) × (read (now m) (count s) < read (now m) lengthWord) ⌝ }
     ensures { λ _. ⌜ now (m .exit) ≡ stored (now (m .entry)) s v ⌝ }
 {
-    let l = memory::header(m, 0);
+    let l = memory::length_of(m, s);
     let r = read_record(m, s);
     store_at(m, s, l, place(l, r.first, r.count), v);
     let r = segment_record::with_one_more(r);
-    memory::set_segment(m, s, 1, r.count);
+    memory::set_count(m, s, r.count);
 }
 
 // The first value of segment s is gone.
@@ -86,16 +95,16 @@ pub fn drop_one(m: &mut [u32], s: u32)
     ensures { λ _. ⌜ now (m .exit) ≡ dropped (now (m .entry)) s ⌝ }
 {
     let r = read_record(m, s);
-    let p = place(memory::header(m, 0), r.first, 1);
+    let p = place(memory::length_of(m, s), r.first, 1);
     let r = segment_record::with_one_less(r, p);
-    memory::set_segment(m, s, 0, r.first);
-    memory::set_segment(m, s, 1, r.count);
+    memory::set_first(m, s, r.first);
+    memory::set_count(m, s, r.count);
 }
 
 pub fn none_free(m: &[u32], q: u32) -> bool
     ensures { λ r. ⌜ r ≡ noneFree (now (m .entry)) q ⌝ }
 {
-    memory::header(m, 2) == 0
+    memory::free_segments(m, q) == 0
 }
 
 // The segment that is taken next.
@@ -103,16 +112,16 @@ pub fn next_free(m: &[u32], q: u32) -> u32
     requires { ⌜ 0 < read (now m) freeSegments ⌝ }
     ensures { λ r. ⌜ r ≡ nextFree (now (m .entry)) q ⌝ }
 {
-    memory::free_segment(m, memory::header(m, 2) - 1)
+    memory::free_segment(m, memory::free_segments(m, q) - 1)
 }
 
 // The words of the record of segment s: first place, count, next.
 fn set_record(m: &mut [u32], s: u32, f: u32, n: u32, x: u32)
     ensures { λ _. ⌜ now (m .exit) ≡ storeAll (now (m .entry)) (address (segment s 0)) (f ∷ n ∷ x ∷ []) ⌝ }
 {
-    memory::set_segment(m, s, 0, f);
-    memory::set_segment(m, s, 1, n);
-    memory::set_segment(m, s, 2, x);
+    memory::set_first(m, s, f);
+    memory::set_count(m, s, n);
+    memory::set_next(m, s, x);
 }
 
 // The next free segment gets v as its only value, and no next.
@@ -121,11 +130,11 @@ pub fn take(m: &mut [u32], q: u32, v: u32)
         × (0 < read (now m) lengthWord) × (read (now m) lengthWord * read (now m) numberWord ≤ 8192) ⌝ }
     ensures { λ _. ⌜ now (m .exit) ≡ taken (now (m .entry)) q v ⌝ }
 {
-    let l = memory::header(m, 0);
-    let n = memory::header(m, 2);
+    let n = memory::free_segments(m, q);
     let s = memory::free_segment(m, n - 1);
-    memory::set_header(m, 2, n - 1);
-    set_record(m, s, 0, 1, 4294967295);
+    let l = memory::length_of(m, s);
+    memory::set_free_segments(m, q, n - 1);
+    set_record(m, s, 0, 1, NONE);
     store_at(m, s, l, 0, v);
 }
 
@@ -133,47 +142,47 @@ pub fn take(m: &mut [u32], q: u32, v: u32)
 pub fn release(m: &mut [u32], q: u32, s: u32)
     ensures { λ _. ⌜ now (m .exit) ≡ released (now (m .entry)) q s ⌝ }
 {
-    let n = memory::header(m, 2);
+    let n = memory::free_segments(m, q);
     set_record(m, s, 0, 0, 0);
-    if 256 <= n {
+    if SEGMENTS <= n {
         return;
     }
     memory::set_free_segment(m, n, s);
-    memory::set_header(m, 2, n + 1);
+    memory::set_free_segments(m, q, n + 1);
 }
 
-// The place of s among the 16 heads of the views of task t; 16 where it is none of them.
-pub fn head_index(m: &[u32], s: u32, t: u32) -> u32
+// The place of s among the heads of the views of task t; VIEW_HEADS where it is none of them.
+fn head_index(m: &[u32], s: u32, t: u32) -> u32
     ensures { λ r. ⌜ r ≡ headIndex (now (m .entry)) s t ⌝ }
 {
     let mut i: u32 = 0;
-    while i < 16 {
-        if memory::task(m, t, 16 + i) == s {
+    while i < VIEW_HEADS {
+        if memory::task(m, t, QUEUE_HEADS + i) == s {
             return i;
         }
         i += 1;
     }
-    16
+    VIEW_HEADS
 }
 
 fn head_here(m: &[u32], s: u32, x: u32) -> bool
     ensures { λ r. ⌜ r ≡ headHere (now (m .entry)) s x ⌝ }
 {
-    if 128 <= x {
+    if TASKS <= x {
         return false;
     }
-    head_index(m, s, x) < 16
+    head_index(m, s, x) < VIEW_HEADS
 }
 
-// The task with s as the head of a view; 256 where there is none.
+// The task with s as the head of a view; END where there is none.
 fn head_task(m: &[u32], s: u32) -> u32
     ensures { λ r. ⌜ r ≡ seek MARKS (headHere (now (m .entry)) s) (recordOf (now (m .entry))) 0 ⌝ }
 {
     let mut x: u32 = 0;
-    let mut k: u32 = 256;
+    let mut k: u32 = MARKS;
     while 0 < k {
-        if 256 <= x {
-            return 256;
+        if END <= x {
+            return END;
         }
         if head_here(m, s, x) {
             return x;
@@ -181,17 +190,17 @@ fn head_task(m: &[u32], s: u32) -> u32
         x = walks::after(m, x);
         k -= 1;
     }
-    256
+    END
 }
 
 // Segment y is not on the stack of free segments.
 fn held(m: &[u32], q: u32, y: u32) -> bool
     ensures { λ r. ⌜ r ≡ held (now (m .entry)) q y ⌝ }
 {
-    let h = memory::header(m, 2);
+    let h = memory::free_segments(m, q);
     let mut i: u32 = 0;
     while i < h {
-        if m.len() <= 64 + i as usize {
+        if m.len() <= SEGMENT_STACK + i as usize {
             return true;
         }
         if memory::free_segment(m, i) == y {
@@ -216,10 +225,10 @@ fn mark(d: &mut [u8], y: u32)
 fn mark_free(m: &[u32], q: u32, d: &mut [u8])
     ensures { λ _. ⌜ now (d .exit) ≡ marking (freeStack (now (m .entry)) q) (now (d .entry)) ⌝ }
 {
-    let h = memory::header(m, 2);
+    let h = memory::free_segments(m, q);
     let mut i: u32 = 0;
     while i < h {
-        if m.len() <= 64 + i as usize {
+        if m.len() <= SEGMENT_STACK + i as usize {
             return;
         }
         mark(d, memory::free_segment(m, i));
@@ -233,22 +242,22 @@ fn next_is(m: &[u32], q: u32, d: &[u8; 256], s: u32, y: u32) -> bool
     requires { ⌜ now d ≡ freeMarks (now m) q ⌝ }
     ensures { λ r. ⌜ r ≡ nextIs (now (m .entry)) q s y ⌝ }
 {
-    if memory::segment(m, y, 2) != s {
+    if memory::next(m, y) != s {
         return false;
     }
-    if y < 256 {
+    if y < SEGMENTS {
         return d[y as usize] == 0;
     }
     held(m, q, y)
 }
 
 // The segment with s as its next; the number of segments where there is none.
-pub fn linked_by(m: &[u32], q: u32, s: u32) -> u32
+fn linked_by(m: &[u32], q: u32, s: u32) -> u32
     ensures { λ r. ⌜ r ≡ linkedBy (read (now (m .entry)) numberWord) (now (m .entry)) q s 0 ⌝ }
 {
     let mut d = [0u8; 256];
     mark_free(m, q, &mut d);
-    let n = memory::header(m, 1);
+    let n = memory::number(m);
     let mut y: u32 = 0;
     while y < n {
         if next_is(m, q, &d, s, y) {
@@ -260,18 +269,18 @@ pub fn linked_by(m: &[u32], q: u32, s: u32) -> u32
 }
 
 // What names segment s names h instead.
-pub fn rename(m: &mut [u32], q: u32, s: u32, h: u32)
+fn rename(m: &mut [u32], q: u32, s: u32, h: u32)
     ensures { λ _. ⌜ now (m .exit) ≡ renamed (now (m .entry)) q s h ⌝ }
 {
     let t = head_task(m, s);
-    if t < 128 {
+    if t < TASKS {
         let i = head_index(m, s, t);
-        memory::set_task(m, t, 16 + i, h);
+        memory::set_task(m, t, QUEUE_HEADS + i, h);
         return;
     }
     let y = linked_by(m, q, s);
-    if y < memory::header(m, 1) {
-        memory::set_segment(m, y, 2, h);
+    if y < memory::number(m) {
+        memory::set_next(m, y, h);
     }
 }
 
@@ -279,8 +288,8 @@ pub fn rename(m: &mut [u32], q: u32, s: u32, h: u32)
 pub fn link(m: &mut [u32], q: u32, s: u32, h: u32)
     ensures { λ _. ⌜ now (m .exit) ≡ linked (now (m .entry)) q s h ⌝ }
 {
-    let n = memory::segment(m, s, 1);
-    memory::set_segment(m, s, 2, h);
+    let n = memory::count(m, s);
+    memory::set_next(m, s, h);
     if n != 0 {
         return;
     }

@@ -16,7 +16,7 @@ use Rattle.spec_rules.specs.Contents.{Contents}
 use Rattle.spec_rules.specs.Test.{passed}
 use Rattle.spec_view_events.specs.Events.{Event, queueOf, viewOf}
 use Rattle.spec_view_events.specs.Events.Event.{tail, head}
-use Rattle.spec_view_events.specs.Run.{run}
+use Rattle.spec_view_events.specs.Run.{SEEN, run}
 
 -- a step that stops the test, and one after which it goes on
 pub stops : {r z : Bool} (y x : Bool) → r ≡ false → both r y ≡ z → both false x ≡ z
@@ -50,13 +50,13 @@ module _ (c : Contents) (es : List Event) where
       queue-far x z =
           both-off x refl ∙ sym (both-on (true-right _ right) ∙ pass _ (ne-eqb _ _ some) (both-off _ (ap not (eq-eqb _ _ z))))
 
-      pub queue-twice : (x : Bool) → (h ≡ NL → ⊥) → (getD w (4 + q) 0 ≡ 0 → ⊥) → both false x ≡ run c (queueOf u q h es) d f w
+      pub queue-twice : (x : Bool) → (h ≡ NL → ⊥) → (getD w (SEEN + q) 0 ≡ 0 → ⊥) → both false x ≡ run c (queueOf u q h es) d f w
       unfolding run load
       queue-twice x n z =
           both-off x refl
           ∙ sym (both-on (true-right _ right) ∙ pass _ (ne-eqb _ _ some) (both-on (ap not (ne-eqb _ _ n)) ∙ both-off _ (ne-eqb _ _ z)))
 
-      pub queue-open : (h ≡ NL → ⊥) → getD w (4 + q) 0 ≡ 0 → run c (head h ∷ es) d f (set w (4 + q) 1) ≡ run c (queueOf u q h es) d f w
+      pub queue-open : (h ≡ NL → ⊥) → getD w (SEEN + q) 0 ≡ 0 → run c (head h ∷ es) d f (set w (SEEN + q) 1) ≡ run c (queueOf u q h es) d f w
       unfolding run load store
       queue-open n z =
           sym (both-on (true-right _ right) ∙ pass _ (ne-eqb _ _ some) (both-on (ap not (ne-eqb _ _ n)) ∙ both-on (eq-eqb _ _ z)))

@@ -17,7 +17,7 @@ use Rattle.spec_rules.specs.Test.{chain}
 use Rattle.spec_view_events.specs.Both.{grouped}
 use Rattle.spec_view_events.specs.Events.{Event}
 use Rattle.spec_view_events.specs.Events.Event.{tail, head}
-use Rattle.spec_view_events.specs.Run.{raised, filled, run}
+use Rattle.spec_view_events.specs.Run.{PLACED, HEADS, TAILS, raised, filled, run}
 use Rattle.spec_view_events.specs.Place.{placing, answered, placing-chain}
 use Rattle.spec_view_events.specs.Place.Placed.{placed, wrong}
 use Rattle.spec_view_events.specs.Parts.{number-at}
@@ -63,19 +63,19 @@ module _ (m : List ℕ) (es : List Event) where
           both-off x refl
           ∙ sym (pass _ (lt-leb NL h local) (sym (grouped _ _ _) ∙ both-off _ (lost k _ d' _ _ z given)))
 
-      head-placed : (k ≡ 0 → ⊥) → both true (run c es d' f (raised (raised w 8 k) 9 1)) ≡ run c (head h ∷ es) d f w
+      head-placed : (k ≡ 0 → ⊥) → both true (run c es d' f (raised (raised w PLACED k) HEADS 1)) ≡ run c (head h ∷ es) d f w
       unfolding run
       head-placed z =
           let g = won k _ d' _ _ z given in
           let n : k ≡ length segs = g .1 ∙ (let y : 0 + length segs ≡ length segs = omega arith in y) in
           both-on refl
-          ∙ ap₂ (λ (x : List ℕ) (j : ℕ). run c es x f (raised (raised w 8 j) 9 1)) (g .2) n
+          ∙ ap₂ (λ (x : List ℕ) (j : ℕ). run c es x f (raised (raised w PLACED j) HEADS 1)) (g .2) n
           ∙ sym (pass _ (lt-leb NL h local) (sym (grouped _ _ _) ∙ both-on (g .0)))
 
-      pub head-right : (k ≡ 0 → ⊥) → (i j : ℕ) → i ≡ (getD w 8 0 + k) % 2 ^ 32 → j ≡ (getD (set w 8 i) 9 0 + 1) % 2 ^ 32
-          → both true (run c es d' f (set (set w 8 i) 9 j)) ≡ run c (head h ∷ es) d f w
+      pub head-right : (k ≡ 0 → ⊥) → (i j : ℕ) → i ≡ (getD w PLACED 0 + k) % 2 ^ 32 → j ≡ (getD (set w PLACED i) HEADS 0 + 1) % 2 ^ 32
+          → both true (run c es d' f (set (set w PLACED i) HEADS j)) ≡ run c (head h ∷ es) d f w
       head-right z i j p q =
-          ap (λ (x : List ℕ). both true (run c es d' f x)) (raise-at (set w 8 i) 9 1 j q ∙ ap (λ (x : List ℕ). raised x 9 1) (raise-at w 8 k i p))
+          ap (λ (x : List ℕ). both true (run c es d' f x)) (raise-at (set w PLACED i) HEADS 1 j q ∙ ap (λ (x : List ℕ). raised x HEADS 1) (raise-at w PLACED k i p))
           ∙ head-placed z
 
   module _ (d f w : List ℕ) (e : ℕ) where
@@ -100,10 +100,10 @@ module _ (m : List ℕ) (es : List Event) where
         unfolding run load
         tail-inner x new q = both-off x refl ∙ sym (pass _ (lt-leb NL e local) (both-on low ∙ both-on (eq-eqb _ _ new) ∙ both-off _ (ne-eqb _ _ q)))
 
-        tail-seen : getD f e 0 ≡ 0 → part c e 2 ≡ NONE → both true (run c es d (set f e 1) (raised w 10 1)) ≡ run c (tail e ∷ es) d f w
+        tail-seen : getD f e 0 ≡ 0 → part c e 2 ≡ NONE → both true (run c es d (set f e 1) (raised w TAILS 1)) ≡ run c (tail e ∷ es) d f w
         unfolding run load store
         tail-seen new q = both-on refl ∙ sym (pass _ (lt-leb NL e local) (both-on low ∙ both-on (eq-eqb _ _ new) ∙ both-on (eq-eqb _ _ q)))
 
-        pub tail-right : getD f e 0 ≡ 0 → part c e 2 ≡ NONE → (i : ℕ) → i ≡ (getD w 10 0 + 1) % 2 ^ 32
-            → both true (run c es d (set f e 1) (set w 10 i)) ≡ run c (tail e ∷ es) d f w
-        tail-right new q i p = ap (λ (x : List ℕ). both true (run c es d (set f e 1) x)) (raise-at w 10 1 i p) ∙ tail-seen new q
+        pub tail-right : getD f e 0 ≡ 0 → part c e 2 ≡ NONE → (i : ℕ) → i ≡ (getD w TAILS 0 + 1) % 2 ^ 32
+            → both true (run c es d (set f e 1) (set w TAILS i)) ≡ run c (tail e ∷ es) d f w
+        tail-right new q i p = ap (λ (x : List ℕ). both true (run c es d (set f e 1) x)) (raise-at w TAILS 1 i p) ∙ tail-seen new q

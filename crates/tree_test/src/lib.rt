@@ -13,22 +13,28 @@ ghost use Rattle.tree_test.specs.Counted.{faultsFrom, nearFrom, marks};
 ghost use Rattle.tree_test.specs.Links.{fitting};
 ghost use Rattle.tree_test.specs.Walk.{enteredNext, exitedNext};
 ghost use Rattle.tree_test.specs.Led.{Led};
+use layout::ALL_RIGHTS;
+use layout::END;
+use layout::FINISHED;
+use layout::LAST_TASK;
+use layout::MAX_LENGTH;
+use layout::NONE;
+use layout::OLDER;
+use layout::PARENT;
+use layout::QUEUES;
+use layout::RIGHTS;
+use layout::SEGMENTS;
+use layout::STATUS;
+use layout::TASK_RECORDS;
+use layout::TASK_STACK;
+use layout::TASK_WORDS;
+use layout::TASKS;
+use layout::UNFINISHED;
+use layout::VALUE_WORDS;
+use layout::YOUNGER;
+use layout::YOUNGEST;
 
-const NONE: u32 = 4294967295;
-
-const END: u32 = 256;
-
-const STATUS: u32 = 0;
-
-const RIGHTS: u32 = 1;
-
-const PARENT: u32 = 2;
-
-const OLDER: u32 = 3;
-
-const YOUNGER: u32 = 4;
-
-const YOUNGEST: u32 = 5;
+const RECORDS: usize = TASKS as usize;
 
 // "L is 1 to 64, segments 4 to 256, and L times segments is at most 8,192"
 pub fn in_range(l: u32, n: u32) -> bool
@@ -37,16 +43,16 @@ pub fn in_range(l: u32, n: u32) -> bool
     if l < 1 {
         return false;
     }
-    if l > 64 {
+    if l > MAX_LENGTH {
         return false;
     }
-    if n < 4 {
+    if n < QUEUES {
         return false;
     }
-    if n > 256 {
+    if n > SEGMENTS {
         return false;
     }
-    l * n <= 8192
+    l * n <= VALUE_WORDS
 }
 
 // No more free segments than segments opened.
@@ -54,37 +60,37 @@ pub fn few_free(m: &[u32]) -> bool
     requires { ⌜ (length (now m) ≡ 16384) × (read (now m) (header 1) ≤ 256) ⌝ }
     ensures { λ r. ⌜ r ≡ leb (length ((decode (now (m .entry))) .free)) ((decode (now (m .entry))) .number) ⌝ }
 {
-    memory::header(m, 2) <= memory::header(m, 1)
+    memory::free_segments(m, 0) <= memory::number(m)
 }
 
 // The links and the rights of the top.
 fn top_alone(m: &[u32]) -> bool
     ensures { λ r. ⌜ r ≡ topAlone (now (m .entry)) ⌝ }
 {
-    if memory::task(m, 0, RIGHTS) != 255 {
+    if memory::rights(m, 0) != ALL_RIGHTS {
         return false;
     }
-    if memory::task(m, 0, PARENT) != NONE {
+    if memory::parent(m, 0) != NONE {
         return false;
     }
-    if memory::task(m, 0, OLDER) != NONE {
+    if memory::older(m, 0) != NONE {
         return false;
     }
-    memory::task(m, 0, YOUNGER) == NONE
+    memory::younger(m, 0) == NONE
 }
 
 // The top is unfinished, or finished without children.
 pub fn top_ok(m: &[u32]) -> bool
     ensures { λ r. ⌜ r ≡ topTest (decode (now (m .entry))) ⌝ }
 {
-    let s = memory::task(m, 0, STATUS);
-    if s == 1 {
+    let s = memory::status(m, 0);
+    if s == UNFINISHED {
         return top_alone(m);
     }
-    if s != 2 {
+    if s != FINISHED {
         return false;
     }
-    if memory::task(m, 0, YOUNGEST) != NONE {
+    if memory::youngest(m, 0) != NONE {
         return false;
     }
     top_alone(m)
@@ -99,9 +105,9 @@ fn mark_free(m: &[u32], d: &mut [u8], h: usize) -> u64
     let mut w: u64 = 0;
     let mut i: usize = 0;
     while i < h {
-        let t = m[320 + i] as usize;
-        let near = t % 128;
-        w += t as u64 / 128 + m[1472 + near * 48] as u64;
+        let t = m[TASK_STACK + i] as usize;
+        let near = t % RECORDS;
+        w += t as u64 / TASKS as u64 + m[TASK_RECORDS + near * TASK_WORDS] as u64;
         d[near] = 1;
         i += 1;
     }
@@ -115,7 +121,7 @@ fn marks(d: &[u8]) -> u32
 {
     let mut n: u32 = 0;
     let mut i: usize = 0;
-    while i < 128 {
+    while i < RECORDS {
         n += d[i] as u32;
         i += 1;
     }
@@ -128,8 +134,8 @@ pub fn idle_ok(m: &[u32]) -> bool
     requires { ⌜ length (now m) ≡ 16384 ⌝ }
     ensures { λ r. ⌜ r ≡ idleTest (decode (now (m .entry))) ⌝ }
 {
-    let h = memory::header(m, 3);
-    if h > 127 {
+    let h = memory::free_tasks(m);
+    if h > LAST_TASK {
         return false;
     }
     let mut d = [0u8; 256];
@@ -150,20 +156,20 @@ fn fitting(m: &[u32], t: u32, p: u32, y: u32, b: u32) -> bool
     if t < 1 {
         return false;
     }
-    if t > 127 {
+    if t > LAST_TASK {
         return false;
     }
-    let a = 1472 + t as usize * 48;
-    if m[a] != 1 {
+    let a = TASK_RECORDS + t as usize * TASK_WORDS;
+    if m[a + STATUS as usize] != UNFINISHED {
         return false;
     }
-    if m[a + 2] != p {
+    if m[a + PARENT as usize] != p {
         return false;
     }
-    if m[a + 4] != y {
+    if m[a + YOUNGER as usize] != y {
         return false;
     }
-    rights::subset(m[a + 1], b)
+    rights::subset(m[a + RIGHTS as usize], b)
 }
 
 // The mark after the one where task t is entered; END where the link is wrong.
@@ -171,12 +177,12 @@ fn entered_next(m: &[u32], t: u32) -> u32
     requires { ⌜ (length (now m) ≡ 16384) × (t < 128) ⌝ }
     ensures { λ r. ⌜ r ≡ enteredNext (decode (now (m .entry))) t ⌝ }
 {
-    let a = 1472 + t as usize * 48;
-    let u = m[a + 5];
+    let a = TASK_RECORDS + t as usize * TASK_WORDS;
+    let u = m[a + YOUNGEST as usize];
     if u == NONE {
-        return 128 + t;
+        return TASKS + t;
     }
-    if fitting(m, u, t, NONE, m[a + 1]) {
+    if fitting(m, u, t, NONE, m[a + RIGHTS as usize]) {
         return u;
     }
     END
@@ -187,16 +193,22 @@ fn exited_next(m: &[u32], t: u32) -> u32
     requires { ⌜ (length (now m) ≡ 16384) × (t < 128) ⌝ }
     ensures { λ r. ⌜ r ≡ exitedNext (decode (now (m .entry))) t ⌝ }
 {
-    let a = 1472 + t as usize * 48;
-    let p = m[a + 2];
-    if p > 127 {
+    let a = TASK_RECORDS + t as usize * TASK_WORDS;
+    let p = m[a + PARENT as usize];
+    if p > LAST_TASK {
         return END;
     }
-    let u = m[a + 3];
+    let u = m[a + OLDER as usize];
     if u == NONE {
-        return 128 + p;
+        return TASKS + p;
     }
-    if fitting(m, u, p, t, m[1472 + p as usize * 48 + 1]) {
+    if fitting(
+        m,
+        u,
+        p,
+        t,
+        m[TASK_RECORDS + p as usize * TASK_WORDS + RIGHTS as usize],
+    ) {
         return u;
     }
     END
@@ -219,14 +231,14 @@ fn climb(m: &[u32], xs: &mut [u32], n: usize, t0: u32, i0: usize) -> Spot
     while i < n {
         if t == 0 {
             return Spot {
-                mark: 128,
+                mark: TASKS,
                 written: i,
             };
         }
-        xs[i] = 128 + t;
+        xs[i] = TASKS + t;
         i += 1;
         let y = exited_next(m, t);
-        if y < 128 {
+        if y < TASKS {
             return Spot {
                 mark: y,
                 written: i,
@@ -238,7 +250,7 @@ fn climb(m: &[u32], xs: &mut [u32], n: usize, t0: u32, i0: usize) -> Spot
                 written: i,
             };
         }
-        t = y - 128;
+        t = y - TASKS;
     }
     Spot {
         mark: END,
@@ -253,7 +265,7 @@ fn onward(m: &[u32], xs: &mut [u32], n: usize, t: u32, i: usize) -> Spot
 {
     xs[i] = t;
     let y = entered_next(m, t);
-    if y < 128 {
+    if y < TASKS {
         return Spot {
             mark: y,
             written: i + 1,
@@ -265,7 +277,7 @@ fn onward(m: &[u32], xs: &mut [u32], n: usize, t: u32, i: usize) -> Spot
             written: i + 1,
         };
     }
-    climb(m, xs, n, y - 128, i + 1)
+    climb(m, xs, n, y - TASKS, i + 1)
 }
 
 // The tour of the tree has k marks, and each link that it follows is right. The marks are left in xs.
@@ -280,8 +292,8 @@ pub fn tree_ok(m: &[u32], xs: &mut [u32], k: u32) -> bool
         let s = onward(m, xs, n, x, i);
         x = s.mark;
         i = s.written;
-        if x > 127 {
-            if x > 128 {
+        if x > LAST_TASK {
+            if x > TASKS {
                 return false;
             }
             if i >= n {

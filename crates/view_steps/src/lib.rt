@@ -11,17 +11,32 @@ ghost use Rattle.spec_view_events.specs.Events.{queueOf, viewOf};
 ghost use Rattle.spec_view_events.specs.Events.Event.{tail, head};
 ghost use Rattle.spec_view_events.specs.Place.{placing, answered};
 ghost use Rattle.spec_view_events.specs.Does.{Ready, Does, DoesHeads, DoesTails};
+use layout::COUNT_AT;
+use layout::NEXT_AT;
+use layout::NL;
+use layout::NONE;
+use layout::NUMBER_AT;
+use layout::SEGMENT_WORDS;
+use layout::TAIL_BEHIND;
 
-const NONE: u32 = 4294967295;
+// THE WORKING WORDS w of the test: the order of each queue; whether its queue view was seen; how many segments were placed, how many
+// heads and how many tails were seen.
+pub const ORDERS: usize = 0;
 
-const NL: u32 = 4294967294;
+pub const SEEN: usize = 4;
+
+pub const PLACED: usize = 8;
+
+pub const HEADS: usize = 9;
+
+pub const TAILS: usize = 10;
 
 // Count of segment s.
 fn count(m: &[u32], s: u32) -> u32
     requires { ⌜ (length (now m) ≡ 16384) × (s < 256) ⌝ }
     ensures { λ r. ⌜ r ≡ part (decode (now (m .entry))) s 1 ⌝ }
 {
-    m[449 + s as usize * 4]
+    m[COUNT_AT + s as usize * SEGMENT_WORDS]
 }
 
 // The segment behind s.
@@ -29,7 +44,7 @@ fn next(m: &[u32], s: u32) -> u32
     requires { ⌜ (length (now m) ≡ 16384) × (s < 256) ⌝ }
     ensures { λ r. ⌜ r ≡ part (decode (now (m .entry))) s 2 ⌝ }
 {
-    m[450 + s as usize * 4]
+    m[NEXT_AT + s as usize * SEGMENT_WORDS]
 }
 
 // Places the segments of the chain from h on: their number, 0 where the chain is wrong.
@@ -37,7 +52,7 @@ fn place(d: &mut [u8; 256], m: &[u32], h: u32) -> u32
     requires { ⌜ Ready (now m) ⌝ }
     ensures { λ r. ⌜ answered r (now (d .exit)) ≡ placing (decode (now (m .entry))) (getD (now (m .entry)) 1 0) h 0 (now (d .entry)) ⌝ }
 {
-    let n = m[1];
+    let n = m[NUMBER_AT];
     let mut s = h;
     let mut k: u32 = 0;
     while k < n {
@@ -74,8 +89,8 @@ fn head(d: &mut [u8; 256], w: &mut [u32; 12], m: &[u32], h: u32) -> bool
     if k == 0 {
         return false;
     }
-    w[8] = std::num::wrapping_add_u32(w[8], k);
-    w[9] = std::num::wrapping_add_u32(w[9], 1);
+    w[PLACED] = std::num::wrapping_add_u32(w[PLACED], k);
+    w[HEADS] = std::num::wrapping_add_u32(w[HEADS], 1);
     true
 }
 
@@ -88,7 +103,7 @@ fn tail(f: &mut [u8; 256], w: &mut [u32; 12], m: &[u32], e: u32) -> bool
     if e >= NL {
         return true;
     }
-    if e >= m[1] {
+    if e >= m[NUMBER_AT] {
         return false;
     }
     if f[e as usize] != 0 {
@@ -98,7 +113,7 @@ fn tail(f: &mut [u8; 256], w: &mut [u32; 12], m: &[u32], e: u32) -> bool
         return false;
     }
     f[e as usize] = 1;
-    w[10] = std::num::wrapping_add_u32(w[10], 1);
+    w[TAILS] = std::num::wrapping_add_u32(w[TAILS], 1);
     true
 }
 
@@ -144,7 +159,7 @@ pub fn view(
         (now (d .entry)) (now (f .entry)) (now (w .entry)) (now (d .exit)) (now (f .exit)) (now (w .exit)) ⌝ }
 {
     let h = m[a];
-    let e = m[a + 12];
+    let e = m[a + TAIL_BEHIND];
     if h & e == NONE {
         return true;
     }
@@ -174,9 +189,9 @@ pub fn queue(d: &mut [u8; 256], w: &mut [u32; 12], m: &[u32], a: usize, r: u32, 
     if h == NL {
         return false;
     }
-    if w[4 + q] != 0 {
+    if w[SEEN + q] != 0 {
         return false;
     }
-    w[4 + q] = 1;
+    w[SEEN + q] = 1;
     head(d, w, m, h)
 }

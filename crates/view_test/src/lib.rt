@@ -12,8 +12,27 @@ ghost use Rattle.spec_view_events.specs.Walk.{Marks};
 ghost use Rattle.spec_view_events.specs.Groups.{Blank};
 ghost use Rattle.spec_view_events.specs.Does.{Ready, Does, DoesHeads};
 ghost use Rattle.law_view_events.specs.Begun.{Begun};
+use layout::FREE_SEGMENTS_AT;
+use layout::HEADS_AT;
+use layout::NONE;
+use layout::NUMBER_AT;
+use layout::QUEUE_HEADS_AT;
+use layout::RIGHTS_AT;
+use layout::TAILS_AT;
+use layout::TASK_WORDS;
+use layout::TASKS;
+use view_steps::HEADS;
+use view_steps::ORDERS;
+use view_steps::PLACED;
+use view_steps::SEEN;
+use view_steps::TAILS;
 
-const NONE: u32 = 4294967295;
+// The kinds of views, which count words here.
+const CHILDREN: usize = layout::CHILDREN as usize;
+
+const USER: usize = layout::USER as usize;
+
+const RIGHT: usize = layout::RIGHT as usize;
 
 // The bits that four words from address a on share.
 fn shared(m: &[u32], a: usize) -> u32
@@ -28,7 +47,8 @@ fn empty(m: &[u32], t: usize, k: usize) -> bool
     requires { ⌜ (length (now m) ≡ 16384) × (t < 128) × (k < 3) ⌝ }
     ensures { λ r. ⌜ (r ≡ true → Blank (now (m .entry)) (1492 + t * 48 + k * 4) × Blank (now (m .entry)) (1504 + t * 48 + k * 4)) ⌝ }
 {
-    shared(m, 1492 + t * 48 + k * 4) & shared(m, 1504 + t * 48 + k * 4) == NONE
+    shared(m, HEADS_AT + t * TASK_WORDS + k * 4) & shared(m, TAILS_AT + t * TASK_WORDS + k * 4)
+        == NONE
 }
 
 // The four views of kind k of task t.
@@ -44,8 +64,8 @@ fn four(
     ensures { λ b. ⌜ Does (now (m .entry)) (kindAt (decode (now (m .entry))) t k) b
         (now (d .entry)) (now (f .entry)) (now (w .entry)) (now (d .exit)) (now (f .exit)) (now (w .exit)) ⌝ }
 {
-    let a = 1492 + t * 48 + k * 4;
-    let mut r = m[1473 + t * 48];
+    let a = HEADS_AT + t * TASK_WORDS + k * 4;
+    let mut r = m[RIGHTS_AT + t * TASK_WORDS];
     let mut q: usize = 0;
     while q < 4 {
         if !view_steps::view(d, f, w, m, a + q, r, q) {
@@ -63,8 +83,8 @@ fn queues(d: &mut [u8; 256], w: &mut [u32; 12], m: &[u32], t: usize) -> bool
     ensures { λ b. ⌜ DoesHeads (now (m .entry)) (queuesAt (decode (now (m .entry))) t) b
         (now (d .entry)) (now (w .entry)) (now (d .exit)) (now (w .exit)) ⌝ }
 {
-    let r = m[1473 + t * 48];
-    let a = 1488 + t * 48;
+    let r = m[RIGHTS_AT + t * TASK_WORDS];
+    let a = QUEUE_HEADS_AT + t * TASK_WORDS;
     if !view_steps::queue(d, w, m, a, r, 0) {
         return false;
     }
@@ -83,10 +103,10 @@ fn user(d: &mut [u8; 256], f: &mut [u8; 256], w: &mut [u32; 12], m: &[u32], t: u
     ensures { λ b. ⌜ Does (now (m .entry)) (kindAt (decode (now (m .entry))) t USER) b
         (now (d .entry)) (now (f .entry)) (now (w .entry)) (now (d .exit)) (now (f .exit)) (now (w .exit)) ⌝ }
 {
-    if empty(m, t, 1) {
+    if empty(m, t, USER) {
         return true;
     }
-    four(d, f, w, m, t, 1)
+    four(d, f, w, m, t, USER)
 }
 
 // The right views of task t and, in front of them, its user views.
@@ -95,10 +115,10 @@ fn right(d: &mut [u8; 256], f: &mut [u8; 256], w: &mut [u32; 12], m: &[u32], t: 
     ensures { λ b. ⌜ Does (now (m .entry)) (λ es. kindAt (decode (now (m .entry))) t RIGHT (kindAt (decode (now (m .entry))) t USER es)) b
         (now (d .entry)) (now (f .entry)) (now (w .entry)) (now (d .exit)) (now (f .exit)) (now (w .exit)) ⌝ }
 {
-    if empty(m, t, 2) {
+    if empty(m, t, RIGHT) {
         return user(d, f, w, m, t);
     }
-    if !four(d, f, w, m, t, 2) {
+    if !four(d, f, w, m, t, RIGHT) {
         return false;
     }
     user(d, f, w, m, t)
@@ -111,7 +131,7 @@ fn entered(d: &mut [u8; 256], f: &mut [u8; 256], w: &mut [u32; 12], m: &[u32], t
         (kindAt (decode (now (m .entry))) t RIGHT (kindAt (decode (now (m .entry))) t USER es))) b
         (now (d .entry)) (now (f .entry)) (now (w .entry)) (now (d .exit)) (now (f .exit)) (now (w .exit)) ⌝ }
 {
-    if shared(m, 1488 + t * 48) == NONE {
+    if shared(m, QUEUE_HEADS_AT + t * TASK_WORDS) == NONE {
         return right(d, f, w, m, t);
     }
     if !queues(d, w, m, t) {
@@ -126,10 +146,10 @@ fn exited(d: &mut [u8; 256], f: &mut [u8; 256], w: &mut [u32; 12], m: &[u32], t:
     ensures { λ b. ⌜ Does (now (m .entry)) (kindAt (decode (now (m .entry))) t CHILDREN) b
         (now (d .entry)) (now (f .entry)) (now (w .entry)) (now (d .exit)) (now (f .exit)) (now (w .exit)) ⌝ }
 {
-    if empty(m, t, 0) {
+    if empty(m, t, CHILDREN) {
         return true;
     }
-    four(d, f, w, m, t, 0)
+    four(d, f, w, m, t, CHILDREN)
 }
 
 // A mark of the tour.
@@ -138,10 +158,10 @@ fn mark(d: &mut [u8; 256], f: &mut [u8; 256], w: &mut [u32; 12], m: &[u32], x: u
     ensures { λ b. ⌜ Does (now (m .entry)) (eventsAt (decode (now (m .entry))) x) b
         (now (d .entry)) (now (f .entry)) (now (w .entry)) (now (d .exit)) (now (f .exit)) (now (w .exit)) ⌝ }
 {
-    if x < 128 {
+    if x < TASKS {
         return entered(d, f, w, m, x as usize);
     }
-    exited(d, f, w, m, x as usize - 128)
+    exited(d, f, w, m, (x - TASKS) as usize)
 }
 
 // The four words of the state from a on are 1.
@@ -166,16 +186,16 @@ fn whole(w: &[u32; 12], m: &[u32]) -> bool
     requires { ⌜ length (now m) ≡ 16384 ⌝ }
     ensures { λ b. ⌜ b ≡ whole (decode (now (m .entry))) (now (w .entry)) ⌝ }
 {
-    if !ones(w, 0) {
+    if !ones(w, ORDERS) {
         return false;
     }
-    if !ones(w, 4) {
+    if !ones(w, SEEN) {
         return false;
     }
-    if w[8] != m[1] {
+    if w[PLACED] != m[NUMBER_AT] {
         return false;
     }
-    w[9] == w[10]
+    w[HEADS] == w[TAILS]
 }
 
 // All marks of the tour.
@@ -208,6 +228,6 @@ pub fn views_hold(m: &[u32], xs: &[u32]) -> bool
     }
     let mut f = d;
     let mut w = [0u32; 12];
-    w[8] = m[2];
+    w[PLACED] = m[FREE_SEGMENTS_AT];
     walk(&mut d, &mut f, &mut w, m, xs)
 }

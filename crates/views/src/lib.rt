@@ -4,20 +4,14 @@ ghost use mathlib.Core.List.{List};
 ghost use Prim.Native.Nat.{ℕ};
 ghost use Rattle.spec_words.specs.Words.{both};
 ghost use lib.Dec.{ltb};
-ghost use Rattle.spec_layout.specs.Layout.{NONE, NL, head, tail, read, write};
+ghost use Rattle.spec_layout.specs.Layout.{NL};
 ghost use Rattle.spec_rules.specs.Views.View.{view};
 ghost use Rattle.spec_outcomes.specs.Views.{isEmpty, headOf, tailOf, reducible, frees, behind, reduced, setView, joined, merged};
 ghost use Rattle.spec_outcomes.specs.Sync.{syncs, syncedQueue, synced};
-
-// The marks of the layout.
-const NONE: u32 = 4294967295;
-
-const NL: u32 = 4294967294;
-
-// The kinds of views.
-const CHILDREN: u32 = 0;
-
-const USER: u32 = 1;
+use layout::CHILDREN;
+use layout::NL;
+use layout::NONE;
+use layout::USER;
 
 pub fn is_empty(h: u32, e: u32) -> bool
     ensures { λ r. ⌜ r ≡ isEmpty (view h e) ⌝ }
@@ -47,50 +41,11 @@ pub fn reducible(h1: u32, e1: u32, h2: u32, e2: u32) -> bool
     e1 != h2
 }
 
-// The head of view k of task t of queue q.
-pub fn head(m: &[u32], k: u32, t: u32, q: u32) -> u32
-    ensures { λ r. ⌜ r ≡ read (now (m .entry)) (head k t q) ⌝ }
-{
-    memory::get(
-        m,
-        1472 + t as usize * 48 + (20 + k as usize * 4 + q as usize),
-    )
-}
-
-pub fn tail(m: &[u32], k: u32, t: u32, q: u32) -> u32
-    ensures { λ r. ⌜ r ≡ read (now (m .entry)) (tail k t q) ⌝ }
-{
-    memory::get(
-        m,
-        1472 + t as usize * 48 + (32 + k as usize * 4 + q as usize),
-    )
-}
-
-fn set_head(m: &mut [u32], k: u32, t: u32, q: u32, h: u32)
-    ensures { λ _. ⌜ now (m .exit) ≡ write (now (m .entry)) (head k t q) h ⌝ }
-{
-    memory::put(
-        m,
-        1472 + t as usize * 48 + (20 + k as usize * 4 + q as usize),
-        h,
-    );
-}
-
-pub fn set_tail(m: &mut [u32], k: u32, t: u32, q: u32, e: u32)
-    ensures { λ _. ⌜ now (m .exit) ≡ write (now (m .entry)) (tail k t q) e ⌝ }
-{
-    memory::put(
-        m,
-        1472 + t as usize * 48 + (32 + k as usize * 4 + q as usize),
-        e,
-    );
-}
-
 pub fn set_view(m: &mut [u32], q: u32, t: u32, k: u32, h: u32, e: u32)
     ensures { λ _. ⌜ now (m .exit) ≡ setView (now (m .entry)) q t k (view h e) ⌝ }
 {
-    set_head(m, k, t, q, h);
-    set_tail(m, k, t, q, e);
+    memory::set_head(m, k, t, q, h);
+    memory::set_tail(m, k, t, q, e);
 }
 
 // Both ends are segments.
@@ -104,7 +59,7 @@ fn local(e: u32, h: u32) -> bool
 }
 
 // Reducing the two views frees the tail of the left one.
-pub fn frees(m: &[u32], h1: u32, e1: u32, h2: u32, e2: u32) -> bool
+fn frees(m: &[u32], h1: u32, e1: u32, h2: u32, e2: u32) -> bool
     ensures { λ r. ⌜ r ≡ frees (now (m .entry)) (view h1 e1) (view h2 e2) ⌝ }
 {
     if is_empty(h1, e1) {
@@ -116,7 +71,7 @@ pub fn frees(m: &[u32], h1: u32, e1: u32, h2: u32, e2: u32) -> bool
     if !local(e1, h2) {
         return false;
     }
-    memory::segment(m, e1, 1) == 0
+    memory::count(m, e1) == 0
 }
 
 // What the head h of a view has become when the two views are reduced. Its tail stays.
@@ -165,25 +120,25 @@ pub fn join(m: &mut [u32], q: u32, t: u32, k: u32, h: u32, e: u32)
     if is_empty(h, e) {
         return;
     }
-    let b = tail(m, k, t, q);
-    if is_empty(head(m, k, t, q), b) {
+    let b = memory::tail(m, k, t, q);
+    if is_empty(memory::head(m, k, t, q), b) {
         set_view(m, q, t, k, h, e);
         return;
     }
     if local(b, h) {
         segments::link(m, q, b, h);
-        set_tail(m, k, t, q, e);
+        memory::set_tail(m, k, t, q, e);
         return;
     }
-    set_tail(m, k, t, q, e);
+    memory::set_tail(m, k, t, q, e);
 }
 
 // View k of task t becomes its reduction with view k2 of task t2, which becomes empty.
 pub fn merge(m: &mut [u32], q: u32, t: u32, k: u32, t2: u32, k2: u32)
     ensures { λ _. ⌜ now (m .exit) ≡ merged (now (m .entry)) q t k t2 k2 ⌝ }
 {
-    let h = head(m, k2, t2, q);
-    let e = tail(m, k2, t2, q);
+    let h = memory::head(m, k2, t2, q);
+    let e = memory::tail(m, k2, t2, q);
     join(m, q, t, k, h, e);
     set_view(m, q, t2, k2, NONE, NONE);
 }
@@ -192,18 +147,23 @@ pub fn merge(m: &mut [u32], q: u32, t: u32, k: u32, t2: u32, k2: u32)
 pub fn syncs(m: &[u32], t: u32, q: u32) -> bool
     ensures { λ r. ⌜ r ≡ syncs (now (m .entry)) t q ⌝ }
 {
-    let h = head(m, CHILDREN, t, q);
-    let e = tail(m, CHILDREN, t, q);
-    reducible(h, e, head(m, USER, t, q), tail(m, USER, t, q))
+    let h = memory::head(m, CHILDREN, t, q);
+    let e = memory::tail(m, CHILDREN, t, q);
+    reducible(
+        h,
+        e,
+        memory::head(m, USER, t, q),
+        memory::tail(m, USER, t, q),
+    )
 }
 
 // The user view of queue q becomes the reduction of children view and user view.
-pub fn sync_queue(m: &mut [u32], t: u32, q: u32)
+fn sync_queue(m: &mut [u32], t: u32, q: u32)
     ensures { λ _. ⌜ now (m .exit) ≡ syncedQueue (now (m .entry)) t q ⌝ }
 {
     merge(m, q, t, CHILDREN, t, USER);
-    let h = head(m, CHILDREN, t, q);
-    let e = tail(m, CHILDREN, t, q);
+    let h = memory::head(m, CHILDREN, t, q);
+    let e = memory::tail(m, CHILDREN, t, q);
     set_view(m, q, t, USER, h, e);
     set_view(m, q, t, CHILDREN, NONE, NONE);
 }

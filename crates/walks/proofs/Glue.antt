@@ -1,5 +1,5 @@
 -- What the pieces of a function come to, over plain variables.
-use mathlib.Core.Path.{_≡_, refl, ap, ap₂, sym, _∙_}
+use mathlib.Core.Path.{_≡_, refl, ap, ap₂, sym, _∙_, fun-ext}
 use mathlib.Core.Bool.{Bool, true, false, not}
 use mathlib.Core.List.{List}
 use Prim.Native.Nat.{ℕ, _+_, _-_, _<_, _≤_}
@@ -7,14 +7,17 @@ use native.Mathlib.Omega.{arith}
 use lib.Dec.{ltb, eqb}
 use borrow.Author.Tests.{lt-ltb, le-ltb, eq-eqb, ne-eqb}
 use Rattle.spec_words.specs.Words.{pick, both, either, pass, halt, true-left, true-right, both-on, both-off}
-use Rattle.spec_layout.specs.Layout.{NONE, NL, PARENT, OLDER, YOUNGEST, RIGHTS, task, read, recordOf}
+use Rattle.spec_layout.specs.Layout.{NONE, NL, CHILDREN, RIGHT, PARENT, OLDER, YOUNGEST, RIGHTS, task, read, recordOf}
 use Rattle.spec_layout.specs.Frame.{record-word}
 use Rattle.spec_tree.specs.Rights.{pushes, pops, uses, sharesPop}
 use Rattle.spec_tree.specs.Tour.{END, MARKS, entering, after, seek, sibling, oldest}
 use Rattle.spec_rules.specs.Views.{view}
 use Rattle.spec_outcomes.specs.Waits.{rightsOf, blocked, childPops, pusherBefore}
-use Rattle.spec_outcomes.specs.Views.{viewOf, isEmpty, headOf, taskAt, takesPart, standsAt, justBefore, returnedTo}
+use Rattle.spec_outcomes.specs.Views.{viewOf, isEmpty, headOf, taskAt, kindAt, takesPart, standsAt, justBefore, returnedTo}
 use Rattle.spec_outcomes.specs.Finish.{heir}
+use Rattle.walks.specs.declared.Asks.{Asks}
+use Rattle.walks.specs.declared.Asks.the-variants.{Pushes, TakesPart, Stands}
+use Rattle.walks.specs.Asked.{asked}
 
 -- the first of two tests decides, or the second does
 pub both-so : {a x b : Bool} → a ≡ true → x ≡ b → x ≡ both a b
@@ -40,21 +43,31 @@ blocked-by m t e f g =
     ap (λ (c : ℕ). not (eqb c NONE))
     (g ∙ ap₂ (λ (a o : ℕ). sibling 128 (λ c. sharesPop (rightsOf m c) a) (recordOf m) o) e f)
 
-pub child-pops : {c r : ℕ} (m : List ℕ) (t q : ℕ) → c ≡ read m (task t YOUNGEST)
-    → r ≡ sibling 128 (λ c. pops (rightsOf m c) q) (recordOf m) c → not (eqb r NONE) ≡ childPops m t q
+pub child-pops : {c r : ℕ} (m : List ℕ) (t q a : ℕ) → ((x : ℕ) → sharesPop x a ≡ pops x q) → c ≡ read m (task t YOUNGEST)
+    → r ≡ sibling 128 (λ c. sharesPop (rightsOf m c) a) (recordOf m) c → not (eqb r NONE) ≡ childPops m t q
 unfolding childPops
-child-pops m t q e g = ap (λ (c : ℕ). not (eqb c NONE)) (g ∙ ap (sibling 128 (λ c. pops (rightsOf m c) q) (recordOf m)) e)
+child-pops m t q a only e g =
+    ap (λ (c : ℕ). not (eqb c NONE))
+    (g ∙ ap₂ (λ (f : ℕ → Bool) (c : ℕ). sibling 128 f (recordOf m) c) (fun-ext (λ c. only (rightsOf m c))) e)
 
 pub pusher-before : {x r : ℕ} (m : List ℕ) (t q : ℕ) → x ≡ after (recordOf m) t
-    → r ≡ seek MARKS (λ x. both (ltb x 128) (pushes (rightsOf m x) q)) (recordOf m) x → not (eqb r END) ≡ pusherBefore m t q
-unfolding pusherBefore
+    → r ≡ seek MARKS (asked Pushes m q) (recordOf m) x → not (eqb r END) ≡ pusherBefore m t q
+unfolding pusherBefore asked
 pusher-before m t q e g =
-    ap (λ (x : ℕ). not (eqb x END)) (g ∙ ap (seek MARKS (λ x. both (ltb x 128) (pushes (rightsOf m x) q)) (recordOf m)) e)
+    ap (λ (x : ℕ). not (eqb x END)) (g ∙ ap (seek MARKS (asked Pushes m q) (recordOf m)) e)
 
 -- VIEWS ON THE TOUR
 either-on : {a x b : Bool} → a ≡ false → x ≡ b → x ≡ either a b
 unfolding either
 either-on {a} {x} {b} e f = f ∙ sym (pass true e refl)
+
+pub at-entered : (x : ℕ) → x < 128 → RIGHT ≡ kindAt x
+unfolding kindAt
+at-entered x h = sym (halt _ _ (lt-ltb x 128 h))
+
+pub at-exited : (x : ℕ) → 128 ≤ x → CHILDREN ≡ kindAt x
+unfolding kindAt
+at-exited x h = sym (pass _ (le-ltb x 128 h) refl)
 
 pub takes-part : {t w : ℕ} {b : Bool} (m : List ℕ) (q x : ℕ) → t ≡ taskAt x → w ≡ read m (task t RIGHTS) → b ≡ uses w q
     → b ≡ takesPart m q x
@@ -83,19 +96,23 @@ module _ {p : Bool} (m : List ℕ) (q x : ℕ) (part : p ≡ takesPart m q x) wh
       (either-on (le-ltb x 128 (omega arith)) (either-on (ne-eqb (x - 128) 0 (λ n. omega arith))
       (ap not (both-so (eq-eqb _ _ (sym d ∙ z)) (ap (λ (w : ℕ). eqb w NONE) e)))))
 
+-- the question is one of the three
+pub asks-same : {b : Bool} (a k : Asks) (m : List ℕ) (q x : ℕ) → a ≡ k → b ≡ asked k m q x → b ≡ asked a m q x
+asks-same a k m q x e f = f ∙ sym (ap (λ (a : Asks). asked a m q x) e)
+
 pub just-before : {x r : ℕ} (m : List ℕ) (q t : ℕ) → x ≡ after (recordOf m) t
-    → r ≡ seek MARKS (standsAt m q) (recordOf m) x → r ≡ justBefore m q t
-unfolding justBefore
-just-before m q t e g = g ∙ ap (seek MARKS (standsAt m q) (recordOf m)) e
+    → r ≡ seek MARKS (asked Stands m q) (recordOf m) x → r ≡ justBefore m q t
+unfolding justBefore asked
+just-before m q t e g = g ∙ ap (seek MARKS (asked Stands m q) (recordOf m)) e
 
 module _ {x r : ℕ} (m : List ℕ) (q t h e : ℕ) (from : x ≡ after (recordOf m) (t + 128)) where
-  pub returned-part : h ≡ NL → r ≡ seek MARKS (takesPart m q) (recordOf m) x → r ≡ returnedTo m q t (view h e)
-  unfolding returnedTo headOf
-  returned-part n g = g ∙ ap (seek MARKS (takesPart m q) (recordOf m)) from ∙ sym (halt _ _ (eq-eqb h NL n))
+  pub returned-part : h ≡ NL → r ≡ seek MARKS (asked TakesPart m q) (recordOf m) x → r ≡ returnedTo m q t (view h e)
+  unfolding returnedTo headOf asked
+  returned-part n g = g ∙ ap (seek MARKS (asked TakesPart m q) (recordOf m)) from ∙ sym (halt _ _ (eq-eqb h NL n))
 
-  pub returned-stands : (h ≡ NL → ⊥) → r ≡ seek MARKS (standsAt m q) (recordOf m) x → r ≡ returnedTo m q t (view h e)
-  unfolding returnedTo headOf
-  returned-stands n g = g ∙ ap (seek MARKS (standsAt m q) (recordOf m)) from ∙ sym (pass _ (ne-eqb h NL n) refl)
+  pub returned-stands : (h ≡ NL → ⊥) → r ≡ seek MARKS (asked Stands m q) (recordOf m) x → r ≡ returnedTo m q t (view h e)
+  unfolding returnedTo headOf asked
+  returned-stands n g = g ∙ ap (seek MARKS (asked Stands m q) (recordOf m)) from ∙ sym (pass _ (ne-eqb h NL n) refl)
 
 -- HEIRS
 module _ (m : List ℕ) (t q c d : ℕ) where

@@ -10,56 +10,49 @@ ghost use Rattle.spec_tree.specs.Rights.{pushes, pops, sharesPop};
 ghost use Rattle.spec_tree.specs.Tour.{MARKS, exiting, entering, after, seek, sibling, oldest};
 ghost use Rattle.spec_rules.specs.Views.{view};
 ghost use Rattle.spec_outcomes.specs.Waits.{rightsOf, unfinished, blocked, childPops, hasChild, pusherBefore};
-ghost use Rattle.spec_outcomes.specs.Views.{taskAt, takesPart, standsAt, justBefore, returnedTo};
+ghost use Rattle.spec_outcomes.specs.Views.{taskAt, kindAt, takesPart, standsAt, justBefore, returnedTo};
 ghost use Rattle.spec_outcomes.specs.Finish.{heir};
-
-const NONE: u32 = 4294967295;
-
-const NL: u32 = 4294967294;
-
-const END: u32 = 256;
-
-const STATUS: u32 = 0;
-
-const RIGHTS: u32 = 1;
-
-const PARENT: u32 = 2;
-
-const OLDER: u32 = 3;
-
-const YOUNGEST: u32 = 5;
+ghost use Rattle.walks.specs.Asked.{asked};
+use layout::CHILDREN;
+use layout::END;
+use layout::MARKS;
+use layout::NL;
+use layout::NONE;
+use layout::RIGHT;
+use layout::TASKS;
+use layout::UNFINISHED;
 
 // Where task p is exited.
 fn exiting(p: u32) -> u32
     ensures { λ r. ⌜ r ≡ exiting p ⌝ }
 {
-    if p < 128 { 128 + p } else { END }
+    if p < TASKS { TASKS + p } else { END }
 }
 
 // Where c is entered, or its parent p exited where c is no task.
 fn entering(p: u32, c: u32) -> u32
     ensures { λ r. ⌜ r ≡ entering p c ⌝ }
 {
-    if c < 128 { c } else { exiting(p) }
+    if c < TASKS { c } else { exiting(p) }
 }
 
 // The mark after x.
 pub fn after(m: &[u32], x: u32) -> u32
     ensures { λ r. ⌜ r ≡ after (recordOf (now (m .entry))) x ⌝ }
 {
-    if x < 128 {
-        return entering(x, memory::task(m, x, YOUNGEST));
+    if x < TASKS {
+        return entering(x, memory::youngest(m, x));
     }
-    let t = x - 128;
-    let p = memory::task(m, t, PARENT);
-    entering(p, memory::task(m, t, OLDER))
+    let t = x - TASKS;
+    let p = memory::parent(m, t);
+    entering(p, memory::older(m, t))
 }
 
 pub fn unfinished(m: &[u32], t: u32) -> bool
     ensures { λ r. ⌜ r ≡ unfinished (now (m .entry)) t ⌝ }
 {
-    if t < 128 {
-        memory::task(m, t, STATUS) == 1
+    if t < TASKS {
+        memory::status(m, t) == UNFINISHED
     } else {
         false
     }
@@ -70,15 +63,15 @@ fn sharing(m: &[u32], a: u32, from: u32) -> u32
     ensures { λ r. ⌜ r ≡ sibling 128 (λ c. sharesPop (rightsOf (now (m .entry)) c) a) (recordOf (now (m .entry))) from ⌝ }
 {
     let mut c = from;
-    let mut n: u32 = 128;
+    let mut n: u32 = TASKS;
     while 0 < n {
-        if 128 <= c {
+        if TASKS <= c {
             return NONE;
         }
-        if rights::shares_pop(memory::task(m, c, RIGHTS), a) {
+        if rights::shares_pop(memory::rights(m, c), a) {
             return c;
         }
-        c = memory::task(m, c, OLDER);
+        c = memory::older(m, c);
         n -= 1;
     }
     NONE
@@ -87,42 +80,22 @@ fn sharing(m: &[u32], a: u32, from: u32) -> u32
 pub fn blocked(m: &[u32], t: u32) -> bool
     ensures { λ r. ⌜ r ≡ blocked (now (m .entry)) t ⌝ }
 {
-    let a = memory::task(m, t, RIGHTS);
-    let c = memory::task(m, t, OLDER);
+    let a = memory::rights(m, t);
+    let c = memory::older(m, t);
     sharing(m, a, c) != NONE
-}
-
-// The first of `from` and its older siblings that may pop q.
-fn popping(m: &[u32], q: u32, from: u32) -> u32
-    requires { ⌜ q < 4 ⌝ }
-    ensures { λ r. ⌜ r ≡ sibling 128 (λ c. pops (rightsOf (now (m .entry)) c) q) (recordOf (now (m .entry))) from ⌝ }
-{
-    let mut c = from;
-    let mut n: u32 = 128;
-    while 0 < n {
-        if 128 <= c {
-            return NONE;
-        }
-        if rights::pops(memory::task(m, c, RIGHTS), q) {
-            return c;
-        }
-        c = memory::task(m, c, OLDER);
-        n -= 1;
-    }
-    NONE
 }
 
 pub fn child_pops(m: &[u32], t: u32, q: u32) -> bool
     requires { ⌜ q < 4 ⌝ }
     ensures { λ r. ⌜ r ≡ childPops (now (m .entry)) t q ⌝ }
 {
-    popping(m, q, memory::task(m, t, YOUNGEST)) != NONE
+    sharing(m, rights::pop_right(q), memory::youngest(m, t)) != NONE
 }
 
 pub fn has_child(m: &[u32], t: u32) -> bool
     ensures { λ r. ⌜ r ≡ hasChild (now (m .entry)) t ⌝ }
 {
-    memory::task(m, t, YOUNGEST) != NONE
+    memory::youngest(m, t) != NONE
 }
 
 // At mark x a task is entered that may push to q.
@@ -130,25 +103,82 @@ fn meets_pusher(m: &[u32], q: u32, x: u32) -> bool
     requires { ⌜ q < 4 ⌝ }
     ensures { λ r. ⌜ r ≡ both (ltb x 128) (pushes (rightsOf (now (m .entry)) x) q) ⌝ }
 {
-    if x < 128 {
-        rights::pushes(memory::task(m, x, RIGHTS), q)
+    if x < TASKS {
+        rights::pushes(memory::rights(m, x), q)
     } else {
         false
     }
 }
 
-// The first mark from `from` on where a task is entered that may push to q.
-fn pushing(m: &[u32], q: u32, from: u32) -> u32
+// The task that is entered or exited at mark x.
+pub fn task_at(x: u32) -> u32
+    ensures { λ r. ⌜ r ≡ taskAt x ⌝ }
+{
+    if x < TASKS { x } else { x - TASKS }
+}
+
+// The kind of the view that stands at mark x.
+pub fn kind_at(x: u32) -> u32
+    ensures { λ k. ⌜ k ≡ kindAt x ⌝ }
+{
+    if x < TASKS { RIGHT } else { CHILDREN }
+}
+
+fn takes_part(m: &[u32], q: u32, x: u32) -> bool
     requires { ⌜ q < 4 ⌝ }
-    ensures { λ r. ⌜ r ≡ seek MARKS (λ x. both (ltb x 128) (pushes (rightsOf (now (m .entry)) x) q)) (recordOf (now (m .entry))) from ⌝ }
+    ensures { λ r. ⌜ r ≡ takesPart (now (m .entry)) q x ⌝ }
+{
+    rights::uses(memory::rights(m, task_at(x)), q)
+}
+
+// The mark TASKS is where the top is exited: its children view stands there even if empty.
+fn stands_at(m: &[u32], q: u32, x: u32) -> bool
+    requires { ⌜ q < 4 ⌝ }
+    ensures { λ r. ⌜ r ≡ standsAt (now (m .entry)) q x ⌝ }
+{
+    if !takes_part(m, q, x) {
+        return false;
+    }
+    if x <= TASKS {
+        return true;
+    }
+    if memory::head(m, CHILDREN, x - TASKS, q) != NONE {
+        return true;
+    }
+    memory::tail(m, CHILDREN, x - TASKS, q) != NONE
+}
+
+// What a walk over the tour asks of a mark: is a task entered there that may push to the queue, has its task a right to it, does a view of it
+// stand there?
+enum Asks {
+    Pushes,
+    TakesPart,
+    Stands,
+}
+
+fn holds(m: &[u32], a: Asks, q: u32, x: u32) -> bool
+    requires { ⌜ q < 4 ⌝ }
+    ensures { λ r. ⌜ r ≡ asked a (now (m .entry)) q x ⌝ }
+{
+    match a {
+        Asks::Pushes => meets_pusher(m, q, x),
+        Asks::TakesPart => takes_part(m, q, x),
+        Asks::Stands => stands_at(m, q, x),
+    }
+}
+
+// The first mark from `from` on for which it holds.
+fn seek(m: &[u32], a: Asks, q: u32, from: u32) -> u32
+    requires { ⌜ q < 4 ⌝ }
+    ensures { λ r. ⌜ r ≡ seek MARKS (asked a (now (m .entry)) q) (recordOf (now (m .entry))) from ⌝ }
 {
     let mut x = from;
-    let mut n: u32 = 256;
+    let mut n: u32 = MARKS;
     while 0 < n {
         if END <= x {
             return END;
         }
-        if meets_pusher(m, q, x) {
+        if holds(m, a, q, x) {
             return x;
         }
         x = after(m, x);
@@ -161,85 +191,14 @@ pub fn pusher_before(m: &[u32], t: u32, q: u32) -> bool
     requires { ⌜ q < 4 ⌝ }
     ensures { λ r. ⌜ r ≡ pusherBefore (now (m .entry)) t q ⌝ }
 {
-    pushing(m, q, after(m, t)) != END
-}
-
-// The task that is entered or exited at mark x.
-pub fn task_at(x: u32) -> u32
-    ensures { λ r. ⌜ r ≡ taskAt x ⌝ }
-{
-    if x < 128 { x } else { x - 128 }
-}
-
-pub fn takes_part(m: &[u32], q: u32, x: u32) -> bool
-    requires { ⌜ q < 4 ⌝ }
-    ensures { λ r. ⌜ r ≡ takesPart (now (m .entry)) q x ⌝ }
-{
-    rights::uses(memory::task(m, task_at(x), RIGHTS), q)
-}
-
-// Mark 128 is where the top is left: its children view stands there even if empty.
-pub fn stands_at(m: &[u32], q: u32, x: u32) -> bool
-    requires { ⌜ q < 4 ⌝ }
-    ensures { λ r. ⌜ r ≡ standsAt (now (m .entry)) q x ⌝ }
-{
-    if !takes_part(m, q, x) {
-        return false;
-    }
-    if x <= 128 {
-        return true;
-    }
-    if memory::task(m, x - 128, 20 + q) != NONE {
-        return true;
-    }
-    memory::task(m, x - 128, 32 + q) != NONE
-}
-
-// The first mark from `from` on whose task has a right to q.
-fn taking(m: &[u32], q: u32, from: u32) -> u32
-    requires { ⌜ q < 4 ⌝ }
-    ensures { λ r. ⌜ r ≡ seek MARKS (takesPart (now (m .entry)) q) (recordOf (now (m .entry))) from ⌝ }
-{
-    let mut x = from;
-    let mut n: u32 = 256;
-    while 0 < n {
-        if END <= x {
-            return END;
-        }
-        if takes_part(m, q, x) {
-            return x;
-        }
-        x = after(m, x);
-        n -= 1;
-    }
-    END
-}
-
-// The first mark from `from` on where a view of q stands.
-fn standing(m: &[u32], q: u32, from: u32) -> u32
-    requires { ⌜ q < 4 ⌝ }
-    ensures { λ r. ⌜ r ≡ seek MARKS (standsAt (now (m .entry)) q) (recordOf (now (m .entry))) from ⌝ }
-{
-    let mut x = from;
-    let mut n: u32 = 256;
-    while 0 < n {
-        if END <= x {
-            return END;
-        }
-        if stands_at(m, q, x) {
-            return x;
-        }
-        x = after(m, x);
-        n -= 1;
-    }
-    END
+    seek(m, Asks::Pushes, q, after(m, t)) != END
 }
 
 pub fn just_before(m: &[u32], q: u32, t: u32) -> u32
     requires { ⌜ q < 4 ⌝ }
     ensures { λ r. ⌜ r ≡ justBefore (now (m .entry)) q t ⌝ }
 {
-    standing(m, q, after(m, t))
+    seek(m, Asks::Stands, q, after(m, t))
 }
 
 // The view (h, e) goes by its head alone.
@@ -247,11 +206,11 @@ pub fn returned_to(m: &[u32], q: u32, t: u32, h: u32, e: u32) -> u32
     requires { ⌜ (q < 4) × (t < 128) ⌝ }
     ensures { λ r. ⌜ r ≡ returnedTo (now (m .entry)) q t (view h e) ⌝ }
 {
-    let x = after(m, t + 128);
+    let x = after(m, t + TASKS);
     if h == NL {
-        taking(m, q, x)
+        seek(m, Asks::TakesPart, q, x)
     } else {
-        standing(m, q, x)
+        seek(m, Asks::Stands, q, x)
     }
 }
 
@@ -263,7 +222,7 @@ fn heir_or(m: &[u32], t: u32, q: u32, c: u32, d: u32) -> u32
     if c == t {
         return d;
     }
-    if rights::pops(memory::task(m, c, RIGHTS), q) {
+    if rights::pops(memory::rights(m, c), q) {
         c
     } else {
         d
@@ -277,13 +236,13 @@ fn oldest_popping(m: &[u32], t: u32, q: u32, from: u32, p: u32) -> u32
 {
     let mut c = from;
     let mut d = p;
-    let mut n: u32 = 128;
+    let mut n: u32 = TASKS;
     while 0 < n {
-        if 128 <= c {
+        if TASKS <= c {
             return d;
         }
         d = heir_or(m, t, q, c, d);
-        c = memory::task(m, c, OLDER);
+        c = memory::older(m, c);
         n -= 1;
     }
     d
@@ -293,6 +252,6 @@ pub fn heir(m: &[u32], t: u32, q: u32) -> u32
     requires { ⌜ q < 4 ⌝ }
     ensures { λ r. ⌜ r ≡ heir (now (m .entry)) t q ⌝ }
 {
-    let p = memory::task(m, t, PARENT);
-    oldest_popping(m, t, q, memory::task(m, p, YOUNGEST), p)
+    let p = memory::parent(m, t);
+    oldest_popping(m, t, q, memory::youngest(m, p), p)
 }

@@ -1,13 +1,19 @@
-use Rattle.core_finish.proofs.Ladder.{top-finishes, task-finishes}
+use Rattle.core_finish.specs.Calls.{allowed, changed}
+use Rattle.core_finish.proofs.Ladder.{top-other, top-finishes, task-finishes}
 use borrow.Author.Needs.{needs}
 use Rattle.core_finish.proofs.finish.Statement.{statement}
 use Rattle.core_finish.proofs.finish.Tie as tie
 
+answer-requires-2 : tie.Need-answer-requires-2
+answer-requires-2 c κs = λ e. c .before .before .before .pre
+
 returns : tie.Need-returns
-returns c = top-finishes _ _ (c .before .before .before .before .if1 .taken) (c .before .before .finish-top .ensures)
+unfolding allowed changed
+returns c = top-finishes _ _ (c .before .before .before .before .if1 .taken) (c .before .before .answer .ensures)
 
 returns-2 : tie.Need-returns-2
-returns-2 c = task-finishes _ _ (c .before .before .before .before .if1 .left) (c .before .before .finish-task .ensures)
+unfolding allowed changed
+returns-2 c = task-finishes _ _ (c .before .before .before .before .if1 .left) (c .before .before .answer2 .ensures)
 
 pub finish-spec : {M : Type 1} → statement M
-finish-spec = tie.close (tie.spec (λ c κs. search needs) (λ c. search needs) returns (λ c κs. search needs) (λ c. search needs) returns-2)
+finish-spec = tie.close (tie.spec (λ c κs. top-other) (λ c. search needs) returns answer-requires-2 (λ c. search needs) returns-2)

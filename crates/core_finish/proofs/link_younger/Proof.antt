@@ -7,7 +7,7 @@ returns : tie.Need-returns
 returns c = no-older _ _ _ (c .if1 .taken)
 
 returns-2 : tie.Need-returns-2
-returns-2 c = older-linked _ _ _ _ (c .before .before .before .before .if1 .left) (c .before .before .set-task .ensures)
+returns-2 c = older-linked _ _ _ _ (c .before .before .before .before .if1 .left) (c .before .before .set-younger .ensures)
 
 pub link-younger-spec : {M : Type 1} → statement M
 link-younger-spec = tie.close (tie.spec returns (λ c κs. search needs) (λ c. search needs) returns-2)

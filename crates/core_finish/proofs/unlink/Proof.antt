@@ -5,19 +5,19 @@ use Rattle.core_finish.proofs.unlink.Tie as tie
 
 returns : tie.Need-returns
 returns c =
-    youngest-leaves _ _ _ _ (c .before .before .before .before .before .before .before .before .before .before .before .before .before .task .ensures)
-    (c .before .before .before .before .before .before .before .before .before .before .before .task2 .ensures)
-    (c .before .before .before .before .before .before .before .before .before .task3 .ensures)
+    youngest-leaves _ _ _ _ (c .before .before .before .before .before .before .before .before .before .before .before .before .before .older .ensures)
+    (c .before .before .before .before .before .before .before .before .before .before .before .younger .ensures)
+    (c .before .before .before .before .before .before .before .before .before .parent .ensures)
     (c .before .before .before .before .before .before .before .link-younger .ensures) (c .before .before .before .before .if1 .taken)
-    (c .before .before .set-task .ensures)
+    (c .before .before .set-youngest .ensures)
 
 returns-2 : tie.Need-returns-2
 returns-2 c =
-    other-leaves _ _ _ _ (c .before .before .before .before .before .before .before .before .before .before .before .before .before .task .ensures)
-    (c .before .before .before .before .before .before .before .before .before .before .before .task2 .ensures)
-    (c .before .before .before .before .before .before .before .before .before .task3 .ensures)
+    other-leaves _ _ _ _ (c .before .before .before .before .before .before .before .before .before .before .before .before .before .older .ensures)
+    (c .before .before .before .before .before .before .before .before .before .before .before .younger .ensures)
+    (c .before .before .before .before .before .before .before .before .before .parent .ensures)
     (c .before .before .before .before .before .before .before .link-younger .ensures) (c .before .before .before .before .if1 .left)
-    (c .before .before .set-task2 .ensures)
+    (c .before .before .set-older .ensures)
 
 pub unlink-spec : {M : Type 1} → statement M
 unlink-spec =

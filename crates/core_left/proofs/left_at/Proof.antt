@@ -7,14 +7,14 @@ returns : tie.Need-returns
 returns c = no-queue _ _ _ (c .if1 .taken)
 
 returns-2 : tie.Need-returns-2
-returns-2 c = not-yet _ _ _ (c .before .before .if1 .left) (c .before .task .ensures) (c .if2 .taken)
+returns-2 c = not-yet _ _ _ (c .before .before .if1 .left) (c .before .status .ensures) (c .if2 .taken)
 
 returns-3 : tie.Need-returns-3
 returns-3 c =
-    found _ _ _ (c .before .before .before .before .if1 .left) (c .before .before .before .task .ensures) (c .before .before .if2 .left)
-    (c .before .task2 .ensures) (c .queued .ensures)
+    found _ _ _ (c .before .before .before .before .if1 .left) (c .before .before .before .status .ensures) (c .before .before .if2 .left)
+    (c .before .queue-head .ensures) (c .queued .ensures)
 
 pub left-at-spec : {M : Type 1} → statement M
 left-at-spec =
     tie.close
-    (tie.spec returns (λ c κs. search needs) returns-2 (λ c. search needs) (λ c κs. search needs) (λ c κs. search needs) returns-3)
+    (tie.spec returns (λ c κs. search needs) returns-2 (λ c κs. search needs) (λ c κs. search needs) returns-3)

@@ -18,7 +18,7 @@ returns c = chain-end _ _ _ _ (c .before .loop-test .taken) (c .if1 .taken) ∙ 
 
 returns-2 : tie.Need-returns-2 Inv-loop μ-loop
 returns-2 c =
-    chain-here _ _ _ _ _ _ (c .before .before .before .before .loop-test .taken) (c .before .before .before .if1 .left) (c .before .before .segment .ensures)
+    chain-here _ _ _ _ _ _ (c .before .before .before .before .loop-test .taken) (c .before .before .before .if1 .left) (c .before .before .count .ensures)
     (c .before .if2 .taken) (c .value-at .ensures) ∙ c .before .before .before .before .before .loop .inv .3
 
 loop-again : tie.Need-loop-again Inv-loop μ-loop
@@ -26,8 +26,8 @@ loop-again c = (
   search needs,
   omega arith,
   omega arith,
-  chain-on _ _ _ _ _ _ _ (c .before .before .before .before .loop-test .taken) (c .before .before .before .if1 .left) (c .before .before .segment .ensures)
-      (c .before .if2 .left) refl (c .segment2 .ensures) ∙ c .before .before .before .before .before .loop .inv .3,
+  chain-on _ _ _ _ _ _ _ (c .before .before .before .before .loop-test .taken) (c .before .before .before .if1 .left) (c .before .before .count .ensures)
+      (c .before .if2 .left) refl (c .next .ensures) ∙ c .before .before .before .before .before .loop .inv .3,
 )
 
 returns-3 : tie.Need-returns-3 Inv-loop μ-loop

@@ -11,7 +11,7 @@ returns c =
     (c .before .before .before .before .before .before .before .before .before .before .before .before .before .before .before .before .before .before .before
     .before .before .pre .0)
     (c .before .before .before .before .before .before .before .before .before .before .before .before .before .before .before .before .before .before .clear
-    .ensures) (c .before .before .before .before .before .before .before .before .before .before .before .before .before .before .put4 .ensures)
+    .ensures) (c .before .before .before .before .before .before .before .before .before .before .before .before .before .before .write-header .ensures)
     (c .before .before .before .before .before .before .before .before .before .before .stack .ensures)
     (c .before .before .before .before .before .before .segment .ensures) (c .before .before .top .ensures)
 

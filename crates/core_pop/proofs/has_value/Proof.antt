@@ -4,10 +4,10 @@ use Rattle.core_pop.proofs.has_value.Statement.{statement}
 use Rattle.core_pop.proofs.has_value.Tie as tie
 
 returns : tie.Need-returns
-returns c = no-head _ _ _ (c .before .task .ensures) (c .if1 .taken)
+returns c = no-head _ _ _ (c .before .queue-head .ensures) (c .if1 .taken)
 
 returns-2 : tie.Need-returns-2
-returns-2 c = by-count _ _ _ (c .before .before .task .ensures) (c .before .if1 .left) (c .segment .ensures)
+returns-2 c = by-count _ _ _ (c .before .before .queue-head .ensures) (c .before .if1 .left) (c .count .ensures)
 
 pub has-value-spec : {M : Type 1} → statement M
-has-value-spec = tie.close (tie.spec (λ c. search needs) (λ c κs. search needs) returns (λ c κs. search needs) returns-2)
+has-value-spec = tie.close (tie.spec (λ c κs. search needs) returns (λ c κs. search needs) returns-2)

@@ -14,13 +14,13 @@ returns-2 c = refused-5 _ _ _ _ (c .before .before .unfinished .ensures) (c .bef
 returns-3 : tie.Need-returns-3
 returns-3 c =
     refused-6 _ _ _ _ (c .before .before .before .before .before .before .unfinished .ensures) (c .before .before .before .before .before .if1 .left)
-    (c .before .before .before .before .if2 .left) (c .before .before .task .ensures) (c .before .pushes .ensures) (c .if3 .taken)
+    (c .before .before .before .before .if2 .left) (c .before .before .rights .ensures) (c .before .pushes .ensures) (c .if3 .taken)
 
 returns-4 : tie.Need-returns-4
 returns-4 c =
     waits _ _ _ _ (c .before .before .before .before .before .before .before .before .before .unfinished .ensures)
     (c .before .before .before .before .before .before .before .before .if1 .left) (c .before .before .before .before .before .before .before .if2 .left)
-    (c .before .before .before .before .before .task .ensures) (c .before .before .before .before .pushes .ensures) (c .before .before .before .if3 .left)
+    (c .before .before .before .before .before .rights .ensures) (c .before .before .before .before .pushes .ensures) (c .before .before .before .if3 .left)
     (c .before .blocked .ensures) (c .if4 .taken)
 
 push-value-requires : tie.Need-push-value-requires
@@ -37,7 +37,7 @@ returns-5 c =
     goes-on _ _ _ _ (c .before .before .before .before .before .before .before .before .before .before .before .before .before .unfinished .ensures)
     (c .before .before .before .before .before .before .before .before .before .before .before .before .if1 .left)
     (c .before .before .before .before .before .before .before .before .before .before .before .if2 .left)
-    (c .before .before .before .before .before .before .before .before .before .task .ensures)
+    (c .before .before .before .before .before .before .before .before .before .rights .ensures)
     (c .before .before .before .before .before .before .before .before .pushes .ensures)
     (c .before .before .before .before .before .before .before .if3 .left) (c .before .before .before .before .before .blocked .ensures)
     (c .before .before .before .before .if4 .left) (c .before .before .push-value .ensures)

@@ -7,7 +7,7 @@ returns : tie.Need-returns
 returns c =
     behind _ _ _ _ _ _ _ _ _ (c .before .before .before .before .before .before .before .before .before .before .before .before .next-free .ensures)
     (c .before .before .before .before .before .before .before .before .before .before .take .ensures)
-    (c .before .before .before .before .before .before .set-segment .ensures) (c .before .before .set-tail .ensures)
+    (c .before .before .before .before .before .before .set-next .ensures) (c .before .before .set-tail .ensures)
 
 pub push-behind-spec : {M : Type 1} → statement M
 push-behind-spec =

@@ -40,7 +40,7 @@ store-one-requires c κs =
     (c .before .before .before .before .before .before .before .before .before .before .before .before .before .before .pre .2)
     (c .before .before .before .before .before .before .before .before .before .before .before .before .before .before .pre .3)
     (c .before .before .before .before .before .before .before .before .before .before .before .tail .ensures)
-    (c .before .before .before .before .before .before .if3 .left) (c .before .before .before .before .segment .ensures) (c .before .before .header .ensures)
+    (c .before .before .before .before .before .before .if3 .left) (c .before .before .before .before .count .ensures) (c .before .before .length-of .ensures)
     (c .before .if4 .taken)
 
 returns-4 : tie.Need-returns-4
@@ -50,7 +50,7 @@ returns-4 c =
     (c .before .before .before .before .before .before .before .before .before .before .before .is-empty .ensures)
     (c .before .before .before .before .before .before .before .before .before .before .if1 .left)
     (c .before .before .before .before .before .before .before .before .before .if3 .left)
-    (c .before .before .before .before .before .before .before .segment .ensures) (c .before .before .before .before .before .header .ensures) _
+    (c .before .before .before .before .before .before .before .count .ensures) (c .before .before .before .before .before .length-of .ensures) _
     (c .before .before .before .before .if4 .taken) (c .before .before .store-one .ensures)
 
 returns-5 : tie.Need-returns-5
@@ -59,8 +59,8 @@ returns-5 c =
     (c .before .before .before .before .before .before .before .before .before .before .before .head .ensures)
     (c .before .before .before .before .before .before .before .before .before .before .is-empty .ensures)
     (c .before .before .before .before .before .before .before .before .before .if1 .left)
-    (c .before .before .before .before .before .before .before .before .if3 .left) (c .before .before .before .before .before .before .segment .ensures)
-    (c .before .before .before .before .header .ensures) (c .before .before .before .if4 .left) (c .before .none-free2 .ensures) (c .if5 .taken)
+    (c .before .before .before .before .before .before .before .before .if3 .left) (c .before .before .before .before .before .before .count .ensures)
+    (c .before .before .before .before .length-of .ensures) (c .before .before .before .if4 .left) (c .before .none-free2 .ensures) (c .if5 .taken)
 
 push-behind-requires : tie.Need-push-behind-requires
 unfolding size
@@ -80,8 +80,8 @@ returns-6 c =
     (c .before .before .before .before .before .before .before .before .before .before .before .before .before .before .is-empty .ensures)
     (c .before .before .before .before .before .before .before .before .before .before .before .before .before .if1 .left)
     (c .before .before .before .before .before .before .before .before .before .before .before .before .if3 .left)
-    (c .before .before .before .before .before .before .before .before .before .before .segment .ensures)
-    (c .before .before .before .before .before .before .before .before .header .ensures)
+    (c .before .before .before .before .before .before .before .before .before .before .count .ensures)
+    (c .before .before .before .before .before .before .before .before .length-of .ensures)
     (c .before .before .before .before .before .before .before .if4 .left) (c .before .before .before .before .before .none-free2 .ensures)
     (c .before .before .before .before .if5 .left) (c .before .before .push-behind .ensures)
 

@@ -6,22 +6,22 @@ use Rattle.core_spawn.proofs.make_child.Tie as tie
 returns : tie.Need-returns
 returns c =
     first-child _ _ _ _ _ _ _ _ _
-    (c .before .before .before .before .before .before .before .before .before .before .before .before .before .before .before .before .before .task .ensures)
-    (c .before .before .before .before .before .before .before .before .before .before .before .before .before .before .before .child-links .ensures)
+    (c .before .before .before .before .before .before .before .before .before .before .before .before .before .before .before .before .before .youngest .ensures)
+    (c .before .before .before .before .before .before .before .before .before .before .before .before .before .before .before .set-links .ensures)
     (c .before .before .before .before .before .before .before .before .before .before .before .child-views .ensures)
-    (c .before .before .before .before .before .before .before .pass-on .ensures) (c .before .before .before .set-task .ensures) (c .if1 .taken)
+    (c .before .before .before .before .before .before .before .pass-on .ensures) (c .before .before .before .set-youngest .ensures) (c .if1 .taken)
 
 returns-2 : tie.Need-returns-2
 returns-2 c =
     next-child _ _ _ _ _ _ _ _ _
     (c .before .before .before .before .before .before .before .before .before .before .before .before .before .before .before .before .before .before .before
-    .before .before .task .ensures)
+    .before .before .youngest .ensures)
     (c .before .before .before .before .before .before .before .before .before .before .before .before .before .before .before .before .before .before .before
-    .child-links .ensures)
+    .set-links .ensures)
     (c .before .before .before .before .before .before .before .before .before .before .before .before .before .before .before .child-views .ensures)
     (c .before .before .before .before .before .before .before .before .before .before .before .pass-on .ensures)
-    (c .before .before .before .before .before .before .before .set-task .ensures) _ (c .before .before .before .before .if1 .left)
-    (c .before .before .set-task2 .ensures)
+    (c .before .before .before .before .before .before .before .set-youngest .ensures) _ (c .before .before .before .before .if1 .left)
+    (c .before .before .set-younger .ensures)
 
 pub make-child-spec : {M : Type 1} → statement M
 make-child-spec =

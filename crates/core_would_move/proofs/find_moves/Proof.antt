@@ -12,12 +12,12 @@ returns c = no-queue _ _ _ pops _ (c .if1 .taken)
 
 returns-2 : tie.Need-returns-2
 unfolding findMoves
-returns-2 c = not-held _ _ _ pops _ (c .before .before .before .if1 .left) (c .before .before .task .ensures) (c .before .pops .ensures) (c .if2 .taken)
+returns-2 c = not-held _ _ _ pops _ (c .before .before .before .if1 .left) (c .before .before .rights .ensures) (c .before .pops .ensures) (c .if2 .taken)
 
 returns-3 : tie.Need-returns-3
 unfolding findMoves
 returns-3 c =
-    is-held _ _ _ pops _ (c .before .before .before .before .before .if1 .left) (c .before .before .before .before .task .ensures)
+    is-held _ _ _ pops _ (c .before .before .before .before .before .if1 .left) (c .before .before .before .before .rights .ensures)
     (c .before .before .before .pops .ensures) _ (c .before .before .if2 .left) (c .decided .ensures ∙ ap decided (c .before .find .ensures))
 
 pub find-moves-spec : {M : Type 1} → statement M

@@ -11,12 +11,12 @@ returns c = no-queue _ _ _ pushes _ (c .if1 .taken)
 
 returns-2 : tie.Need-returns-2
 unfolding pushMoves
-returns-2 c = not-held _ _ _ pushes _ (c .before .before .before .if1 .left) (c .before .before .task .ensures) (c .before .pushes .ensures) (c .if2 .taken)
+returns-2 c = not-held _ _ _ pushes _ (c .before .before .before .if1 .left) (c .before .before .rights .ensures) (c .before .pushes .ensures) (c .if2 .taken)
 
 returns-3 : tie.Need-returns-3
 unfolding pushMoves
 returns-3 c =
-    is-held _ _ _ pushes _ (c .before .before .before .before .if1 .left) (c .before .before .before .task .ensures) (c .before .before .pushes .ensures) _
+    is-held _ _ _ pushes _ (c .before .before .before .before .if1 .left) (c .before .before .before .rights .ensures) (c .before .before .pushes .ensures) _
     (c .before .if2 .left) (c .value-fits .ensures)
 
 pub push-moves-spec : {M : Type 1} → statement M

@@ -6,10 +6,10 @@ use Rattle.segments.proofs.drop_one.Tie as tie
 returns : tie.Need-returns
 returns c =
     one-less _ _ _ _ _ _ _ _ (c .before .before .before .before .before .before .before .before .before .before .before .before .read-record
-    .ensures) (c .before .before .before .before .before .before .before .before .before .before .header .ensures)
+    .ensures) (c .before .before .before .before .before .before .before .before .before .before .length-of .ensures)
     (c .before .before .before .before .before .before .before .before .before .place .ensures)
     (c .before .before .before .before .before .before .before .before .with-one-less .ensures)
-    (c .before .before .before .before .before .before .set-segment .ensures) (c .before .before .set-segment2 .ensures)
+    (c .before .before .before .before .before .before .set-first .ensures) (c .before .before .set-count .ensures)
 
 pub drop-one-spec : {M : Type 1} → statement M
 drop-one-spec =

@@ -17,7 +17,7 @@ abbrev μ-loop : tie.MeasureT-loop
 μ-loop m q y h i₀ i = h - i
 
 loop-holds : tie.Need-loop-holds Inv-loop μ-loop
-loop-holds c = (omega arith, search needs, held-start _ _ _ _ (c .header .ensures))
+loop-holds c = (omega arith, search needs, held-start _ _ _ _ (c .free-segments .ensures))
 
 returns : tie.Need-returns Inv-loop μ-loop
 returns c = held-none _ _ _ _ (rest-out _ _ _ (c .if1 .taken)) ∙ c .before .before .loop .inv .2

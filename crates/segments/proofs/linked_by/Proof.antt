@@ -16,7 +16,7 @@ abbrev μ-loop : tie.MeasureT-loop
 μ-loop m q s d n y₀ y = n - y
 
 loop-holds : tie.Need-loop-holds Inv-loop μ-loop
-loop-holds c = (omega arith, search needs, by-start _ _ _ _ (c .header .ensures))
+loop-holds c = (omega arith, search needs, by-start _ _ _ _ (c .number .ensures))
 
 next-is-requires : tie.Need-next-is-requires Inv-loop μ-loop
 unfolding freeMarks

@@ -17,7 +17,7 @@ abbrev μ-loop : tie.MeasureT-loop
 μ-loop m q d₀ h i₀ d i = h - i
 
 loop-holds : tie.Need-loop-holds Inv-loop μ-loop
-loop-holds c = (omega arith, search needs, refl, marks-start _ _ (c .before .before .before .args .q) _ (c .header .ensures))
+loop-holds c = (omega arith, search needs, refl, marks-start _ _ (c .before .before .before .args .q) _ (c .free-segments .ensures))
 
 returns : tie.Need-returns Inv-loop μ-loop
 returns c = marks-none _ _ _ _ (rest-out _ _ _ (c .if1 .taken)) ∙ c .before .before .loop .inv .3

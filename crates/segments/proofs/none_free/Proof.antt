@@ -4,7 +4,7 @@ use Rattle.segments.proofs.none_free.Statement.{statement}
 use Rattle.segments.proofs.none_free.Tie as tie
 
 returns : tie.Need-returns
-returns c = none-left _ _ _ (c .header .ensures)
+returns c = none-left _ _ _ (c .free-segments .ensures)
 
 pub none-free-spec : {M : Type 1} → statement M
 none-free-spec = tie.close (tie.spec (λ c κs. search needs) returns)

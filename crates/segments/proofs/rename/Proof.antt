@@ -15,13 +15,13 @@ returns c = rename-head _ _ _ _ _ (c .before .before .before .before .before .be
 
 returns-2 : tie.Need-returns-2
 returns-2 c = rename-next _ _ _ _ _ (c .before .before .before .before .before .before .before .before .before .before .head-task .ensures) _ _
-    (c .before .before .before .before .before .before .before .linked-by .ensures) (c .before .before .before .before .before .header .ensures)
+    (c .before .before .before .before .before .before .before .linked-by .ensures) (c .before .before .before .before .before .number .ensures)
     (c .before .before .before .before .before .before .before .before .before .if1 .left) _ (c .before .before .before .before .if2 .taken)
-    (c .before .before .set-segment .ensures)
+    (c .before .before .set-next .ensures)
 
 returns-3 : tie.Need-returns-3
 returns-3 c = rename-none _ _ _ _ _ (c .before .before .before .before .before .before .head-task .ensures) _ _
-    (c .before .before .before .linked-by .ensures) (c .before .header .ensures) (c .before .before .before .before .before .if1 .left) (c .if2 .left)
+    (c .before .before .before .linked-by .ensures) (c .before .number .ensures) (c .before .before .before .before .before .if1 .left) (c .if2 .left)
 
 pub rename-spec : {M : Type 1} → statement M
 rename-spec =

@@ -6,20 +6,20 @@ use Rattle.segments.proofs.store_one.Tie as tie
 
 store-at-requires : tie.Need-store-at-requires
 store-at-requires c κs = (
-  place-inside _ _ _ _ _ _ (c .before .before .before .before .header .ensures) (c .before .before .read-record .ensures .1)
+  place-inside _ _ _ _ _ _ (c .before .before .before .before .length-of .ensures) (c .before .before .read-record .ensures .1)
       (c .before .before .before .before .before .before .before .pre .3) (c .place .ensures),
   values-inside _ _ _ _ (c .before .before .before .before .before .before .before .pre .0)
       (c .before .before .before .before .before .before .before .pre .1) (c .before .before .before .before .before .before .before .pre .2)
-      (c .before .before .before .before .header .ensures) refl,
+      (c .before .before .before .before .length-of .ensures) refl,
 )
 
 returns : tie.Need-returns
 returns c =
-    one-more _ _ _ _ _ _ _ _ _ (c .before .before .before .before .before .before .before .before .before .before .before .before .header .ensures)
+    one-more _ _ _ _ _ _ _ _ _ (c .before .before .before .before .before .before .before .before .before .before .before .before .length-of .ensures)
     (c .before .before .before .before .before .before .before .before .before .before .read-record .ensures)
     (c .before .before .before .before .before .before .before .before .place .ensures)
     (c .before .before .before .before .before .before .before .store-at .ensures)
-    (c .before .before .before .before .with-one-more .ensures) (c .before .before .set-segment .ensures)
+    (c .before .before .before .before .with-one-more .ensures) (c .before .before .set-count .ensures)
 
 pub store-one-spec : {M : Type 1} → statement M
 store-one-spec =

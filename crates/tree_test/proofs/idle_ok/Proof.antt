@@ -12,7 +12,7 @@ use Rattle.tree_test.proofs.idle_ok.Tie as tie
 returns : tie.Need-returns
 unfolding size
 returns c =
-    idle-many (c .before .before .before .args .m .now) (c .before .before .before .pre) (let a = c .before .header .ensures in let b = c .if1 .taken in
+    idle-many (c .before .before .before .args .m .now) (c .before .before .before .pre) (let a = c .before .free-tasks .ensures in let b = c .if1 .taken in
     omega (arith, a, b))
 
 mark-free-requires : tie.Need-mark-free-requires
@@ -22,25 +22,25 @@ returns-2 : tie.Need-returns-2
 unfolding size
 returns-2 c =
     idle-wrong (c .before .before .before .before .before .before .before .args .m .now) (c .before .before .before .before .before .before .before .pre)
-    (c .before .before .before .before .before .header .result) (c .before .before .before .before .before .header .ensures)
+    (c .before .before .before .before .before .free-tasks .result) (c .before .before .before .before .before .free-tasks .ensures)
     (c .before .before .before .before .if1 .left) _ (c .before .before .mark-free .ensures .0) (c .if2 .taken)
 
 returns-3 : tie.Need-returns-3
 unfolding size load
 returns-3 c =
     idle-top (c .before .before .before .before .before .before .before .before .args .m .now)
-    (c .before .before .before .before .before .before .before .before .pre) (c .before .before .before .before .before .before .header .result)
-    (c .before .before .before .before .before .before .header .ensures) (c .before .before .before .before .before .if1 .left) _
+    (c .before .before .before .before .before .before .before .before .pre) (c .before .before .before .before .before .before .free-tasks .result)
+    (c .before .before .before .before .before .before .free-tasks .ensures) (c .before .before .before .before .before .if1 .left) _
     (c .before .before .before .mark-free .ensures .0) (c .before .if2 .left) _ (c .before .before .before .mark-free .ensures .1) (c .if3 .taken)
 
 returns-4 : tie.Need-returns-4
 unfolding size load
 returns-4 c =
-    ap (λ (n : ℕ). eqb n (c .before .before .before .before .before .before .before .before .header .result)) (c .marks .ensures)
+    ap (λ (n : ℕ). eqb n (c .before .before .before .before .before .before .before .before .free-tasks .result)) (c .marks .ensures)
     ∙ idle-count (c .before .before .before .before .before .before .before .before .before .before .args .m .now)
     (c .before .before .before .before .before .before .before .before .before .before .pre)
-    (c .before .before .before .before .before .before .before .before .header .result)
-    (c .before .before .before .before .before .before .before .before .header .ensures)
+    (c .before .before .before .before .before .before .before .before .free-tasks .result)
+    (c .before .before .before .before .before .before .before .before .free-tasks .ensures)
     (c .before .before .before .before .before .before .before .if1 .left) _ (c .before .before .before .before .before .mark-free .ensures .0)
     (c .before .before .before .if2 .left) _ (c .before .before .before .before .before .mark-free .ensures .1) (c .before .before .if3 .left)
 

@@ -28,8 +28,8 @@ cast-t c = omega (arith, c .shared-slice-known .given (320 + (c .before .before 
 shared-slice-read-w : tie.Need-shared-slice-read-w Inv-loop μ-loop
 shared-slice-read-w c = let a = c .before .before .before .before .pre .0 in omega (arith, a)
 
-cast-w : tie.Need-cast-w Inv-loop μ-loop
-cast-w c =
+cast-w-2 : tie.Need-cast-w-2 Inv-loop μ-loop
+cast-w-2 c =
     omega (
       arith,
       c .before .shared-slice-known .given
@@ -85,5 +85,5 @@ returns c = (
 pub mark-free-spec : {M : Type 1} → statement M
 mark-free-spec =
     tie.close
-    (tie.spec Inv-loop μ-loop loop-holds (λ c. omega arith) (λ c. omega arith) shared-slice-read-t cast-t (λ c. omega arith) (λ c. omega arith)
-    (λ c. omega arith) shared-slice-read-w cast-w add-w-2 add-w-3 slice-write-d (λ c. omega arith) (λ c. omega arith) loop-again same-length returns)
+    (tie.spec Inv-loop μ-loop loop-holds (λ c. omega arith) (λ c. omega arith) shared-slice-read-t cast-t (λ c. omega arith) (λ c. omega arith) (λ c. omega arith) (λ c. omega arith)
+    (λ c. omega arith) shared-slice-read-w cast-w-2 add-w-2 add-w-3 slice-write-d (λ c. omega arith) (λ c. omega arith) loop-again same-length returns)

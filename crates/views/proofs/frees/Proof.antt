@@ -22,7 +22,7 @@ returns-4 : tie.Need-returns-4
 returns-4 c =
     frees-empty _ _ _ _ _ (sym (c .before .before .before .before .before .before .is-empty .ensures) ∙ c .before .before .before .before .before .if1 .left)
     (sym (c .before .before .before .before .is-empty2 .ensures) ∙ c .before .before .before .if2 .left) _
-    (sym (c .before .before .local .ensures) ∙ not-false _ (c .before .if3 .left)) (c .segment .ensures)
+    (sym (c .before .before .local .ensures) ∙ not-false _ (c .before .if3 .left)) (c .count .ensures)
 
 pub frees-spec : {M : Type 1} → statement M
 frees-spec =

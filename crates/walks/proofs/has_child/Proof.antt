@@ -9,7 +9,7 @@ use Rattle.walks.proofs.has_child.Tie as tie
 
 returns : tie.Need-returns
 unfolding hasChild
-returns c = ap (λ (c : ℕ). not (eqb c NONE)) (c .task .ensures)
+returns c = ap (λ (c : ℕ). not (eqb c NONE)) (c .youngest .ensures)
 
 pub has-child-spec : {M : Type 1} → statement M
 has-child-spec = tie.close (tie.spec (λ c κs. tt) returns)

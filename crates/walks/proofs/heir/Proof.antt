@@ -3,7 +3,7 @@ use Rattle.walks.proofs.heir.Statement.{statement}
 use Rattle.walks.proofs.heir.Tie as tie
 
 returns : tie.Need-returns
-returns c = heir-from _ _ _ (c .before .before .task .ensures) (c .before .task2 .ensures) (c .oldest-popping .ensures)
+returns c = heir-from _ _ _ (c .before .before .parent .ensures) (c .before .youngest .ensures) (c .oldest-popping .ensures)
 
 pub heir-spec : {M : Type 1} → statement M
 heir-spec = tie.close (tie.spec (λ c κs. tt) (λ c κs. tt) (λ c κs. c .before .before .before .pre) returns)

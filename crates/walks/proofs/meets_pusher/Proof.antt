@@ -12,7 +12,7 @@ returns : tie.Need-returns
 unfolding rightsOf
 returns c =
     both-so (lt-ltb _ _ (c .before .before .if1 .taken))
-    (c .pushes .ensures ∙ ap (λ (w : ℕ). pushes w (c .before .before .before .before .args .q)) (c .before .task .ensures))
+    (c .pushes .ensures ∙ ap (λ (w : ℕ). pushes w (c .before .before .before .before .args .q)) (c .before .rights .ensures))
 
 returns-2 : tie.Need-returns-2
 returns-2 c = sym (both-off _ (le-ltb _ _ (c .if1 .left)))

@@ -24,7 +24,7 @@ returns c = oldest-end _ _ _ _ _ (c .before .loop-test .taken) (c .if1 .taken) �
 
 loop-again : tie.Need-loop-again Inv-loop μ-loop
 loop-again c =
-    oldest-on _ _ _ _ _ _ _ (c .before .before .before .loop-test .taken) (c .before .before .if1 .left) (c .task .ensures) (c .before .heir-or .ensures)
+    oldest-on _ _ _ _ _ _ _ (c .before .before .before .loop-test .taken) (c .before .before .if1 .left) (c .older .ensures) (c .before .heir-or .ensures)
     ∙ c .before .before .before .before .loop .inv
 
 returns-2 : tie.Need-returns-2 Inv-loop μ-loop

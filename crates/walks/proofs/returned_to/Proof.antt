@@ -4,10 +4,10 @@ use Rattle.walks.proofs.returned_to.Statement.{statement}
 use Rattle.walks.proofs.returned_to.Tie as tie
 
 returns : tie.Need-returns
-returns c = returned-part _ _ _ _ _ (c .before .before .after .ensures) (c .before .if1 .taken) (c .taking .ensures)
+returns c = returned-part _ _ _ _ _ (c .before .before .after .ensures) (c .before .if1 .taken) (c .seek .ensures)
 
 returns-2 : tie.Need-returns-2
-returns-2 c = returned-stands _ _ _ _ _ (c .before .before .after .ensures) (c .before .if1 .left) (c .standing .ensures)
+returns-2 c = returned-stands _ _ _ _ _ (c .before .before .after .ensures) (c .before .if1 .left) (c .seek2 .ensures)
 
 pub returned-to-spec : {M : Type 1} → statement M
 returned-to-spec =

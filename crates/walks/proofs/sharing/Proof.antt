@@ -22,15 +22,15 @@ returns-2 : tie.Need-returns-2 Inv-loop μ-loop
 unfolding rightsOf
 returns-2 c =
     sibling-here _ _ _ _ (c .before .before .before .before .loop-test .taken) (c .before .before .before .if1 .left)
-    (ap (λ (w : ℕ). sharesPop w (c .before .before .before .before .before .before .before .args .a)) (sym (c .before .before .task .ensures))
+    (ap (λ (w : ℕ). sharesPop w (c .before .before .before .before .before .before .before .args .a)) (sym (c .before .before .rights .ensures))
     ∙ sym (c .before .shares-pop .ensures) ∙ c .if2 .taken) ∙ c .before .before .before .before .before .loop .inv
 
 loop-again : tie.Need-loop-again Inv-loop μ-loop
 unfolding rightsOf
 loop-again c =
     sibling-on _ _ _ _ _ (c .before .before .before .before .before .loop-test .taken) (c .before .before .before .before .if1 .left)
-    (ap (λ (w : ℕ). sharesPop w (c .before .before .before .before .before .before .before .before .args .a)) (sym (c .before .before .before .task .ensures))
-    ∙ sym (c .before .before .shares-pop .ensures) ∙ c .before .if2 .left) (c .task2 .ensures) ∙ c .before .before .before .before .before .before .loop .inv
+    (ap (λ (w : ℕ). sharesPop w (c .before .before .before .before .before .before .before .before .args .a)) (sym (c .before .before .before .rights .ensures))
+    ∙ sym (c .before .before .shares-pop .ensures) ∙ c .before .if2 .left) (c .older .ensures) ∙ c .before .before .before .before .before .before .loop .inv
 
 returns-3 : tie.Need-returns-3 Inv-loop μ-loop
 returns-3 c = sibling-none _ _ _ _ (c .loop-test .left) ∙ c .before .loop .inv

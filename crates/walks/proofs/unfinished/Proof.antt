@@ -10,7 +10,7 @@ use Rattle.walks.proofs.unfinished.Tie as tie
 
 returns : tie.Need-returns
 unfolding unfinished
-returns c = both-so (lt-ltb _ _ (c .before .if1 .taken)) (ap (λ (s : ℕ). eqb s 1) (c .task .ensures))
+returns c = both-so (lt-ltb _ _ (c .before .if1 .taken)) (ap (λ (s : ℕ). eqb s 1) (c .status .ensures))
 
 returns-2 : tie.Need-returns-2
 unfolding unfinished
