@@ -4,14 +4,12 @@ use mathlib.Core.List.{List}
 use Prim.Native.Nat.{ℕ, _+_, _*_, _≤_}
 use native.Mathlib.Nat.{le-antisymm}
 use native.Mathlib.Omega.{arith}
-use lib.ListN.{length, getD, take}
+use lib.ListN.{length, take}
 use lib.Seq.{length-take-le}
 use Rattle.spec_words.specs.Words.{load}
-use Rattle.spec_plain.specs.Machine.{queue}
 use Rattle.text.specs.Puts.{Puts, puts-then, puts-first, puts-whole}
-use Rattle.run_text.specs.Lines.{line, leftLine}
-use Rattle.serial_text.specs.Whole.{linesFrom, stepLine, valueLine}
-use Rattle.serial_text.specs.Laws.{lines-more}
+use Rattle.run_text.specs.Lines.{line}
+use Rattle.block_text.specs.Lines.{linesFrom, lines-more}
 
 -- the first r bytes of m are the text ws
 pub record Block (m : List ℕ) (r : ℕ) (ws : List ℕ) : Type 0 where
@@ -42,13 +40,12 @@ pub all-lines : (f : ℕ → List ℕ) (first i n : ℕ) {m m1 : List ℕ} {a : 
     → Puts m 0 (linesFrom f first i) m1 a → Block m1 a (linesFrom f first n)
 all-lines f first i n e h k l g b p = rw (← le-antisymm l g) (block e (omega arith) p)
 
--- the line of a step by the words read, and that of a value
-pub step-line : {m m1 : List ℕ} {p r t k v : ℕ} (a : List ℕ) (i : ℕ) → t ≡ load a (i * 3) → k ≡ load a (i * 3 + 1) → v ≡ load a (i * 3 + 2)
-    → Puts m p (line (i + 1) t k v) m1 r → Puts m p (stepLine a i) m1 r
-unfolding stepLine
-step-line a i et ek ev q = rw (← et, ← ek, ← ev) q
+-- the line of row i of the words a, where c calls were made before row 0
+unfoldable pub rowLine : List ℕ → ℕ → ℕ → List ℕ
+rowLine a c i = line (c + i + 1) (load a (i * 3)) (load a (i * 3 + 1)) (load a (i * 3 + 2))
 
-pub value-line : {m m1 : List ℕ} {p r v : ℕ} (qs : List (List ℕ)) (q i : ℕ) → v ≡ getD (queue qs q) i 0 → Puts m p (leftLine q v) m1 r
-    → Puts m p (valueLine qs q i) m1 r
-unfolding valueLine
-value-line qs q i e p = rw (← e) p
+-- the line of a row by the words read
+pub row-line : {m m1 : List ℕ} {p r t k v : ℕ} (a : List ℕ) (c i : ℕ) → t ≡ load a (i * 3) → k ≡ load a (i * 3 + 1) → v ≡ load a (i * 3 + 2)
+    → Puts m p (line (c + i + 1) t k v) m1 r → Puts m p (rowLine a c i) m1 r
+unfolding rowLine
+row-line a c i et ek ev q = rw (← et, ← ek, ← ev) q

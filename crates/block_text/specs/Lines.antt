@@ -1,10 +1,20 @@
--- Lines in blocks: a block behind another is one block, and a line more.
-use mathlib.Core.Path.{_≡_, ap, ap₂, sym, _∙_}
-use mathlib.Core.List.{List, _++_, append-nil, append-assoc}
+-- Lines one behind the other: a block behind another is one block, and a line more.
+use mathlib.Core.Path.{_≡_, refl, ap, ap₂, sym, _∙_}
+use mathlib.Core.List.{List, [], _++_, append-nil, append-assoc}
 use Prim.Native.Nat.{ℕ, zero, suc, _+_}
 use native.Mathlib.Nat.{add-zero, zero-add, suc-add}
 use native.Mathlib.Omega.{arith}
-use Rattle.serial_text.specs.Whole.{linesFrom}
+
+-- lines f of n numbers from i on, one behind the other
+unfoldable pub linesFrom : (ℕ → List ℕ) → ℕ → ℕ → List ℕ
+linesFrom f i zero = []
+linesFrom f i (suc n) = f i ++ linesFrom f (i + 1) n
+
+-- lines that are the same one by one
+pub lines-same : {f g : ℕ → List ℕ} → ((i : ℕ) → f i ≡ g i) → (i n : ℕ) → linesFrom f i n ≡ linesFrom g i n
+unfolding linesFrom
+lines-same h i zero = refl
+lines-same h i (suc n) = ap₂ (λ (a b : List ℕ). a ++ b) (h i) (lines-same h (i + 1) n)
 
 module _ (f : ℕ → List ℕ) where
   -- BLOCKS: m lines and n behind them are m + n lines, so what is written in blocks is the whole.

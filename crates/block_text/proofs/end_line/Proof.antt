@@ -1,8 +1,8 @@
 use native.Mathlib.Omega.{arith}
-use Rattle.serial_text.specs.Blocks.{block}
+use Rattle.block_text.specs.Blocks.{block}
 use borrow.Author.Needs.{needs}
-use Rattle.serial_text.proofs.end_line.Statement.{statement}
-use Rattle.serial_text.proofs.end_line.Tie as tie
+use Rattle.block_text.proofs.end_line.Statement.{statement}
+use Rattle.block_text.proofs.end_line.Tie as tie
 
 returns : tie.Need-returns
 returns c =

@@ -1,7 +1,7 @@
-use Rattle.overlap_text.specs.Blocks.{row-line}
+use Rattle.block_text.specs.Blocks.{row-line}
 use borrow.Author.Needs.{needs}
-use Rattle.overlap_text.proofs.row_line.Statement.{statement}
-use Rattle.overlap_text.proofs.row_line.Tie as tie
+use Rattle.block_text.proofs.row_line.Statement.{statement}
+use Rattle.block_text.proofs.row_line.Tie as tie
 
 returns : tie.Need-returns
 returns c = (
