@@ -1,15 +1,18 @@
 //! Memories made by hand that break a rule, each with the first rule of
 //! `rules::RULES` that it breaks.
 
-use crate::hand::{with_child, Named};
+use crate::hand::{self, with_child, Named};
 use crate::layout::*;
 use crate::memory::{Calls, Core, E};
 
 /// A rule, and words of `with_two_children` so changed that it is broken.
 type Change = (&'static str, Vec<(usize, u32)>);
 
-pub fn memories() -> Vec<Named> {
-    all().into_iter().map(|(_, named)| named).collect()
+/// Memories that pass, and then those that break a rule.
+pub fn with_passing() -> Vec<Named> {
+    let mut list = hand::passing();
+    list.extend(all().into_iter().map(|(_, named)| named));
+    list
 }
 
 /// Each memory behind the rule that it breaks.

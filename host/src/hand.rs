@@ -1,18 +1,10 @@
 //! Memories made by hand that pass the rules, though no calls lead to them.
 
-use crate::broken;
 use crate::layout::*;
 use crate::memory::{Calls, Core, E};
 
 /// A memory with a name.
 pub type Named = (String, Vec<u32>);
-
-/// Memories that pass, and ones that break a rule.
-pub fn all() -> Vec<Named> {
-    let mut list = passing();
-    list.extend(broken::memories());
-    list
-}
 
 pub fn passing() -> Vec<Named> {
     [

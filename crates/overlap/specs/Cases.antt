@@ -41,7 +41,7 @@ use Rattle.spec_job.specs.Examples.{fullRun}
 use Rattle.spec_serial.specs.Answers.{numberOf}
 use Rattle.text.specs.Text.{ascii, digits, decimal}
 use Rattle.run_text.specs.Lines.{answerText, hasValue as printsValue, valueText, spaced, ended, line, leftLine, openLine, endLine}
-use Rattle.serial_text.specs.Whole.{linesFrom}
+use Rattle.block_text.specs.Lines.{linesFrom}
 use Rattle.runner_run.specs.Rows.{numbered, printed}
 use Rattle.overlap_text.specs.Whole.{callLines, leftAt, isValue, leftFrom, leftIn, valueLine, queueLines, unfinishedIn, endText, textFrom, overlapText}
 

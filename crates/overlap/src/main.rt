@@ -3,10 +3,10 @@
 // standard error and prints nothing.
 ghost use Prim.Native.Nat.{_+_, _^_, _<_, _≤_};
 ghost use lib.ListN.{length};
-use libc::STDERR_FILENO;
 use libc::STDIN_FILENO;
 use libc::STDOUT_FILENO;
 use read_file::Bytes;
+use read_file::JOB_BYTES;
 use spec_runner::StepAnswer;
 use spec_serial::End;
 
@@ -57,7 +57,7 @@ fn print_queue(m: &[u32], q: u32) -> bool {
     let values = overlap_text::left_count(m, q);
     let mut first: u32 = 0;
     while first < values {
-        let n = serial_text::part(values, first);
+        let n = block_text::part(values, first);
         if !print_value_block(m, q, first, n) {
             return false;
         }
@@ -94,7 +94,7 @@ fn print_end(m: &[u32]) -> bool {
 // Prints the line of a job that was refused with number k.
 fn print_refused(k: u32) -> bool {
     let mut out = io::large_buffer();
-    let n = serial_text::end_line(&mut out, End::Refused(k));
+    let n = block_text::end_line(&mut out, End::Refused(k));
     io::write_all(STDOUT_FILENO, &out[..n])
 }
 
@@ -124,25 +124,12 @@ fn run(job: &[u8]) {
 }
 
 fn main() {
-    let mut path = io::buffer();
-    let length = os::arg(1, &mut path);
-    if os::errno() != 0 {
-        io::write_all(
-            STDERR_FILENO,
-            b"usage: overlap FILE, with task numbers as bytes on standard input\n",
-        );
-        return;
+    let mut file = [0u8; JOB_BYTES];
+    let got = read_file::read_job(
+        b"usage: overlap FILE, with task numbers as bytes on standard input\n",
+        &mut file,
+    );
+    if let Bytes::Read(n) = got {
+        run(&file[..n]);
     }
-    let fd = os::open_read(&path[..length]);
-    if fd < 0 {
-        os::fail(&path[..length]);
-        return;
-    }
-    // The largest job has 49,540 bytes. A longer file is none, and is refused by its first 49,541 bytes as by all of them.
-    let mut file = [0u8; 49541];
-    match read_file::read_start(fd, &mut file) {
-        Bytes::Read(n) => run(&file[..n]),
-        Bytes::Unread => os::fail(&path[..length]),
-    }
-    libc::close(fd);
 }

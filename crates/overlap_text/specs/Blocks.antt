@@ -3,14 +3,14 @@ use mathlib.Core.Path.{_≡_, refl, ap, sym, _∙_}
 use mathlib.Core.Bool.{Bool, true, false}
 use mathlib.Core.List.{List}
 use Prim.Native.Nat.{ℕ, suc, _+_, _-_, _*_, _/_, _<_, _≤_}
-use native.Mathlib.Nat.{zero-add, le-antisymm}
+use native.Mathlib.Nat.{le-antisymm}
 use native.Mathlib.Numerals.{add-one}
 use native.Mathlib.Omega.{arith}
 use lib.Dec.{ltb}
 use lib.ListN.{length, take}
 use lib.Seq.{take-all}
 use borrow.Author.Tests.{ltb-false}
-use Rattle.spec_words.specs.Words.{load, size, pick, halt, pass}
+use Rattle.spec_words.specs.Words.{size, pick, halt, pass}
 use Rattle.spec_lists.specs.Counting.{one, total}
 use Rattle.spec_lists.specs.Tests.{turn-left, turns-over}
 use Rattle.spec_answers.specs.declared.Answer.{Answer}
@@ -20,11 +20,11 @@ use Rattle.spec_outcomes.specs.Left.{leftTested}
 use Rattle.spec_runner.specs.Run.{stepsFrom, as-many}
 use Rattle.runner_run.specs.Made.{fitting, Made, Ran}
 use Rattle.text.specs.Puts.{Puts}
-use Rattle.run_text.specs.Lines.{line, leftLine, openLine}
-use Rattle.serial_text.specs.Whole.{linesFrom}
-use Rattle.serial_text.specs.Blocks.{Block}
+use Rattle.run_text.specs.Lines.{leftLine, openLine}
+use Rattle.block_text.specs.Lines.{linesFrom}
+use Rattle.block_text.specs.Blocks.{Block, rowLine}
 use Rattle.overlap_text.specs.Whole.{callLines, leftAt, isValue, leftFrom, leftIn, valueLine, unfinishedIn}
-use Rattle.overlap_text.specs.Laws.{rowLine, block-lines}
+use Rattle.overlap_text.specs.Laws.{block-lines}
 
 -- A BLOCK OF CALLS of tasks ts, where c calls were made before: its text, and the words that the steps leave
 pub record Called (j ts m r : List ℕ) (c : ℕ) (out : List ℕ) (n : ℕ) (m' r' : List ℕ) : Type 0 where
@@ -41,16 +41,6 @@ pub value-line : {m m1 : List ℕ} {p r v : ℕ} (w : List ℕ) (q i : ℕ) → 
     → Puts m p (valueLine w q i) m1 r
 unfolding valueLine
 value-line w q i e p = rw (← e) p
-
--- the line of a row by the words read
-pub row-line : {m m1 : List ℕ} {p r t k v : ℕ} (a : List ℕ) (c i : ℕ) → t ≡ load a (i * 3) → k ≡ load a (i * 3 + 1) → v ≡ load a (i * 3 + 2)
-    → Puts m p (line (c + i + 1) t k v) m1 r → Puts m p (rowLine a c i) m1 r
-unfolding rowLine
-row-line a c i et ek ev q = rw (← et, ← ek, ← ev) q
-
--- line number i of lines from 0 on
-pub from-first : (f : ℕ → List ℕ) (i : ℕ) {m m1 : List ℕ} {p r : ℕ} → Puts m p (f i) m1 r → Puts m p (f (0 + i)) m1 r
-from-first f i q = rw (zero-add i) q
 
 -- all of at most 1,024 steps have rows in 3,072 words
 all-fit : (n k : ℕ) → n ≤ 1024 → k ≡ 3072 → fitting n k ≡ n

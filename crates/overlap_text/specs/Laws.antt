@@ -10,13 +10,10 @@ use Rattle.spec_words.specs.Blocks.{storeAll, block-same}
 use Rattle.spec_runner.specs.declared.StepAnswer.{StepAnswer}
 use Rattle.spec_runner.specs.Run.{Steps, stepsFrom, steps-append, as-many}
 use Rattle.run_text.specs.Lines.{line}
-use Rattle.serial_text.specs.Whole.{linesFrom}
+use Rattle.block_text.specs.Lines.{linesFrom}
+use Rattle.block_text.specs.Blocks.{rowLine}
 use Rattle.runner_run.specs.Rows.{numbered, printed, rowsOf, rows-length}
 use Rattle.overlap_text.specs.Whole.{callLines}
-
--- the line of row i of the words a, where c calls were made before row 0
-unfoldable pub rowLine : List ℕ → ℕ → ℕ → List ℕ
-rowLine a c i = line (c + i + 1) (load a (i * 3)) (load a (i * 3 + 1)) (load a (i * 3 + 2))
 
 -- calls behind calls
 pub lines-append : (c : ℕ) (ts us : List ℕ) (xs ys : List StepAnswer) → length xs ≡ length ts

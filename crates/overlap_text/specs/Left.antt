@@ -25,7 +25,8 @@ use Rattle.spec_outcomes.specs.Left.{queued, leftTested, leftOutcome}
 use Rattle.spec_plain.specs.Machine.{queue}
 use Rattle.run_text.specs.Lines.{leftLine}
 use Rattle.spec_serial.specs.declared.End.the-variants.{Ended}
-use Rattle.serial_text.specs.Whole.{linesFrom, valueLine as lineOf, queueLines as linesOf, endText as lastLines}
+use Rattle.block_text.specs.Lines.{linesFrom}
+use Rattle.serial_text.specs.Whole.{valueLine as lineOf, queueLines as linesOf, endText as lastLines}
 use Rattle.overlap_text.specs.Whole.{leftAt, isValue, leftFrom, leftIn, valueLine, queueLines, endText}
 
 -- LISTS BY INDEX

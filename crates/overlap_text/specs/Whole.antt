@@ -19,7 +19,7 @@ use Rattle.spec_runner.specs.Open.{openOutcome}
 use Rattle.spec_runner.specs.Run.{stepsFrom}
 use Rattle.spec_serial.specs.declared.End.the-variants as End
 use Rattle.run_text.specs.Lines.{line, leftLine, openLine, endLine}
-use Rattle.serial_text.specs.Whole.{linesFrom}
+use Rattle.block_text.specs.Lines.{linesFrom}
 use Rattle.runner_run.specs.Rows.{numbered, printed}
 
 -- "the call's number from 1, task, answer, value or "-"": the calls of tasks ts, where c calls were made before

@@ -7,38 +7,11 @@ ghost use Rattle.spec_lists.specs.Counting.{one};
 ghost use Rattle.spec_answers.specs.Answers.{valueOf};
 ghost use Rattle.text.specs.Puts.{Puts};
 ghost use Rattle.run_text.specs.Lines.{openLine};
-ghost use Rattle.serial_text.specs.Whole.{linesFrom};
-ghost use Rattle.serial_text.specs.Blocks.{Block};
+ghost use Rattle.block_text.specs.Lines.{linesFrom};
+ghost use Rattle.block_text.specs.Blocks.{Block};
 ghost use Rattle.overlap_text.specs.Whole.{leftAt, isValue, leftIn, valueLine, unfinishedIn};
-ghost use Rattle.overlap_text.specs.Laws.{rowLine};
 ghost use Rattle.overlap_text.specs.Blocks.{Called};
 use spec_answers::Answer;
-
-// The line of row i, where `before` calls were made before row 0.
-fn row_line(out: &mut [u8], at: usize, a: &[u32], before: u64, i: usize) -> usize
-    requires { ⌜ (at < 2 ^ 38) × (i < 1024) × (before + i + 1 < 2 ^ 64) ⌝ }
-    ensures { λ r. ⌜ Puts (now (out .entry)) at (rowLine (now (a .entry)) before i) (now (out .exit)) r × (r ≤ at + 52) ⌝ }
-{
-    let b = i * 3;
-    let task = memory::get(a, b);
-    let answer = memory::get(a, b + 1);
-    let value = memory::get(a, b + 2);
-    run_text::line(out, at, before + i as u64 + 1, task, answer, value)
-}
-
-// The lines of n rows.
-fn row_lines(out: &mut [u8], a: &[u32], before: u64, n: usize) -> usize
-    requires { ⌜ (65536 ≤ length (now out)) × (n ≤ 1024) × (before + 1024 < 2 ^ 64) ⌝ }
-    ensures { λ r. ⌜ Block (now (out .exit)) r (linesFrom (rowLine (now (a .entry)) before) 0 n) ⌝ }
-{
-    let mut at: usize = 0;
-    let mut i: usize = 0;
-    while i < n {
-        at = row_line(out, at, a, before, i);
-        i += 1;
-    }
-    at
-}
 
 // Makes the calls of the tasks, where `before` calls were made before, and writes their lines.
 pub fn call_lines(
@@ -55,7 +28,7 @@ pub fn call_lines(
 {
     let mut a = [0u32; 3072];
     let n = runner_run::run(job, tasks, m, r, &mut a);
-    row_lines(out, &a, before, n)
+    block_text::row_lines(out, &a, before, 0, n)
 }
 
 // Whether value number i of queue q is left.

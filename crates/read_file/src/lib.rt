@@ -1,5 +1,8 @@
-// Reading a file: once, or its start as far as lent bytes go.
+// Reading a file: once, its start as far as lent bytes go, or the job of a program.
 ghost use Rattle.read_file.specs.Inside.{Inside};
+
+// The largest job has 49,540 bytes. A longer file is none, and is refused by its first 49,541 bytes as by all of them.
+pub const JOB_BYTES: usize = 49541;
 
 // How many bytes were read.
 pub enum Bytes {
@@ -34,4 +37,28 @@ pub fn read_start(fd: i32, bytes: &mut [u8]) -> Bytes
         n += k;
     }
     Bytes::Read(n)
+}
+
+// Reads the start of the file that the program's first argument names. Where there is no argument it writes `usage` to
+// standard error, and where the file cannot be read it says there why.
+pub fn read_job(usage: &[u8], bytes: &mut [u8]) -> Bytes
+    ensures { λ r. ⌜ Inside r (now (bytes .exit)) ⌝ }
+{
+    let mut path = io::buffer();
+    let length = os::arg(1, &mut path);
+    if os::errno() != 0 {
+        io::write_all(libc::STDERR_FILENO, usage);
+        return Bytes::Unread;
+    }
+    let fd = os::open_read(&path[..length]);
+    if fd < 0 {
+        os::fail(&path[..length]);
+        return Bytes::Unread;
+    }
+    let got = read_start(fd, bytes);
+    if let Bytes::Unread = got {
+        os::fail(&path[..length]);
+    }
+    libc::close(fd);
+    got
 }

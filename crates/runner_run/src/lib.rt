@@ -4,6 +4,15 @@ ghost use Prim.Native.Nat.{_+_, _*_, _^_, _<_};
 ghost use Rattle.spec_words.specs.Blocks.{storeAll};
 ghost use Rattle.runner_run.specs.Rows.{printed, numbered, row};
 ghost use Rattle.runner_run.specs.Made.{fitting, Step, Ran};
+use job_effect::EMPTY;
+use job_effect::FINISHED;
+use job_effect::MOVED;
+use job_effect::NOT_EMPTY;
+use job_effect::PUSHED;
+use job_effect::REFUSED;
+use job_effect::SPAWNED;
+use job_effect::TOOK;
+use job_effect::WAITS;
 use spec_runner::StepAnswer;
 
 // The number that stands for an answer.
@@ -11,15 +20,15 @@ fn number(a: StepAnswer) -> u32
     ensures { λ n. ⌜ n ≡ numbered a ⌝ }
 {
     match a {
-        StepAnswer::Spawned(_) => 0,
-        StepAnswer::Pushed(_) => 1,
-        StepAnswer::Took(_) => 2,
-        StepAnswer::Moved => 3,
-        StepAnswer::Finished => 4,
-        StepAnswer::Empty => 5,
-        StepAnswer::NotEmpty => 6,
-        StepAnswer::Waits => 7,
-        StepAnswer::Refused(_) => 8,
+        StepAnswer::Spawned(_) => SPAWNED,
+        StepAnswer::Pushed(_) => PUSHED,
+        StepAnswer::Took(_) => TOOK,
+        StepAnswer::Moved => MOVED,
+        StepAnswer::Finished => FINISHED,
+        StepAnswer::Empty => EMPTY,
+        StepAnswer::NotEmpty => NOT_EMPTY,
+        StepAnswer::Waits => WAITS,
+        StepAnswer::Refused(_) => REFUSED,
     }
 }
 

@@ -1,5 +1,5 @@
 pub mod Numbers
-pub mod Effects
+pub mod Answers
 pub mod Writes
 pub mod Calls
 pub mod Replies

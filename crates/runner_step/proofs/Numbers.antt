@@ -15,9 +15,6 @@ use Rattle.spec_runner.specs.Step.{callOf, runnerAfter}
 pub last-of-four : (k : ℕ) → 1 ≤ k → k ≤ 4 → ((Unit {0} × (k ≡ 1 → ⊥)) × (k ≡ 2 → ⊥)) × (k ≡ 3 → ⊥) → k ≡ 4
 last-of-four k a b n = omega (arith, n .0 .0 .1, n .0 .1, n .1)
 
-pub last-of-two : (k : ℕ) → 5 ≤ k → k ≤ 6 → Unit {0} × (k ≡ 5 → ⊥) → k ≡ 6
-last-of-two k a b n = omega (arith, n .1)
-
 -- the operations of 1 to 7: the task goes on
 module _ (t c : ℕ) (s : Instruction) (e : Effect) (r : List ℕ) where
   abbrev Goes : ℕ → Type 0

@@ -21,7 +21,8 @@ use Rattle.spec_runner.specs.Words.{registerOf, instructionFor}
 use Rattle.spec_runner.specs.Answers.{outcome}
 use Rattle.spec_runner.specs.Laws.{core-outcome}
 use Rattle.spec_runner.specs.Step.{Reply, goes, stops, callOf, replyOf, replied, coreOutcome, repliedTo, makes}
-use Rattle.runner_step.specs.Parts.{foundWith, called, acted, Does}
+use Rattle.job_effect.specs.Made.{foundWith}
+use Rattle.runner_step.specs.Parts.{called, acted, Does}
 
 -- with a call, or without one
 makes-called : (t : ℕ) (s : Instruction) (c : Option Call) (m r : List ℕ) → repliedTo t s (called c m) m r ≡ makes t s c m r

@@ -6,14 +6,15 @@ use mathlib.Core.Option.{Option}
 use Prim.Native.Nat.{ℕ, _+_, _%_, _<_, _≤_}
 use Rattle.spec_job.specs.declared.Instruction.{Instruction}
 use Rattle.spec_job.specs.Operations.{Operation, rowOf, operationOf, operationAt}
-use Rattle.spec_job.specs.Effects.{Effect, sum, effect}
+use Rattle.spec_job.specs.Effects.{Word, Effect, sum, effect}
 use Rattle.spec_runner.specs.declared.StepAnswer.{StepAnswer}
 use Rattle.spec_runner.specs.Words.{procedureOf, positionOf, registerOf, put}
-use Rattle.spec_runner.specs.Answers.{outcome}
+use Rattle.spec_runner.specs.Answers.{answerWith, outcome}
 use Rattle.spec_runner.specs.Step.{runnerAfter, done}
 use Rattle.spec_job.specs.Rows.{returns-at}
-use Rattle.runner_step.specs.declared.Made.{Made}
-use Rattle.runner_step.specs.Parts.{coded, Writes, Does}
+use Rattle.job_effect.specs.declared.Made.{Made}
+use Rattle.job_effect.specs.Made.{coded}
+use Rattle.runner_step.specs.Parts.{wordNumbered, word-numbered, Writes, Does}
 use Rattle.runner_step.proofs.Numbers.{goes-at}
 
 module _ (t : ℕ) (s : Instruction) (c i x : ℕ) (r : List ℕ) {p : ℕ} (ep : p ≡ procedureOf r t) where
@@ -46,18 +47,25 @@ unfolding runnerAfter
 finish-writes t s c i x r u h eu =
     record { writes = λ e ei ex. eu ∙ ap (λ (o : Operation). runnerAfter o t c s e r) (sym (returns-at (s .operation) h)) }
 
--- AN INSTRUCTION DONE: its effect, and the words written
-pub does-it : (t : ℕ) (s : Instruction) (f : Option ℕ) (c : ℕ) (r u : List ℕ) {i x : ℕ} {e : Made} → i ≡ positionOf r t → x ≡ registerOf r t
-    → e ≡ coded (effect (operationAt (s .operation)) i x (s .operand) f) c → Writes t s c (e .next) (e .register) r u → Does t s f c r (e .answer) u
+-- AN INSTRUCTION DONE: its effect, the words written, and the answer
+pub does-it : (t : ℕ) (s : Instruction) (f : Option ℕ) (c : ℕ) (r u : List ℕ) {i x : ℕ} {e : Made} {a : StepAnswer} → i ≡ positionOf r t
+    → x ≡ registerOf r t
+    → e ≡ coded (effect (operationAt (s .operation)) i x (s .operand) f)
+    → Writes t s c (e .next) (e .register) r u
+    → a ≡ answerWith (wordNumbered (e .answer)) (e .value) c
+    → Does t s f c r a u
 unfolding done coded
-does-it t s f c r u {i} {x} {e} ei ex ee w =
+does-it t s f c r u {i} {x} {e} ei ex ee w ea =
     record {
       does = λ n.
           ap₂ (λ (a : StepAnswer) (l : List ℕ). outcome a n l)
-          (ap (λ (e : Made). e .answer) same)
-          (w .writes (effect (operationAt (s .operation)) (positionOf r t) (registerOf r t) (s .operand) f)
-          (sym (ap (λ (e : Made). e .next) same)) (sym (ap (λ (e : Made). e .register) same)));
+          (ea ∙ ap (λ (e : Made). answerWith (wordNumbered (e .answer)) (e .value) c) same
+          ∙ ap (λ (w : Word). answerWith w (given .value) c) (word-numbered (given .word)))
+          (w .writes given (sym (ap (λ (e : Made). e .next) same)) (sym (ap (λ (e : Made). e .register) same)));
     }
   where
-    same : e ≡ coded (effect (operationAt (s .operation)) (positionOf r t) (registerOf r t) (s .operand) f) c
-    same = ee ∙ ap₂ (λ (i x : ℕ). coded (effect (operationAt (s .operation)) i x (s .operand) f) c) ei ex
+    given : Effect
+    given = effect (operationAt (s .operation)) (positionOf r t) (registerOf r t) (s .operand) f
+
+    same : e ≡ coded given
+    same = ee ∙ ap₂ (λ (i x : ℕ). coded (effect (operationAt (s .operation)) i x (s .operand) f)) ei ex

@@ -2,108 +2,42 @@
 ghost use mathlib.Core.Path.{_≡_};
 ghost use mathlib.Core.Bool.{true};
 ghost use mathlib.Core.List.{[]};
-ghost use mathlib.Core.Option.{none};
 ghost use Prim.Native.Nat.{_^_, _<_, _≤_};
 ghost use lib.ListN.{length};
 ghost use Rattle.spec_rules.specs.Test.{rulesHold};
 ghost use Rattle.spec_answers.specs.Answers.{outcome as answered};
-ghost use Rattle.spec_job.specs.Operations.{pop, goIfEmpty, operationAt};
-ghost use Rattle.spec_job.specs.Effects.{effect};
+ghost use Rattle.spec_job.specs.Operations.{operationAt};
 ghost use Rattle.spec_runner.specs.Words.{positionOf};
-ghost use Rattle.spec_runner.specs.Answers.{outcome};
+ghost use Rattle.spec_runner.specs.Answers.{answerWith, outcome};
 ghost use Rattle.spec_runner.specs.Step.{callOf, stepOutcome};
-ghost use Rattle.runner_step.specs.Parts.{gives, foundWith, coded, called, acted, Writes, Does};
+ghost use Rattle.job_effect.specs.Made.{foundWith};
+ghost use Rattle.runner_step.specs.Parts.{wordNumbered, called, acted, Writes, Does};
+use job_effect::EMPTY;
+use job_effect::FINISHED;
+use job_effect::MOVED;
+use job_effect::NOT_EMPTY;
+use job_effect::PUSHED;
+use job_effect::SPAWNED;
+use job_effect::TOOK;
+use job_effect::WAITS;
 use spec_answers::Answer;
 use spec_job::Instruction;
 use spec_runner::StepAnswer;
 
-// What a step gives: its answer, and the register and the next instruction after it.
-pub struct Made {
-    pub answer: StepAnswer,
-    pub register: u32,
-    pub next: u32,
-}
-
-fn gives(answer: StepAnswer, register: u32, next: u32) -> Made
-    ensures { λ e. ⌜ e ≡ gives answer register next ⌝ }
+// The answer that has number n, with value x; v is the number of a new task.
+fn answer(n: u32, x: u32, v: u32) -> StepAnswer
+    ensures { λ a. ⌜ a ≡ answerWith (wordNumbered n) x v ⌝ }
 {
-    Made {
-        answer,
-        register,
-        next,
-    }
-}
-
-// A pop at instruction i with register r: of value v, or where nothing was found.
-fn pop_effect(i: u32, r: u32, found: bool, v: u32) -> Made
-    requires { ⌜ i < 2 ^ 31 ⌝ }
-    ensures { λ e. ⌜ e ≡ coded (effect pop i r 0 (foundWith found v)) v ⌝ }
-{
-    if found {
-        gives(StepAnswer::Took(v), v, i + 1)
-    } else {
-        gives(StepAnswer::Empty, r, i + 1)
-    }
-}
-
-// Goes to instruction x where nothing was found.
-fn test_effect(x: u32, i: u32, r: u32, found: bool) -> Made
-    requires { ⌜ i < 2 ^ 31 ⌝ }
-    ensures { λ e. ⌜ e ≡ coded (effect goIfEmpty i r x (foundWith found 0)) 0 ⌝ }
-{
-    if found {
-        gives(StepAnswer::NotEmpty, r, i + 1)
-    } else {
-        gives(StepAnswer::Empty, r, x)
-    }
-}
-
-// An operation that uses a queue.
-fn queue_effect(k: u32, x: u32, i: u32, r: u32, found: bool, v: u32) -> Made
-    requires { ⌜ (1 ≤ k) × (k ≤ 4) × (i < 2 ^ 31) ⌝ }
-    ensures { λ e. ⌜ e ≡ coded (effect (operationAt k) i r x (foundWith found v)) v ⌝ }
-{
-    let sum = std::num::wrapping_add_u32(r, x);
-    let next = i + 1;
-    match k {
-        1 => gives(StepAnswer::Pushed(x), r, next),
-        2 => gives(StepAnswer::Pushed(sum), r, next),
-        3 => pop_effect(i, r, found, v),
-        _ => test_effect(x, i, r, found),
-    }
-}
-
-// Goes to instruction x: operation 5 always, operation 6 where the register is zero.
-fn go_effect(k: u32, x: u32, i: u32, r: u32) -> Made
-    requires { ⌜ (5 ≤ k) × (k ≤ 6) × (i < 2 ^ 31) ⌝ }
-    ensures { λ e. ⌜ e ≡ coded (effect (operationAt k) i r x none) 0 ⌝ }
-{
-    let next = i + 1;
-    match k {
-        5 => gives(StepAnswer::Moved, r, x),
-        _ => {
-            if r == 0 {
-                gives(StepAnswer::Moved, r, x)
-            } else {
-                gives(StepAnswer::Moved, r, next)
-            }
-        }
-    }
-}
-
-// Operation k with operand x, by a task at instruction i with register r. v is what was found, or the number of a new task.
-fn effect(k: u32, x: u32, i: u32, r: u32, found: bool, v: u32) -> Made
-    requires { ⌜ i < 2 ^ 31 ⌝ }
-    ensures { λ e. ⌜ e ≡ coded (effect (operationAt k) i r x (foundWith found v)) v ⌝ }
-{
-    let next = i + 1;
-    match k {
-        1..=4 => queue_effect(k, x, i, r, found, v),
-        5..=6 => go_effect(k, x, i, r),
-        7 => gives(StepAnswer::Moved, std::num::wrapping_add_u32(r, x), next),
-        8 => gives(StepAnswer::Spawned(v), r, next),
-        9 => gives(StepAnswer::Moved, r, next),
-        _ => gives(StepAnswer::Finished, r, i),
+    match n {
+        SPAWNED => StepAnswer::Spawned(v),
+        PUSHED => StepAnswer::Pushed(x),
+        TOOK => StepAnswer::Took(x),
+        MOVED => StepAnswer::Moved,
+        FINISHED => StepAnswer::Finished,
+        EMPTY => StepAnswer::Empty,
+        NOT_EMPTY => StepAnswer::NotEmpty,
+        WAITS => StepAnswer::Waits,
+        _ => StepAnswer::Refused(x),
     }
 }
 
@@ -135,9 +69,9 @@ fn done(r: &mut [u32], t: u32, s: Instruction, found: bool, v: u32) -> StepAnswe
 {
     let i = runner_words::position(r, t);
     let x = runner_words::register(r, t);
-    let e = effect(s.operation, s.operand, i, x, found, v);
+    let e = job_effect::effect(s.operation, s.operand, i, x, found, v);
     write(r, t, s, v, e.next, e.register);
-    e.answer
+    answer(e.answer, e.value, v)
 }
 
 // The core call of an instruction s that uses a queue. No job has a part in it, so the contract has the empty one.

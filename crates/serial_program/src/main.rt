@@ -1,9 +1,9 @@
 // Runs the job in the file that the first argument names, without overlap, and prints the run in document 01's lines. Where
 // the file cannot be read it says why on standard error and prints nothing.
 ghost use Prim.Native.Nat.{_+_, _^_, _<_, _≤_};
-use libc::STDERR_FILENO;
 use libc::STDOUT_FILENO;
 use read_file::Bytes;
+use read_file::JOB_BYTES;
 use spec_serial::End;
 
 // Prints the lines of n steps from step `first` on.
@@ -19,7 +19,7 @@ fn print_step_block(a: &[u32], first: u32, n: u32) -> bool
 fn print_steps(a: &[u32], steps: u32) -> bool {
     let mut first: u32 = 0;
     while first < steps {
-        let n = serial_text::part(steps, first);
+        let n = block_text::part(steps, first);
         if !print_step_block(a, first, n) {
             return false;
         }
@@ -42,7 +42,7 @@ fn print_queue(w: &[u32], q: u32) -> bool {
     let values = serial_queues::count(w, q);
     let mut first: u32 = 0;
     while first < values {
-        let n = serial_text::part(values, first);
+        let n = block_text::part(values, first);
         if !print_value_block(w, q, first, n) {
             return false;
         }
@@ -64,7 +64,7 @@ fn print_left(w: &[u32]) -> bool {
 // Prints the line of a run that did not end.
 fn print_end(e: End) -> bool {
     let mut out = io::large_buffer();
-    let r = serial_text::end_line(&mut out, e);
+    let r = block_text::end_line(&mut out, e);
     io::write_all(STDOUT_FILENO, &out[..r])
 }
 
@@ -92,22 +92,9 @@ fn run(job: &[u8]) {
 }
 
 fn main() {
-    let mut path = io::buffer();
-    let length = os::arg(1, &mut path);
-    if os::errno() != 0 {
-        io::write_all(STDERR_FILENO, b"usage: serial_program FILE\n");
-        return;
+    let mut file = [0u8; JOB_BYTES];
+    let got = read_file::read_job(b"usage: serial_program FILE\n", &mut file);
+    if let Bytes::Read(n) = got {
+        run(&file[..n]);
     }
-    let fd = os::open_read(&path[..length]);
-    if fd < 0 {
-        os::fail(&path[..length]);
-        return;
-    }
-    // The largest job has 49,540 bytes. A longer file is none, and is refused by its first 49,541 bytes as by all of them.
-    let mut file = [0u8; 49541];
-    match read_file::read_start(fd, &mut file) {
-        Bytes::Read(n) => run(&file[..n]),
-        Bytes::Unread => os::fail(&path[..length]),
-    }
-    libc::close(fd);
 }

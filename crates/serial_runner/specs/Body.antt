@@ -22,7 +22,7 @@ use Rattle.spec_serial.specs.Outcome.{Outcome}
 use Rattle.spec_serial.specs.declared.End.{End}
 use Rattle.spec_serial.specs.declared.End.the-variants.{Ended, Spent, Refused}
 use Rattle.spec_serial.proofs.End.{the-type}
-use Rattle.serial_steps.specs.declared.Made.{Made}
+use Rattle.job_effect.specs.declared.Made.{Made}
 use Rattle.serial_steps.specs.Steps.{Inner, Does}
 use Rattle.serial_runner.specs.declared.Ran.{Ran}
 use Rattle.serial_runner.specs.Onward.{onward}

@@ -26,8 +26,9 @@ use Rattle.spec_serial.specs.Answers.{SPAWNED, FINISHED, numberOf, numbersAfter
 use Rattle.spec_serial.specs.Outcome.{Outcome, outcome}
 use Rattle.spec_serial.specs.declared.End.{End}
 use Rattle.spec_serial.specs.declared.End.the-variants.{Spent, Refused}
-use Rattle.serial_steps.specs.declared.Made.{Made}
-use Rattle.serial_steps.specs.Steps.{Inner, coded, Does}
+use Rattle.job_effect.specs.declared.Made.{Made}
+use Rattle.job_effect.specs.Made.{coded}
+use Rattle.serial_steps.specs.Steps.{Inner, Does}
 use Rattle.serial_runner.specs.Onward.{onward, onward-stops, onward-goes}
 
 -- a task of the stack: its name, procedure, instruction, register, and the children that it has made

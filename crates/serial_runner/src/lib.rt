@@ -13,10 +13,6 @@ ghost use Rattle.serial_runner.specs.Handed.{Handed};
 use spec_answers::Answer;
 use spec_serial::End;
 
-const SPAWNED: u32 = 0;
-
-const FINISHED: u32 = 4;
-
 // How a part has come to an end, the steps that then remain, and the tasks made, the top included.
 pub struct Ran {
     pub end: End,
@@ -69,7 +65,7 @@ fn run_body(
                 left -= 1;
             }
             _ => {
-                serial_steps::write_answer(a, 65535 - left, number, FINISHED, 0);
+                serial_steps::write_answer(a, 65535 - left, number, job_effect::FINISHED, 0);
                 let end = End::Ended;
                 left -= 1;
                 return Ran { end, left, made };
@@ -100,7 +96,7 @@ fn run_child(
         let end = End::Refused(8);
         return Ran { end, left, made };
     }
-    serial_steps::write_answer(a, 65535 - left, number, SPAWNED, made);
+    serial_steps::write_answer(a, 65535 - left, number, job_effect::SPAWNED, made);
     run_body(
         job,
         w,

@@ -3,10 +3,10 @@ use mathlib.Core.Path.{_≡_}
 use mathlib.Core.List.{List}
 use Prim.Native.Nat.{ℕ, _≤_}
 use Rattle.spec_job.specs.Operations.{operationAt}
-use Rattle.spec_job.specs.Effects.{Effect, effect}
+use Rattle.spec_job.specs.Effects.{effect}
 use Rattle.spec_plain.specs.Machine.{queue, front, queuesAfter}
-use Rattle.spec_serial.specs.Answers.{numberOf}
-use Rattle.serial_steps.specs.declared.Made.{Made}
+use Rattle.job_effect.specs.declared.Made.{Made}
+use Rattle.job_effect.specs.Made.{coded}
 
 -- an operation that neither spawns nor returns
 pub record Inner (k : ℕ) : Type 0 where
@@ -14,16 +14,8 @@ pub record Inner (k : ℕ) : Type 0 where
   pub few : k ≤ 9
   pub inside : k ≡ 8 → ⊥
 
--- an effect with its answer as a number
-unfoldable pub coded : Effect → Made
-coded e = record { answer = numberOf (e .word); value = e .value; register = e .register; next = e .next }
-
 -- Operation number k with fields q and x, by a task at instruction i with register r, where the lists were qs, gives e and
 -- the lists us.
 pub record Does (k q x i r : ℕ) (qs : List (List ℕ)) (e : Made) (us : List (List ℕ)) : Type 0 where
   pub made : e ≡ coded (effect (operationAt k) i r x (front (queue qs q)))
   pub lists : us ≡ queuesAfter (operationAt k) q (e .value) qs
-
--- an operation that leaves the lists as they are, whatever its queue holds
-pub record Moves (k x i r : ℕ) (e : Made) : Type 0 where
-  pub moves : (q : ℕ) (qs : List (List ℕ)) → Does k q x i r qs e qs

@@ -18,7 +18,8 @@ use Rattle.spec_serial.specs.Answers.{numberOf, numbersAfter, madeAfter, row, w
 use Rattle.spec_serial.specs.Outcome.{shown, turnedDown, serialOutcome}
 use Rattle.text.specs.Text.{ascii, digits, decimal}
 use Rattle.run_text.specs.Lines.{answerText, hasValue, valueText, spaced, ended, line, leftLine}
-use Rattle.serial_text.specs.Whole.{linesFrom, stepLine, valueLine, queueLines, endText, textOf, serialText}
+use Rattle.block_text.specs.Lines.{linesFrom}
+use Rattle.serial_text.specs.Whole.{stepLine, valueLine, queueLines, endText, textOf, serialText}
 
 pub full-run-text : serialText fullRun
     ≡ ascii "1 0 spawned 1\n2 1 pushed 10\n3 1 finished -\n4 0 spawned 2\n5 2 took 10\n6 2 finished -\n"

@@ -1,4 +1,3 @@
 pub mod Whole
-pub mod Laws
-pub mod Blocks
+pub mod Written
 pub mod Cases

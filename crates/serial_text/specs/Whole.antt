@@ -9,11 +9,7 @@ use Rattle.spec_serial.specs.Outcome.{ANSWERS, Outcome, outcome, serialOutcome}
 use Rattle.spec_serial.specs.declared.End.{End}
 use Rattle.spec_serial.specs.declared.End.the-variants.{Ended, Spent, Refused}
 use Rattle.run_text.specs.Lines.{line, leftLine, endLine}
-
--- lines f of n numbers from i on, one behind the other
-unfoldable pub linesFrom : (ℕ → List ℕ) → ℕ → ℕ → List ℕ
-linesFrom f i zero = []
-linesFrom f i (suc n) = f i ++ linesFrom f (i + 1) n
+use Rattle.block_text.specs.Lines.{linesFrom}
 
 -- the line of step number i, counted from 0, by the three words of its answer
 unfoldable pub stepLine : List ℕ → ℕ → List ℕ

@@ -11,7 +11,7 @@ use host::random_bodies::{tame, wild};
 use host::random_jobs::accepted;
 use host::runner::{self, RECORD, RUNNER};
 use host::sample::{likely_call, reached};
-use host::{foreign, hand};
+use host::{broken, foreign};
 
 #[derive(Clone, Debug, PartialEq, Eq)]
 pub struct Ground {
@@ -34,7 +34,7 @@ impl Ground {
                 Ground::around(r, core)
             }
             18 => {
-                let list = hand::all();
+                let list = broken::with_passing();
                 let at = r.below(list.len() as u32) as usize;
                 Ground::around(r, list[at].1.clone())
             }

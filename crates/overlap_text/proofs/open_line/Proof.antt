@@ -1,5 +1,5 @@
 use Rattle.overlap_text.specs.Blocks.{open-block}
-use Rattle.serial_text.specs.Blocks.{block}
+use Rattle.block_text.specs.Blocks.{block}
 use native.Mathlib.Omega.{arith}
 use borrow.Author.Needs.{needs}
 use Rattle.overlap_text.proofs.open_line.Statement.{statement}

@@ -4,8 +4,8 @@ use lib.ListN.{length}
 use native.Mathlib.Omega.{arith}
 use Prim.Native.Nat.{_*_, _-_, _≤_}
 use Rattle.text.specs.Puts.{Puts}
-use Rattle.serial_text.specs.Blocks.{no-lines, one-line, all-lines}
-use Rattle.serial_text.specs.Whole.{linesFrom}
+use Rattle.block_text.specs.Blocks.{no-lines, one-line, all-lines}
+use Rattle.block_text.specs.Lines.{linesFrom}
 use Rattle.overlap_text.specs.Whole.{valueLine}
 use Rattle.overlap_text.proofs.value_lines.Statement.{statement}
 use Rattle.overlap_text.proofs.value_lines.Tie as tie

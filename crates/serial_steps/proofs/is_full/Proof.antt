@@ -1,4 +1,4 @@
-use Rattle.serial_steps.proofs.Glue.{full-push, full-below, full-above}
+use Rattle.serial_steps.proofs.Bound.{full-push, full-below, full-above}
 use borrow.Author.Needs.{needs}
 use Rattle.serial_steps.proofs.is_full.Statement.{statement}
 use Rattle.serial_steps.proofs.is_full.Tie as tie

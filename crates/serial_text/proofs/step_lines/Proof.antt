@@ -1,38 +1,10 @@
+use Rattle.serial_text.specs.Written.{step-rows}
 use borrow.Author.Needs.{needs}
-use mathlib.Core.Path.{_≡_, refl, _∙_}
-use lib.ListN.{length}
-use native.Mathlib.Omega.{arith}
-use Prim.Native.Nat.{_*_, _-_, _≤_}
-use Rattle.text.specs.Puts.{Puts}
-use Rattle.serial_text.specs.Blocks.{no-lines, one-line, all-lines}
-use Rattle.serial_text.specs.Whole.{linesFrom, stepLine}
 use Rattle.serial_text.proofs.step_lines.Statement.{statement}
 use Rattle.serial_text.proofs.step_lines.Tie as tie
 
-abbrev Inv-loop : tie.InvT-loop
-Inv-loop out₀ a first n at₀ i₀ out at i = (i ≤ n) × (at ≤ i * 52) × (length out ≡ length out₀) × Puts out₀ 0 (linesFrom (stepLine a) first i) out at
-
-abbrev μ-loop : tie.MeasureT-loop
-μ-loop out₀ a first n at₀ i₀ out at i = n - i
-
-loop-holds : tie.Need-loop-holds Inv-loop μ-loop
-loop-holds c = (omega arith, omega arith, refl, no-lines _ _ _)
-
-loop-again : tie.Need-loop-again Inv-loop μ-loop
-loop-again c = (
-  omega arith,
-  omega arith,
-  c .before .before .step-line .kept .0 ∙ c .before .before .before .before .before .loop .inv .2,
-  one-line _ _ _ (c .before .before .before .before .before .loop .inv .3) (c .before .before .step-line .ensures .0),
-)
-
-returns : tie.Need-returns Inv-loop μ-loop
-returns c =
-    all-lines _ _ _ _ (c .before .loop .inv .2) (c .before .before .before .before .pre .0) (c .before .before .before .before .pre .2)
-    (c .before .loop .inv .0) (c .loop-test .left) (c .before .loop .inv .1) (c .before .loop .inv .3)
+returns : tie.Need-returns
+returns c = step-rows _ _ _ (c .before .before .row-lines .ensures)
 
 pub step-lines-spec : {M : Type 1} → statement M
-step-lines-spec =
-    tie.close
-    (tie.spec Inv-loop μ-loop loop-holds (λ c. omega arith) (λ c κs. search needs) (λ c. omega arith) (λ c. omega arith) loop-again
-    (λ c. c .before .loop .inv .2) returns)
+step-lines-spec = tie.close (tie.spec (λ c κs. search needs) (λ c. search needs) returns)

@@ -1,4 +1,4 @@
-use Rattle.serial_text.specs.Blocks.{value-line}
+use Rattle.serial_text.specs.Written.{value-line}
 use borrow.Author.Needs.{needs}
 use Rattle.serial_text.proofs.value_line.Statement.{statement}
 use Rattle.serial_text.proofs.value_line.Tie as tie

@@ -10,7 +10,7 @@ use host::order::Order;
 use host::play::Player;
 use host::random::Random;
 use host::sample::*;
-use host::{foreign, hand};
+use host::{broken, foreign};
 use link::pair::Pair;
 use link::rounds::{asked, random_of, status, usage, Asked};
 use link::scenes;
@@ -144,7 +144,7 @@ fn tall_or_broad(r: &mut Random) -> Vec<Call> {
 /// A hand-made memory: every call with every likely argument, likely calls in a
 /// row, and damage.
 fn hand_made(pair: &mut Pair, r: &mut Random, round: u32) -> Outcome {
-    let list = hand::all();
+    let list = broken::with_passing();
     let (name, m) = &list[round as usize % list.len()];
     every_call(pair, r, m).map_err(|what| format!("{name}: {what}"))?;
     for _ in 0..6 {

@@ -1,0 +1,82 @@
+-- The effect of an operation: what the code gives for its number.
+use mathlib.Core.Path.{_≡_, refl, ap, sym, _∙_}
+use mathlib.Core.Bool.{Bool, true, false}
+use mathlib.Core.Logic.{_⊎_, inl, inr}
+use Prim.Native.Nat.{ℕ, zero, suc, _+_, _%_, _≤_}
+use native.Mathlib.Omega.{arith}
+use borrow.Author.Tests.{eq-eqb, ne-eqb}
+use Rattle.spec_words.specs.Words.{halt, pass}
+use Rattle.spec_job.specs.Operations.{Operation, rowOf, operationOf, operationAt}
+use Rattle.spec_job.specs.Effects.{sum, effect}
+use Rattle.spec_job.specs.Rows.{above, returns-at}
+use Rattle.spec_serial.specs.Answers.{numberOf}
+use Rattle.job_effect.specs.declared.Made.{Made}
+use Rattle.job_effect.specs.Made.{gives, foundWith, coded}
+
+module _ (x i r v : ℕ) (b : Bool) (e : Made) where
+  abbrev Does : ℕ → Type 0
+  Does k = e ≡ coded (effect (operationAt k) i r x (foundWith b v))
+
+  pub keyed : {k n : ℕ} → k ≡ n → Does n → Does k
+  keyed h g = g ∙ ap (λ (k : ℕ). coded (effect (operationAt k) i r x (foundWith b v))) (sym h)
+
+  found-keyed : (k : ℕ) {a : Bool} → b ≡ a → e ≡ coded (effect (operationAt k) i r x (foundWith a v)) → Does k
+  found-keyed k h g = g ∙ ap (λ (b : Bool). coded (effect (operationAt k) i r x (foundWith b v))) (sym h)
+
+  pub pushes : e ≡ gives 1 x r (i + 1) → Does 1
+  unfolding operationAt operationOf rowOf effect coded numberOf
+  pushes g = g
+
+  pub pushes-sum : {y : ℕ} → y ≡ (r + x) % 4294967296 → e ≡ gives 1 y r (i + 1) → Does 2
+  unfolding operationAt operationOf rowOf effect coded numberOf sum
+  pushes-sum h g = g ∙ ap (λ (y : ℕ). gives 1 y r (i + 1)) h
+
+  pub takes : b ≡ true → e ≡ gives 2 v v (i + 1) → Does 3
+  unfolding operationAt operationOf rowOf effect coded numberOf foundWith
+  takes h g = found-keyed 3 h g
+
+  pub takes-none : b ≡ false → e ≡ gives 5 0 r (i + 1) → Does 3
+  unfolding operationAt operationOf rowOf effect coded numberOf foundWith
+  takes-none h g = found-keyed 3 h g
+
+  pub stays-on : b ≡ true → e ≡ gives 6 0 r (i + 1) → Does 4
+  unfolding operationAt operationOf rowOf effect coded numberOf foundWith
+  stays-on h g = found-keyed 4 h g
+
+  pub goes-empty : b ≡ false → e ≡ gives 5 0 r x → Does 4
+  unfolding operationAt operationOf rowOf effect coded numberOf foundWith
+  goes-empty h g = found-keyed 4 h g
+
+  pub goes : e ≡ gives 3 0 r x → Does 5
+  unfolding operationAt operationOf rowOf effect coded numberOf
+  goes g = g
+
+  pub goes-zero : r ≡ 0 → e ≡ gives 3 0 r x → Does 6
+  unfolding operationAt operationOf rowOf effect coded numberOf
+  goes-zero h g = g ∙ ap (gives 3 0 r) (sym (halt _ _ (eq-eqb r 0 h)))
+
+  pub stays-off : (r ≡ 0 → ⊥) → e ≡ gives 3 0 r (i + 1) → Does 6
+  unfolding operationAt operationOf rowOf effect coded numberOf
+  stays-off h g = g ∙ ap (gives 3 0 r) (sym (pass _ (ne-eqb r 0 h) refl))
+
+  pub adds : {y : ℕ} → y ≡ (r + x) % 4294967296 → e ≡ gives 3 0 y (i + 1) → Does 7
+  unfolding operationAt operationOf rowOf effect coded numberOf sum
+  adds h g = g ∙ ap (λ (y : ℕ). gives 3 0 y (i + 1)) h
+
+  pub spawns : e ≡ gives 0 0 r (i + 1) → Does 8
+  unfolding operationAt operationOf rowOf effect coded numberOf
+  spawns g = g
+
+  pub syncs : e ≡ gives 3 0 r (i + 1) → Does 9
+  unfolding operationAt operationOf rowOf effect coded numberOf
+  syncs g = g
+
+  pub returns-done : {k : ℕ} → (k ≡ 0) ⊎ (10 ≤ k) → e ≡ gives 4 0 r i → Does k
+  unfolding effect coded numberOf
+  returns-done {k} h g = g ∙ ap (λ (o : Operation). coded (effect o i r x (foundWith b v))) (sym (returns-at k h))
+
+-- what is left of the numbers once 1 to 9 are told apart
+pub others : (k : ℕ) → ((((((((Unit {0} × (k ≡ 1 → ⊥)) × (k ≡ 2 → ⊥)) × (k ≡ 3 → ⊥)) × (k ≡ 4 → ⊥)) × (k ≡ 5 → ⊥)) × (k ≡ 6 → ⊥)) × (k ≡ 7 → ⊥)) × (k ≡ 8 → ⊥)) × (k ≡ 9 → ⊥) → (k ≡ 0) ⊎ (10 ≤ k)
+others zero n = inl refl
+others (suc k) n =
+    inr (above 9 (suc k) (above 8 (suc k) (above 7 (suc k) (above 6 (suc k) (above 5 (suc k) (above 4 (suc k) (above 3 (suc k) (above 2 (suc k) (above 1 (suc k) (omega arith) (n .0 .0 .0 .0 .0 .0 .0 .0 .1)) (n .0 .0 .0 .0 .0 .0 .0 .1)) (n .0 .0 .0 .0 .0 .0 .1)) (n .0 .0 .0 .0 .0 .1)) (n .0 .0 .0 .0 .1)) (n .0 .0 .0 .1)) (n .0 .0 .1)) (n .0 .1)) (n .1))

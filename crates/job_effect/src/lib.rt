@@ -1,0 +1,84 @@
+// What an operation does to its task: the answer, the register and the next instruction. Both runners go by it, so that an
+// operation is coded once.
+ghost use mathlib.Core.Path.{_≡_};
+ghost use Prim.Native.Nat.{_^_, _<_};
+ghost use Rattle.spec_job.specs.Operations.{operationAt};
+ghost use Rattle.spec_job.specs.Effects.{effect};
+ghost use Rattle.job_effect.specs.Made.{gives, foundWith, coded};
+
+// The numbers that stand for the answers of a step.
+pub const SPAWNED: u32 = 0;
+
+pub const PUSHED: u32 = 1;
+
+pub const TOOK: u32 = 2;
+
+pub const MOVED: u32 = 3;
+
+pub const FINISHED: u32 = 4;
+
+pub const EMPTY: u32 = 5;
+
+pub const NOT_EMPTY: u32 = 6;
+
+pub const WAITS: u32 = 7;
+
+pub const REFUSED: u32 = 8;
+
+// What a step gives: its answer as a number, the value, 0 where there is none, the register and the next instruction after it.
+pub struct Made {
+    pub answer: u32,
+    pub value: u32,
+    pub register: u32,
+    pub next: u32,
+}
+
+fn gives(answer: u32, value: u32, register: u32, next: u32) -> Made
+    ensures { λ e. ⌜ e ≡ gives answer value register next ⌝ }
+{
+    Made {
+        answer,
+        value,
+        register,
+        next,
+    }
+}
+
+// Operation k with operand x, by a task at instruction i with register r. `found` says whether its queue had a value, and v is that value.
+pub fn effect(k: u32, x: u32, i: u32, r: u32, found: bool, v: u32) -> Made
+    requires { ⌜ i < 2 ^ 31 ⌝ }
+    ensures { λ e. ⌜ e ≡ coded (effect (operationAt k) i r x (foundWith found v)) ⌝ }
+{
+    let sum = std::num::wrapping_add_u32(r, x);
+    let next = i + 1;
+    match k {
+        1 => gives(PUSHED, x, r, next),
+        2 => gives(PUSHED, sum, r, next),
+        3 => {
+            if found {
+                gives(TOOK, v, v, next)
+            } else {
+                gives(EMPTY, 0, r, next)
+            }
+        }
+        4 => {
+            if found {
+                gives(NOT_EMPTY, 0, r, next)
+            } else {
+                gives(EMPTY, 0, r, x)
+            }
+        }
+        5 => gives(MOVED, 0, r, x),
+        6 => {
+            if r == 0 {
+                gives(MOVED, 0, r, x)
+            } else {
+                gives(MOVED, 0, r, next)
+            }
+        }
+        7 => gives(MOVED, 0, sum, next),
+        8 => gives(SPAWNED, 0, r, next),
+        9 => gives(MOVED, 0, r, next),
+        _ => gives(FINISHED, 0, r, i),
+    }
+}

@@ -1,0 +1,98 @@
+-- Operations by number: what the code found is what the effect asks for, and the lists are those after the operation.
+use mathlib.Core.Path.{_≡_, refl, ap, sym, _∙_, subst}
+use mathlib.Core.Bool.{Bool, true, false, not}
+use mathlib.Core.List.{List, [], _∷_, _++_}
+use mathlib.Core.Logic.{inr}
+use mathlib.Core.Option.{Option}
+use Prim.Native.Nat.{ℕ, _+_, _<_, _≤_}
+use native.Mathlib.Omega.{arith}
+use lib.Dec.{eqb}
+use lib.ListN.{length, set, drop}
+use types.Run.{OneOf}
+use denote.Enum.Declared.{tagOf}
+use borrow.Author.Tests.{ne-eqb}
+use Rattle.spec_job.specs.Operations.{Operation, rowOf, operationOf, operationAt}
+use Rattle.spec_job.specs.Effects.{effect}
+use Rattle.spec_job.specs.Rows.{from, above, returns-at}
+use Rattle.spec_plain.specs.Machine.{queue, front, queuesAfter}
+use Rattle.job_effect.specs.declared.Made.{Made}
+use Rattle.job_effect.specs.Made.{foundWith, coded}
+use Rattle.serial_queues.specs.declared.Front.{Front}
+use Rattle.serial_queues.specs.declared.Front.the-variants.{Value, Nothing}
+use Rattle.serial_queues.proofs.Front.{the-type}
+use Rattle.serial_queues.specs.Front.{frontOf}
+use Rattle.serial_steps.specs.Steps.{Inner, Does}
+
+module _ (q x i r : ℕ) (qs : List (List ℕ)) (f : Option ℕ) (e : Made) where
+  -- operation k gives the same, whatever was found, and leaves the lists us
+  abbrev Blind : ℕ → List (List ℕ) → Type 0
+  Blind k us =
+      (effect (operationAt k) i r x f ≡ effect (operationAt k) i r x (front (queue qs q))) × (us ≡ queuesAfter (operationAt k) q (e .value) qs)
+
+  blind-does : (k : ℕ) (us : List (List ℕ)) → Blind k us → e ≡ coded (effect (operationAt k) i r x f) → Does k q x i r qs e us
+  blind-does k us b g = record { made = g ∙ ap coded (b .0); lists = b .1 }
+
+  -- a push
+  abbrev pushed : List (List ℕ)
+  pushed = set qs q (queue qs q ++ (e .value ∷ []))
+
+  push-blind : (k : ℕ) → 1 ≤ k → k ≤ 2 → Blind k pushed
+  unfolding operationAt operationOf rowOf effect queuesAfter
+  push-blind = from (λ (k : ℕ). k ≤ 2 → Blind k pushed) 1 (λ l. (refl, refl)) (from (λ (k : ℕ). k ≤ 2 → Blind k pushed) 2 (λ l. (refl, refl))
+      (λ k h l. absurd (omega (arith, h, l))))
+
+  pub push-does : (us : List (List ℕ)) {k : ℕ} → 1 ≤ k → k ≤ 2 → e ≡ coded (effect (operationAt k) i r x f) → us ≡ pushed → Does k q x i r qs e us
+  push-does us {k} a b g h = blind-does k us (push-blind k a b .0, h ∙ push-blind k a b .1) g
+
+  -- an operation without a queue
+  abbrev Plain : ℕ → Type 0
+  Plain k = Blind k qs
+
+  plain : (k : ℕ) → 5 ≤ k → Plain k
+  unfolding operationAt operationOf rowOf effect queuesAfter
+  plain =
+      from Plain 5 (refl, refl) (from Plain 6 (refl, refl) (from Plain 7 (refl, refl) (from Plain 8 (refl, refl) (from Plain 9 (refl, refl)
+      (λ k h. subst (λ (o : Operation). (effect o i r x f ≡ effect o i r x (front (queue qs q))) × (qs ≡ queuesAfter o q (e .value) qs))
+      (sym (returns-at k (inr h))) (refl, refl))))))
+
+  pub plain-does : {k : ℕ} → 5 ≤ k → e ≡ coded (effect (operationAt k) i r x f) → Does k q x i r qs e qs
+  plain-does {k} a g = blind-does k qs (plain k a) g
+
+-- what is left of the numbers of such operations once 1 to 4 are told apart
+pub past-four : (k : ℕ) → Inner k → (((Unit {0} × (k ≡ 1 → ⊥)) × (k ≡ 2 → ⊥)) × (k ≡ 3 → ⊥)) × (k ≡ 4 → ⊥) → 5 ≤ k
+past-four k h n = above 4 k (above 3 k (above 2 k (above 1 k (h .some) (n .0 .0 .0 .1)) (n .0 .0 .1)) (n .0 .1)) (n .1)
+
+module _ (q x i r : ℕ) (qs : List (List ℕ)) (e : Made) where
+  pub keyed : (us : List (List ℕ)) {k n : ℕ} → k ≡ n → Does n q x i r qs e us → Does k q x i r qs e us
+  keyed us p d = subst (λ (k : ℕ). Does k q x i r qs e us) (sym p) d
+
+  -- a pop
+  module _ (us : List (List ℕ)) (f : Front) (ef : frontOf f ≡ front (queue qs q)) (eu : us ≡ set qs q (drop 1 (queue qs q))) where
+    took : (o : Option ℕ) → o ≡ frontOf f → e ≡ coded (effect (operationAt 3) i r x o) → Does 3 q x i r qs e us
+    unfolding operationAt operationOf rowOf queuesAfter
+    took o h g = record { made = g ∙ ap (λ (o : Option ℕ). coded (effect (operationAt 3) i r x o)) (h ∙ ef); lists = eu }
+
+    pub pop-takes : {v : ℕ} → f ≡ Value v → e ≡ coded (effect (operationAt 3) i r x (foundWith true v)) → Does 3 q x i r qs e us
+    unfolding foundWith frontOf
+    pop-takes {v} h g = took (foundWith true v) (ap frontOf (sym h)) g
+
+    pub pop-none : OneOf (1 ∷ []) (tagOf the-type f) → e ≡ coded (effect (operationAt 3) i r x (foundWith false 0)) → Does 3 q x i r qs e us
+    pop-none h g = took (foundWith false 0) (nothing f h) g
+      where
+        nothing : (f : Front) → OneOf (1 ∷ []) (tagOf the-type f) → foundWith false 0 ≡ frontOf f
+        nothing (Value v) h = let z : ⊥ = omega (arith, h) in absurd z
+        nothing Nothing h = unfold foundWith frontOf in refl
+
+  -- a test asks only whether there is a front
+  looks : (vs : List ℕ) → effect (operationAt 4) i r x (foundWith (not (eqb (length vs) 0)) 0) ≡ effect (operationAt 4) i r x (front vs)
+  unfolding operationAt operationOf rowOf effect foundWith front
+  looks [] = refl
+  looks (v ∷ vs) = ap (λ (b : Bool). effect (operationAt 4) i r x (foundWith (not b) 0)) (ne-eqb (length (v ∷ vs)) 0 (λ z. omega (arith, z)))
+
+  pub test-does : {n : ℕ} → n ≡ length (queue qs q) → e ≡ coded (effect (operationAt 4) i r x (foundWith (not (eqb n 0)) 0)) → Does 4 q x i r qs e qs
+  unfolding operationAt operationOf rowOf queuesAfter
+  test-does h g =
+      record {
+        made = g ∙ ap coded (ap (λ (n : ℕ). effect (operationAt 4) i r x (foundWith (not (eqb n 0)) 0)) h ∙ looks (queue qs q));
+        lists = refl;
+      }
