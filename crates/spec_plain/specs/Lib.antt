@@ -5,4 +5,3 @@ pub mod Laws
 pub mod Stack
 pub mod Onward
 pub mod Kept
-pub mod Names
