@@ -2,13 +2,23 @@
  * them. Queue 0 goes from cut to check, queue 1 from check to print. */
 #include "hyperqueue.h"
 #include <stdio.h>
+#include <stdlib.h>
 
 #define WORDS words, HQ_WORDS
 
 static uint32_t words[HQ_WORDS];
 
+/* The value of a call that has to move here. */
+static uint32_t moved(uint64_t answer) {
+    if (!HQ_HAS_MOVED(answer)) {
+        printf("%s\n", hq_status_text(HQ_STATUS(answer)));
+        exit(1);
+    }
+    return HQ_VALUE(answer);
+}
+
 static uint32_t spawn(const char *name, uint32_t rights) {
-    uint32_t task = HQ_VALUE(hq_spawn(WORDS, 0, rights));
+    uint32_t task = moved(hq_spawn(WORDS, 0, rights));
     printf("%s is task %u\n", name, task);
     return task;
 }
@@ -18,9 +28,9 @@ static void check(uint32_t task) {
     uint64_t taken = hq_pop(WORDS, task, 0);
     if (HQ_STATUS(taken) == HQ_WAITS)
         printf("check waits\n");
-    if (HQ_STATUS(taken) == HQ_MOVED) {
+    if (HQ_HAS_MOVED(taken)) {
         printf("check takes %u\n", HQ_VALUE(taken));
-        hq_push(WORDS, task, 1, HQ_VALUE(taken) + 100);
+        moved(hq_push(WORDS, task, 1, HQ_VALUE(taken) + 100));
     }
 }
 
@@ -29,13 +39,13 @@ static int print(uint32_t task) {
     uint64_t taken = hq_pop(WORDS, task, 1);
     if (HQ_STATUS(taken) == HQ_WAITS)
         printf("print waits\n");
-    if (HQ_STATUS(taken) == HQ_MOVED)
+    if (HQ_HAS_MOVED(taken))
         printf("print shows %u\n", HQ_VALUE(taken));
     return HQ_STATUS(taken) != HQ_PAST_THE_END;
 }
 
 int main(void) {
-    hq_open(WORDS, 4, 16);
+    moved(hq_open(WORDS, 4, 16));
     uint32_t cut = spawn("cut", HQ_MAY_PUSH(0));
     uint32_t checker = spawn("check", HQ_MAY_POP(0) | HQ_MAY_PUSH(1));
     uint32_t printer = spawn("print", HQ_MAY_POP(1));
@@ -43,16 +53,16 @@ int main(void) {
     for (uint32_t piece = 1; piece <= 4; piece++) {
         print(printer);
         check(checker);
-        hq_push(WORDS, cut, 0, piece);
+        moved(hq_push(WORDS, cut, 0, piece));
     }
     /* Check ends early: piece 4 stays in queue 0. */
-    hq_finish(WORDS, cut);
-    hq_finish(WORDS, checker);
+    moved(hq_finish(WORDS, cut));
+    moved(hq_finish(WORDS, checker));
     while (print(printer)) {
     }
-    hq_finish(WORDS, printer);
-    hq_finish(WORDS, 0);
-    printf("left in queue 0: %u\n", HQ_VALUE(hq_left(WORDS, 0, 0)));
+    moved(hq_finish(WORDS, printer));
+    moved(hq_finish(WORDS, 0));
+    printf("left in queue 0: %u\n", moved(hq_left(WORDS, 0, 0)));
     printf("then refused with %u\n", HQ_STATUS(hq_left(WORDS, 0, 1)));
     return 0;
 }

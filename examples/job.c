@@ -24,21 +24,23 @@ static uint32_t runner[HQ_RUNNER_WORDS];
 static void with_overlap(void) {
     uint32_t map[6];
 
-    hq_job_open(job, sizeof job, core, HQ_WORDS, runner, HQ_RUNNER_WORDS);
-    for (;;) {
-        uint32_t task = 127;
-        uint64_t answer;
+    uint64_t answer = hq_job_open(job, sizeof job, core, HQ_WORDS, runner,
+                                  HQ_RUNNER_WORDS);
 
-        hq_job_ready(job, sizeof job, core, HQ_WORDS, runner, HQ_RUNNER_WORDS,
-                     map);
-        if (map[4] == 0)
+    /* Refusals are 1 to 20. */
+    while (HQ_STATUS(answer) >= HQ_WAITS) {
+        uint32_t task = 127;
+
+        answer = hq_job_ready(job, sizeof job, core, HQ_WORDS, runner,
+                              HQ_RUNNER_WORDS, map);
+        if (HQ_STATUS(answer) != HQ_TASK_MOVED || map[4] == 0)
             break;
         while ((map[task / 32] >> task % 32 & 1) == 0)
             task--;
         answer = hq_job_step(job, sizeof job, core, HQ_WORDS, runner,
                              HQ_RUNNER_WORDS, task);
-        printf("%u ready, task %u: status %u, value %u\n", map[4], task,
-               HQ_STATUS(answer), HQ_VALUE(answer));
+        printf("%u ready, task %u: %s %u\n", map[4], task,
+               hq_status_text(HQ_STATUS(answer)), HQ_VALUE(answer));
     }
     printf("left in queue 0: %u\n",
            HQ_VALUE(hq_left(core, HQ_WORDS, 0, 0)));

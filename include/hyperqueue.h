@@ -10,7 +10,12 @@
  * calls, so a host may have many cores. Two calls on the same words must not
  * run at the same time.
  *
- * Link with libhyperqueue.a. */
+ * The order of a queue's values is that of a run in which every child ends
+ * before its spawner goes on, so it is the order of spawns: a reader that was
+ * spawned before its writer finds the queue empty.
+ *
+ * Link with libhyperqueue.a, which is for x86-64. A call needs about 2 kB of
+ * stack; hq_run_serially needs 27 kB where 128 tasks are unfinished. */
 #ifndef HYPERQUEUE_H
 #define HYPERQUEUE_H
 
@@ -21,13 +26,26 @@
 extern "C" {
 #endif
 
+/* The version of the library. */
+#define HQ_VERSION "0.1.0"
+
+/* An answer that is not looked at is mostly an error: where the compiler can,
+ * it says so. */
+#if defined(__GNUC__)
+#define HQ_ANSWER __attribute__((warn_unused_result)) uint64_t
+#else
+#define HQ_ANSWER uint64_t
+#endif
+
 /* Words that the core needs; any other number is refused with 1. */
 #define HQ_WORDS 16384
 
 /* An answer: the status in the high 32 bits, the value in the low 32 bits.
- * The value is 0 unless the call moved. */
+ * The value is 0 unless the call moved. An answer is taken apart before it is
+ * compared: hq_push(..) == HQ_MOVED is false for every value but 0. */
 #define HQ_STATUS(answer) ((uint32_t)((answer) >> 32))
 #define HQ_VALUE(answer) ((uint32_t)(answer))
+#define HQ_HAS_MOVED(answer) (HQ_STATUS(answer) == HQ_MOVED)
 
 /* The statuses. 1 to 20 are refusals, of which 1 to 12 are in use. A call that
  * waits may be made again once other tasks have moved. */
@@ -48,6 +66,7 @@ enum {
     HQ_WAITS = 32,
     HQ_EMPTY = 33,     /* test: a pop would find no value */
     HQ_NOT_EMPTY = 34, /* test: a pop would find a value */
+    HQ_SPENT = 35,     /* a run without overlap made 65,535 steps */
     /* A step of a job's task that moved, with its value if it has one: */
     HQ_TASK_SPAWNED = 40, /* the number of the new task */
     HQ_TASK_PUSHED = 41,  /* the value */
@@ -56,6 +75,35 @@ enum {
     HQ_TASK_MOVED = 44
 };
 
+/* A status in words. */
+static inline const char *hq_status_text(uint32_t status) {
+    switch (status) {
+    case HQ_MOVED: return "moved";
+    case HQ_LENGTH_WRONG: return "refused: a wrong number of words";
+    case HQ_RULES_FAIL: return "refused: the words break the memory rules";
+    case HQ_NUMBERS_WRONG: return "refused: length or segments out of range";
+    case HQ_NO_SUCH_TASK: return "refused: no unfinished task has this number";
+    case HQ_NO_SUCH_QUEUE: return "refused: queues are 0 to 3";
+    case HQ_NO_RIGHT: return "refused: the task lacks the right";
+    case HQ_PAST_THE_END: return "refused: no value is there";
+    case HQ_NO_RECORD: return "refused: 128 tasks are unfinished";
+    case HQ_NO_SEGMENT: return "refused: no segment is free";
+    case HQ_JOB_HEAD: return "refused: a job's first numbers";
+    case HQ_JOB_CONTENTS: return "refused: a job's entries or its length";
+    case HQ_JOB_BODY: return "refused: an instruction of a job";
+    case HQ_WAITS: return "waits";
+    case HQ_EMPTY: return "empty";
+    case HQ_NOT_EMPTY: return "not empty";
+    case HQ_SPENT: return "spent";
+    case HQ_TASK_SPAWNED: return "spawned";
+    case HQ_TASK_PUSHED: return "pushed";
+    case HQ_TASK_TOOK: return "took";
+    case HQ_TASK_FINISHED: return "finished";
+    case HQ_TASK_MOVED: return "moved";
+    default: return "no status";
+    }
+}
+
 /* Rights of a task on a queue from 0 to 3; add them up for several. */
 #define HQ_MAY_PUSH(queue) ((uint32_t)1 << (2 * (queue)))
 #define HQ_MAY_POP(queue) ((uint32_t)2 << (2 * (queue)))
@@ -63,40 +111,41 @@ enum {
 /* Writes all words: an open core whose only task is 0, the top, with all
  * rights. A segment holds `length` values, 1 to 64; `segments` of them, 4 to
  * 256, hold at most 8,192 values together. */
-uint64_t hq_open(uint32_t *words, size_t len, uint32_t length,
+HQ_ANSWER hq_open(uint32_t *words, size_t len, uint32_t length,
                  uint32_t segments);
 
 /* A child of `task`, with some of its rights; the value is its number. */
-uint64_t hq_spawn(uint32_t *words, size_t len, uint32_t task, uint32_t rights);
+HQ_ANSWER hq_spawn(uint32_t *words, size_t len, uint32_t task, uint32_t rights);
 
-/* The value of the answer is the one pushed. */
-uint64_t hq_push(uint32_t *words, size_t len, uint32_t task, uint32_t queue,
+/* The value of the answer is the one pushed. A stage that has taken a value
+ * and is refused with HQ_NO_SEGMENT has to keep it: it is in no queue. */
+HQ_ANSWER hq_push(uint32_t *words, size_t len, uint32_t task, uint32_t queue,
                  uint32_t value);
 
 /* The value of the answer is the one taken: the next in the order of a run in
  * which every child ends before its parent goes on. */
-uint64_t hq_pop(uint32_t *words, size_t len, uint32_t task, uint32_t queue);
+HQ_ANSWER hq_pop(uint32_t *words, size_t len, uint32_t task, uint32_t queue);
 
 /* HQ_EMPTY or HQ_NOT_EMPTY; no word changes. */
-uint64_t hq_test(uint32_t *words, size_t len, uint32_t task, uint32_t queue);
+HQ_ANSWER hq_test(uint32_t *words, size_t len, uint32_t task, uint32_t queue);
 
 /* Moves once `task` has no unfinished child. */
-uint64_t hq_sync(uint32_t *words, size_t len, uint32_t task);
+HQ_ANSWER hq_sync(uint32_t *words, size_t len, uint32_t task);
 
 /* Ends `task` once it has no unfinished child. Its number is used again, but
  * the top's is not. */
-uint64_t hq_finish(uint32_t *words, size_t len, uint32_t task);
+HQ_ANSWER hq_finish(uint32_t *words, size_t len, uint32_t task);
 
 /* Value number `index`, from 0, still in the queue once the top has finished;
  * no word changes. */
-uint64_t hq_left(uint32_t *words, size_t len, uint32_t queue, uint32_t index);
+HQ_ANSWER hq_left(uint32_t *words, size_t len, uint32_t queue, uint32_t index);
 
 /* JOBS. A job is the len bytes of a job file; any bytes may be handed in, and
  * none of them is written. What is lent beside them must not overlap. */
 
 /* HQ_MOVED where the bytes are a job; else HQ_JOB_HEAD, HQ_JOB_CONTENTS or
  * HQ_JOB_BODY. The value is 0. */
-uint64_t hq_job_test(const uint8_t *job, size_t len);
+HQ_ANSWER hq_job_test(const uint8_t *job, size_t len);
 
 /* WITH OVERLAP: the host says which task of the job moves next. The runner
  * needs HQ_RUNNER_WORDS words beside the core's HQ_WORDS. Every call is given
@@ -107,22 +156,22 @@ uint64_t hq_job_test(const uint8_t *job, size_t len);
 
 /* Writes all words of both memories: the top task, 0, is at its first
  * instruction. HQ_TASK_MOVED, or a refusal. */
-uint64_t hq_job_open(const uint8_t *job, size_t job_len, uint32_t *words,
+HQ_ANSWER hq_job_open(const uint8_t *job, size_t job_len, uint32_t *words,
                      size_t len, uint32_t *runner, size_t runner_len);
 
 /* The next instruction of an unfinished task: one of HQ_TASK_SPAWNED to
  * HQ_TASK_MOVED, HQ_EMPTY or HQ_NOT_EMPTY where it moved; HQ_WAITS, or a
  * refusal, and then no word has changed. A pop on an empty queue moves on with
  * HQ_EMPTY. Once the top has finished, hq_left gives the values left. */
-uint64_t hq_job_step(const uint8_t *job, size_t job_len, uint32_t *words,
+HQ_ANSWER hq_job_step(const uint8_t *job, size_t job_len, uint32_t *words,
                      size_t len, uint32_t *runner, size_t runner_len,
                      uint32_t task);
 
 /* Which tasks' next step would move: bit t mod 32 of out[t / 32], their number
- * in out[4], the lowest of them in out[5], HQ_NO_TASK if there is none. A
- * refusal leaves zeros and HQ_NO_TASK. */
+ * in out[4], the lowest of them in out[5], HQ_NO_TASK if there is none. The
+ * answer is HQ_TASK_MOVED, or a refusal, which leaves zeros and HQ_NO_TASK. */
 #define HQ_NO_TASK 0xFFFFFFFF
-uint64_t hq_job_ready(const uint8_t *job, size_t job_len, const uint32_t *words,
+HQ_ANSWER hq_job_ready(const uint8_t *job, size_t job_len, const uint32_t *words,
                       size_t len, const uint32_t *runner, size_t runner_len,
                       uint32_t out[6]);
 
@@ -141,7 +190,6 @@ uint64_t hq_job_ready(const uint8_t *job, size_t job_len, const uint32_t *words,
  * Step number n, from 0, has the three words from answers[3 * n] on: the task,
  * numbered in the order of spawns with the top 0; the answer, one of those
  * below; the value, the child's number for a spawn, 0 where there is none. */
-#define HQ_SPENT 35
 enum {
     HQ_STEP_SPAWNED = 0,
     HQ_STEP_PUSHED = 1,
@@ -151,7 +199,7 @@ enum {
     HQ_STEP_EMPTY = 5,
     HQ_STEP_NOT_EMPTY = 6
 };
-uint64_t hq_run_serially(const uint8_t *job, size_t len, uint32_t *working,
+HQ_ANSWER hq_run_serially(const uint8_t *job, size_t len, uint32_t *working,
                          size_t working_len, uint32_t *answers,
                          size_t answers_len);
 
