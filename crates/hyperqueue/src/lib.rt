@@ -106,22 +106,25 @@ pub fn left(m: &mut [u32], q: u32, i: u32) -> Answer
 
 // FOR HOSTS IN OTHER LANGUAGES: a slice is a pointer and a length, an answer one number (include/hyperqueue.h).
 
-fn wide(x: u32) -> u64
-    ensures { λ r. ⌜ r ≡ x ⌝ }
-{
-    x as u64
-}
+// The statuses of answers that are no refusals.
+const MOVED: u32 = 0;
+
+const WAITS: u32 = 32;
+
+const EMPTY: u32 = 33;
+
+const NOT_EMPTY: u32 = 34;
 
 // An answer as one number: the status in the high half, the value in the low half.
-pub fn pack(a: Answer) -> u64
+fn pack(a: Answer) -> u64
     ensures { λ r. ⌜ r ≡ packed a ⌝ }
 {
     match a {
-        Answer::Moved(v) => wide(v),
-        Answer::Empty => 141733920768,
-        Answer::NotEmpty => 146028888064,
-        Answer::Waits => 137438953472,
-        Answer::Refused(k) => wide(k) * 4294967296,
+        Answer::Moved(v) => packing::pack(MOVED, v),
+        Answer::Empty => packing::pack(EMPTY, 0),
+        Answer::NotEmpty => packing::pack(NOT_EMPTY, 0),
+        Answer::Waits => packing::pack(WAITS, 0),
+        Answer::Refused(k) => packing::pack(k, 0),
     }
 }
 

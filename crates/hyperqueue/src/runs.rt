@@ -7,27 +7,31 @@ ghost use Rattle.spec_runner.specs.Ready.{readyOutcome};
 ghost use Rattle.hyperqueue.specs.Steps.{packedStep, StepHanded, MapHanded};
 use spec_runner::StepAnswer;
 
-// The number of a case with a value, packed.
-fn with_value(status: u32, value: u32) -> u64
-    ensures { λ r. ⌜ r ≡ status * 4294967296 + value ⌝ }
-{
-    crate::wide(status) * 4294967296 + crate::wide(value)
-}
+// The statuses of steps that moved; those of a test and of a wait are the core's.
+const SPAWNED: u32 = 40;
+
+const PUSHED: u32 = 41;
+
+const TOOK: u32 = 42;
+
+const FINISHED: u32 = 43;
+
+const MOVED: u32 = 44;
 
 // The status in the high half, the value in the low half.
-pub fn pack_step(a: StepAnswer) -> u64
+fn pack_step(a: StepAnswer) -> u64
     ensures { λ r. ⌜ r ≡ packedStep a ⌝ }
 {
     match a {
-        StepAnswer::Spawned(v) => with_value(40, v),
-        StepAnswer::Pushed(v) => with_value(41, v),
-        StepAnswer::Took(v) => with_value(42, v),
-        StepAnswer::Finished => with_value(43, 0),
-        StepAnswer::Moved => with_value(44, 0),
-        StepAnswer::Empty => with_value(33, 0),
-        StepAnswer::NotEmpty => with_value(34, 0),
-        StepAnswer::Waits => with_value(32, 0),
-        StepAnswer::Refused(k) => with_value(k, 0),
+        StepAnswer::Spawned(v) => packing::pack(SPAWNED, v),
+        StepAnswer::Pushed(v) => packing::pack(PUSHED, v),
+        StepAnswer::Took(v) => packing::pack(TOOK, v),
+        StepAnswer::Finished => packing::pack(FINISHED, 0),
+        StepAnswer::Moved => packing::pack(MOVED, 0),
+        StepAnswer::Empty => packing::pack(crate::EMPTY, 0),
+        StepAnswer::NotEmpty => packing::pack(crate::NOT_EMPTY, 0),
+        StepAnswer::Waits => packing::pack(crate::WAITS, 0),
+        StepAnswer::Refused(k) => packing::pack(k, 0),
     }
 }
 

@@ -5,25 +5,13 @@ ghost use Prim.Native.Nat.{_^_, _<_};
 ghost use Rattle.spec_job.specs.Operations.{operationAt};
 ghost use Rattle.spec_job.specs.Effects.{effect};
 ghost use Rattle.job_effect.specs.Made.{gives, foundWith, coded};
-
-// The numbers that stand for the answers of a step.
-pub const SPAWNED: u32 = 0;
-
-pub const PUSHED: u32 = 1;
-
-pub const TOOK: u32 = 2;
-
-pub const MOVED: u32 = 3;
-
-pub const FINISHED: u32 = 4;
-
-pub const EMPTY: u32 = 5;
-
-pub const NOT_EMPTY: u32 = 6;
-
-pub const WAITS: u32 = 7;
-
-pub const REFUSED: u32 = 8;
+use answer_numbers::EMPTY;
+use answer_numbers::FINISHED;
+use answer_numbers::MOVED;
+use answer_numbers::NOT_EMPTY;
+use answer_numbers::PUSHED;
+use answer_numbers::SPAWNED;
+use answer_numbers::TOOK;
 
 // What a step gives: its answer as a number, the value, 0 where there is none, the register and the next instruction after it.
 pub struct Made {

@@ -5,14 +5,21 @@ ghost use Rattle.spec_words.specs.Words.{load};
 ghost use Rattle.spec_job.specs.Fields.{bytes2, bytes4, procedures, segmentLength, offset, count, rights, reserved, instructionFrom, instructionAt};
 use spec_job::Instruction;
 
-pub fn byte(job: &[u8], a: usize) -> u8
+// The bytes of a job's head, of the entry of a procedure behind it, and of an instruction.
+pub const HEAD: usize = 4;
+
+pub const ENTRY: usize = 6;
+
+pub const INSTRUCTION: usize = 6;
+
+fn byte(job: &[u8], a: usize) -> u8
     ensures { λ r. ⌜ r ≡ load (now (job .entry)) a ⌝ }
 {
     if a < job.len() { job[a] } else { 0 }
 }
 
 // The number in 2 bytes from address a on.
-pub fn bytes2(job: &[u8], a: usize) -> u16
+fn bytes2(job: &[u8], a: usize) -> u16
     requires { ⌜ a < 2 ^ 40 ⌝ }
     ensures { λ r. ⌜ r ≡ bytes2 (now (job .entry)) a ⌝ }
 {
@@ -20,7 +27,7 @@ pub fn bytes2(job: &[u8], a: usize) -> u16
 }
 
 // The number in 4 bytes from address a on.
-pub fn bytes4(job: &[u8], a: usize) -> u32
+fn bytes4(job: &[u8], a: usize) -> u32
     requires { ⌜ a < 2 ^ 39 ⌝ }
     ensures { λ r. ⌜ r ≡ bytes4 (now (job .entry)) a ⌝ }
 {
@@ -45,27 +52,27 @@ pub fn segment_length(job: &[u8]) -> u32
 pub fn offset(job: &[u8], p: u32) -> u32
     ensures { λ r. ⌜ r ≡ offset (now (job .entry)) p ⌝ }
 {
-    bytes2(job, 4 + p as usize * 6) as u32
+    bytes2(job, HEAD + p as usize * ENTRY) as u32
 }
 
 // The number of instructions of procedure p.
 pub fn count(job: &[u8], p: u32) -> u32
     ensures { λ r. ⌜ r ≡ count (now (job .entry)) p ⌝ }
 {
-    bytes2(job, 4 + p as usize * 6 + 2) as u32
+    bytes2(job, HEAD + p as usize * ENTRY + 2) as u32
 }
 
 pub fn rights(job: &[u8], p: u32) -> u32
     ensures { λ r. ⌜ r ≡ rights (now (job .entry)) p ⌝ }
 {
-    byte(job, 4 + p as usize * 6 + 4) as u32
+    byte(job, HEAD + p as usize * ENTRY + 4) as u32
 }
 
 // The last byte of the entry of procedure p.
 pub fn reserved(job: &[u8], p: u32) -> u32
     ensures { λ r. ⌜ r ≡ reserved (now (job .entry)) p ⌝ }
 {
-    byte(job, 4 + p as usize * 6 + 5) as u32
+    byte(job, HEAD + p as usize * ENTRY + 5) as u32
 }
 
 // The instruction that begins at address a.
@@ -84,5 +91,5 @@ pub fn instruction_from(job: &[u8], a: usize) -> Instruction
 pub fn instruction_at(job: &[u8], p: u32, i: u32) -> Instruction
     ensures { λ r. ⌜ r ≡ instructionAt (now (job .entry)) p i ⌝ }
 {
-    instruction_from(job, offset(job, p) as usize + i as usize * 6)
+    instruction_from(job, offset(job, p) as usize + i as usize * INSTRUCTION)
 }

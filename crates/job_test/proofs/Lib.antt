@@ -1,3 +1,3 @@
 pub mod Rows
 pub mod Loops
-pub mod Glue
+pub mod Fields

@@ -9,6 +9,9 @@ ghost use Rattle.spec_tree.specs.Rights.{pushes, pops, subset};
 ghost use Rattle.spec_job.specs.Fields.{procedures, entryAt, count, rights, instructionFrom};
 ghost use Rattle.spec_job.specs.Operations.{rowOf};
 ghost use Rattle.spec_job.specs.Test.{between, headHolds, entryHolds, entriesHold, contentsHold, whichHolds, operandHolds, fitting, lastHolds, bodyHolds, jobAnswer};
+use job_fields::ENTRY;
+use job_fields::HEAD;
+use job_fields::INSTRUCTION;
 use spec_answers::Answer;
 
 fn between(a: u32, x: u32, b: u32) -> bool
@@ -23,7 +26,7 @@ fn head_holds(job: &[u8]) -> bool
 {
     let n = job_fields::procedures(job);
     let l = job_fields::segment_length(job);
-    if job.len() < 4 {
+    if job.len() < HEAD {
         return false;
     }
     if !between(1, n, 64) {
@@ -32,7 +35,7 @@ fn head_holds(job: &[u8]) -> bool
     if !between(1, l, 64) {
         return false;
     }
-    4 + n as usize * 6 <= job.len()
+    HEAD + n as usize * ENTRY <= job.len()
 }
 
 // The entry of procedure p, whose body has to begin at address a.
@@ -54,13 +57,13 @@ fn entry_holds(job: &[u8], p: u32, a: usize) -> bool
 fn entries_hold(job: &[u8], n: u32) -> bool
     ensures { λ b. ⌜ b ≡ entriesHold (now (job .entry)) n 0 (entryAt n) ⌝ }
 {
-    let mut a = 4 + n as usize * 6;
+    let mut a = HEAD + n as usize * ENTRY;
     let mut p: u32 = 0;
     while p < n {
         if !entry_holds(job, p, a) {
             return false;
         }
-        a = a + job_fields::count(job, p) as usize * 6;
+        a = a + job_fields::count(job, p) as usize * INSTRUCTION;
         p += 1;
     }
     a == job.len()
@@ -175,7 +178,7 @@ fn body_holds(job: &[u8], p: u32) -> bool
     let r = job_fields::rights(job, p);
     let mut i: u32 = 0;
     while i < n {
-        if !instruction_holds(job, r, n, o + i as usize * 6) {
+        if !instruction_holds(job, r, n, o + i as usize * INSTRUCTION) {
             return false;
         }
         i += 1;

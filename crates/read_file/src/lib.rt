@@ -22,7 +22,7 @@ pub fn read_some(fd: i32, bytes: &mut [u8]) -> Bytes
 }
 
 // Reads the start of a file, as far as the lent bytes go.
-pub fn read_start(fd: i32, bytes: &mut [u8]) -> Bytes
+fn read_start(fd: i32, bytes: &mut [u8]) -> Bytes
     ensures { λ r. ⌜ Inside r (now (bytes .exit)) ⌝ }
 {
     let mut n: usize = 0;

@@ -5,6 +5,14 @@ ghost use Prim.Native.Nat.{_+_, _^_, _<_, _≤_};
 ghost use Rattle.text.specs.Text.{decimal};
 ghost use Rattle.text.specs.Puts.{Puts};
 ghost use Rattle.run_text.specs.Lines.{answerText, valueText, spaced, ended, line, leftLine, openLine, refusedLine, endLine};
+use answer_numbers::EMPTY;
+use answer_numbers::FINISHED;
+use answer_numbers::MOVED;
+use answer_numbers::NOT_EMPTY;
+use answer_numbers::PUSHED;
+use answer_numbers::SPAWNED;
+use answer_numbers::TOOK;
+use answer_numbers::WAITS;
 use spec_serial::End;
 
 // A number and a space behind it.
@@ -40,14 +48,14 @@ fn answer(out: &mut [u8], at: usize, k: u32) -> usize
     ensures { λ r. ⌜ Puts (now (out .entry)) at (spaced (answerText k)) (now (out .exit)) r ⌝ }
 {
     match k {
-        0 => text::put(out, at, b"spawned "),
-        1 => text::put(out, at, b"pushed "),
-        2 => text::put(out, at, b"took "),
-        3 => text::put(out, at, b"moved "),
-        4 => text::put(out, at, b"finished "),
-        5 => text::put(out, at, b"empty "),
-        6 => text::put(out, at, b"not "),
-        7 => text::put(out, at, b"waits "),
+        SPAWNED => text::put(out, at, b"spawned "),
+        PUSHED => text::put(out, at, b"pushed "),
+        TOOK => text::put(out, at, b"took "),
+        MOVED => text::put(out, at, b"moved "),
+        FINISHED => text::put(out, at, b"finished "),
+        EMPTY => text::put(out, at, b"empty "),
+        NOT_EMPTY => text::put(out, at, b"not "),
+        WAITS => text::put(out, at, b"waits "),
         _ => text::put(out, at, b"refused "),
     }
 }
@@ -58,8 +66,8 @@ fn value(out: &mut [u8], at: usize, k: u32, v: u32) -> usize
     ensures { λ r. ⌜ Puts (now (out .entry)) at (ended (valueText k v)) (now (out .exit)) r × (r ≤ at + 11) ⌝ }
 {
     match k {
-        0..=2 => ended_number(out, at, v),
-        3..=7 => text::put(out, at, b"-\n"),
+        SPAWNED..=TOOK => ended_number(out, at, v),
+        MOVED..=WAITS => text::put(out, at, b"-\n"),
         _ => ended_number(out, at, v),
     }
 }

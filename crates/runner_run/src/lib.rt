@@ -4,15 +4,15 @@ ghost use Prim.Native.Nat.{_+_, _*_, _^_, _<_};
 ghost use Rattle.spec_words.specs.Blocks.{storeAll};
 ghost use Rattle.runner_run.specs.Rows.{printed, numbered, row};
 ghost use Rattle.runner_run.specs.Made.{fitting, Step, Ran};
-use job_effect::EMPTY;
-use job_effect::FINISHED;
-use job_effect::MOVED;
-use job_effect::NOT_EMPTY;
-use job_effect::PUSHED;
-use job_effect::REFUSED;
-use job_effect::SPAWNED;
-use job_effect::TOOK;
-use job_effect::WAITS;
+use answer_numbers::EMPTY;
+use answer_numbers::FINISHED;
+use answer_numbers::MOVED;
+use answer_numbers::NOT_EMPTY;
+use answer_numbers::PUSHED;
+use answer_numbers::REFUSED;
+use answer_numbers::SPAWNED;
+use answer_numbers::TOOK;
+use answer_numbers::WAITS;
 use spec_runner::StepAnswer;
 
 // The number that stands for an answer.

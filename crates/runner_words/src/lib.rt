@@ -7,31 +7,41 @@ ghost use Rattle.runner_words.specs.Refusals.{refusalIn, jobRefusal};
 use spec_answers::Answer;
 use spec_job::Instruction;
 
+// Words that the core and the runner are lent.
+pub const CORE_WORDS: usize = 16384;
+
+pub const RUNNER_WORDS: usize = 384;
+
+// The words of a task, and the number of tasks.
+const RECORD: usize = 3;
+
+const TASKS: u32 = 128;
+
 // The procedure of task t.
 pub fn procedure(r: &[u32], t: u32) -> u32
     ensures { λ p. ⌜ p ≡ procedureOf (now (r .entry)) t ⌝ }
 {
-    memory::get(r, t as usize * 3)
+    memory::get(r, t as usize * RECORD)
 }
 
 // The number of the instruction that task t is at.
 pub fn position(r: &[u32], t: u32) -> u32
     ensures { λ i. ⌜ i ≡ positionOf (now (r .entry)) t ⌝ }
 {
-    memory::get(r, t as usize * 3 + 1)
+    memory::get(r, t as usize * RECORD + 1)
 }
 
 pub fn register(r: &[u32], t: u32) -> u32
     ensures { λ x. ⌜ x ≡ registerOf (now (r .entry)) t ⌝ }
 {
-    memory::get(r, t as usize * 3 + 2)
+    memory::get(r, t as usize * RECORD + 2)
 }
 
 // The three words of task t.
 pub fn put(r: &mut [u32], t: u32, p: u32, i: u32, x: u32)
     ensures { λ _. ⌜ now (r .exit) ≡ put (now (r .entry)) t p i x ⌝ }
 {
-    let a = t as usize * 3;
+    let a = t as usize * RECORD;
     memory::put(r, a, p);
     memory::put(r, a + 1, i);
     memory::put(r, a + 2, x);
@@ -86,7 +96,7 @@ pub fn holds(job: &[u8], m: &[u32], r: &[u32]) -> bool
     ensures { λ b. ⌜ b ≡ runnerHolds (now (job .entry)) (now (m .entry)) (now (r .entry)) ⌝ }
 {
     let mut t: u32 = 0;
-    while t < 128 {
+    while t < TASKS {
         if !record_holds(job, m, r, t) {
             return false;
         }
@@ -112,10 +122,10 @@ fn refusal_in(a: Answer) -> u32
 pub fn refusal(job: &[u8], m: &[u32], r: &[u32]) -> u32
     ensures { λ k. ⌜ k ≡ jobRefusal (now (job .entry)) (now (m .entry)) (now (r .entry)) ⌝ }
 {
-    if m.len() != 16384 {
+    if m.len() != CORE_WORDS {
         return 1;
     }
-    if r.len() != 384 {
+    if r.len() != RUNNER_WORDS {
         return 1;
     }
     refusal_in(job_test::job_test(job))

@@ -4,6 +4,8 @@ ghost use Prim.Native.Nat.{_+_, _^_, _<_, _≤_};
 use libc::STDOUT_FILENO;
 use read_file::Bytes;
 use read_file::JOB_BYTES;
+use serial_queues::WORKING;
+use serial_runner::ANSWERS;
 use spec_serial::End;
 
 // Prints the lines of n steps from step `first` on.
@@ -81,8 +83,8 @@ fn print_run(w: &[u32], a: &[u32], e: End, steps: u32) -> bool {
 
 // Runs a job and prints the run.
 fn run(job: &[u8]) {
-    let mut w = [0u32; 16392];
-    let mut a = [0u32; 196605];
+    let mut w = [0u32; WORKING];
+    let mut a = [0u32; ANSWERS];
     let s = serial_runner::run_serially(job, &mut w, &mut a);
     let e = s.end;
     let steps = s.steps;

@@ -8,6 +8,18 @@ ghost use Rattle.spec_plain.specs.Machine.{queue, front};
 ghost use Rattle.spec_serial.specs.Working.{WORKING, lists};
 ghost use Rattle.serial_queues.specs.Front.{frontOf};
 
+// Working words that a run is lent, and the most values of a queue.
+pub const WORKING: usize = 16392;
+
+pub const VALUES: u32 = 4096;
+
+// The places of a ring, and where the first place and the number of values of queue 0 stand; those of queue q stand 2q behind.
+const PLACES: usize = 4096;
+
+const FIRST_AT: usize = 16384;
+
+const COUNT_AT: usize = 16385;
+
 // The front of a list.
 pub enum Front {
     Value(u32),
@@ -21,7 +33,7 @@ pub fn count(w: &[u32], q: u32) -> u32
     if 4 <= q {
         return 0;
     }
-    memory::get(w, 16385 + q as usize * 2)
+    memory::get(w, COUNT_AT + q as usize * 2)
 }
 
 pub fn first(w: &[u32], q: u32) -> Front
@@ -31,8 +43,8 @@ pub fn first(w: &[u32], q: u32) -> Front
     if n == 0 {
         return Front::Nothing;
     }
-    let h = memory::get(w, 16384 + q as usize * 2) as usize;
-    Front::Value(memory::get(w, q as usize * 4096 + h % 4096))
+    let h = memory::get(w, FIRST_AT + q as usize * 2) as usize;
+    Front::Value(memory::get(w, q as usize * PLACES + h % PLACES))
 }
 
 // Value number i of queue q, counted from 0; 0 past the last.
@@ -43,8 +55,8 @@ pub fn value(w: &[u32], q: u32, i: u32) -> u32
     if n <= i {
         return 0;
     }
-    let h = memory::get(w, 16384 + q as usize * 2) as usize;
-    memory::get(w, q as usize * 4096 + (h + i as usize) % 4096)
+    let h = memory::get(w, FIRST_AT + q as usize * 2) as usize;
+    memory::get(w, q as usize * PLACES + (h + i as usize) % PLACES)
 }
 
 // Adds v at the end of queue q.
@@ -55,10 +67,10 @@ pub fn push(w: &mut [u32], q: u32, v: u32)
     if 4 <= q {
         return;
     }
-    let h = memory::get(w, 16384 + q as usize * 2) as usize;
-    let n = memory::get(w, 16385 + q as usize * 2);
-    memory::put(w, q as usize * 4096 + (h + n as usize) % 4096, v);
-    memory::put(w, 16385 + q as usize * 2, n + 1);
+    let h = memory::get(w, FIRST_AT + q as usize * 2) as usize;
+    let n = memory::get(w, COUNT_AT + q as usize * 2);
+    memory::put(w, q as usize * PLACES + (h + n as usize) % PLACES, v);
+    memory::put(w, COUNT_AT + q as usize * 2, n + 1);
 }
 
 // Takes the front of queue q away, if it has one.
@@ -70,7 +82,7 @@ pub fn pop(w: &mut [u32], q: u32)
     if n == 0 {
         return;
     }
-    let h = memory::get(w, 16384 + q as usize * 2) as usize;
-    memory::put(w, 16384 + q as usize * 2, ((h + 1) % 4096) as u32);
-    memory::put(w, 16385 + q as usize * 2, n - 1);
+    let h = memory::get(w, FIRST_AT + q as usize * 2) as usize;
+    memory::put(w, FIRST_AT + q as usize * 2, ((h + 1) % PLACES) as u32);
+    memory::put(w, COUNT_AT + q as usize * 2, n - 1);
 }

@@ -1,5 +1,5 @@
 -- What the serial runner hands to a host: why it stopped and the steps made as one number, the lists, and the answers.
-use mathlib.Core.Path.{_≡_, ap, ap₂, _∙_}
+use mathlib.Core.Path.{_≡_, ap, _∙_}
 use mathlib.Core.List.{List}
 use Prim.Native.Nat.{ℕ, _+_, _*_}
 use Rattle.spec_serial.specs.Answers.{statusOf}
@@ -22,12 +22,12 @@ pub record Handed (r : ℕ) (qs : List (List ℕ)) (a : List ℕ) (o : Outcome) 
   pub lists : qs ≡ listsOf o
   pub answers : a ≡ answersOf o
 
-pub handed : {e : End} {n : ℕ} {qs : List (List ℕ)} {a : List ℕ} {o : Outcome} {s x y : ℕ} → outcome e n qs a ≡ o → s ≡ statusOf e → x ≡ s → y ≡ n
-    → Handed (x * 4294967296 + y) qs a o
+pub handed : {e : End} {n : ℕ} {qs : List (List ℕ)} {a : List ℕ} {o : Outcome} {s r : ℕ} → outcome e n qs a ≡ o → s ≡ statusOf e
+    → r ≡ s * 4294967296 + n → Handed r qs a o
 unfolding packed listsOf answersOf
-handed p es ex ey =
+handed {n = n} p es er =
     record {
-      number = ap₂ (λ (h l : ℕ). h * 4294967296 + l) (ex ∙ es) ey ∙ ap packed p;
+      number = er ∙ ap (λ (s : ℕ). s * 4294967296 + n) es ∙ ap packed p;
       lists = ap listsOf p;
       answers = ap answersOf p;
     }

@@ -10,8 +10,19 @@ ghost use Rattle.spec_serial.specs.Answers.{statusOf};
 ghost use Rattle.spec_serial.specs.Outcome.{outcome, serialOutcome};
 ghost use Rattle.serial_runner.specs.Parts.{BodyRuns, ChildRuns};
 ghost use Rattle.serial_runner.specs.Handed.{Handed};
+use answer_numbers::FINISHED;
+use answer_numbers::SPAWNED;
+use serial_queues::WORKING;
 use spec_answers::Answer;
 use spec_serial::End;
+
+// The most steps of a run, and the most tasks unfinished at a time.
+const STEPS: u32 = 65535;
+
+const DEPTH: u32 = 128;
+
+// Words for answers that a run is lent: three a step.
+pub const ANSWERS: usize = 196605;
 
 // How a part has come to an end, the steps that then remain, and the tasks made, the top included.
 pub struct Ran {
@@ -59,13 +70,13 @@ fn run_body(
                     return Ran { end, left, made };
                 }
                 let m = serial_steps::step(w, s, i, register);
-                serial_steps::write_answer(a, 65535 - left, number, m.answer, m.value);
+                serial_steps::write_answer(a, STEPS - left, number, m.answer, m.value);
                 i = m.next;
                 register = m.register;
                 left -= 1;
             }
             _ => {
-                serial_steps::write_answer(a, 65535 - left, number, job_effect::FINISHED, 0);
+                serial_steps::write_answer(a, STEPS - left, number, FINISHED, 0);
                 let end = End::Ended;
                 left -= 1;
                 return Ran { end, left, made };
@@ -92,11 +103,11 @@ fn run_child(
     ensures { λ e. ⌜ ChildRuns (now (job .entry)) number procedure register depth left made
         (lists (now (w .entry))) (now (a .entry)) e (lists (now (w .exit))) (now (a .exit)) ⌝ }
 {
-    if 128 <= depth {
+    if DEPTH <= depth {
         let end = End::Refused(8);
         return Ran { end, left, made };
     }
-    serial_steps::write_answer(a, 65535 - left, number, job_effect::SPAWNED, made);
+    serial_steps::write_answer(a, STEPS - left, number, SPAWNED, made);
     run_body(
         job,
         w,
@@ -121,13 +132,13 @@ pub fn run_serially(job: &[u8], w: &mut [u32], a: &mut [u32]) -> Stopped
     ensures { λ r. ⌜ outcome (r .end) (r .steps) (lists (now (w .exit))) (now (a .exit))
         ≡ serialOutcome (now (job .entry)) (now (w .entry)) (now (a .entry)) ⌝ }
 {
-    if w.len() != 16392 {
+    if w.len() != WORKING {
         return Stopped {
             end: End::Refused(1),
             steps: 0,
         };
     }
-    if a.len() != 196605 {
+    if a.len() != ANSWERS {
         return Stopped {
             end: End::Refused(1),
             steps: 0,
@@ -141,9 +152,9 @@ pub fn run_serially(job: &[u8], w: &mut [u32], a: &mut [u32]) -> Stopped
         };
     }
     memory::clear(w);
-    let ran = run_body(job, w, a, 0, 0, 0, 1, 65535, 1);
+    let ran = run_body(job, w, a, 0, 0, 0, 1, STEPS, 1);
     let end = ran.end;
-    let steps = 65535 - ran.left;
+    let steps = STEPS - ran.left;
     Stopped { end, steps }
 }
 
@@ -160,12 +171,6 @@ fn status(e: End) -> u32
     }
 }
 
-fn wide(x: u32) -> u64
-    ensures { λ r. ⌜ r ≡ x ⌝ }
-{
-    x as u64
-}
-
 // The status in the high half, the steps in the low half.
 pub fn run_packed(job: &[u8], w: &mut [u32], a: &mut [u32]) -> u64
     ensures { λ r. ⌜ Handed r (lists (now (w .exit))) (now (a .exit)) (serialOutcome (now (job .entry)) (now (w .entry)) (now (a .entry))) ⌝ }
@@ -174,5 +179,5 @@ pub fn run_packed(job: &[u8], w: &mut [u32], a: &mut [u32]) -> u64
     let e = r.end;
     let n = r.steps;
     let s = status(e);
-    wide(s) * 4294967296 + wide(n)
+    packing::pack(s, n)
 }

@@ -13,6 +13,7 @@ ghost use Rattle.spec_serial.specs.Working.{WORKING, lists};
 ghost use Rattle.serial_steps.specs.Steps.{Inner, Does};
 use job_effect::Made;
 use serial_queues::Front;
+use serial_queues::VALUES;
 use spec_job::Instruction;
 
 // Writes the answer of step number n, counted from 0, by a task.
@@ -25,13 +26,13 @@ pub fn write_answer(a: &mut [u32], n: u32, task: u32, answer: u32, value: u32)
     memory::put(a, b + 2, value);
 }
 
-// A push to a list that holds 4,096 values.
+// A push to a list that is full.
 pub fn is_full(w: &[u32], s: Instruction) -> bool
     ensures { λ b. ⌜ b ≡ full s (length (queue (lists (now (w .entry))) (s .which))) ⌝ }
 {
     let k = s.operation;
     match k {
-        1..=2 => 4096 <= serial_queues::count(w, s.which),
+        1..=2 => VALUES <= serial_queues::count(w, s.which),
         _ => false,
     }
 }

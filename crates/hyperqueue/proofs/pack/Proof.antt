@@ -1,16 +1,22 @@
-use Rattle.hyperqueue.specs.Packed.{packed}
-use mathlib.Core.Path.{sym, _∙_}
-use Prim.Native.Nat.{ℕ, _*_}
-use mathlib.Core.Path.{ap}
+use mathlib.Core.Path.{ap, sym, _∙_}
+use Rattle.spec_answers.specs.declared.Answer.the-variants.{Moved, Refused}
+use Rattle.spec_answers.specs.Answers.{statusOf, valueOf}
+use Rattle.hyperqueue.specs.Packed.{packed, packed-halves}
 use borrow.Author.Needs.{needs}
 use Rattle.hyperqueue.proofs.pack.Statement.{statement}
 use Rattle.hyperqueue.proofs.pack.Tie as tie
 
+returns : tie.Need-returns
+unfolding statusOf valueOf
+returns c = c .pack .ensures ∙ sym (packed-halves (Moved _)) ∙ sym (ap packed (c .before .before .a .given .1))
+
 returns-5 : tie.Need-returns-5
-returns-5 c = ap (λ (x : ℕ). x * 4294967296) (c .wide2 .ensures) ∙ sym (ap packed (c .before .before .a2 .given .1))
+unfolding statusOf valueOf
+returns-5 c = c .pack5 .ensures ∙ sym (packed-halves (Refused _)) ∙ sym (ap packed (c .before .before .a2 .given .1))
 
 pub pack-spec : {M : Type 1} → statement M
 pack-spec =
     tie.close
-    (tie.spec (λ c. search needs) (λ c κs. search needs) (λ c. search needs) (λ c. search needs) (λ c. search needs) (λ c. search needs)
-    (λ c κs. search needs) (λ c. search needs) (λ c. search needs) (λ c. search needs) (λ c. search needs) (λ c. search needs) returns-5)
+    (tie.spec (λ c. search needs) (λ c κs. search needs) (λ c. search needs) (λ c κs. search needs) (λ c. search needs) (λ c κs. search needs)
+    (λ c. search needs) (λ c κs. search needs) (λ c. search needs) (λ c κs. search needs) returns (λ c. search needs) (λ c. search needs)
+    (λ c. search needs) returns-5)

@@ -1,4 +1,4 @@
-use Rattle.job_fields.proofs.Glue.{from-fields}
+use Rattle.job_fields.proofs.Instructions.{from-fields}
 use borrow.Author.Needs.{needs}
 use Rattle.job_fields.proofs.instruction_from.Statement.{statement}
 use Rattle.job_fields.proofs.instruction_from.Tie as tie

@@ -5,7 +5,7 @@ use borrow.Author.Tests.{not-true, not-false}
 use borrow.Author.Needs.{needs}
 use Rattle.spec_lists.specs.Tests.{upto}
 use Rattle.spec_job.specs.Test.{bodyHolds}
-use Rattle.job_test.proofs.Glue.{some-instruction}
+use Rattle.job_test.proofs.Fields.{some-instruction}
 use Rattle.job_test.proofs.Loops.{upto-start, upto-next, upto-stop, upto-end}
 use Rattle.job_test.proofs.bodies_hold.Statement.{statement}
 use Rattle.job_test.proofs.bodies_hold.Tie as tie

@@ -6,7 +6,7 @@ use borrow.Author.Needs.{needs}
 use Rattle.spec_words.specs.Words.{both-off}
 use Rattle.spec_lists.specs.Tests.{upto}
 use Rattle.spec_job.specs.Test.{instructionHolds, bodyHolds}
-use Rattle.job_test.proofs.Glue.{instruction-says, body-says}
+use Rattle.job_test.proofs.Fields.{instruction-says, body-says}
 use Rattle.job_test.proofs.Loops.{upto-start, upto-next, upto-stop, upto-end}
 use Rattle.job_test.proofs.body_holds.Statement.{statement}
 use Rattle.job_test.proofs.body_holds.Tie as tie

@@ -6,7 +6,7 @@ use borrow.Author.Needs.{needs}
 use Rattle.spec_words.specs.Words.{size}
 use Rattle.spec_job.specs.Fields.{entryAt}
 use Rattle.spec_job.specs.Test.{entriesHold}
-use Rattle.job_test.proofs.Glue.{few}
+use Rattle.job_test.proofs.Fields.{few}
 use Rattle.job_test.proofs.Loops.{entries-start, entries-next, entries-stop, entries-end}
 use Rattle.job_test.proofs.entries_hold.Statement.{statement}
 use Rattle.job_test.proofs.entries_hold.Tie as tie

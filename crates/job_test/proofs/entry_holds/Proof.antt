@@ -4,7 +4,7 @@ use borrow.Author.Tests.{eq-eqb, ne-eqb, not-true, not-false}
 use lib.Dec.{eqb}
 use Prim.Native.Nat.{ℕ}
 use mathlib.Core.Path.{ap, sym, _∙_}
-use Rattle.job_test.proofs.Glue.{in-range}
+use Rattle.job_test.proofs.Fields.{in-range}
 use borrow.Author.Needs.{needs}
 use Rattle.job_test.proofs.entry_holds.Statement.{statement}
 use Rattle.job_test.proofs.entry_holds.Tie as tie

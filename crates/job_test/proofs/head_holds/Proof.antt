@@ -5,7 +5,7 @@ use borrow.Author.Tests.{le-leb, lt-leb, not-true, not-false}
 use lib.Dec.{leb}
 use Prim.Native.Nat.{ℕ}
 use mathlib.Core.Path.{ap, sym, _∙_}
-use Rattle.job_test.proofs.Glue.{in-range}
+use Rattle.job_test.proofs.Fields.{in-range}
 use borrow.Author.Needs.{needs}
 use Rattle.job_test.proofs.head_holds.Statement.{statement}
 use Rattle.job_test.proofs.head_holds.Tie as tie

@@ -1,4 +1,4 @@
-use Rattle.job_test.proofs.Glue.{which-fails, operand-says}
+use Rattle.job_test.proofs.Fields.{which-fails, operand-says}
 use borrow.Author.Tests.{not-true, not-false}
 use borrow.Author.Needs.{needs}
 use Rattle.job_test.proofs.instruction_holds.Statement.{statement}

@@ -1,4 +1,4 @@
-use Rattle.job_test.proofs.Glue.{last-yes, last-no}
+use Rattle.job_test.proofs.Fields.{last-yes, last-no}
 use borrow.Author.Needs.{needs}
 use Rattle.job_test.proofs.last_holds.Statement.{statement}
 use Rattle.job_test.proofs.last_holds.Tie as tie

@@ -1,4 +1,4 @@
-use Rattle.overlap.proofs.Glue.{read-few}
+use Rattle.overlap.proofs.Reading.{read-few}
 use Rattle.read_file.specs.Inside.{read-counts}
 use Prim.Native.Nat.{_-_, _+_, _<_}
 use mathlib.Core.Path.{_≡_, refl, _∙_}

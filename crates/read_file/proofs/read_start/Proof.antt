@@ -1,4 +1,4 @@
-use Rattle.read_file.proofs.Glue.{counts, whole-kept, more-inside}
+use Rattle.read_file.proofs.Parts.{counts, whole-kept, more-inside}
 use borrow.Author.Needs.{needs}
 use native.Mathlib.Omega.{arith}
 use lib.ListN.{length}

@@ -1,6 +1,6 @@
 use Prim.Native.Nat.{zero-le}
 use mathlib.Core.Path.{refl}
-use Rattle.run_text.proofs.Glue.{said, said-past}
+use Rattle.run_text.proofs.Parts.{said, said-past}
 use Rattle.text.specs.Text.{ascii}
 use Rattle.run_text.specs.Lines.{answerText, spaced}
 use borrow.Author.Needs.{needs}

@@ -1,7 +1,7 @@
 use native.Mathlib.Omega.{arith}
 use mathlib.Core.Path.{refl}
 use Rattle.text.specs.Text.{ascii}
-use Rattle.run_text.proofs.Glue.{end-ended, end-spent, end-refused, end-job}
+use Rattle.run_text.proofs.Lines.{end-ended, end-spent, end-refused, end-job}
 use borrow.Author.Needs.{needs}
 use Rattle.run_text.proofs.end_line.Statement.{statement}
 use Rattle.run_text.proofs.end_line.Tie as tie

@@ -1,7 +1,7 @@
 use native.Mathlib.Omega.{arith}
 use mathlib.Core.Path.{refl}
 use Rattle.text.specs.Text.{ascii}
-use Rattle.run_text.proofs.Glue.{ended-few}
+use Rattle.run_text.proofs.Parts.{ended-few}
 use Rattle.run_text.specs.Few.{number-ends}
 use borrow.Author.Needs.{needs}
 use Rattle.run_text.proofs.ended_number.Statement.{statement}

@@ -1,7 +1,7 @@
 use native.Mathlib.Omega.{arith}
 use mathlib.Core.Path.{refl}
 use Rattle.text.specs.Text.{ascii}
-use Rattle.run_text.proofs.Glue.{whole-left}
+use Rattle.run_text.proofs.Lines.{whole-left}
 use borrow.Author.Needs.{needs}
 use Rattle.run_text.proofs.left_line.Statement.{statement}
 use Rattle.run_text.proofs.left_line.Tie as tie

@@ -1,5 +1,5 @@
 use native.Mathlib.Omega.{arith}
-use Rattle.run_text.proofs.Glue.{whole-line}
+use Rattle.run_text.proofs.Lines.{whole-line}
 use Rattle.run_text.specs.Few.{answer-ends}
 use borrow.Author.Needs.{needs}
 use Rattle.run_text.proofs.line.Statement.{statement}

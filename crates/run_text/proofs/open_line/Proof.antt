@@ -1,7 +1,7 @@
 use native.Mathlib.Omega.{arith}
 use mathlib.Core.Path.{refl}
 use Rattle.text.specs.Text.{ascii}
-use Rattle.run_text.proofs.Glue.{whole-open}
+use Rattle.run_text.proofs.Lines.{whole-open}
 use borrow.Author.Needs.{needs}
 use Rattle.run_text.proofs.open_line.Statement.{statement}
 use Rattle.run_text.proofs.open_line.Tie as tie

@@ -1,7 +1,7 @@
 use native.Mathlib.Omega.{arith}
 use mathlib.Core.Path.{refl}
 use Rattle.text.specs.Text.{ascii}
-use Rattle.run_text.proofs.Glue.{spaced-long}
+use Rattle.run_text.proofs.Parts.{spaced-long}
 use Rattle.run_text.specs.Few.{long-ends}
 use borrow.Author.Needs.{needs}
 use Rattle.run_text.proofs.spaced_long.Statement.{statement}

@@ -1,7 +1,7 @@
 use native.Mathlib.Omega.{arith}
 use mathlib.Core.Path.{refl}
 use Rattle.text.specs.Text.{ascii}
-use Rattle.run_text.proofs.Glue.{spaced-few}
+use Rattle.run_text.proofs.Parts.{spaced-few}
 use Rattle.run_text.specs.Few.{number-ends}
 use borrow.Author.Needs.{needs}
 use Rattle.run_text.proofs.spaced_number.Statement.{statement}

@@ -1,7 +1,7 @@
 use native.Mathlib.Omega.{arith}
 use mathlib.Core.Path.{refl}
 use Rattle.text.specs.Text.{ascii}
-use Rattle.run_text.proofs.Glue.{given-low, given-high, given-none}
+use Rattle.run_text.proofs.Parts.{given-low, given-high, given-none}
 use Rattle.run_text.specs.Lines.{ended}
 use borrow.Author.Needs.{needs}
 use Rattle.run_text.proofs.value.Statement.{statement}

@@ -1,4 +1,4 @@
-use Rattle.runner_open.proofs.Glue.{stays-shut, opens}
+use Rattle.runner_open.proofs.Openings.{stays-shut, opens}
 use borrow.Author.Needs.{needs}
 use Rattle.runner_open.proofs.open.Statement.{statement}
 use Rattle.runner_open.proofs.open.Tie as tie

@@ -1,4 +1,4 @@
-use Rattle.runner_words.proofs.Glue.{instruction-for}
+use Rattle.runner_words.proofs.Records.{instruction-for}
 use borrow.Author.Needs.{needs}
 use Rattle.runner_words.proofs.instruction_for.Statement.{statement}
 use Rattle.runner_words.proofs.instruction_for.Tie as tie

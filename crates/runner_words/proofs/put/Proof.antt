@@ -1,4 +1,4 @@
-use Rattle.runner_words.proofs.Glue.{three}
+use Rattle.runner_words.proofs.Records.{three}
 use borrow.Author.Needs.{needs}
 use Rattle.runner_words.proofs.put.Statement.{statement}
 use Rattle.runner_words.proofs.put.Tie as tie

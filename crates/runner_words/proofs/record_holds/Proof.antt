@@ -1,4 +1,4 @@
-use Rattle.runner_words.proofs.Glue.{in-use, not-in-use}
+use Rattle.runner_words.proofs.Records.{in-use, not-in-use}
 use borrow.Author.Needs.{needs}
 use Rattle.runner_words.proofs.record_holds.Statement.{statement}
 use Rattle.runner_words.proofs.record_holds.Tie as tie

@@ -1,4 +1,4 @@
-use Rattle.runner_words.proofs.Glue.{other-core, other-runner, job-says}
+use Rattle.runner_words.proofs.Refusals.{other-core, other-runner, job-says}
 use borrow.Author.Needs.{needs}
 use Rattle.runner_words.proofs.refusal.Statement.{statement}
 use Rattle.runner_words.proofs.refusal.Tie as tie

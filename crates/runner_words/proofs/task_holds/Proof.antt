@@ -1,4 +1,4 @@
-use Rattle.runner_words.proofs.Glue.{no-procedure, no-instruction, same-rights}
+use Rattle.runner_words.proofs.Records.{no-procedure, no-instruction, same-rights}
 use borrow.Author.Needs.{needs}
 use Rattle.runner_words.proofs.task_holds.Statement.{statement}
 use Rattle.runner_words.proofs.task_holds.Tie as tie

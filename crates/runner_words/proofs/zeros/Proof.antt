@@ -1,4 +1,4 @@
-use Rattle.runner_words.proofs.Glue.{some-procedure, some-position, all-zero}
+use Rattle.runner_words.proofs.Records.{some-procedure, some-position, all-zero}
 use borrow.Author.Needs.{needs}
 use Rattle.runner_words.proofs.zeros.Statement.{statement}
 use Rattle.runner_words.proofs.zeros.Tie as tie

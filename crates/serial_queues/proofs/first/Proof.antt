@@ -1,5 +1,5 @@
 use Rattle.serial_queues.specs.Rings.{front-none}
-use Rattle.serial_queues.proofs.Glue.{front-value}
+use Rattle.serial_queues.proofs.Queues.{front-value}
 use Rattle.serial_queues.specs.Front.{frontOf}
 use borrow.Author.Needs.{needs}
 use Rattle.serial_queues.proofs.first.Statement.{statement}

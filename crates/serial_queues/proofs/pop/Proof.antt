@@ -1,6 +1,6 @@
 use Rattle.serial_queues.specs.Popped.{none-taken, popped}
 use Rattle.serial_queues.specs.Rings.{queue-there}
-use Rattle.serial_queues.proofs.Glue.{counted}
+use Rattle.serial_queues.proofs.Queues.{counted}
 use mathlib.Core.Path.{sym, _∙_}
 use borrow.Author.Needs.{needs}
 use Rattle.serial_queues.proofs.pop.Statement.{statement}

@@ -1,5 +1,5 @@
 use Rattle.serial_queues.specs.Pushed.{pushed}
-use Rattle.serial_queues.proofs.Glue.{no-queue, fewer}
+use Rattle.serial_queues.proofs.Queues.{no-queue, fewer}
 use native.Mathlib.Omega.{arith}
 use borrow.Author.Needs.{needs}
 use Rattle.serial_queues.proofs.push.Statement.{statement}

@@ -1,4 +1,4 @@
-use Rattle.serial_queues.proofs.Glue.{value-none, value-there}
+use Rattle.serial_queues.proofs.Queues.{value-none, value-there}
 use borrow.Author.Needs.{needs}
 use Rattle.serial_queues.proofs.value.Statement.{statement}
 use Rattle.serial_queues.proofs.value.Tie as tie

@@ -1,4 +1,5 @@
-use Rattle.serial_runner.proofs.Glue.{inner-nine, inner-low, inner-some, eight-some, none-low, none-high, body-falls, child-falls, size-kept}
+use Rattle.serial_runner.proofs.Arms.{inner-nine, inner-low, inner-some, eight-some, none-low, none-high}
+use Rattle.serial_runner.proofs.Measures.{body-falls, child-falls, size-kept}
 use Rattle.serial_runner.specs.Child.{child-too-deep, child-runs}
 use Rattle.serial_runner.specs.Body.{position-small, Goes, goes-start, body-spent, body-full, body-returns, body-stops, goes-inner, child-less}
 use Rattle.serial_runner.specs.Body.{goes-child}

@@ -1,4 +1,4 @@
-use Rattle.serial_runner.proofs.Glue.{size-cleared}
+use Rattle.serial_runner.proofs.Measures.{size-cleared}
 use Rattle.serial_runner.specs.Whole.{wrong-working, wrong-answers, job-refused, job-accepted, job-short, cleared, top-runs}
 use Rattle.spec_serial.specs.Outcome.{turnedDown}
 use native.Mathlib.Omega.{arith}

@@ -1,23 +1,19 @@
--- What the pieces of a function come to, over plain variables.
+-- The words of a task: written, read, and whether they keep their rules.
 use mathlib.Core.Path.{_≡_, refl, ap, ap₂, sym, _∙_}
-use mathlib.Core.Bool.{Bool, true, false, not}
+use mathlib.Core.Bool.{Bool, true, false}
 use mathlib.Core.List.{List}
 use Prim.Native.Nat.{ℕ, _+_, _*_, _<_, _≤_}
 use lib.Dec.{ltb, eqb}
-use lib.ListN.{length}
 use borrow.Author.Tests.{lt-ltb, le-ltb, eq-eqb, ne-eqb}
-use Rattle.spec_words.specs.Words.{store, size, halt, pass, both-off}
+use Rattle.spec_words.specs.Words.{store, halt, pass, both-off}
 use Rattle.spec_words.specs.Blocks.{store-three}
 use Rattle.spec_layout.specs.Layout.{task, read}
-use Rattle.spec_answers.specs.declared.Answer.{Answer}
 use Rattle.spec_outcomes.specs.Waits.{rightsOf, unfinished}
 use Rattle.spec_job.specs.declared.Instruction.{Instruction}
 use Rattle.spec_job.specs.Fields.{procedures, count, rights, instructionAt}
-use Rattle.spec_job.specs.Test.{jobAnswer}
-use Rattle.spec_runner.specs.Words.{RUNNER, procedureOf, positionOf, registerOf, put, instructionFor}
+use Rattle.spec_runner.specs.Words.{procedureOf, positionOf, registerOf, put, instructionFor}
 use Rattle.spec_runner.specs.Rules.{taskHolds, zeros, recordHolds}
 use Rattle.walks.proofs.Glue.{both-so}
-use Rattle.runner_words.specs.Refusals.{refusalIn, jobRefusal}
 
 -- three stores in a row
 pub three : (m m1 m2 m3 : List ℕ) (t x y z : ℕ) → m1 ≡ store m (t * 3) x → m2 ≡ store m1 (t * 3 + 1) y → m3 ≡ store m2 (t * 3 + 2) z → m3 ≡ put m t x y z
@@ -74,18 +70,3 @@ module _ (j m r : List ℕ) (t : ℕ) {u x : Bool} (eu : u ≡ unfinished m t) w
   pub not-in-use : u ≡ false → x ≡ zeros r t → x ≡ recordHolds j m r t
   unfolding recordHolds
   not-in-use h e = e ∙ sym (pass _ (sym eu ∙ h) refl)
-
--- THE FIRST REFUSALS
-module _ (j m r : List ℕ) where
-  pub other-core : (length m ≡ 16384 → ⊥) → 1 ≡ jobRefusal j m r
-  unfolding jobRefusal size
-  other-core n = sym (halt _ _ (ap not (ne-eqb _ _ n)))
-
-  module _ (em : length m ≡ 16384) where
-    pub other-runner : (length r ≡ RUNNER → ⊥) → 1 ≡ jobRefusal j m r
-    unfolding jobRefusal size
-    other-runner n = sym (pass _ (ap not (eq-eqb _ _ em)) (halt _ _ (ap not (ne-eqb _ _ n))))
-
-    pub job-says : length r ≡ RUNNER → {a : Answer} {k : ℕ} → a ≡ jobAnswer j → k ≡ refusalIn a → k ≡ jobRefusal j m r
-    unfolding jobRefusal size
-    job-says er ea e = e ∙ ap refusalIn ea ∙ sym (pass _ (ap not (eq-eqb _ _ em)) (pass _ (ap not (eq-eqb _ _ er)) refl))
