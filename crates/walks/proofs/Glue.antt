@@ -5,9 +5,9 @@ use mathlib.Core.List.{List}
 use Prim.Native.Nat.{ℕ, _+_, _-_, _<_, _≤_}
 use native.Mathlib.Omega.{arith}
 use lib.Dec.{ltb, eqb}
-use borrow.Author.Tests.{lt-ltb, le-ltb, eq-eqb, ne-eqb}
-use Rattle.spec_words.specs.Words.{pick, both, either, pass, halt, true-left, true-right, both-on, both-off}
-use Rattle.spec_layout.specs.Layout.{NONE, NL, CHILDREN, RIGHT, PARENT, OLDER, YOUNGEST, RIGHTS, task, read, recordOf}
+use borrow.Author.Tests.{lt-ltb, le-ltb, eq-eqb, ne-eqb, not-true, not-false}
+use Rattle.spec_words.specs.Words.{pick, both, either, pass, halt, true-left, true-right, both-on, both-off, both-right-on, both-right-off}
+use Rattle.spec_layout.specs.Layout.{NONE, NL, CHILDREN, RIGHT, PARENT, OLDER, YOUNGEST, RIGHTS, task, head, tail, read, recordOf}
 use Rattle.spec_layout.specs.Frame.{record-word}
 use Rattle.spec_tree.specs.Rights.{pushes, pops, uses, sharesPop}
 use Rattle.spec_tree.specs.Tour.{END, MARKS, entering, after, seek, sibling, oldest}
@@ -17,7 +17,7 @@ use Rattle.spec_outcomes.specs.Views.{viewOf, isEmpty, headOf, taskAt, kindAt, 
 use Rattle.spec_outcomes.specs.Finish.{heir}
 use Rattle.walks.specs.declared.Asks.{Asks}
 use Rattle.walks.specs.declared.Asks.the-variants.{Pushes, TakesPart, Stands}
-use Rattle.walks.specs.Asked.{asked}
+use Rattle.walks.specs.Asked.{counts, asked}
 
 -- the first of two tests decides, or the second does
 pub both-so : {a x b : Bool} → a ≡ true → x ≡ b → x ≡ both a b
@@ -74,27 +74,30 @@ pub takes-part : {t w : ℕ} {b : Bool} (m : List ℕ) (q x : ℕ) → t ≡ tas
 unfolding takesPart
 takes-part m q x e f g = g ∙ ap (λ (w : ℕ). uses w q) (f ∙ ap (λ (t : ℕ). read m (task t RIGHTS)) e)
 
-module _ {p : Bool} (m : List ℕ) (q x : ℕ) (part : p ≡ takesPart m q x) where
-  pub stands-not : p ≡ false → false ≡ standsAt m q x
-  unfolding standsAt
-  stands-not f = sym (both-off _ (sym part ∙ f))
+module _ (m : List ℕ) (q x : ℕ) where
+  pub entered-counts : x ≤ 128 → true ≡ counts m q x
+  unfolding counts
+  entered-counts h = sym (true-right _ (true-left _ (eq-eqb (x - 128) 0 (omega arith))))
 
-  pub stands-entered : p ≡ true → x ≤ 128 → true ≡ standsAt m q x
-  unfolding standsAt
-  stands-entered f h = both-so (sym part ∙ f) (sym (true-right _ (true-left _ (eq-eqb (x - 128) 0 (omega arith)))))
+  pub head-counts : {h : ℕ} → h ≡ read m (head CHILDREN (x - 128) q) → (h ≡ NONE → ⊥) → true ≡ counts m q x
+  unfolding counts viewOf isEmpty
+  head-counts e n = sym (true-right _ (true-right _ (ap not (both-off _ (ne-eqb _ _ (λ z. n (e ∙ z)))))))
 
-  pub stands-head : {h : ℕ} → p ≡ true → h ≡ read m (task (x - 128) (20 + q)) → (h ≡ NONE → ⊥) → true ≡ standsAt m q x
-  unfolding standsAt viewOf isEmpty
-  stands-head f e n =
-      both-so (sym part ∙ f) (sym (true-right _ (true-right _ (ap not (both-off _ (ne-eqb _ _ (λ z. n (e ∙ z))))))))
+  pub tail-counts : {h e : ℕ} → 128 < x → h ≡ read m (head CHILDREN (x - 128) q) → h ≡ NONE → e ≡ read m (tail CHILDREN (x - 128) q)
+      → not (eqb e NONE) ≡ counts m q x
+  unfolding counts viewOf isEmpty
+  tail-counts l d z e =
+      either-on (le-ltb x 128 (omega arith)) (either-on (ne-eqb (x - 128) 0 (λ n. omega arith))
+      (ap not (both-so (eq-eqb _ _ (sym d ∙ z)) (ap (λ (w : ℕ). eqb w NONE) e))))
 
-  pub stands-tail : {h e : ℕ} → p ≡ true → 128 < x → h ≡ read m (task (x - 128) (20 + q)) → h ≡ NONE
-      → e ≡ read m (task (x - 128) (32 + q)) → not (eqb e NONE) ≡ standsAt m q x
-  unfolding standsAt viewOf isEmpty
-  stands-tail f l d z e =
-      both-so (sym part ∙ f)
-      (either-on (le-ltb x 128 (omega arith)) (either-on (ne-eqb (x - 128) 0 (λ n. omega arith))
-      (ap not (both-so (eq-eqb _ _ (sym d ∙ z)) (ap (λ (w : ℕ). eqb w NONE) e)))))
+  module _ {p : Bool} (e : p ≡ counts m q x) where
+    pub stands-not : not p ≡ true → false ≡ standsAt m q x
+    unfolding standsAt counts
+    stands-not f = sym (both-right-off (takesPart m q x) (sym e ∙ not-true _ f))
+
+    pub stands-so : {b : Bool} → not p ≡ false → b ≡ takesPart m q x → b ≡ standsAt m q x
+    unfolding standsAt counts
+    stands-so f g = g ∙ sym (both-right-on (takesPart m q x) (sym e ∙ not-false _ f))
 
 -- the question is one of the three
 pub asks-same : {b : Bool} (a k : Asks) (m : List ℕ) (q x : ℕ) → a ≡ k → b ≡ asked k m q x → b ≡ asked a m q x

@@ -12,7 +12,7 @@ ghost use Rattle.spec_rules.specs.Views.{view};
 ghost use Rattle.spec_outcomes.specs.Waits.{rightsOf, unfinished, blocked, childPops, hasChild, pusherBefore};
 ghost use Rattle.spec_outcomes.specs.Views.{taskAt, kindAt, takesPart, standsAt, justBefore, returnedTo};
 ghost use Rattle.spec_outcomes.specs.Finish.{heir};
-ghost use Rattle.walks.specs.Asked.{asked};
+ghost use Rattle.walks.specs.Asked.{counts, asked};
 use layout::CHILDREN;
 use layout::END;
 use layout::MARKS;
@@ -131,14 +131,10 @@ fn takes_part(m: &[u32], q: u32, x: u32) -> bool
     rights::uses(memory::rights(m, task_at(x)), q)
 }
 
-// The mark TASKS is where the top is exited: its children view stands there even if empty.
-fn stands_at(m: &[u32], q: u32, x: u32) -> bool
-    requires { ⌜ q < 4 ⌝ }
-    ensures { λ r. ⌜ r ≡ standsAt (now (m .entry)) q x ⌝ }
+// The view at mark x is no empty children view. The mark TASKS is where the top is exited: its children view counts even if empty.
+fn counts(m: &[u32], q: u32, x: u32) -> bool
+    ensures { λ r. ⌜ r ≡ counts (now (m .entry)) q x ⌝ }
 {
-    if !takes_part(m, q, x) {
-        return false;
-    }
     if x <= TASKS {
         return true;
     }
@@ -146,6 +142,17 @@ fn stands_at(m: &[u32], q: u32, x: u32) -> bool
         return true;
     }
     memory::tail(m, CHILDREN, x - TASKS, q) != NONE
+}
+
+// Most marks of a long walk have an empty children view, so that is asked first.
+fn stands_at(m: &[u32], q: u32, x: u32) -> bool
+    requires { ⌜ q < 4 ⌝ }
+    ensures { λ r. ⌜ r ≡ standsAt (now (m .entry)) q x ⌝ }
+{
+    if !counts(m, q, x) {
+        return false;
+    }
+    takes_part(m, q, x)
 }
 
 // What a walk over the tour asks of a mark: is a task entered there that may push to the queue, has its task a right to it, does a view of it
