@@ -5,11 +5,11 @@ ghost use mathlib.Core.Bool.{not};
 ghost use Prim.Native.Nat.{_<_};
 ghost use lib.Dec.{ltb, eqb};
 ghost use Rattle.spec_words.specs.Words.{pick, both};
-ghost use Rattle.spec_layout.specs.Layout.{recordOf};
+ghost use Rattle.spec_layout.specs.Layout.{rightsOf, recordOf};
 ghost use Rattle.spec_tree.specs.Rights.{pushes, pops, sharesPop};
 ghost use Rattle.spec_tree.specs.Tour.{MARKS, exiting, entering, after, seek, sibling, oldest};
 ghost use Rattle.spec_rules.specs.Views.{view};
-ghost use Rattle.spec_outcomes.specs.Waits.{rightsOf, unfinished, blocked, childPops, hasChild, pusherBefore};
+ghost use Rattle.spec_outcomes.specs.Waits.{unfinished, blocked, childPops, hasChild, pusherBefore};
 ghost use Rattle.spec_outcomes.specs.Views.{taskAt, takesPart, standsAt, justBefore, returnedTo};
 ghost use Rattle.spec_outcomes.specs.Finish.{heir};
 

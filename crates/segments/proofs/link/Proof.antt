@@ -4,7 +4,8 @@ use Rattle.segments.proofs.link.Statement.{statement}
 use Rattle.segments.proofs.link.Tie as tie
 
 returns : tie.Need-returns
-returns c = link-full _ _ _ _ _ _ (c .before .before .before .before .before .segment .ensures) (c .before .before .before .set-segment .ensures) (c .if1 .taken)
+returns c =
+    link-full _ _ _ _ _ _ (c .before .before .before .before .before .segment .ensures) (c .before .before .before .set-segment .ensures) (c .if1 .taken)
 
 returns-2 : tie.Need-returns-2
 returns-2 c = link-empty _ _ _ _ _ _

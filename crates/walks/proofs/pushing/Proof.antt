@@ -1,11 +1,10 @@
 use mathlib.Core.Path.{_≡_, refl, sym, _∙_}
 use native.Mathlib.Omega.{arith}
-use Rattle.spec_layout.specs.Layout.{recordOf}
+use Rattle.spec_layout.specs.Layout.{rightsOf, recordOf}
 use Rattle.spec_tree.specs.Tour.{MARKS, seek}
 use lib.Dec.{ltb}
 use Rattle.spec_words.specs.Words.{both}
 use Rattle.spec_tree.specs.Rights.{pushes}
-use Rattle.spec_outcomes.specs.Waits.{rightsOf}
 use Rattle.walks.specs.Steps.{seek-none, seek-end, seek-here, seek-on}
 use Rattle.walks.proofs.pushing.Statement.{statement}
 use Rattle.walks.proofs.pushing.Tie as tie
