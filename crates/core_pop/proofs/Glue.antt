@@ -11,7 +11,7 @@ use denote.Enum.Declared.{tagOf}
 use Rattle.spec_answers.proofs.Finding.{the-type}
 use borrow.Author.Tests.{lt-ltb, le-ltb, le-leb, lt-leb, leb-false, eqb-false, not-true, eq-eqb, ne-eqb}
 use Rattle.spec_words.specs.Words.{pick, halt, pass, both-on, both-off, both-true, true-left, true-right, neither, rung}
-use Rattle.spec_layout.specs.Layout.{NONE, NL, segment, task, read, write}
+use Rattle.spec_layout.specs.Layout.{NONE, NL, segment, task, rightsOf, read, write}
 use Rattle.spec_answers.specs.declared.Answer.{Answer}
 use Rattle.spec_answers.specs.declared.Answer.the-variants.{Moved, NotEmpty, Refused}
 use Rattle.spec_answers.specs.Answers.{Outcome, outcome}
@@ -19,7 +19,7 @@ use Rattle.spec_tree.specs.Rights.{pops}
 use Rattle.spec_answers.specs.declared.Finding.{Finding}
 use Rattle.spec_answers.specs.declared.Finding.the-variants as Finding
 use Rattle.spec_outcomes.specs.Segments.{valueAt, dropped, released}
-use Rattle.spec_outcomes.specs.Waits.{rightsOf, unfinished, blocked, childPops, pusherBefore}
+use Rattle.spec_outcomes.specs.Waits.{unfinished, blocked, childPops, pusherBefore}
 use Rattle.spec_outcomes.specs.Find.{hasValue, finding, popped, popGives, testGives, popAllowed, popTested, testTested}
 use Rattle.core_pop.specs.Nothing.{popNothing, testNothing, popRefusal}
 
@@ -146,11 +146,11 @@ module _ (m : List ℕ) (t q : ℕ) {b1 : Bool} (e1 : b1 ≡ unfinished m t) whe
 
     module _ {w : ℕ} {b3 : Bool} (f2 : q < 4) (ew : w ≡ read m (task t 1)) (e3 : b3 ≡ pops w q) where
       pub refusal-6 : not b3 ≡ true → 6 ≡ popRefusal m t q
-      unfolding popRefusal rightsOf
+      unfolding popRefusal
       refusal-6 f = sym (pass _ (ap not (sym e1) ∙ f1) (pass _ (lt-leb 4 q f2) (halt _ _ (ap not (ap (λ (x : ℕ). pops x q) (sym ew) ∙ sym e3) ∙ f))))
 
       pub refusal-0 : not b3 ≡ false → 0 ≡ popRefusal m t q
-      unfolding popRefusal rightsOf
+      unfolding popRefusal
       refusal-0 f = sym (pass _ (ap not (sym e1) ∙ f1) (pass _ (lt-leb 4 q f2) (pass _ (ap not (ap (λ (x : ℕ). pops x q) (sym ew) ∙ sym e3) ∙ f) refl)))
 
 -- what the number says of the ladder, and of the queue

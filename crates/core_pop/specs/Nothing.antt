@@ -4,12 +4,13 @@ use mathlib.Core.List.{List}
 use Prim.Native.Nat.{ℕ}
 use lib.Dec.{leb}
 use Rattle.spec_words.specs.Words.{pick}
+use Rattle.spec_layout.specs.Layout.{rightsOf}
 use Rattle.spec_answers.specs.declared.Answer.{Answer}
 use Rattle.spec_answers.specs.declared.Answer.the-variants.{Empty, Waits, Refused}
 use Rattle.spec_answers.specs.declared.Finding.{Finding}
 use Rattle.spec_answers.specs.declared.Finding.the-variants as Finding
 use Rattle.spec_tree.specs.Rights.{pops}
-use Rattle.spec_outcomes.specs.Waits.{rightsOf, unfinished}
+use Rattle.spec_outcomes.specs.Waits.{unfinished}
 
 abbrev pub popNothing : Finding → Answer
 popNothing (Finding.Value v) = Waits

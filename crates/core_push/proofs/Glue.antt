@@ -6,7 +6,7 @@ use Prim.Native.Nat.{ℕ, _+_, _*_, _<_, _≤_}
 use native.Mathlib.Omega.{arith}
 use borrow.Author.Tests.{lt-ltb, le-ltb, le-leb, lt-leb}
 use Rattle.spec_words.specs.Words.{size, halt, pass}
-use Rattle.spec_layout.specs.Layout.{NL, USER, RIGHTS, lengthWord, numberWord, freeSegments, count, segment, task, head, tail, read, write}
+use Rattle.spec_layout.specs.Layout.{NL, USER, count, segment, task, lengthOf, Opened, ValuesFit, freeHeight, rightsOf, head, tail, read, write}
 use Rattle.spec_answers.specs.declared.Answer.the-variants.{Moved, Waits, Refused}
 use Rattle.spec_answers.specs.Answers.{Outcome, outcome}
 use Rattle.spec_tree.specs.Rights.{pushes}
@@ -15,7 +15,7 @@ use Rattle.spec_rules.specs.Test.{rulesHold}
 use Rattle.segments.proofs.Stack.{some-left}
 use Rattle.spec_outcomes.specs.Segments.{stored, noneFree, nextFree, taken}
 use Rattle.spec_outcomes.specs.Views.{viewOf, isEmpty, tailOf, reducible, setView, joined, taskAt, kindAt, justBefore}
-use Rattle.spec_outcomes.specs.Waits.{rightsOf, unfinished, blocked}
+use Rattle.spec_outcomes.specs.Waits.{unfinished, blocked}
 use Rattle.spec_outcomes.specs.Push.{pushedApart, pushedBehind, pushed, pushTested}
 use Rattle.law_in_range.specs.Sound.{rules-sound, unfinished-live}
 
@@ -42,23 +42,24 @@ behind m m1 m2 m3 t q v e s es e1 e2 e3 = ap (outcome (Moved v)) (e3 ∙ rw (e2,
 
 -- what the rules promise to a push
 module _ (m : List ℕ) (t q : ℕ) (big : size m ≡ 16384) (ok : rulesHold m ≡ true) (alive : unfinished m t ≡ true) (l : q < 4) where
-  room : (noneFree m q ≡ false) → (0 < read m freeSegments) × (nextFree m q < read m numberWord)
+  room : (noneFree m q ≡ false) → (0 < freeHeight m q) × (Opened m (nextFree m q))
   unfolding nextFree
-  room e = let p = some-left m q e in (p, rules-sound m big ok .free-open _ (omega (arith, p)))
+  room e = let p = some-left m q e in (p, rules-sound m big ok .free-open q _ (omega (arith, p)))
 
   pub can-take : {b : Bool} → b ≡ noneFree m q → b ≡ false
-      → (size m ≡ 16384) × (0 < read m freeSegments) × (nextFree m q < read m numberWord) × (0 < read m lengthWord)
-      × (read m lengthWord * read m numberWord ≤ 8192)
+      → (size m ≡ 16384) × (0 < freeHeight m q) × (Opened m (nextFree m q)) × (0 < lengthOf m (nextFree m q))
+      × (ValuesFit m)
   can-take e f =
       let s = rules-sound m big ok in
       let r = room (sym e ∙ f) in
-      (big, r .0, r .1, s .length-range .0, s .product-range)
+      (big, r .0, r .1, s .length-range (nextFree m q) .0, s .product-range)
 
-  pub can-store : {e n k : ℕ} → e ≡ read m (tail USER t q) → e < NL → n ≡ read m (segment e 1) → k ≡ read m lengthWord → n < k
-      → (size m ≡ 16384) × (e < read m numberWord) × (read m lengthWord * read m numberWord ≤ 8192) × (read m (count e) < read m lengthWord)
+  pub can-store : {e n k : ℕ} → e ≡ read m (tail USER t q) → e < NL → n ≡ read m (segment e 1) → k ≡ lengthOf m e → n < k
+      → (size m ≡ 16384) × (Opened m e) × (ValuesFit m) × (read m (count e) < lengthOf m e)
   can-store {e} ee f en ek g =
       let s = rules-sound m big ok in
-      let p : read m (task t (32 + (4 + q))) ≡ read m (tail USER t q) = ap (λ (k : ℕ). read m (task t k)) (let z : 32 + (4 + q) ≡ 36 + q = omega arith in z) in
+      let p : read m (task t (TAILS + (4 + q))) ≡ read m (tail USER t q) =
+      ap (λ (k : ℕ). read m (task t k)) (let z : TAILS + (4 + q) ≡ TAILS + USER * 4 + q = omega arith in z) in
       let a = s .tails-open t (4 + q) (unfinished-live m t alive) (omega (arith, l)) (omega (arith, p, ee, f)) in
       (big, omega (arith, a, p, ee), s .product-range, omega (arith, en, ek, g))
 
@@ -86,7 +87,7 @@ module _ (m : List ℕ) (t q v : ℕ) {h e : ℕ} {b : Bool} (ee : e ≡ read m 
     unfolding pushed
     ends-away g = sym (pass _ (sym empty-same ∙ f) (halt _ _ (le-leb NL _ (rw tail-same at g))))
 
-    module _ {n k : ℕ} (g : e < NL) (en : n ≡ read m (segment e 1)) (ek : k ≡ read m lengthWord) where
+    module _ {n k : ℕ} (g : e < NL) (en : n ≡ read m (segment e 1)) (ek : k ≡ lengthOf m e) where
       pub is-stored : (m1 : List ℕ) → n < k → m1 ≡ stored m e v → outcome (Moved v) m1 ≡ pushed m t q v
       unfolding pushed
       is-stored m1 p e1 =
@@ -119,9 +120,8 @@ module _ (m : List ℕ) (t q v : ℕ) {b1 : Bool} (e1 : b1 ≡ unfinished m t) w
     unfolding pushTested
     refused-5 f = sym (pass _ (ap not (sym e1) ∙ f1) (halt _ _ (le-leb 4 q f)))
 
-    module _ {w : ℕ} {b3 : Bool} (f2 : q < 4) (ew : w ≡ read m (task t RIGHTS)) (e3 : b3 ≡ pushes w q) where
+    module _ {w : ℕ} {b3 : Bool} (f2 : q < 4) (ew : w ≡ rightsOf m t) (e3 : b3 ≡ pushes w q) where
       held : not b3 ≡ not (pushes (rightsOf m t) q)
-      unfolding rightsOf
       held = ap not (e3 ∙ ap (λ (x : ℕ). pushes x q) ew)
 
       pub refused-6 : not b3 ≡ true → outcome (Refused 6) m ≡ pushTested m t q v

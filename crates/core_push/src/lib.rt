@@ -1,10 +1,10 @@
 // push (task, queue, value)
 ghost use mathlib.Core.Path.{_≡_};
 ghost use mathlib.Core.Bool.{true};
-ghost use Prim.Native.Nat.{_*_, _<_, _≤_};
+ghost use Prim.Native.Nat.{_<_};
 ghost use lib.ListN.{length};
 ghost use Rattle.spec_words.specs.Words.{size};
-ghost use Rattle.spec_layout.specs.Layout.{lengthWord, numberWord, freeSegments, read};
+ghost use Rattle.spec_layout.specs.Layout.{lengthOf, Opened, ValuesFit, freeHeight};
 ghost use Rattle.spec_rules.specs.Test.{rulesHold};
 ghost use Rattle.spec_answers.specs.Answers.{Outcome};
 ghost use Rattle.spec_answers.specs.Answers.Outcome.{outcome};
@@ -18,8 +18,8 @@ use spec_answers::Answer;
 
 // The user view is empty: the new segment's head goes into the view at mark x.
 fn push_apart(m: &mut [u32], t: u32, q: u32, v: u32, x: u32) -> Answer
-    requires { ⌜ (size (now m) ≡ 16384) × (0 < read (now m) freeSegments) × (nextFree (now m) q < read (now m) numberWord)
-        × (0 < read (now m) lengthWord) × (read (now m) lengthWord * read (now m) numberWord ≤ 8192) ⌝ }
+    requires { ⌜ (size (now m) ≡ 16384) × (0 < freeHeight (now m) q) × (Opened (now m) (nextFree (now m) q))
+        × (0 < lengthOf (now m) (nextFree (now m) q)) × (ValuesFit (now m)) ⌝ }
     ensures { λ a. ⌜ outcome a (now (m .exit)) ≡ pushedApart (now (m .entry)) t q v x ⌝ }
 {
     let s = segments::next_free(m, q);
@@ -36,8 +36,8 @@ fn push_apart(m: &mut [u32], t: u32, q: u32, v: u32, x: u32) -> Answer
 
 // The tail segment e is full: the new segment becomes its next.
 fn push_behind(m: &mut [u32], t: u32, q: u32, v: u32, e: u32) -> Answer
-    requires { ⌜ (size (now m) ≡ 16384) × (0 < read (now m) freeSegments) × (nextFree (now m) q < read (now m) numberWord)
-        × (0 < read (now m) lengthWord) × (read (now m) lengthWord * read (now m) numberWord ≤ 8192) ⌝ }
+    requires { ⌜ (size (now m) ≡ 16384) × (0 < freeHeight (now m) q) × (Opened (now m) (nextFree (now m) q))
+        × (0 < lengthOf (now m) (nextFree (now m) q)) × (ValuesFit (now m)) ⌝ }
     ensures { λ a. ⌜ outcome a (now (m .exit)) ≡ pushedBehind (now (m .entry)) t q v e ⌝ }
 {
     let s = segments::next_free(m, q);

@@ -6,11 +6,11 @@ use Prim.Native.Nat.{ℕ, _-_}
 use lib.Dec.{eqb}
 use borrow.Author.Tests.{eq-eqb, ne-eqb}
 use Rattle.spec_words.specs.Words.{pick, halt, pass}
-use Rattle.spec_layout.specs.Layout.{RIGHTS, freeTasks, freeTask, task, read, write}
+use Rattle.spec_layout.specs.Layout.{freeTasks, freeTask, rightsOf, read, write}
 use Rattle.spec_answers.specs.declared.Answer.the-variants.{Moved, Waits, Refused}
 use Rattle.spec_answers.specs.Answers.{Outcome, outcome}
 use Rattle.spec_tree.specs.Rights.{subset}
-use Rattle.spec_outcomes.specs.Waits.{rightsOf, unfinished, blocked}
+use Rattle.spec_outcomes.specs.Waits.{unfinished, blocked}
 use Rattle.spec_outcomes.specs.Spawn.{childMade, spawned, spawnTested}
 
 module _ (m : List ℕ) (t r : ℕ) {b1 : Bool} (e1 : b1 ≡ unfinished m t) where
@@ -18,9 +18,9 @@ module _ (m : List ℕ) (t r : ℕ) {b1 : Bool} (e1 : b1 ≡ unfinished m t) whe
   unfolding spawnTested
   not-unfinished f = sym (halt _ _ (ap not (sym e1) ∙ f))
 
-  module _ {w : ℕ} {b2 : Bool} (f1 : not b1 ≡ false) (ew : w ≡ read m (task t RIGHTS)) (e2 : b2 ≡ subset r w) where
+  module _ {w : ℕ} {b2 : Bool} (f1 : not b1 ≡ false) (ew : w ≡ rightsOf m t) (e2 : b2 ≡ subset r w) where
     pub more-rights : not b2 ≡ true → outcome (Refused 6) m ≡ spawnTested m t r
-    unfolding spawnTested rightsOf
+    unfolding spawnTested
     more-rights f = sym (pass _ (ap not (sym e1) ∙ f1) (halt _ _ (ap not (ap (subset r) (sym ew) ∙ sym e2) ∙ f)))
 
     module _ {b3 : Bool} (f2 : not b2 ≡ false) (e3 : b3 ≡ blocked m t) where
@@ -29,7 +29,7 @@ module _ (m : List ℕ) (t r : ℕ) {b1 : Bool} (e1 : b1 ≡ unfinished m t) whe
       Rest = pick (blocked m t) (outcome Waits m) (pick (eqb (read m freeTasks) 0) (outcome (Refused 8) m) (spawned m t r))
 
       passed : (x : Outcome) → Rest ≡ x → x ≡ spawnTested m t r
-      unfolding spawnTested rightsOf
+      unfolding spawnTested
       passed x g = sym (pass _ (ap not (sym e1) ∙ f1) (pass _ (ap not (ap (subset r) (sym ew) ∙ sym e2) ∙ f2) g))
 
       pub waits : b3 ≡ true → outcome Waits m ≡ spawnTested m t r

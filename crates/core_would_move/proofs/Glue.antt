@@ -6,13 +6,13 @@ use Prim.Native.Nat.{ℕ, _<_, _≤_}
 use lib.Dec.{leb, eqb}
 use borrow.Author.Tests.{lt-ltb, le-ltb, le-leb, lt-leb, eq-eqb, ne-eqb}
 use Rattle.spec_words.specs.Words.{both, both-on, both-off, either, halt, pass, true-left}
-use Rattle.spec_layout.specs.Layout.{NL, USER, RIGHTS, lengthWord, freeSegments, freeTasks, task, segment, head, tail, read}
+use Rattle.spec_layout.specs.Layout.{NL, USER, freeTasks, segment, lengthOf, freeHeight, rightsOf, head, tail, read}
 use Rattle.spec_tree.specs.Rights.{subset, eachQueue}
 use Rattle.spec_rules.specs.Views.{view}
 use Rattle.segments.proofs.Stack.{some-left}
 use Rattle.spec_outcomes.specs.Segments.{noneFree, nextFree}
 use Rattle.spec_outcomes.specs.Views.{viewOf, isEmpty, reducible, tailOf, taskAt, kindAt, justBefore}
-use Rattle.spec_outcomes.specs.Waits.{rightsOf, hasChild}
+use Rattle.spec_outcomes.specs.Waits.{hasChild}
 use Rattle.spec_outcomes.specs.Sync.{syncs}
 use Rattle.spec_outcomes.specs.Finish.{finishes}
 use Rattle.core_return.proofs.Deciding.{stop, on, empty-is}
@@ -26,9 +26,8 @@ module _ (m : List ℕ) (t q : ℕ) (f : ℕ → ℕ → Bool) (x : Bool) where
   pub no-queue : 4 ≤ q → false ≡ asked m t q f x
   no-queue h = sym (both-off _ (ap not (le-leb 4 q h)))
 
-  module _ {w : ℕ} {b : Bool} (h : q < 4) (ew : w ≡ read m (task t RIGHTS)) (e : b ≡ f w q) where
+  module _ {w : ℕ} {b : Bool} (h : q < 4) (ew : w ≡ rightsOf m t) (e : b ≡ f w q) where
     held : b ≡ f (rightsOf m t) q
-    unfolding rightsOf
     held = e ∙ ap (λ (k : ℕ). f k q) ew
 
     pub not-held : not b ≡ true → false ≡ asked m t q f x
@@ -43,7 +42,7 @@ pub apart-fits : (m : List ℕ) (q x : ℕ) {s y k h e : ℕ} {b : Bool} → s �
 unfolding fitsApart viewOf
 apart-fits m q x es ey ek eh ee eb = eb ∙ rw (eh, ee, es, ey, ek) refl
 
-module _ (m : List ℕ) (q e : ℕ) {n k : ℕ} (en : n ≡ read m (segment e 1)) (ek : k ≡ read m lengthWord) where
+module _ (m : List ℕ) (q e : ℕ) {n k : ℕ} (en : n ≡ read m (segment e 1)) (ek : k ≡ lengthOf m e) where
   pub tail-room : n < k → true ≡ hasRoom m q e
   unfolding hasRoom
   tail-room h = sym (true-left _ (lt-ltb _ _ (rw (en, ek) at h)))
@@ -52,7 +51,7 @@ module _ (m : List ℕ) (q e : ℕ) {n k : ℕ} (en : n ≡ read m (segment e 1)
   unfolding hasRoom either
   free-room h eb = sym (pass _ (le-ltb _ _ (rw (en, ek) at h)) (ap not (sym eb)))
 
-pub some-free : (m : List ℕ) (q : ℕ) {b : Bool} → b ≡ noneFree m q → b ≡ false → 0 < read m freeSegments
+pub some-free : (m : List ℕ) (q : ℕ) {b : Bool} → b ≡ noneFree m q → b ≡ false → 0 < freeHeight m q
 some-free m q e f = some-left m q (sym e ∙ f)
 
 module _ (m : List ℕ) (t q : ℕ) {h e : ℕ} {b : Bool} (ee : e ≡ read m (tail USER t q)) (eh : h ≡ read m (head USER t q)) (eb : b ≡ isEmpty (view h e)) where
@@ -82,9 +81,8 @@ module _ (m : List ℕ) (t q : ℕ) {h e : ℕ} {b : Bool} (ee : e ≡ read m (t
     goes-behind g er = er ∙ ap (hasRoom m q) tail-same ∙ sym (pass _ (sym empty-same ∙ f) (both-on (ap not (lt-leb NL _ (rw tail-same at g)))))
 
 -- A SPAWN
-module _ (m : List ℕ) (t a : ℕ) {w : ℕ} {b : Bool} (ew : w ≡ read m (task t RIGHTS)) (e : b ≡ subset a w) where
+module _ (m : List ℕ) (t a : ℕ) {w : ℕ} {b : Bool} (ew : w ≡ rightsOf m t) (e : b ≡ subset a w) where
   given : b ≡ subset a (rightsOf m t)
-  unfolding rightsOf
   given = e ∙ ap (subset a) ew
 
   pub given-more : not b ≡ true → false ≡ spawnMoves m t a

@@ -1,7 +1,7 @@
 // Whether a call of the core would move, asked of an unfinished task that no older sibling blocks. Nothing is written.
 ghost use mathlib.Core.Path.{_≡_};
 ghost use Prim.Native.Nat.{_<_};
-ghost use Rattle.spec_layout.specs.Layout.{freeSegments, read};
+ghost use Rattle.spec_layout.specs.Layout.{freeHeight};
 ghost use Rattle.spec_runner.specs.Moves.{fitsApart, hasRoom, valueFits, pushMoves, spawnMoves, decided, findMoves, syncMoves, finishMoves};
 use layout::NL;
 use layout::QUEUES;
@@ -10,7 +10,7 @@ use spec_answers::Finding;
 
 // A new segment's head can be reduced into the view at mark x.
 fn fits_apart(m: &[u32], q: u32, x: u32) -> bool
-    requires { ⌜ 0 < read (now m) freeSegments ⌝ }
+    requires { ⌜ 0 < freeHeight (now m) q ⌝ }
     ensures { λ b. ⌜ b ≡ fitsApart (now (m .entry)) q x ⌝ }
 {
     let y = walks::task_at(x);

@@ -7,8 +7,9 @@ use borrow.Author.Tests.{eq-eqb, lt-ltb}
 use Rattle.spec_words.specs.Words.{pass, halt, true-both}
 use Rattle.spec_lists.specs.Tests.{says-upto}
 use Rattle.spec_lists.specs.Maps.{All, all-behind}
+use Rattle.spec_layout.specs.Layout.{rightsOf as rightsIn}
 use Rattle.spec_answers.specs.declared.Answer.the-variants.{Moved}
-use Rattle.spec_outcomes.specs.Waits.{rightsOf as rightsIn, unfinished as unfinishedIn}
+use Rattle.spec_outcomes.specs.Waits.{unfinished as unfinishedIn}
 use Rattle.spec_order.specs.Steps.{Item as Mark, numberOf, rightsOf as rightsWith}
 use Rattle.spec_order.specs.Waits.{unfinished}
 use Rattle.law_invariant.specs.Represents.{Represents}

@@ -5,7 +5,7 @@ use mathlib.Core.List.{List}
 use Prim.Native.Nat.{ℕ, _-_}
 use lib.Dec.{ltb}
 use Rattle.spec_words.specs.Words.{pick, both, either}
-use Rattle.spec_layout.specs.Layout.{USER, lengthWord, freeTasks, freeTask, count, read}
+use Rattle.spec_layout.specs.Layout.{USER, freeTasks, freeTask, count, lengthOf, read}
 use Rattle.spec_answers.specs.declared.Answer.{Answer}
 use Rattle.spec_answers.specs.declared.Answer.the-variants.{Moved, Waits, Refused}
 use Rattle.spec_answers.specs.Calls.{Call, open-call, spawn-call, push-call, pop-call, test-call, sync-call, finish-call, left-call}
@@ -18,7 +18,7 @@ use Rattle.spec_order.specs.Ordered.{ordered}
 -- "A push makes a new segment when the user view is empty or its tail segment holds L values."
 unfoldable pub needsSegment : List ℕ → ℕ → ℕ → Bool
 needsSegment m t q =
-    either (isEmpty (viewOf m q t USER)) (not (ltb (read m (count (tailOf (viewOf m q t USER)))) (read m lengthWord)))
+    either (isEmpty (viewOf m q t USER)) (not (ltb (read m (count (tailOf (viewOf m q t USER)))) (lengthOf m (tailOf (viewOf m q t USER)))))
 
 -- the free task record that is used next
 unfoldable pub nextTask : List ℕ → ℕ

@@ -11,7 +11,7 @@ use lib.ListN.{length}
 use borrow.Author.Tests.{lt-leb, le-leb, ltb-true, ltb-false}
 use Rattle.spec_words.specs.Words.{pick, pass as skip, halt}
 use Rattle.spec_lists.specs.Counting.{occurrences, occurs-here, occurs-past, equal?}
-use Rattle.spec_layout.specs.Layout.{NONE, NL, lengthWord, first, count, next, value, read}
+use Rattle.spec_layout.specs.Layout.{NONE, NL, value, first, count, next, lengthOf, read}
 use Rattle.spec_answers.specs.declared.Answer.the-variants.{Moved, Refused}
 use Rattle.spec_outcomes.specs.Segments.{place, valueAt}
 use Rattle.spec_outcomes.specs.Left.{queued}
@@ -54,14 +54,14 @@ past-end zero m i = refl
 past-end (suc k) m i = halt _ _ (le-leb NL NONE (omega arith))
 
 -- THE WORDS m have the segments of b, of which there are n
-module _ (b m : List ℕ) (n : ℕ) (few : n ≤ 256) (same-length : read m lengthWord ≡ read b lengthWord)
+module _ (b m : List ℕ) (n : ℕ) (few : n ≤ 256) (same-length : (s : ℕ) → lengthOf m s ≡ lengthOf b s)
     (same : (s : ℕ) → s < 256 → (read m (first s) ≡ read b (first s)) × (read m (count s) ≡ read b (count s)) × (read m (next s) ≡ read b (next s)))
     (same-values : (i : ℕ) → read m (value i) ≡ read b (value i)) where
   same-value : (s i : ℕ) → s < 256 → valueAt m s i ≡ valueAt b s i
   same-value s i l =
-      value-word m s i (read b lengthWord) (read b (first s)) same-length (same s l .0)
-      ∙ same-values (s * read b lengthWord + place (read b lengthWord) (read b (first s)) i)
-      ∙ sym (value-word b s i (read b lengthWord) (read b (first s)) refl refl)
+      value-word m s i (lengthOf b s) (read b (first s)) (same-length s) (same s l .0)
+      ∙ same-values (s * lengthOf b s + place (lengthOf b s) (read b (first s)) i)
+      ∙ sym (value-word b s i (lengthOf b s) (read b (first s)) refl refl)
 
   pub queued-chain : (k s : ℕ) (c : List ℕ) (i : ℕ) → LinkedFrom (nextIn b) s c → ((x : ℕ) → 0 < occurrences x (s ∷ c) → x < n) → length (s ∷ c) ≤ k
       → queued k m s i ≡ leftAnswer (nthValue i (valuesIn (contentsIn b) (s ∷ c)))

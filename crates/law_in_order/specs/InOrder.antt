@@ -91,7 +91,8 @@ call-does (spawn-call t u) m xs (inr e) = through m xs (inr e) (spawnTested m t 
 call-does (push-call t q v) m xs (inl r) =
     through m xs (inl r) (pushTested m t q v)
     (does-as State _ _ _ _ refl
-    (ap (λ (a : Answer). forTask t xs (forQueue q (mayPush (rightsAt t xs) q) (pick (blocked t xs) Waits a))) (nine (both (needsSegment m t q) (noneFree m q)) v))
+    (ap (λ (a : Answer). forTask t xs (forQueue q (mayPush (rightsAt t xs) q) (pick (blocked t xs) Waits a)))
+    (nine (both (needsSegment m t q) (noneFree m q)) v))
     (push-does State runs m xs t q v r))
 call-does (push-call t q v) m xs (inr e) = through m xs (inr e) (pushTested m t q v) (push-ended m xs e t q v _)
 call-does (pop-call t q) m xs (inl r) = through m xs (inl r) (popTested m t q) (pop-does State runs m xs t q r)

@@ -7,11 +7,12 @@ use native.Mathlib.Omega.{arith}
 use lib.Dec.{leb}
 use borrow.Author.Tests.{leb-false}
 use Rattle.spec_words.specs.Words.{pick}
+use Rattle.spec_layout.specs.Layout.{rightsOf as rightsIn}
 use Rattle.spec_answers.specs.declared.Answer.{Answer}
 use Rattle.spec_answers.specs.declared.Answer.the-variants.{Refused}
 use Rattle.spec_answers.specs.Answers.{Outcome, outcome}
 use Rattle.spec_answers.specs.Calls.{Call}
-use Rattle.spec_outcomes.specs.Waits.{rightsOf as rightsIn, unfinished as unfinishedIn, blocked as blockedIn}
+use Rattle.spec_outcomes.specs.Waits.{unfinished as unfinishedIn, blocked as blockedIn}
 use Rattle.spec_order.specs.Steps.{Task, Item, spot, numberOf, rightsOf}
 use Rattle.spec_order.specs.Waits.{unfinished, blocked}
 use Rattle.spec_order.specs.Ordered.{rightsAt, forTask, forQueue}

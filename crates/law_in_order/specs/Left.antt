@@ -12,7 +12,8 @@ use borrow.Author.Tests.{leb-false, ltb-true, eqb-true, eq-eqb, ne-eqb, lt-ltb}
 use Rattle.spec_words.specs.Words.{load, pick, pass as skip, halt, both, both-true, true-both, load-same, load-other}
 use Rattle.spec_lists.specs.Counting.{occurrences, occurs-nil, occurs-here, occurs-past, equal?, length-total, total-ones}
 use Rattle.spec_lists.specs.Sums.{total-le}
-use Rattle.spec_layout.specs.Layout.{UNFINISHED, FINISHED, STATUS, numberWord, first, count, next, value, task, queueHead, address, read, write}
+use Rattle.spec_layout.specs.Layout.{TASKS, TASK-WORDS, STATUS, UNFINISHED, FINISHED, task, value, first, count, next, Opened, segmentsOf, queueHead}
+use Rattle.spec_layout.specs.Layout.{address, read, write}
 use Rattle.spec_answers.specs.declared.Answer.{Answer}
 use Rattle.spec_answers.specs.declared.Answer.the-variants.{Waits, Refused}
 use Rattle.spec_answers.specs.Answers.{Outcome, outcome, answerOf, wordsOf}
@@ -138,13 +139,13 @@ module _ (m : List ℕ) (xs : List Item) (e : Ended m xs) where
     in-line : (x : ℕ) → occurrences x (segments (r .line q)) ≡ occurrences x (g ∷ d)
     in-line x = ap (λ (l : Line). occurrences x (segments l)) line-is ∙ ap (occurrences x) (append-nil (g ∷ d))
 
-    below : (x : ℕ) → 0 < occurrences x (g ∷ d) → x < read b numberWord
+    below : (x : ℕ) → 0 < occurrences x (g ∷ d) → Opened b x
     below x p = segment-below b (e .steps) r q x small (let i = in-line x in omega (arith, i, p))
 
     -- no segment stands twice in a chain, so it is not longer than there are segments
     short : length (g ∷ d) ≤ 256
     short =
-        let n = read b numberWord in
+        let n = segmentsOf b q in
         let a = length-total n (g ∷ d) below in
         let t = total-le n (λ y. occurrences y (g ∷ d)) (λ y. 1) (λ y l. once y) in
         let o = total-ones n (λ y. 1) (λ y l. refl) in
@@ -162,7 +163,7 @@ module _ (m : List ℕ) (xs : List Item) (e : Ended m xs) where
     pub left-values : (i : ℕ) → queued 256 m (read m (queueHead 0 q)) i ≡ leftAnswer (leftOver q i xs)
     left-values i =
         ap (λ (x : ℕ). queued 256 m x i) head-word
-        ∙ queued-chain b m (read b numberWord) (r .sized .number-range .1) (unfold read address in other 0 (λ x. omega (arith, x))) segment-words value-words
+        ∙ queued-chain b m (segmentsOf b q) (r .sized .number-range .1) (λ s. unfold read address in other 0 (λ x. omega (arith, x))) segment-words value-words
         256 g d i chained below short
         ∙ ap leftAnswer
         (sym (nth-user i 0 (valuesIn (contentsIn b) (g ∷ d)) [] ∙ ap (nthValue i) (append-nil (valuesIn (contentsIn b) (g ∷ d))))
@@ -189,7 +190,7 @@ module _ (m : List ℕ) (xs : List Item) (e : Ended m xs) where
 
   status-word : (t : ℕ) → (t ≡ 0 → ⊥) → read b (task t STATUS) ≡ read m (task t STATUS)
   unfolding read address
-  status-word t n = sym (other (1472 + t * 48 + STATUS) (λ x. n (omega (arith, x))))
+  status-word t n = sym (other (TASKS + t * TASK-WORDS + STATUS) (λ x. n (omega (arith, x))))
 
   -- NO OTHER CALL MOVES: nobody is unfinished
   pub gone : (t : ℕ) → unfinishedIn m t ≡ false

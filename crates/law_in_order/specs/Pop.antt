@@ -5,12 +5,12 @@ use mathlib.Core.List.{List, _∷_, _++_}
 use Prim.Native.Nat.{ℕ, _<_}
 use lib.Dec.{leb}
 use Rattle.spec_words.specs.Words.{pick}
+use Rattle.spec_layout.specs.Layout.{rightsOf as rightsIn}
 use Rattle.spec_answers.specs.declared.Answer.the-variants.{Refused}
 use Rattle.spec_answers.specs.declared.Finding.{Finding}
 use Rattle.spec_answers.specs.Answers.{outcome, answerOf, wordsOf}
 use Rattle.spec_answers.specs.Calls.{pop-call, test-call}
 use Rattle.spec_tree.specs.Rights.{pops as mayPop}
-use Rattle.spec_outcomes.specs.Waits.{rightsOf as rightsIn}
 use Rattle.spec_outcomes.specs.Find.{finding as findingIn, popped, popGives, testGives, popAllowed, popTested, testTested}
 use Rattle.spec_order.specs.Steps.{Task, Item, spot, pops, tests, numberOf, rightsOf, advance, counted, noted}
 use Rattle.spec_order.specs.Waits.{unfinished, blocked}

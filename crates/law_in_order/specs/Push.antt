@@ -9,14 +9,14 @@ use lib.ListN.{length}
 use borrow.Author.Tests.{eqb-false, lt-leb, ltb-true, ltb-false}
 use Rattle.spec_words.specs.Words.{pick, pass as skip, halt, both, either, both-on, true-left}
 use Rattle.spec_lists.specs.Counting.{occurrences, occurs-append, occurs-here}
-use Rattle.spec_layout.specs.Layout.{NL, USER, lengthWord, numberWord, freeSegments, freeSegment, count, next, head, tail, read, write}
+use Rattle.spec_layout.specs.Layout.{NL, USER, freeSegment, count, next, lengthOf, Opened, freeHeight, rightsOf as rightsIn, head, tail, read, write}
 use Rattle.spec_tree.specs.Rights.{pushes as mayPush}
 use Rattle.spec_answers.specs.declared.Answer.{Answer}
 use Rattle.spec_answers.specs.declared.Answer.the-variants.{Moved, Waits, Refused}
 use Rattle.spec_answers.specs.Answers.{outcome, answerOf, wordsOf}
 use Rattle.spec_answers.specs.Calls.{Call, push-call}
 use Rattle.spec_rules.specs.Views.{View, view}
-use Rattle.spec_outcomes.specs.Waits.{rightsOf as rightsIn, blocked as blockedIn}
+use Rattle.spec_outcomes.specs.Waits.{blocked as blockedIn}
 use Rattle.spec_outcomes.specs.Segments.{noneFree, nextFree, stored, taken}
 use Rattle.spec_outcomes.specs.Views.{viewOf, isEmpty, tailOf, reducible, justBefore, taskAt, kindAt}
 use Rattle.spec_outcomes.specs.Push.{pushedApart, pushedBehind, pushed, pushTested}
@@ -50,7 +50,7 @@ use Rattle.law_in_order.specs.Ladder.{for-task, for-queue, rights-are, r
 -- a free segment, where there is one
 pub some-free : (m : List ℕ) (q : ℕ) → noneFree m q ≡ false → (g : ℕ) × (rest : List ℕ) × (freeIn m ≡ g ∷ rest)
 unfolding noneFree freeIn stack
-some-free m q e = go (read m freeSegments) (eqb-false (read m freeSegments) 0 e)
+some-free m q e = go (freeHeight m q) (eqb-false (freeHeight m q) 0 e)
   where
     go : (n : ℕ) → (n ≡ 0 → ⊥) → (g : ℕ) × (rest : List ℕ) × (stack (λ i. read m (freeSegment i)) n ≡ g ∷ rest)
     go zero k = absurd (k refl)
@@ -139,9 +139,9 @@ module _ (P : List ℕ → List Item → Type 0) (runs : (m : List ℕ) (xs : Li
     unfolding pushed pushedBehind viewOf tailOf
     behind h z d =
         let e = extent-filled u h (local z) (view-is d) in
-        does-as P _ _ _ (pick (not (ltb (read m (count e0)) (read m lengthWord))) (pick (noneFree m q) (Refused 9) (Moved v)) (Moved v))
+        does-as P _ _ _ (pick (not (ltb (read m (count e0)) (lengthOf m e0))) (pick (noneFree m q) (Refused 9) (Moved v)) (Moved v))
         (skip _ e (skip _ (lt-leb NL e0 (let l = low in let k = r .sized .number-range .1 in omega (arith, l, k, tail-is))) refl)) (needed e)
-        (go (ltb (read m (count e0)) (read m lengthWord)) refl)
+        (go (ltb (read m (count e0)) (lengthOf m e0)) refl)
       where
         e0 : ℕ
         e0 = read m (tail USER t q)
@@ -149,13 +149,13 @@ module _ (P : List ℕ → List Item → Type 0) (runs : (m : List ℕ) (xs : Li
         tail-is : e0 ≡ z
         tail-is = end-word e0 z (extent-ends (read m (head USER t q)) (read m (tail USER t q)) h (local z) (view-is d) .1)
 
-        low : z < read m numberWord
+        low : Opened m z
         low = segment-below m Old r q z small (tail-held h z d)
 
-        needed : isEmpty u ≡ false → Answers ≡ pick (not (ltb (read m (count e0)) (read m lengthWord))) (pick (noneFree m q) (Refused 9) (Moved v)) (Moved v)
+        needed : isEmpty u ≡ false → Answers ≡ pick (not (ltb (read m (count e0)) (lengthOf m e0))) (pick (noneFree m q) (Refused 9) (Moved v)) (Moved v)
         needed e =
             unfold needsSegment either viewOf tailOf in ap (λ (b : Bool). pick (both b (noneFree m q)) (Refused 9) (Moved v)) (skip _ e refl)
-            ∙ cases (not (ltb (read m (count e0)) (read m lengthWord))) (noneFree m q)
+            ∙ cases (not (ltb (read m (count e0)) (lengthOf m e0))) (noneFree m q)
           where
             cases : (x y : Bool) → pick (both x y) (Refused 9) (Moved v) ≡ pick x (pick y (Refused 9) (Moved v)) (Moved v)
             cases true y = unfold both pick in refl
@@ -165,9 +165,9 @@ module _ (P : List ℕ → List Item → Type 0) (runs : (m : List ℕ) (xs : Li
         count-is = ap (λ (x : ℕ). read m (count x)) tail-is
 
         -- a segment that is not below the length has a value
-        filled : (vs : List ℕ) → contentsIn m z ≡ vs → (read m (count z) < read m lengthWord → ⊥) → (w : ℕ) × (ws : List ℕ) × (contentsIn m z ≡ w ∷ ws)
+        filled : (vs : List ℕ) → contentsIn m z ≡ vs → (read m (count z) < lengthOf m z → ⊥) → (w : ℕ) × (ws : List ℕ) × (contentsIn m z ≡ w ∷ ws)
         filled [] e n =
-            let l = r .sized .length-range .0 in
+            let l = r .sized .length-range z .0 in
             let k = count-length m z (let i = low in let j = r .sized .number-range .1 in omega (arith, i, j)) ∙ ap length e in
             absurd (n (omega (arith, l, k)))
         filled (w ∷ ws) e n = (w, ws, e)
@@ -179,19 +179,19 @@ module _ (P : List ℕ → List Item → Type 0) (runs : (m : List ℕ) (xs : Li
             let k = occurs-here g z rest (sym f) in
             omega (arith, a, b, k)
 
-        go : (b : Bool) → ltb (read m (count e0)) (read m lengthWord) ≡ b
+        go : (b : Bool) → ltb (read m (count e0)) (lengthOf m e0) ≡ b
             → Does P Old c (pick b (outcome (Moved v) (stored m e0 v)) (pick (noneFree m q) (outcome (Refused 9) m) (pushedBehind m t q v e0)))
             (pick (not b) (pick (noneFree m q) (Refused 9) (Moved v)) (Moved v))
         go true f =
             unfold pick in
             subst (λ (x : ℕ). Does P Old c (outcome (Moved v) (stored m x v)) (Moved v)) (sym tail-is)
-            (moves _ (push-into m ys zs s r q v small may h z d low (let l = ltb-true (read m (count e0)) (read m lengthWord) f in omega (arith, l, count-is))
+            (moves _ (push-into m ys zs s r q v small may h z d low (let l = ltb-true (read m (count e0)) (lengthOf m e0) f in omega (arith, l, count-is))
             play))
         go false f =
             unfold pick pushedBehind in
             chooses P (noneFree m q) (noneFree m q) refl (λ b. none-left) (λ b.
             let k = some-free m q b in
-            let w = filled (contentsIn m z) refl (λ l. let j = ltb-false (read m (count e0)) (read m lengthWord) f in omega (arith, l, j, count-is)) in
+            let w = filled (contentsIn m z) refl (λ l. let j = ltb-false (read m (count e0)) (lengthOf m e0) f in omega (arith, l, j, count-is)) in
             subst (λ (x : ℕ). Does P Old c (outcome (Moved v) (write (write (taken m q v) (next x) (nextFree m q)) (tail USER t q) (nextFree m q))) (Moved v))
             (sym tail-is)
             (moves _ (push-behind m ys zs s r q v small may h z (k .0) (k .1) (w .0) (w .1) d low (k .2) (w .2) (apart-from (k .0) (k .1) (k .2)) play)))
@@ -207,7 +207,8 @@ module _ (P : List ℕ → List Item → Type 0) (runs : (m : List ℕ) (xs : Li
 
   pub push-does : (m : List ℕ) (xs : List Item) (t q v : ℕ) → Represents m xs
       → Does P xs (push-call t q v) (pushTested m t q v)
-      (forTask t xs (forQueue q (mayPush (rightsAt t xs) q) (pick (blocked t xs) Waits (pick (both (needsSegment m t q) (noneFree m q)) (Refused 9) (Moved v)))))
+      (forTask t xs (forQueue q (mayPush (rightsAt t xs) q)
+      (pick (blocked t xs) Waits (pick (both (needsSegment m t q) (noneFree m q)) (Refused 9) (Moved v)))))
   unfolding pushTested
   push-does m xs t q v =
       for-task P runs (λ t. push-call t q v)

@@ -7,13 +7,13 @@ use native.Mathlib.Omega.{arith}
 use lib.Dec.{eqb}
 use borrow.Author.Tests.{eqb-true, eqb-false, eq-eqb}
 use Rattle.spec_words.specs.Words.{pick, same-test}
-use Rattle.spec_layout.specs.Layout.{freeTasks, read}
+use Rattle.spec_layout.specs.Layout.{freeTasks, rightsOf as rightsIn, read}
 use Rattle.spec_answers.specs.declared.Answer.{Answer}
 use Rattle.spec_answers.specs.declared.Answer.the-variants.{Moved, Waits, Refused}
 use Rattle.spec_answers.specs.Answers.{outcome, answerOf, wordsOf}
 use Rattle.spec_answers.specs.Calls.{Call, spawn-call}
 use Rattle.spec_tree.specs.Rights.{subset}
-use Rattle.spec_outcomes.specs.Waits.{rightsOf as rightsIn, blocked as blockedIn}
+use Rattle.spec_outcomes.specs.Waits.{blocked as blockedIn}
 use Rattle.spec_outcomes.specs.Spawn.{spawned, spawnTested}
 use Rattle.spec_order.specs.Steps.{Task, Item, spot, numberOf, rightsOf, counted, noted}
 use Rattle.spec_order.specs.Waits.{unfinished, blocked}

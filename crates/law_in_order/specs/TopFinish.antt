@@ -8,10 +8,10 @@ use lib.Dec.{ltb}
 use lib.ListN.{length}
 use borrow.Author.Tests.{eqb-true, not-false}
 use Rattle.spec_words.specs.Words.{pick, both-true}
-use Rattle.spec_layout.specs.Layout.{NONE, YOUNGEST, task, read}
+use Rattle.spec_layout.specs.Layout.{NONE, YOUNGEST, task, rightsOf as rightsIn, read}
 use Rattle.spec_tree.specs.Rights.{uses}
 use Rattle.spec_tree.specs.Tour.{entered}
-use Rattle.spec_outcomes.specs.Waits.{rightsOf as rightsIn, hasChild as hasChildIn}
+use Rattle.spec_outcomes.specs.Waits.{hasChild as hasChildIn}
 use Rattle.spec_outcomes.specs.Sync.{synced}
 use Rattle.spec_outcomes.specs.Finish.{topFinished}
 use Rattle.spec_order.specs.Steps.{Task, Item, step, spot, syncs as syncStep, finishes, nameOf, numberOf, rightsOf, advance}

@@ -3,19 +3,20 @@ use mathlib.Core.Path.{_≡_, ap, sym, _∙_}
 use mathlib.Core.Bool.{true}
 use mathlib.Core.List.{List}
 use mathlib.Core.Logic.{_⊎_, inl, inr, ⊎-elim}
-use Prim.Native.Nat.{ℕ, zero, suc, _+_, _*_, _<_, _≤_}
+use Prim.Native.Nat.{ℕ, zero, suc, _+_, _<_, _≤_}
 use native.Mathlib.Omega.{arith}
 use lib.Seq.{drop-cons}
 use lib.ListN.{length, getD, take, drop, length-take, length-drop}
 use borrow.Author.Tests.{ltb-true, eqb-true, leb-true}
 use Rattle.spec_words.specs.Words.{load, size, both-true}
 use Rattle.spec_lists.specs.Counting.{occurrences, occurs-here, occurs-cons}
-use Rattle.spec_layout.specs.Layout.{NL, UNFINISHED, STATUS, lengthWord, numberWord, freeSegments, freeTasks, freeSegment, freeTask, task, first, count, next}
-use Rattle.spec_layout.specs.Layout.{address, read}
+use Rattle.spec_layout.specs.Layout.{NONE, NL, FREE-SEGMENTS, FREE-TASKS, STATUS, UNFINISHED, QUEUE-HEADS, TAILS, HEAD-WORDS, TAIL-WORDS, numberWord}
+use Rattle.spec_layout.specs.Layout.{freeSegments, freeTasks, freeSegment, freeTask, task, first, count, next, lengthOf, Opened, ValuesFit}
+use Rattle.spec_layout.specs.Layout.{segmentsOf, freeHeight, address, read}
 use Rattle.spec_layout.specs.Frame.{record-word}
 use Rattle.spec_tree.specs.Tour.{entered}
 use Rattle.spec_rules.specs.Contents.{decode, scan-decodes, word, part-word, heads, tails}
-use Rattle.spec_rules.specs.Rules.{Link, Holder, TaskRules}
+use Rattle.spec_rules.specs.Rules.{Holder, TaskRules}
 use Rattle.spec_rules.specs.Test.{test, rulesHold}
 use Rattle.law_rules_segments.specs.Segments.{segments-say}
 use Rattle.law_rules_segments.specs.Tested.{segments-sound}
@@ -51,19 +52,19 @@ module _ (m : List ℕ) where
   Live t = (t ≡ 0) ⊎ ((t < 128) × (read m (task t STATUS) ≡ UNFINISHED))
 
   pub record Sound : Type 0 where
-    pub length-range : (1 ≤ read m lengthWord) × (read m lengthWord ≤ 64)
+    pub length-range : (s : ℕ) → (1 ≤ lengthOf m s) × (lengthOf m s ≤ 64)
     pub number-range : (4 ≤ read m numberWord) × (read m numberWord ≤ 256)
-    pub product-range : read m lengthWord * read m numberWord ≤ 8192
+    pub product-range : ValuesFit m
     -- segments opened
-    pub firsts : (s : ℕ) → s < read m numberWord → read m (first s) < read m lengthWord
-    pub counts : (s : ℕ) → s < read m numberWord → read m (count s) ≤ read m lengthWord
-    pub nexts : (s : ℕ) → s < read m numberWord → Link (read m numberWord) (read m (next s))
+    pub firsts : (s : ℕ) → Opened m s → read m (first s) < lengthOf m s
+    pub counts : (s : ℕ) → Opened m s → read m (count s) ≤ lengthOf m s
+    pub nexts : (s : ℕ) → Opened m s → (Opened m (read m (next s))) ⊎ (read m (next s) ≡ NONE)
     -- heads and tails that are no marks: of the queue, children, user and right views, 4 words each
-    pub heads-open : (t i : ℕ) → Live t → i < 16 → read m (task t (16 + i)) < NL → read m (task t (16 + i)) < read m numberWord
-    pub tails-open : (t i : ℕ) → Live t → i < 12 → read m (task t (32 + i)) < NL → read m (task t (32 + i)) < read m numberWord
+    pub heads-open : (t i : ℕ) → Live t → i < HEAD-WORDS → read m (task t (QUEUE-HEADS + i)) < NL → Opened m (read m (task t (QUEUE-HEADS + i)))
+    pub tails-open : (t i : ℕ) → Live t → i < TAIL-WORDS → read m (task t (TAILS + i)) < NL → Opened m (read m (task t (TAILS + i)))
     -- the stack of free segments
-    pub free-height : read m freeSegments ≤ read m numberWord
-    pub free-open : (i : ℕ) → i < read m freeSegments → read m (freeSegment i) < read m numberWord
+    pub free-height : (q : ℕ) → freeHeight m q ≤ segmentsOf m q
+    pub free-open : (q i : ℕ) → i < freeHeight m q → Opened m (read m (freeSegment i))
     -- the stack of free records
     pub idle-height : read m freeTasks ≤ 127
     pub idle-tasks : (i : ℕ) → i < read m freeTasks → read m (freeTask i) < 128
@@ -92,36 +93,36 @@ module _ (m : List ℕ) where
       let tasks = tasks-say c (p .top) (p .free) (p .tree) in
       let high : read m freeSegments ≤ read m numberWord =
       let a = leb-true (length (c .free)) (c .number) (p .room) in
-      let b = length-take (read m freeSegments) (drop 64 m) in
-      let d = length-drop 64 m in
+      let b = length-take (read m freeSegments) (drop FREE-SEGMENTS m) in
+      let d = length-drop FREE-SEGMENTS m in
       let f = o .number-range .1 in
       omega (arith, a, b, d, f, big) in
       let few : read m freeTasks ≤ 127 =
       let a = tasks .idle-few in
-      let b = length-take (read m freeTasks) (drop 320 m) in
-      let d = length-drop 320 m in
+      let b = length-take (read m freeTasks) (drop FREE-TASKS m) in
+      let d = length-drop FREE-TASKS m in
       omega (arith, a, b, d, big) in
       record {
-        length-range = o .length-range;
+        length-range = λ s. o .length-range;
         number-range = o .number-range;
         product-range = o .product-range;
         firsts = λ s l. let a = sound s l .first in let b = part-word m s 0 in omega (arith, a, b);
         counts = λ s l. let a = sound s l .count in let b = part-word m s 1 in omega (arith, a, b);
         nexts = λ s l. rw (part-word m s 2) at (sound s l .link);
         heads-open = λ t i h l q.
-            let e = task-word t (16 + i) in
+            let e = task-word t (QUEUE-HEADS + i) in
             let a = heads-fit c xs v (g .1) t i (live-holder t h) l (omega (arith, e, q)) in
             omega (arith, e, a);
         tails-open = λ t i h l q.
-            let e = task-word t (32 + i) in
+            let e = task-word t (TAILS + i) in
             let a = tails-fit c xs v (g .2) t i (live-holder t h) l (omega (arith, e, q)) in
             omega (arith, e, a);
-        free-height = high;
-        free-open = λ i l.
+        free-height = λ q. high;
+        free-open = λ q i l.
             let f = o .number-range .1 in
-            g .0 .free-below (read m (freeSegment i)) (in-stack i (read m freeSegments) 64 big l (omega (arith, high, f)) (omega arith));
+            g .0 .free-below (read m (freeSegment i)) (in-stack i (read m freeSegments) FREE-SEGMENTS big l (omega (arith, high, f)) (omega arith));
         idle-height = few;
-        idle-tasks = λ i l. tasks .idle-below (read m (freeTask i)) (in-stack i (read m freeTasks) 320 big l (omega (arith, few)) (omega arith)) .1;
+        idle-tasks = λ i l. tasks .idle-below (read m (freeTask i)) (in-stack i (read m freeTasks) FREE-TASKS big l (omega (arith, few)) (omega arith)) .1;
         tasks = tasks;
       }
 

@@ -5,7 +5,7 @@ use mathlib.Core.List.{List, _∷_}
 use Prim.Native.Nat.{ℕ, _+_, _<_, _≤_}
 use native.Mathlib.Omega.{arith}
 use Rattle.spec_lists.specs.Counting.{occurrences}
-use Rattle.spec_layout.specs.Layout.{NL, numberWord, read}
+use Rattle.spec_layout.specs.Layout.{NL, Opened}
 use Rattle.spec_rules.specs.Contents.{decode}
 use Rattle.spec_rules.specs.Rules.{Unfinished}
 use Rattle.spec_order.specs.Steps.{Item}
@@ -30,7 +30,7 @@ module _ (m : List ℕ) (xs : List Item) (r : Represents m xs) where
   old = parts-of m xs r
 
   -- a segment that stands in a line is one of those opened
-  pub segment-below : (q s : ℕ) → q < 4 → 0 < occurrences s (segments (r .line q)) → s < read m numberWord
+  pub segment-below : (q s : ℕ) → q < 4 → 0 < occurrences s (segments (r .line q)) → Opened m s
   segment-below q s i p =
       let e = held-opened (opened m) (opened-single m) (storeIn m 0) (r .line) (old .laids .pool) q i s in
       opened-below m xs r s (omega (arith, e, p))

@@ -11,7 +11,7 @@ use lib.Seq.{getD-drop}
 use borrow.Author.Tests.{lt-ltb, ltb-true, eq-eqb, ne-eqb}
 use Rattle.spec_words.specs.Words.{load, pick, halt, pass, both, true-both, both-true}
 use Rattle.spec_lists.specs.Counting.{occurrences, occurs-nil, occurs-here, occurs-past, equal?, occurs-later}
-use Rattle.spec_layout.specs.Layout.{task, queueHead, read, recordOf}
+use Rattle.spec_layout.specs.Layout.{QUEUE-HEADS, task, queueHead, read, recordOf}
 use Rattle.spec_layout.specs.Frame.{record-word}
 use Rattle.spec_tree.specs.Tour.{MARKS, tour}
 use Rattle.spec_outcomes.specs.Segments.{indexOf, headIndex}
@@ -25,7 +25,7 @@ pub record OnlyNamed (m : List ℕ) (T : List ℕ) (g h q : ℕ) : Type 0 where
   pub queue-range : q < 4
   pub there : 0 < occurrences h T
   pub names : read m (queueHead h q) ≡ g
-  pub only : (x i : ℕ) → x < 128 → 0 < occurrences x T → i < 16 → read m (task x (16 + i)) ≡ g → (x ≡ h) × (i ≡ q)
+  pub only : (x i : ℕ) → x < 128 → 0 < occurrences x T → i < 16 → read m (task x (QUEUE-HEADS + i)) ≡ g → (x ≡ h) × (i ≡ q)
 
 -- where a number stands among the first n words
 index-at : (g n : ℕ) (r : List ℕ) (k : ℕ) → k < n → load r k ≡ g → ((j : ℕ) → j < k → load r j ≡ g → ⊥) → indexOf g n r ≡ k
@@ -79,8 +79,8 @@ named-by m T g h q is w =
     f : ℕ → Bool
     f x = both (ltb x 128) (ltb (indexOf g 16 (drop 16 (recordOf m x))) 16)
 
-    at : (x j : ℕ) → load (drop 16 (recordOf m x)) j ≡ read m (task x (16 + j))
-    at x j = getD-drop 16 (recordOf m x) j 0 ∙ record-word m x (16 + j)
+    at : (x j : ℕ) → load (drop 16 (recordOf m x)) j ≡ read m (task x (QUEUE-HEADS + j))
+    at x j = getD-drop 16 (recordOf m x) j 0 ∙ record-word m x (QUEUE-HEADS + j)
 
     index : indexOf g 16 (drop 16 (recordOf m h)) ≡ q
     index =

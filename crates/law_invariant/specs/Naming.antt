@@ -6,7 +6,7 @@ use mathlib.Core.Logic.{_⊎_, inl, inr, ⊎-elim}
 use Prim.Native.Nat.{ℕ, _+_, _-_, _*_, _/_, _%_, _<_}
 use native.Mathlib.Omega.{arith}
 use Rattle.spec_lists.specs.Counting.{occurrences, equal?, below?}
-use Rattle.spec_layout.specs.Layout.{NL, task, head, tail, queueHead, read}
+use Rattle.spec_layout.specs.Layout.{NL, QUEUE-HEADS, task, queueHead, head, tail, read}
 use Rattle.spec_outcomes.specs.Views.{viewOf, not-empty}
 use Rattle.spec_lists.specs.Maps.{put, put-same, put-other}
 use Rattle.law_gaps.specs.Line.{End, local, Extent, extent}
@@ -69,7 +69,7 @@ module _ (n : List ℕ) (T : List ℕ) (g h q : ℕ) (small : h < 128) (queue : 
       ∙ filled-extent (read n (head k x p)) (read n (tail k x p)) (not-empty (read n (head k x p)) (read n (tail k x p)) (λ z. omega (arith, z, e, low)))
       ∙ ap (λ (y : End). extent y (endOf (read n (tail k x p)))) (end-local (read n (head k x p)) (λ z. omega (arith, z, e, low)) ∙ ap local e))
 
-  by-word : (x i : ℕ) → x < 128 → 0 < occurrences x T → i < 16 → read n (task x (16 + i)) ≡ g → (x ≡ h) × (i ≡ q)
+  by-word : (x i : ℕ) → x < 128 → 0 < occurrences x T → i < 16 → read n (task x (QUEUE-HEADS + i)) ≡ g → (x ≡ h) × (i ≡ q)
   by-word x i l t j e =
       ⊎-elim
       (λ b. w .heads x i l t b (head-at n i x b l ∙ ap optional e ∙ optional-some g (λ z. omega (arith, z, low))))

@@ -7,7 +7,7 @@ use lib.ListN.{length}
 use Rattle.spec_words.specs.Words.{load, store, load-other}
 use Rattle.spec_words.specs.Blocks.{block-other}
 use Rattle.spec_lists.specs.Counting.{occurrences, occurs-append, occurs-here}
-use Rattle.spec_layout.specs.Layout.{NONE, numberWord, task, address, read, write, recordOf}
+use Rattle.spec_layout.specs.Layout.{NONE, TASKS, TASK-WORDS, task, Opened, segmentsOf, address, read, write, recordOf}
 use Rattle.spec_tree.specs.Tour.{MARKS, tour}
 use Rattle.spec_outcomes.specs.Segments.{taken, nextFree}
 use Rattle.spec_order.specs.Steps.{Task, Item, spot, numberOf}
@@ -38,9 +38,9 @@ use Rattle.law_invariant.specs.At.{At, laid-at}
 taken-task : (m : List ℕ) (q v x k : ℕ) → nextFree m q < 256 → x < 128 → k < 48 → read (taken m q v) (task x k) ≡ read m (task x k)
 unfolding taken read write address
 taken-task m q v x k s l i =
-    load-other _ (8192 + nextFree m q * load m 0) (1472 + x * 48 + k) v (λ e. omega (arith, e, l, i))
-    ∙ block-other (0 ∷ 1 ∷ NONE ∷ []) _ (448 + nextFree m q * 4 + 0) (1472 + x * 48 + k) (λ j b e. omega (arith, e, s, b))
-    ∙ load-other m 2 (1472 + x * 48 + k) _ (λ e. omega (arith, e))
+    load-other _ (8192 + (nextFree m q * load m 0 + 0)) (TASKS + x * TASK-WORDS + k) v (λ e. omega (arith, e, l, i))
+    ∙ block-other (0 ∷ 1 ∷ NONE ∷ []) _ (448 + nextFree m q * 4 + 0) (TASKS + x * TASK-WORDS + k) (λ j b e. omega (arith, e, s, b))
+    ∙ load-other m 2 (TASKS + x * TASK-WORDS + k) _ (λ e. omega (arith, e))
 
 module _ (m : List ℕ) (ys zs : List Item) (s : Task) (r : Represents m (ys ++ spot s ∷ zs)) (q : ℕ) (small : q < 4) (here : At m ys zs s r q)
     (v g : ℕ) (rest : List ℕ) (ef : freeIn m ≡ g ∷ rest) where
@@ -59,7 +59,7 @@ module _ (m : List ℕ) (ys zs : List Item) (s : Task) (r : Represents m (ys ++ 
   g-free : 0 < occurrences g (freeIn m)
   g-free = let e = ap (occurrences g) ef in let f = occurs-here g g rest refl in omega (arith, e, f)
 
-  pub g-below : g < read m numberWord
+  pub g-below : Opened m g
   g-below = free-below m Old r g g-free
 
   -- a segment before the spot is one of the queue's
@@ -95,11 +95,11 @@ module _ (m : List ℕ) (ys zs : List Item) (s : Task) (r : Represents m (ys ++ 
         only = λ y i l p j d. w .only y i l p j (sym (taken-task m q v y (16 + i) low-free l (omega (arith, j))) ∙ d);
       })
 
-  less-free : length (freeIn n) < read n numberWord
+  less-free : length (freeIn n) < segmentsOf n q
   less-free =
       let a = ap (λ (M : Meaning). length (M .free)) (is-taken .means) in
       let b = ap length ef in
-      let d = height-length m in
+      let d = height-length m q in
       let e = r .sized .free-height in
       let f = is-taken .kept .number in
       omega (arith, a, b, d, e, f)

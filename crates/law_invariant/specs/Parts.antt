@@ -9,10 +9,9 @@ use lib.Dec.{ltb, eqb}
 use borrow.Author.Tests.{ltb-true}
 use Rattle.spec_words.specs.Words.{pick, both}
 use Rattle.spec_lists.specs.Counting.{one}
-use Rattle.spec_layout.specs.Layout.{FREE, STATUS, RIGHTS, numberWord, task, read}
+use Rattle.spec_layout.specs.Layout.{STATUS, RIGHTS, FREE, task, Opened, isOpened, rightsOf as rightsIn, read}
 use Rattle.spec_tree.specs.Rights.{uses}
 use Rattle.spec_tree.specs.Queues.{by-four}
-use Rattle.spec_outcomes.specs.Waits.{rightsOf as rightsIn}
 use Rattle.spec_order.specs.Steps.{Item}
 use Rattle.law_order_waits.specs.Played.{Played}
 use Rattle.law_order_waits.specs.Popper.{firstPopper}
@@ -43,7 +42,7 @@ pub record Parts (m : List ℕ) (T : List ℕ) (xs : List Item) (line : ℕ → 
 
 pub opened-single : (m : List ℕ) (s : ℕ) → opened m s ≤ 1
 unfolding opened one pick
-opened-single m s = go (ltb s (read m numberWord))
+opened-single m s = go (isOpened m s)
   where
     go : (b : Bool) → pick b 1 0 ≤ 1
     go true = omega arith
@@ -72,7 +71,7 @@ module _ (m : List ℕ) (xs : List Item) (r : Represents m xs) where
       }
 
 pub of-parts : (m : List ℕ) (T : List ℕ) (xs : List Item) (line : ℕ → Line) (holder : ℕ → ℕ) → Linked m T xs → Played xs → Sized m
-    → Nexts (read m numberWord) (nextIn m) → Parts m T xs line holder → Represents m xs
+    → Nexts (Opened m) (nextIn m) → Parts m T xs line holder → Represents m xs
 of-parts m T xs line holder l p s n a =
     record {
       tour = T;
@@ -105,10 +104,10 @@ module _ (m n : List ℕ) (k : Kept m n) where
       go t false e = refl
 
   pub same-uses : (q : ℕ) → usesIn n q ≡ usesIn m q
-  unfolding usesIn rightsIn both pick
+  unfolding usesIn both pick
   same-uses q = fun-ext λ t. go t (ltb t 128) refl
     where
-      go : (t : ℕ) (b : Bool) → ltb t 128 ≡ b → pick b (uses (read n (task t RIGHTS)) q) false ≡ pick b (uses (read m (task t RIGHTS)) q) false
+      go : (t : ℕ) (b : Bool) → ltb t 128 ≡ b → pick b (uses (rightsIn n t) q) false ≡ pick b (uses (rightsIn m t) q) false
       go t true e = ap (λ (x : ℕ). uses x q) (k .links t RIGHTS (ltb-true t 128 e) (omega arith))
       go t false e = refl
 

@@ -6,7 +6,7 @@ use mathlib.Core.Logic.{inl, inr, ⊎-elim}
 use Prim.Native.Nat.{ℕ, _<_, _≤_}
 use native.Mathlib.Omega.{arith}
 use Rattle.spec_lists.specs.Counting.{equal?}
-use Rattle.spec_layout.specs.Layout.{numberWord, read}
+use Rattle.spec_layout.specs.Layout.{Opened}
 use Rattle.spec_order.specs.Steps.{Task, Item, step, spot, Act, nameOf, numberOf, advance}
 use Rattle.law_order.specs.Items.{In, in-parts}
 use Rattle.law_order.specs.Count.{count, spotNumbered}
@@ -86,14 +86,14 @@ module _ (m : List ℕ) (ys zs : List Item) (s : Task) (r : Represents m (ys ++ 
     new-linked = keeps-linked m n (same-links m n (r .sized) kept) (r .tour) Old New (r .linked) same-back same-spots
 
     -- all parts, queue by queue
-    pub plain-represents : (line : ℕ → Line) → Nexts (read m numberWord) (nextIn n) → Laids (opened n) (storeIn n 0) (queueMemory n) holder line
+    pub plain-represents : (line : ℕ → Line) → Nexts (Opened m) (nextIn n) → Laids (opened n) (storeIn n 0) (queueMemory n) holder line
         → ((q : ℕ) → q < 4 → marks (line q) ≡ r .tour)
         → ((q : ℕ) → q < 4 → All (Fits (usesIn m q)) (line q)) → ((q : ℕ) → q < 4 → Timeline q New (timeline (contentsIn n) (line q)))
         → ((q : ℕ) → q < 4 → (t : ℕ) → usesIn m q t ≡ false → (queueMemory n q .children t ≡ vacant) × (queueMemory n q .user t ≡ vacant)
         × (queueMemory n q .right t ≡ vacant))
         → Represents n New
     plain-represents line e l k f t b =
-        of-parts n (r .tour) New line holder new-linked played sized (subst (λ (x : ℕ). Nexts x (nextIn n)) (sym (kept .number)) e)
+        of-parts n (r .tour) New line holder new-linked played sized (subst (λ (x : ℕ). Nexts (λ s. s < x) (nextIn n)) (sym (kept .number)) e)
         (record {
           laids = l;
           first = λ q i. same-popper q ∙ parts-of m Old r .first q i;
@@ -104,7 +104,7 @@ module _ (m : List ℕ) (ys zs : List Item) (s : Task) (r : Represents m (ys ++ 
         })
 
     -- ONE QUEUE CHANGES
-    module _ (q : ℕ) (small : q < 4) (ps : List Point) (nexts : Nexts (read m numberWord) (nextIn n))
+    module _ (q : ℕ) (small : q < 4) (ps : List Point) (nexts : Nexts (Opened m) (nextIn n))
         (row : After (mine (queueMemory m q .store) (r .line q)) (queueMemory m q .store) (queueMemory n q) (holder q) (r .line q) ps)
         (others : (p : ℕ) → p < 4 → (p ≡ q → ⊥) → queueMemory n p ≡ shared (queueMemory n q .store) (queueMemory m p))
         (bare : (t : ℕ) → usesIn m q t ≡ false → (queueMemory n q .children t ≡ vacant) × (queueMemory n q .user t ≡ vacant)

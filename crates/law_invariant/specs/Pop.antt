@@ -8,7 +8,7 @@ use Prim.Native.Nat.{ℕ, _<_}
 use native.Mathlib.Omega.{arith}
 use borrow.Author.Tests.{ne-eqb}
 use Rattle.spec_words.specs.Words.{pick, halt, pass as skip}
-use Rattle.spec_layout.specs.Layout.{numberWord, queueHead, read}
+use Rattle.spec_layout.specs.Layout.{Opened, queueHead, read}
 use Rattle.spec_tree.specs.Rights.{pops as mayPop}
 use Rattle.spec_answers.specs.declared.Finding.the-variants as Finding
 use Rattle.spec_outcomes.specs.Waits.{pusherBefore}
@@ -117,7 +117,7 @@ module _ (m : List ℕ) (ys zs : List Item) (s : Task) (r : Represents m (ys ++ 
   first-is : firstChain (r .line q) ≡ g ∷ c
   first-is = ap firstChain (bottom .3) ∙ first-behind b (base (g ∷ c) ∷ []) no-base-later
 
-  g-below : g < read m numberWord
+  g-below : Opened m g
   g-below = segment-below m Old r q g small (first-in (r .line q) g c first-is)
 
   head-is : headsIn m q t ≡ some g
@@ -214,11 +214,11 @@ module _ (m : List ℕ) (ys zs : List Item) (s : Task) (r : Represents m (ys ++ 
         (row .1)))
         others bare new-time (λ p i k. quiet q p k)
       where
-        nexts : Nexts (read m numberWord) (nextIn (popped m t q))
+        nexts : Nexts (Opened m) (nextIn (popped m t q))
         nexts =
-            subst (λ (x : Memory). Nexts (read m numberWord) (x .store .next)) (sym same)
+            subst (λ (x : Memory). Nexts (Opened m) (x .store .next)) (sym same)
             (unfold memoryPopped in
-            nexts-popped (read m numberWord) (let l = r .sized .number-range .0 in omega (arith, l)) ws (nextIn m g) (holders m Old r q) g
+            nexts-popped (Opened m) (let l = r .sized .number-range .0 in omega (arith, l)) ws (nextIn m g) (holders m Old r q) g
             (queueMemory m q .store) (words-nexts m (r .sized) (r .nexts)))
 
         others : (p : ℕ) → p < 4 → (p ≡ q → ⊥) → queueMemory (popped m t q) p ≡ shared (queueMemory (popped m t q) q .store) (queueMemory m p)

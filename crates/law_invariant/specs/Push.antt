@@ -5,7 +5,7 @@ use Prim.Native.Nat.{ℕ, _<_}
 use native.Mathlib.Omega.{arith}
 use borrow.Author.Tests.{ne-eqb}
 use Rattle.spec_words.specs.Words.{halt, pass as skip}
-use Rattle.spec_layout.specs.Layout.{USER, lengthWord, numberWord, count, next, tail, read, write}
+use Rattle.spec_layout.specs.Layout.{USER, count, next, lengthOf, Opened, tail, read, write}
 use Rattle.spec_tree.specs.Rights.{uses, pushes as mayPush}
 use Rattle.spec_outcomes.specs.Segments.{stored, taken, nextFree}
 use Rattle.spec_order.specs.Steps.{Task, Item, spot, pushes, numberOf, rightsOf, advance}
@@ -80,7 +80,7 @@ module _ (m : List ℕ) (ys zs : List Item) (s : Task) (r : Represents m (ys ++ 
       (time-at m ys zs s r q small stands)
 
   -- from a row of the queue's line, and what the words have come to mean
-  pub pushed : (n : List ℕ) (M : Meaning) (W : Memory) → Becomes m n M → Played New → Nexts (read m numberWord) (W .store .next)
+  pub pushed : (n : List ℕ) (M : Meaning) (W : Memory) → Becomes m n M → Played New → Nexts (Opened m) (W .store .next)
       → ofTasks (alive m) (memoryOf M q) ≡ W
       → ((p : ℕ) → p < 4 → (p ≡ q → ⊥) → ofTasks (alive m) (memoryOf M p) ≡ shared (W .store) (queueMemory m p))
       → ((x : ℕ) → usesIn m q x ≡ false → (W .children x ≡ vacant) × (W .user x ≡ vacant) × (W .right x ≡ vacant))
@@ -90,7 +90,7 @@ module _ (m : List ℕ) (ys zs : List Item) (s : Task) (r : Represents m (ys ++ 
   unfolding queueMemory ofTasks
   pushed n M W b play f e others bare row =
       queue-represents m ys zs s r (pushes q v) (plain-push q v) n (b .kept) (b .sized) play q small Pushed
-      (subst (λ (w : Memory). Nexts (read m numberWord) (w .store .next)) (sym is) f)
+      (subst (λ (w : Memory). Nexts (Opened m) (w .store .next)) (sym is) f)
       (subst (λ (w : Memory). After (mine (queueMemory m q .store) (r .line q)) (queueMemory m q .store) w (holders m Old r q) (r .line q) Pushed) (sym is)
       (subst (λ (l : Line). After (mine (queueMemory m q .store) (r .line q)) (queueMemory m q .store) W (holders m Old r q) l Pushed) (sym (stands .parts))
       row))
@@ -101,15 +101,15 @@ module _ (m : List ℕ) (ys zs : List Item) (s : Task) (r : Represents m (ys ++ 
       is : queueMemory n q ≡ W
       is = queue-memory q b ∙ e
 
-  pub some-opened : 0 < read m numberWord
+  pub some-opened : Opened m 0
   some-opened = let l = r .sized .number-range .0 in omega (arith, l)
 
-  pub old-nexts : Nexts (read m numberWord) (queueMemory m q .store .next)
+  pub old-nexts : Nexts (Opened m) (queueMemory m q .store .next)
   unfolding queueMemory ofTasks
   old-nexts = words-nexts m (r .sized) (r .nexts)
 
   -- THE TAIL SEGMENT HAS ROOM.
-  pub push-into : (h : End) (z : ℕ) → queueMemory m q .user t ≡ extent h (local z) → z < read m numberWord → read m (count z) < read m lengthWord → Played New
+  pub push-into : (h : End) (z : ℕ) → queueMemory m q .user t ≡ extent h (local z) → Opened m z → read m (count z) < lengthOf m z → Played New
       → Represents (stored m z v) New
   unfolding queueMemory ofTasks pushedInto
   push-into h z u low room play =
@@ -136,21 +136,21 @@ module _ (m : List ℕ) (ys zs : List Item) (s : Task) (r : Represents m (ys ++ 
   user-word u = sym (halt _ _ (task-alive m ys zs s r)) ∙ u
 
   -- A NEW SEGMENT BEHIND THE TAIL SEGMENT, which is full.
-  pub push-behind : (h : End) (z g : ℕ) (rest : List ℕ) (w : ℕ) (ws : List ℕ) → queueMemory m q .user t ≡ extent h (local z) → z < read m numberWord
+  pub push-behind : (h : End) (z g : ℕ) (rest : List ℕ) (w : ℕ) (ws : List ℕ) → queueMemory m q .user t ≡ extent h (local z) → Opened m z
       → freeIn m ≡ g ∷ rest → contentsIn m z ≡ w ∷ ws → (z ≡ g → ⊥) → Played New
       → Represents (write (write (taken m q v) (next z) (nextFree m q)) (tail USER t q) (nextFree m q)) New
   unfolding queueMemory ofTasks pushedBehind
   push-behind h z g rest w ws u low ef filled ne play =
       pushed _ (behindIn (meaningOf m) q t h z g rest v) (pushedBehind holder t h z g rest v (queueMemory m q))
       (pushed-behind m t q v g rest (r .sized) (task-unfinished m ys zs s r .0) small ef g-below z h (local z) low (user-word u)) play
-      (nexts-linked (read m numberWord) some-opened (taken-store g rest v (queueMemory m q .store) .contents z) holder z g
-      (taken-store g rest v (queueMemory m q .store)) g-below (nexts-taken (read m numberWord) some-opened g rest v (queueMemory m q .store) old-nexts))
+      (nexts-linked (Opened m) some-opened (taken-store g rest v (queueMemory m q .store) .contents z) holder z g
+      (taken-store g rest v (queueMemory m q .store)) g-below (nexts-taken (Opened m) some-opened g rest v (queueMemory m q .store) old-nexts))
       same others bare
       (behind-row (mine (queueMemory m q .store) (r .line q)) (one-mine m Old r q small) (queueMemory m q) holder (stands .later) t (stands .chain)
       (stands .earlier) v
       (laid-at m ys zs s r q small stands) g rest free-is h z u)
     where
-      g-below : g < read m numberWord
+      g-below : Opened m g
       g-below = free-below m Old r g (let e = ap (occurrences g) ef in let f = occurs-here g g rest refl in omega (arith, e, f))
 
       free-is : queueMemory m q .store .free ≡ g ∷ rest

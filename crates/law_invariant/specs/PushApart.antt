@@ -6,7 +6,7 @@ use Prim.Native.Nat.{ℕ, _<_}
 use native.Mathlib.Omega.{arith}
 use borrow.Author.Tests.{ne-eqb}
 use Rattle.spec_words.specs.Words.{store}
-use Rattle.spec_layout.specs.Layout.{NL, USER, numberWord, read}
+use Rattle.spec_layout.specs.Layout.{NL, USER, Opened}
 use Rattle.spec_tree.specs.Rights.{pushes as mayPush}
 use Rattle.spec_rules.specs.Views.{view}
 use Rattle.spec_outcomes.specs.Segments.{taken, nextFree}
@@ -65,7 +65,7 @@ module _ (m : List ℕ) (ys zs : List Item) (s : Task) (r : Represents m (ys ++ 
 
   open JustBefore before using (mark as y, search-is, fits, target, placed, found)
 
-  segment-there : g < read m numberWord
+  segment-there : Opened m g
   segment-there = g-below m ys zs s r q small here v g rest ef
 
   -- the view there, and what its reduction with the new head needs
@@ -124,10 +124,10 @@ module _ (m : List ℕ) (ys zs : List Item) (s : Task) (r : Represents m (ys ++ 
       (pushed-apart m t q v g rest (r .sized) (task-unfinished m ys zs s r .0) small ef segment-there (taskAt y) (kindAt y) (holders m Old r q) (placed .range)
       (kind-below y) links)
       play
-      (nexts-joined (read m numberWord) (some-opened m ys zs s r q v small may) (holders m Old r q)
+      (nexts-joined (Opened m) (some-opened m ys zs s r q v small may) (holders m Old r q)
       (viewAt (queueMemory m q .children) (queueMemory m q .right) (placeAt y)) (extent (local g) nonlocal)
       (taken-store g rest v (queueMemory m q .store)) segment-there
-      (nexts-taken (read m numberWord) (some-opened m ys zs s r q v small may) g rest v (queueMemory m q .store) (old-nexts m ys zs s r q v small may)))
+      (nexts-taken (Opened m) (some-opened m ys zs s r q v small may) g rest v (queueMemory m q .store) (old-nexts m ys zs s r q v small may)))
       same others bare
       (apart-row (mine (queueMemory m q .store) (r .line q)) (one-mine m Old r q small) (queueMemory m q) (holders m Old r q) (here .later) t (here .chain) a v
       (laid-at m ys zs s r q small here) g rest ef (placeAt y) empty target))

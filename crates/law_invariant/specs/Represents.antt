@@ -8,9 +8,8 @@ use Prim.Native.Nat.{ℕ, _<_}
 use lib.Dec.{ltb, eqb}
 use Rattle.spec_words.specs.Words.{pick, both}
 use Rattle.spec_lists.specs.Counting.{one}
-use Rattle.spec_layout.specs.Layout.{NONE, FREE, STATUS, numberWord, next, task, read}
+use Rattle.spec_layout.specs.Layout.{NONE, STATUS, FREE, task, next, Opened, isOpened, rightsOf as rightsIn, read}
 use Rattle.spec_tree.specs.Rights.{uses}
-use Rattle.spec_outcomes.specs.Waits.{rightsOf as rightsIn}
 use Rattle.spec_order.specs.Steps.{Item}
 use Rattle.law_order_waits.specs.Played.{Played}
 use Rattle.law_order_waits.specs.Popper.{firstPopper}
@@ -64,7 +63,7 @@ pub record Queue (m : List ℕ) (tour : List ℕ) (xs : List Item) (q : ℕ) (l 
 
 -- the segments opened with
 unfoldable pub opened : List ℕ → ℕ → ℕ
-opened m s = one (ltb s (read m numberWord))
+opened m s = one (isOpened m s)
 
 pub record Represents (m : List ℕ) (xs : List Item) : Type 0 where
   pub tour : List ℕ
@@ -76,4 +75,4 @@ pub record Represents (m : List ℕ) (xs : List Item) : Type 0 where
   -- each segment opened with stands once, in one chain of one queue or among the free ones
   pub pool : Pool (opened m) (storeIn m 0) (line 0 ∷ line 1 ∷ line 2 ∷ line 3 ∷ [])
   -- the next of every segment opened with, held or free, is a segment opened with or none
-  pub nexts : (s : ℕ) → s < read m numberWord → (read m (next s) ≡ NONE) ⊎ (read m (next s) < read m numberWord)
+  pub nexts : (s : ℕ) → Opened m s → (read m (next s) ≡ NONE) ⊎ (Opened m (read m (next s)))

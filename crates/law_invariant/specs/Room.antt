@@ -9,7 +9,7 @@ use borrow.Author.Tests.{le-ltb}
 use Rattle.spec_words.specs.Words.{pass}
 use Rattle.spec_lists.specs.Counting.{one, occurrences, occurs-here, occurs-past, equal?, length-total, total-ones, below?}
 use Rattle.spec_lists.specs.Sums.{total-le}
-use Rattle.spec_layout.specs.Layout.{numberWord, read}
+use Rattle.spec_layout.specs.Layout.{Opened, segmentsOf}
 use Rattle.spec_order.specs.Steps.{Item}
 use Rattle.law_gaps.specs.Line.{segments}
 use Rattle.law_maps.specs.Meaning.{freeIn, storeIn}
@@ -43,26 +43,26 @@ module _ (k : ℕ) (taken free : List ℕ) (once : (x : ℕ) → occurrences x t
           (equal? s x)
 
 module _ (m : List ℕ) (xs : List Item) (r : Represents m xs) where
-  pub opened-below : (s : ℕ) → 0 < opened m s → s < read m numberWord
+  pub opened-below : (s : ℕ) → 0 < opened m s → Opened m s
   unfolding opened one
   opened-below s p =
       ⊎-elim
       (λ l. l)
-      (λ l. let f : opened m s ≡ 0 = pass 1 (le-ltb s (read m numberWord) l) refl in let z : ⊥ = omega (arith, f, p) in absurd z)
-      (below? s (read m numberWord))
+      (λ l. let f : opened m s ≡ 0 = pass 1 (le-ltb s _ l) refl in let z : ⊥ = omega (arith, f, p) in absurd z)
+      (below? s _)
 
   held : (q : ℕ) → q < 4 → (x : ℕ) → occurrences x (segments (r .line q)) + occurrences x (freeIn m) ≤ opened m x
   held = held-opened (opened m) (opened-single m) (storeIn m 0) (r .line) (parts-of m xs r .laids .pool)
 
-  pub free-below : (s : ℕ) → 0 < occurrences s (freeIn m) → s < read m numberWord
+  pub free-below : (s : ℕ) → 0 < occurrences s (freeIn m) → Opened m s
   free-below s p = let a = held 0 (omega arith) s in opened-below s (omega (arith, a, p))
 
   -- a segment of a queue is not free
   pub held-free : (q : ℕ) → q < 4 → (s : ℕ) → 0 < occurrences s (segments (r .line q)) → occurrences s (freeIn m) ≡ 0
   held-free q i s p = let a = held q i s in let b = opened-single m s in omega (arith, a, b, p)
 
-  pub room : (q : ℕ) → q < 4 → (s : ℕ) → 0 < occurrences s (segments (r .line q)) → length (freeIn m) < read m numberWord
+  pub room : (q : ℕ) → q < 4 → (s : ℕ) → 0 < occurrences s (segments (r .line q)) → length (freeIn m) < segmentsOf m q
   room q i =
-      shorter (read m numberWord) (segments (r .line q)) (freeIn m)
+      shorter (segmentsOf m q) (segments (r .line q)) (freeIn m)
       (λ x. let a = held q i x in let b = opened-single m x in omega (arith, a, b))
       (λ x l. let a = held q i x in opened-below x (omega (arith, a, l)))

@@ -14,7 +14,6 @@ use Rattle.spec_tree.specs.Queues.{all-used}
 use Rattle.spec_rules.specs.Contents.{Contents, decode}
 use Rattle.spec_rules.specs.Rules.{Unfinished}
 use Rattle.law_rules_tasks.specs.Tested.{top-says}
-use Rattle.spec_outcomes.specs.Waits.{rightsOf as rightsIn}
 use Rattle.spec_outcomes.specs.Views.{takesPart, standsAt}
 use Rattle.spec_order.specs.Steps.{Item}
 use Rattle.law_gaps.specs.Line.{vacant}
@@ -56,7 +55,7 @@ module _ (m : List ℕ) (xs : List Item) (r : Represents m xs) where
       (mark-held m (r .tour) xs (r .linked) x p)
 
   pub same-part : (q x : ℕ) → 0 < occurrences x (r .tour) → takesPart m q x ≡ partTaken (usesIn m q) x
-  unfolding partTaken usesIn rightsIn
+  unfolding partTaken usesIn
   same-part q x p = part-taken m q x ∙ sym (both-on (lt-ltb (taskAt x) 128 (marked x p .1 .0)))
 
   pub same-stand : (q x : ℕ) → q < 4 → 0 < occurrences x (r .tour) → standsAt m q x ≡ viewStands (usesIn m q) (queueMemory m q .children) x
@@ -69,7 +68,7 @@ module _ (m : List ℕ) (xs : List Item) (r : Represents m xs) where
 
   -- the top has every right
   pub top-uses : (q : ℕ) → q < 4 → usesIn m q 0 ≡ true
-  unfolding usesIn rightsIn
+  unfolding usesIn
   top-uses q i =
       both-on (lt-ltb 0 128 (omega arith))
       ∙ ap (λ (x : ℕ). uses x q) (sym (word-is m 0 RIGHTS) ∙ top-says (decode m) (r .linked .top) .rights)

@@ -12,7 +12,7 @@ use Rattle.spec_tree.specs.Rights.{uses}
 use Rattle.spec_tree.specs.Tour.{MARKS, after, seek}
 use Rattle.spec_rules.specs.Contents.{decode}
 use Rattle.spec_rules.specs.Rules.{Unfinished}
-use Rattle.spec_outcomes.specs.Waits.{rightsOf as rightsIn, hasChild}
+use Rattle.spec_outcomes.specs.Waits.{hasChild}
 use Rattle.spec_outcomes.specs.Views.{takesPart, standsAt}
 use Rattle.spec_order.specs.Steps.{Task, Item, spot, numberOf}
 use Rattle.law_gaps.specs.Line.{Line}
@@ -53,7 +53,7 @@ module _ (m : List ℕ) (ys zs : List Item) (s : Task) (r : Represents m (ys ++ 
 
   module _ (n : List ℕ) (holder : ℕ → ℕ) (line : ℕ → Line) (way : Way m n holder line) (q : ℕ) (small : q < 4) where
     same-part : (x : ℕ) → 0 < occurrences x (r .tour) → takesPart n q x ≡ partTaken (usesIn m q) x
-    unfolding partTaken usesIn rightsIn
+    unfolding partTaken usesIn
     same-part x p =
         let l = marked m Old r x p .1 .0 in
         part-taken n q x ∙ ap (λ (k : ℕ). uses k q) (way .kept .links (taskAt x) RIGHTS l (omega arith)) ∙ sym (both-on (lt-ltb (taskAt x) 128 l))

@@ -1,7 +1,7 @@
 -- FINISH of a task other than the top keeps the invariant: the four queues have their turns, then the task leaves the tree.
 use mathlib.Core.Path.{_≡_, refl, ap, sym, _∙_, subst, subst₂}
 use mathlib.Core.Bool.{Bool, true, false}
-use mathlib.Core.Option.{none}
+use mathlib.Core.Option.{Option, none}
 use mathlib.Core.List.{List, [], _∷_, _++_}
 use mathlib.Core.Logic.{_⊎_, inl, inr, ⊎-elim}
 use Prim.Native.Nat.{ℕ, _+_, _<_}
@@ -151,7 +151,8 @@ module _ (m : List ℕ) (ys zs : List Item) (s : Task) (r : Represents m (ys ++ 
     unfolding finished
     finish-represents =
         of-parts f T New line holder (tree-after m ys zs s r barren above n (way .kept) play) play (freed-sized m n t below (way .kept) (way .sized) links w)
-        (subst₂ Nexts (sym (freed-number m n t below (way .kept) (way .sized) links w)) (sym (freed-next m n t below (way .kept) (way .sized) links w))
+        (subst₂ (λ (k : ℕ) (f : ℕ → Option ℕ). Nexts (λ s. s < k) f)
+        (sym (freed-number m n t below (way .kept) (way .sized) links w)) (sym (freed-next m n t below (way .kept) (way .sized) links w))
         (way .nexts))
         (record {
           laids = laids;

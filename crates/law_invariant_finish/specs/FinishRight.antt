@@ -5,7 +5,7 @@ use mathlib.Core.List.{List, [], _∷_, _++_, head-eq-of-cons-eq}
 use Prim.Native.Nat.{ℕ, _+_, _<_}
 use native.Mathlib.Omega.{arith}
 use Rattle.spec_lists.specs.Counting.{occurrences, occurs-append}
-use Rattle.spec_layout.specs.Layout.{numberWord, read}
+use Rattle.spec_layout.specs.Layout.{Opened}
 use Rattle.spec_tree.specs.Rights.{uses}
 use Rattle.spec_outcomes.specs.Waits.{hasChild}
 use Rattle.spec_outcomes.specs.Finish.{viewsReturned}
@@ -120,19 +120,17 @@ module _ (m : List ℕ) (ys zs : List Item) (s : Task) (r : Represents m (ys ++ 
         let k : x ≡ t → ⊥ = λ d. false≢true (sym e ∙ ap (usesIn m q) d ∙ right) in
         (put-other _ t vacant x k ∙ w .0 ∙ v .0, put-other (Q .user) t vacant x k ∙ v .1, put-other _ t vacant x k ∙ w .1 ∙ v .2)
 
-    nexts : Nexts (read m numberWord) (W .store .next)
+    nexts : Nexts (Opened m) (W .store .next)
     unfolding queueMemory ofTasks finished finishedWith
     nexts =
-        nexts-joined N some-opened h (viewAt (Q .children) (Q .right) (back .place)) (reduced inner (Q .right t))
+        nexts-joined (Opened m) some-opened h (viewAt (Q .children) (Q .right) (back .place)) (reduced inner (Q .right t))
         (joined h inner (Q .right t) (joined h (Q .children t) (Q .user t) (Q .store)))
-        (reduced-below N some-opened inner (Q .right t) (views .inner-headless) right-head)
-        (nexts-joined N some-opened h inner (Q .right t) (joined h (Q .children t) (Q .user t) (Q .store)) right-head
-        (nexts-joined N some-opened h (Q .children t) (Q .user t) (Q .store) (headless-below N some-opened (Q .user t) (views .user-headless)) (way .nexts)))
+        (reduced-below (Opened m) some-opened inner (Q .right t) (views .inner-headless) right-head)
+        (nexts-joined (Opened m) some-opened h inner (Q .right t) (joined h (Q .children t) (Q .user t) (Q .store)) right-head
+        (nexts-joined (Opened m) some-opened h (Q .children t) (Q .user t) (Q .store)
+        (headless-below (Opened m) some-opened (Q .user t) (views .user-headless)) (way .nexts)))
       where
-        N : ℕ
-        N = read m numberWord
-
-        some-opened : 0 < N
+        some-opened : Opened m 0
         some-opened = let l = r .sized .number-range .0 in omega (arith, l)
 
         inner : Extent
@@ -144,7 +142,7 @@ module _ (m : List ℕ) (ys zs : List Item) (s : Task) (r : Represents m (ys ++ 
         views : Leaving own (single m Old r n holder line way q small) Q h (y ∷ b) t a c
         views = leaving-views own (single m Old r n holder line way q small) Q h (y ∷ b) t a c laid
 
-        low : (x : ℕ) → 0 < occurrences x c → x < N
+        low : (x : ℕ) → 0 < occurrences x c → Opened m x
         low x p =
             let e = ap (λ (l : Line). occurrences x (segments l)) parts in
             let f = count-segments x (y ∷ b) (entered t c ∷ (exited t ∷ a)) in
@@ -153,8 +151,8 @@ module _ (m : List ℕ) (ys zs : List Item) (s : Task) (r : Represents m (ys ++ 
             let w = way .kept .number in
             omega (arith, k, w)
 
-        right-head : HeadBelow N some-opened (Q .right t)
-        right-head = right-below N some-opened t c (exited t ∷ a) (split (y ∷ b) (entered t c) (exited t ∷ a) (laid .views) .1) low
+        right-head : HeadBelow (Opened m) some-opened (Q .right t)
+        right-head = right-below (Opened m) some-opened t c (exited t ∷ a) (split (y ∷ b) (entered t c) (exited t ∷ a) (laid .views) .1) low
 
     gone : Vacant W t
     unfolding finished finishedWith

@@ -10,9 +10,9 @@ use lib.Dec.{ltb, eqb}
 use borrow.Author.Tests.{ltb-true, ltb-false, eq-eqb}
 use Rattle.spec_words.specs.Words.{pick, halt, pass as skip, both, both-right-off}
 use Rattle.spec_lists.specs.Counting.{one, occurrences, equal?, occurs-not}
-use Rattle.spec_layout.specs.Layout.{FREE, STATUS, RIGHTS, CHILDREN, USER, RIGHT, numberWord, task, read}
+use Rattle.spec_layout.specs.Layout.{STATUS, RIGHTS, FREE, QUEUE-HEADS, HEADS, TAILS, CHILDREN, USER, RIGHT, numberWord, task, rightsOf as rightsIn}
+use Rattle.spec_layout.specs.Layout.{read}
 use Rattle.spec_tree.specs.Rights.{uses}
-use Rattle.spec_outcomes.specs.Waits.{rightsOf as rightsIn}
 use Rattle.spec_outcomes.specs.Finish.{unlinked, recordFreed}
 use Rattle.spec_lists.specs.Maps.{All}
 use Rattle.law_gaps.specs.Line.{vacant, base, exited, entered, pass, Line, marks, Fits}
@@ -95,12 +95,15 @@ module _ (m n : List ℕ) (t : ℕ) (small : t < 128) (kept : Kept m n) (sized :
   view-word x j l k a b = other-word u t (halfway .sized) small x j k b ∙ only .views x j l a b
 
   same-head : (q x : ℕ) → q < 4 → (x ≡ t → ⊥) → headsIn f q x ≡ headsIn n q x
-  same-head q x i k = head-same-at n f q x (λ a b. view-word x (16 + q) b k (omega arith) (omega (arith, i)))
+  same-head q x i k = head-same-at n f q x (λ a b. view-word x (QUEUE-HEADS + q) b k (omega arith) (omega (arith, i)))
 
   same-view : (q j x : ℕ) → q < 4 → j < 3 → (x ≡ t → ⊥) → viewIn f q j x ≡ viewIn n q j x
   same-view q j x i l k =
       view-same-at n f q j x
-      (λ a b d. (view-word x (20 + j * 4 + q) d k (omega arith) (omega (arith, i, l)), view-word x (32 + j * 4 + q) d k (omega arith) (omega (arith, i, l))))
+      (λ a b d. (
+        view-word x (HEADS + j * 4 + q) d k (omega arith) (omega (arith, i, l)),
+        view-word x (TAILS + j * 4 + q) d k (omega arith) (omega (arith, i, l)),
+      ))
 
   -- status and rights of the other tasks
   fixed : (x k : ℕ) → x < 128 → k < 2 → (x ≡ t → ⊥) → read f (task x k) ≡ read m (task x k)
@@ -123,10 +126,10 @@ module _ (m n : List ℕ) (t : ℕ) (small : t < 128) (kept : Kept m n) (sized :
   not-alive = both-right-off (ltb t 128) (ap not (eq-eqb _ _ (w .status)))
 
   pub freed-uses : (q x : ℕ) → (x ≡ t → ⊥) → usesIn f q x ≡ usesIn m q x
-  unfolding usesIn rightsIn both pick
+  unfolding usesIn both pick
   freed-uses q x d = go (ltb x 128) refl
     where
-      go : (b : Bool) → ltb x 128 ≡ b → pick b (uses (read f (task x RIGHTS)) q) false ≡ pick b (uses (read m (task x RIGHTS)) q) false
+      go : (b : Bool) → ltb x 128 ≡ b → pick b (uses (rightsIn f x) q) false ≡ pick b (uses (rightsIn m x) q) false
       go true e = ap (λ (y : ℕ). uses y q) (fixed x RIGHTS (ltb-true x 128 e) (omega arith) d)
       go false e = refl
 

@@ -9,9 +9,9 @@ use Rattle.law_gaps.specs.Moves.{reduced}
 use Rattle.law_invariant.specs.Nexts.{HeadBelow}
 use Rattle.law_invariant_finish.specs.Meets.{Headless}
 
-module _ (n : ℕ) (some-opened : 0 < n) where
+module _ (P : ℕ → Type 0) (some-opened : P 0) where
   abbrev Below : Extent → Type 0
-  Below = HeadBelow n some-opened
+  Below = HeadBelow P some-opened
 
   pub headless-below : (v : Extent) → Headless v → Below v
   headless-below vacant h = tt
@@ -26,7 +26,7 @@ module _ (n : ℕ) (some-opened : 0 < n) where
 
   -- a right view begins the chain behind the task's spot
   pub right-below : {children user right : ℕ → Extent} (t : ℕ) (c : List ℕ) (a : Line) {k : Mode} → Views children user right (entered t c ∷ a) k
-      → ((x : ℕ) → 0 < occurrences x c → x < n) → Below (right t)
+      → ((x : ℕ) → 0 < occurrences x c → P x) → Below (right t)
   right-below t c a (entering v w e i f bare r) h = subst Below (sym f) tt
   right-below t c a (entering v w e i f (whole {s = s} {c = d} y) r) h = subst Below (sym f) (h s (let o = occurs-here s s d refl in omega (arith, o)))
   right-below t c a (entering v w e i f (begun {s = s} {c = d} y) r) h = subst Below (sym f) (h s (let o = occurs-here s s d refl in omega (arith, o)))

@@ -7,7 +7,7 @@ use Prim.Native.Nat.{ℕ, _+_, _<_, _≤_}
 use native.Mathlib.Omega.{arith}
 use lib.ListN.{length}
 use Rattle.spec_lists.specs.Counting.{occurrences}
-use Rattle.spec_layout.specs.Layout.{NL, numberWord, read}
+use Rattle.spec_layout.specs.Layout.{NL, Opened, segmentsOf}
 use Rattle.spec_tree.specs.Rights.{uses, pops as mayPop}
 use Rattle.spec_rules.specs.Contents.{decode}
 use Rattle.spec_rules.specs.Rules.{Unfinished}
@@ -51,19 +51,19 @@ module _ (m : List ℕ) (xs : List Item) (r : Represents m xs) (n : List ℕ) (h
   unfolding queueMemory ofTasks
   single = mine-one (opened m) (opened-single m) (storeIn n 0) line (way .laids .pool)
 
-  below : (s : ℕ) → 0 < opened m s → s < read n numberWord
+  below : (s : ℕ) → 0 < opened m s → Opened n s
   below s p = let a = opened-below m xs r s p in let e = way .kept .number in omega (arith, a, e)
 
-  pub held-below : (q : ℕ) → q < 4 → (s : ℕ) → 0 < occurrences s (segments (line q)) → s < read n numberWord
+  pub held-below : (q : ℕ) → q < 4 → (s : ℕ) → 0 < occurrences s (segments (line q)) → Opened n s
   held-below q i s p = let a = held q i s in below s (omega (arith, a, p))
 
   pub held-local : (q : ℕ) → q < 4 → (s : ℕ) → 0 < occurrences s (segments (line q)) → s < NL
   held-local q i s p = let l = held-below q i s p in let k = way .sized .number-range .1 in omega (arith, l, k)
 
   -- where a queue has a segment, not all are free
-  pub room : (q : ℕ) → q < 4 → (s : ℕ) → 0 < occurrences s (segments (line q)) → length (freeIn n) < read n numberWord
+  pub room : (q : ℕ) → q < 4 → (s : ℕ) → 0 < occurrences s (segments (line q)) → length (freeIn n) < segmentsOf n q
   room q i =
-      shorter (read n numberWord) (segments (line q)) (freeIn n)
+      shorter (segmentsOf n q) (segments (line q)) (freeIn n)
       (λ x. let a = held q i x in let b = opened-single m x in omega (arith, a, b))
       (λ x l. let a = held q i x in below x (omega (arith, a, l)))
 

@@ -5,7 +5,7 @@ use mathlib.Core.List.{List, _∷_, _++_}
 use Prim.Native.Nat.{ℕ, _<_}
 use native.Mathlib.Omega.{arith}
 use Rattle.spec_lists.specs.Counting.{occurrences}
-use Rattle.spec_layout.specs.Layout.{CHILDREN, USER, numberWord, read}
+use Rattle.spec_layout.specs.Layout.{CHILDREN, USER, Opened}
 use Rattle.spec_outcomes.specs.Waits.{hasChild}
 use Rattle.spec_outcomes.specs.Sync.{syncs, syncedQueue}
 use Rattle.spec_order.specs.Steps.{Task, Item, spot, numberOf}
@@ -128,13 +128,13 @@ module _ (m : List ℕ) (ys zs : List Item) (s : Task) (r : Represents m (ys ++ 
           let k : x ≡ t → ⊥ = λ d. false≢true (sym e ∙ ap (usesIn m q) d ∙ u) in
           (put-other (Q .children) t vacant x k ∙ v .0, put-other (Q .user) t _ x k ∙ v .1, v .2)
 
-      nexts : Nexts (read m numberWord) (synced (holder q) t Q .store .next)
+      nexts : Nexts (Opened m) (synced (holder q) t Q .store .next)
       unfolding queueMemory ofTasks synced
       nexts =
-          nexts-joined (read m numberWord) some-opened (holder q) (Q .children t) (Q .user t) (Q .store)
-          (headless-below (read m numberWord) some-opened (Q .user t) (views .user-headless)) (way .nexts)
+          nexts-joined (Opened m) some-opened (holder q) (Q .children t) (Q .user t) (Q .store)
+          (headless-below (Opened m) some-opened (Q .user t) (views .user-headless)) (way .nexts)
         where
-          some-opened : 0 < read m numberWord
+          some-opened : Opened m 0
           some-opened = let l = r .sized .number-range .0 in omega (arith, l)
 
       turned : usesIn m q t ≡ true → Turn m n (syncedQueue n t q) q (line q) (holder q)

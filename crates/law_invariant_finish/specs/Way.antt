@@ -7,7 +7,7 @@ use mathlib.Core.List.{List}
 use mathlib.Core.Logic.{⊎-elim}
 use Prim.Native.Nat.{ℕ, _+_, _<_}
 use Rattle.spec_lists.specs.Counting.{occurrences, equal?}
-use Rattle.spec_layout.specs.Layout.{numberWord, read}
+use Rattle.spec_layout.specs.Layout.{Opened}
 use Rattle.spec_order.specs.Steps.{Item}
 use Rattle.law_order_waits.specs.Popper.{firstPopper}
 use Rattle.law_order_queue.specs.Points.{Timeline}
@@ -34,7 +34,7 @@ pub record Way (m n : List ℕ) (holder : ℕ → ℕ) (line : ℕ → Line) : T
   pub laids : Laids (opened m) (storeIn n 0) (queueMemory n) holder line
   pub fits : (q : ℕ) → q < 4 → All (Fits (usesIn m q)) (line q)
   pub bare : (q : ℕ) → q < 4 → (x : ℕ) → usesIn m q x ≡ false → Vacant (queueMemory n q) x
-  pub nexts : Nexts (read m numberWord) (nextIn n)
+  pub nexts : Nexts (Opened m) (nextIn n)
 
 -- ONE QUEUE stands as the list xs of program order and the tour T say.
 pub record Standing (n : List ℕ) (xs : List Item) (T : List ℕ) (q h : ℕ) (l : Line) : Type 0 where
@@ -108,7 +108,7 @@ pub record Turn (m n n′ : List ℕ) (q : ℕ) (l : Line) (h : ℕ) : Type 0 wh
   pub laid : Laid (mine (queueMemory n q .store) l) memory h line
   pub fits : All (Fits (usesIn m q)) line
   pub bare : (x : ℕ) → usesIn m q x ≡ false → Vacant memory x
-  pub nexts : Nexts (read m numberWord) (memory .store .next)
+  pub nexts : Nexts (Opened m) (memory .store .next)
 
 module _ (m n : List ℕ) (holder : ℕ → ℕ) (line : ℕ → Line) (way : Way m n holder line) (q : ℕ) (small : q < 4) (n′ : List ℕ) (h : ℕ)
     (c : Turn m n n′ q (line q) h) where
@@ -166,7 +166,7 @@ module _ (m n : List ℕ) (holder : ℕ → ℕ) (line : ℕ → Line) (way : Wa
             (λ e. subst (λ (y : ℕ). (x : ℕ) → usesIn m y x ≡ false → Vacant (queueMemory n′ y) x) (sym e) (λ x u. turn-gone x (c .bare x u)))
             (λ k x u. turn-vacant p i k x (way .bare p i x u))
             (equal? p q);
-        nexts = subst (λ (w : Memory). Nexts (read m numberWord) (w .store .next)) (sym is-here) (c .nexts);
+        nexts = subst (λ (w : Memory). Nexts (Opened m) (w .store .next)) (sym is-here) (c .nexts);
       }
 
   -- the values of the other queues are as they were

@@ -8,7 +8,8 @@ use native.Mathlib.Omega.{arith}
 use lib.ListN.{take, drop, set}
 use lib.Seq.{drop-drop, take-set-le, drop-set-lt, drop-set-add}
 use Rattle.spec_words.specs.Words.{load, store, load-same, load-other}
-use Rattle.spec_layout.specs.Layout.{NONE, FINISHED, STATUS, RIGHTS, PARENT, OLDER, YOUNGER, YOUNGEST, freeSegments, freeTasks, task, address, read, write, recordOf}
+use Rattle.spec_layout.specs.Layout.{NONE, FREE-SEGMENTS, FREE-TASKS, SEGMENTS, SEGMENT-WORDS, TASKS, TASK-WORDS, STATUS, RIGHTS, PARENT, OLDER}
+use Rattle.spec_layout.specs.Layout.{YOUNGER, YOUNGEST, FINISHED, freeSegments, freeTasks, task, address, read, write, recordOf}
 use Rattle.spec_rules.specs.Contents.{decode, scan-decodes, word, part, part-word}
 use Rattle.spec_rules.specs.Test.{topTest, test, rulesHold}
 use Rattle.law_rules_same.specs.Passed.{says-test}
@@ -42,11 +43,11 @@ module _ (m : List ℕ) (xs : List Item) (r : Represents m xs) (alone : read m (
 
   same-word : (t k : ℕ) → ((t ≡ 0) × (k ≡ 0) → ⊥) → word (decode n) t k ≡ word (decode m) t k
   unfolding read address
-  same-word t k u = word-is n t k ∙ other (1472 + t * 48 + k) (λ e. u (omega (arith, e), omega (arith, e))) ∙ sym (word-is m t k)
+  same-word t k u = word-is n t k ∙ other (TASKS + t * TASK-WORDS + k) (λ e. u (omega (arith, e), omega (arith, e))) ∙ sym (word-is m t k)
 
-  same-part : (s k : ℕ) → (448 + s * 4 + k ≡ 1472 → ⊥) → part (decode n) s k ≡ part (decode m) s k
+  same-part : (s k : ℕ) → (SEGMENTS + s * SEGMENT-WORDS + k ≡ 1472 → ⊥) → part (decode n) s k ≡ part (decode m) s k
   unfolding read address
-  same-part s k u = part-word n s k ∙ other (448 + s * 4 + k) u ∙ sym (part-word m s k)
+  same-part s k u = part-word n s k ∙ other (SEGMENTS + s * SEGMENT-WORDS + k) u ∙ sym (part-word m s k)
 
   same-front : (a : ℕ) → a < 64 → load n a ≡ load m a
   same-front a l = other a (λ e. omega (arith, e, l))
@@ -54,9 +55,9 @@ module _ (m : List ℕ) (xs : List Item) (r : Represents m xs) (alone : read m (
   same-views : (t : ℕ) → drop 16 (recordOf n t) ≡ drop 16 (recordOf m t)
   unfolding recordOf write address store
   same-views t =
-      drop-drop 16 (1472 + t * 48) (set m 1472 FINISHED)
-      ∙ drop-set-lt (1472 + t * 48 + 16) m 1472 FINISHED (omega arith)
-      ∙ sym (drop-drop 16 (1472 + t * 48) m)
+      drop-drop 16 (TASKS + t * TASK-WORDS) (set m 1472 FINISHED)
+      ∙ drop-set-lt (TASKS + t * TASK-WORDS + 16) m 1472 FINISHED (omega arith)
+      ∙ sym (drop-drop 16 (TASKS + t * TASK-WORDS) m)
 
   same : ButTop (decode m) (decode n)
   unfolding read address
@@ -66,10 +67,10 @@ module _ (m : List ℕ) (xs : List Item) (r : Represents m xs) (alone : read m (
         number = same-front 1 (omega arith);
         few = r .sized .number-range .1;
         free =
-            ap (λ (h : ℕ). take h (drop 64 n)) (same-front 2 (omega arith))
+            ap (λ (h : ℕ). take h (drop FREE-SEGMENTS n)) (same-front 2 (omega arith))
             ∙ stack (read m freeSegments) 64 (let a = r .sized .free-height in let b = r .sized .number-range .1 in omega (arith, a, b));
         idle =
-            ap (λ (h : ℕ). take h (drop 320 n)) (same-front 3 (omega arith))
+            ap (λ (h : ℕ). take h (drop FREE-TASKS n)) (same-front 3 (omega arith))
             ∙ stack (read m freeTasks) 320 (let a = idle-height m (r .linked .sized) (idle-says (decode m) (r .linked .idle) .few) in omega (arith, a));
         firsts = λ s l. same-part s 0 (λ e. omega (arith, e, l));
         counts = λ s. same-part s 1 (λ e. omega (arith, e));

@@ -8,27 +8,27 @@ use lib.ListN.{length, getD, drop, take, length-drop}
 use lib.Seq.{getD-drop, take-suc, length-take-le}
 use Rattle.spec_words.specs.Words.{load, size}
 use Rattle.spec_lists.specs.Counting.{occurrences, occurs-nil, occurs-cons, occurs-append}
-use Rattle.spec_layout.specs.Layout.{freeSegments, freeSegment, numberWord, address, read}
+use Rattle.spec_layout.specs.Layout.{FREE-SEGMENTS, numberWord, freeSegments, freeSegment, address, read}
 use Rattle.spec_rules.specs.Contents.{decode}
 use Rattle.law_maps.specs.Meaning.{stack, freeIn, Sized}
 
 module _ (m : List ℕ) (z : Sized m) where
-  room : length (drop 64 m) ≡ 16320
+  room : length (drop FREE-SEGMENTS m) ≡ 16320
   unfolding size
-  room = let a = length-drop 64 m in let b = z .words in omega (arith, a, b)
+  room = let a = length-drop FREE-SEGMENTS m in let b = z .words in omega (arith, a, b)
 
   few : read m freeSegments ≤ 256
   few = let a = z .free-height in let b = z .number-range .1 in omega (arith, a, b)
 
-  stack-word : (i : ℕ) → getD (drop 64 m) i 0 ≡ read m (freeSegment i)
+  stack-word : (i : ℕ) → getD (drop FREE-SEGMENTS m) i 0 ≡ read m (freeSegment i)
   unfolding read load address
-  stack-word i = getD-drop 64 m i 0
+  stack-word i = getD-drop FREE-SEGMENTS m i 0
 
-  stack-count : (x k : ℕ) → k ≤ 256 → occurrences x (take k (drop 64 m)) ≡ occurrences x (stack (λ i. read m (freeSegment i)) k)
+  stack-count : (x k : ℕ) → k ≤ 256 → occurrences x (take k (drop FREE-SEGMENTS m)) ≡ occurrences x (stack (λ i. read m (freeSegment i)) k)
   unfolding stack
   stack-count x zero l = refl
   stack-count x (suc k) l =
-      let d = drop 64 m in
+      let d = drop FREE-SEGMENTS m in
       let f = stack (λ i. read m (freeSegment i)) k in
       let a = ap (occurrences x) (take-suc d k 0 (let n = room in omega (arith, n, l)) ∙ ap (λ (w : ℕ). take k d ++ (w ∷ [])) (stack-word k)) in
       let b = occurs-append x (take k d) (read m (freeSegment k) ∷ []) in
@@ -44,6 +44,6 @@ module _ (m : List ℕ) (z : Sized m) where
 
   pub free-few : length (decode m .free) ≤ read m numberWord
   free-few =
-      let a = length-take-le (read m freeSegments) (drop 64 m) (let n = room in let k = few in omega (arith, n, k)) in
+      let a = length-take-le (read m freeSegments) (drop FREE-SEGMENTS m) (let n = room in let k = few in omega (arith, n, k)) in
       let b = z .free-height in
       omega (arith, a, b)

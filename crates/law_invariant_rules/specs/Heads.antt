@@ -13,11 +13,11 @@ use borrow.Author.Tests.{eq-eqb, ne-eqb}
 use Rattle.spec_words.specs.Words.{pick, pass, halt}
 use Rattle.spec_lists.specs.Counting.{occurrences, occurs-here}
 use Rattle.spec_lists.specs.Sums.{over-at}
-use Rattle.spec_layout.specs.Layout.{NONE, RIGHTS, numberWord, read}
+use Rattle.spec_layout.specs.Layout.{NONE, RIGHTS, QUEUE-HEADS, Opened}
 use Rattle.spec_tree.specs.Rights.{uses}
 use Rattle.spec_tree.specs.Tour.{entered}
 use Rattle.spec_tree.specs.Queues.{queue-each}
-use Rattle.spec_rules.specs.Contents.{Contents, decode, word, owners}
+use Rattle.spec_rules.specs.Contents.{Contents, decode, word, owners, taskRights}
 use Rattle.spec_rules.specs.Rules.{Unfinished}
 use Rattle.spec_rules.specs.Test.{ownersTest}
 use Rattle.law_rules_tasks.specs.Holders.{holder-once as task-once}
@@ -54,10 +54,10 @@ module _ (m : List ℕ) (xs : List Item) (r : Represents m xs) where
         subst (λ (t : ℕ). Unfinished c t) (p .2) (spot-unfinished m (r .tour) xs (r .linked) (p .0) (p .1))
 
     -- it has a right to the queue
-    pub holder-uses : uses (word c holder RIGHTS) q ≡ true
+    pub holder-uses : uses (taskRights c holder) q ≡ true
     holder-uses =
         let p = popper-says q xs holder (Q .first) in
-        ap (λ (k : ℕ). uses k q) (ap (λ (t : ℕ). word c t RIGHTS) (sym (p .2)) ∙ word-is m (numberOf (p .0)) RIGHTS ∙ r .linked .rights (p .0) (p .1))
+        ap (λ (k : ℕ). uses k q) (ap (λ (t : ℕ). taskRights c t) (sym (p .2)) ∙ word-is m (numberOf (p .0)) RIGHTS ∙ r .linked .rights (p .0) (p .1))
         ∙ pops-uses _ q (p .3)
 
     -- the first segment of the first chain
@@ -68,7 +68,7 @@ module _ (m : List ℕ) (xs : List Item) (r : Represents m xs) where
     unfolding firstSegment
     first-is = let w = first-chain (Q .laid .views) in (w .1, w .2)
 
-    pub first-opened : firstSegment < read m numberWord
+    pub first-opened : Opened m firstSegment
     first-opened =
         held-opened m xs r q firstSegment small
         (let w = first-is in
@@ -78,16 +78,16 @@ module _ (m : List ℕ) (xs : List Item) (r : Represents m xs) where
         omega (arith, a, b, d))
 
     -- QUEUE HEADS: the holder's is the first segment, no other task has one
-    named : (t : ℕ) → Unfinished c t → optional (word c t (16 + q)) ≡ put (λ y. none) holder (headOf (firstChain (r .line q))) t
+    named : (t : ℕ) → Unfinished c t → optional (word c t (QUEUE-HEADS + q)) ≡ put (λ y. none) holder (headOf (firstChain (r .line q))) t
     named t u = sym (head-word m xs r q small t u) ∙ Q .laid .held .head t
 
-    pub holder-head : word c holder (16 + q) ≡ firstSegment
+    pub holder-head : word c holder (QUEUE-HEADS + q) ≡ firstSegment
     holder-head = Option·some-injective _ _ (sym (optional-some _ (some-word _ firstSegment there)) ∙ there)
       where
-        there : optional (word c holder (16 + q)) ≡ some firstSegment
+        there : optional (word c holder (QUEUE-HEADS + q)) ≡ some firstSegment
         there = named holder holder-busy ∙ put-same (λ y. none) holder (headOf (firstChain (r .line q))) ∙ ap headOf (first-is .1)
 
-    pub other-head : (t : ℕ) → Unfinished c t → (t ≡ holder → ⊥) → word c t (16 + q) ≡ NONE
+    pub other-head : (t : ℕ) → Unfinished c t → (t ≡ holder → ⊥) → word c t (QUEUE-HEADS + q) ≡ NONE
     other-head t u n = none-word _ (named t u ∙ put-other (λ y. none) holder (headOf (firstChain (r .line q))) t n)
 
     -- the tour meets the holder once
@@ -97,12 +97,12 @@ module _ (m : List ℕ) (xs : List Item) (r : Represents m xs) where
     one-owner : length (owners c q (entered (r .tour))) ≡ 1
     one-owner =
         over-owners c q (entered (r .tour))
-        ∙ over-at (entered (r .tour)) (λ t. pick (eqb (word c t (16 + q)) NONE) 0 1) holder
+        ∙ over-at (entered (r .tour)) (λ t. pick (eqb (word c t (QUEUE-HEADS + q)) NONE) 0 1) holder
         (λ t p n. halt _ _ (eq-eqb _ _ (other-head t (entered-busy m xs r t p) n)))
-        ∙ ap (λ (k : ℕ). k * pick (eqb (word c holder (16 + q)) NONE) 0 1) holder-once
+        ∙ ap (λ (k : ℕ). k * pick (eqb (word c holder (QUEUE-HEADS + q)) NONE) 0 1) holder-once
         ∙ ap (λ (k : ℕ). 1 * k) (pass 0 (ne-eqb _ _ some) refl)
       where
-        some : word c holder (16 + q) ≡ NONE → ⊥
+        some : word c holder (QUEUE-HEADS + q) ≡ NONE → ⊥
         some e = let a = holder-head in let b = first-opened in let d = r .sized .number-range .1 in omega (arith, a, b, d, e)
 
   -- ONE QUEUE VIEW WITH A HEAD for each queue

@@ -10,15 +10,15 @@ use lib.Dec.{eqb}
 use lib.ListN.{drop}
 use Rattle.spec_lists.specs.Counting.{one, occurrences, over, total, occurs-cons, occurs-nil, total-ext}
 use Rattle.spec_lists.specs.Sums.{over-plus, over-ext, over-at, over-total}
-use Rattle.spec_layout.specs.Layout.{RIGHTS}
 use Rattle.spec_tree.specs.Rights.{uses}
 use Rattle.spec_tree.specs.Tour.{entered}
-use Rattle.spec_rules.specs.Contents.{Contents, decode, word, locals, heads, tails}
+use Rattle.spec_rules.specs.Contents.{Contents, decode, word, locals, heads, tails, taskRights}
 use Rattle.spec_rules.specs.Rules.{Unfinished}
 use Rattle.law_rules_views.specs.Toured.{over-heads, over-tails}
 use Rattle.law_view_events.specs.Counts.{names, namesAt, heads-count, tails-count}
 use Rattle.spec_order.specs.Steps.{Item}
 use Rattle.spec_lists.specs.Maps.{All, lastOf, all-front, all-behind}
+use Rattle.spec_layout.specs.Layout.{QUEUE-HEADS, HEADS, TAILS, HEAD-WORDS, TAIL-WORDS}
 use Rattle.law_gaps.specs.Line.{Mark, Line, marks, segments, firstChain, Mode, Views, queue, exiting, entering, passing}
 use Rattle.law_gaps.specs.Store.{Memory}
 use Rattle.law_invariant.specs.Represents.{Represents, queueMemory}
@@ -36,19 +36,19 @@ module _ (m : List ℕ) (xs : List Item) (r : Represents m xs) (s : ℕ) where
 
   -- the words that name s: the queue head, and the heads and tails of the views, of task t for queue q
   abbrev queueHead : ℕ → ℕ → ℕ
-  queueHead q t = names s (word c t (16 + q))
+  queueHead q t = names s (word c t (QUEUE-HEADS + q))
 
   abbrev enteredHeads : ℕ → ℕ → ℕ
   enteredHeads q t = names s (word c t (24 + q)) + names s (word c t (28 + q))
 
   abbrev exitedHead : ℕ → ℕ → ℕ
-  exitedHead q t = names s (word c t (20 + q))
+  exitedHead q t = names s (word c t (HEADS + q))
 
   abbrev enteredTails : ℕ → ℕ → ℕ
   enteredTails q t = names s (word c t (36 + q)) + names s (word c t (40 + q))
 
   abbrev exitedTail : ℕ → ℕ → ℕ
-  exitedTail q t = names s (word c t (32 + q))
+  exitedTail q t = names s (word c t (TAILS + q))
 
   module _ (q : ℕ) (small : q < 4) where
     abbrev M : Memory
@@ -56,17 +56,17 @@ module _ (m : List ℕ) (xs : List Item) (r : Represents m xs) (s : ℕ) where
 
     -- a mark of a task without a right to the queue, where f and g are 0 for such a task
     past-term : (f g : ℕ → ℕ) (x : ℕ) → Marked m xs r q small (Mark.pass x)
-        → ((t : ℕ) → Unfinished c t → uses (word c t RIGHTS) q ≡ false → (f t ≡ 0) × (g t ≡ 0)) → atMark f g x ≡ 0
+        → ((t : ℕ) → Unfinished c t → uses (taskRights c t) q ≡ false → (f t ≡ 0) × (g t ≡ 0)) → atMark f g x ≡ 0
     past-term f g x (inl w) z = entered-term f g x (w .0) ∙ z x (w .1) (w .2) .0
     past-term f g x (inr w) z = let l = w .0 in exited-term f g x (x - 128) (omega (arith, l)) ∙ z (x - 128) (w .1) (w .2) .1
 
-    no-heads : (t : ℕ) → Unfinished c t → uses (word c t RIGHTS) q ≡ false → (enteredHeads q t ≡ 0) × (exitedHead q t ≡ 0)
+    no-heads : (t : ℕ) → Unfinished c t → uses (taskRights c t) q ≡ false → (enteredHeads q t ≡ 0) × (exitedHead q t ≡ 0)
     no-heads t u n =
         let a = none-names s _ (user-none m xs r t u q small n .0) in
         let b = none-names s _ (right-none m xs r t u q small n .0) in
         (omega (arith, a, b), none-names s _ (children-none m xs r t u q small n .0))
 
-    no-tails : (t : ℕ) → Unfinished c t → uses (word c t RIGHTS) q ≡ false → (enteredTails q t ≡ 0) × (exitedTail q t ≡ 0)
+    no-tails : (t : ℕ) → Unfinished c t → uses (taskRights c t) q ≡ false → (enteredTails q t ≡ 0) × (exitedTail q t ≡ 0)
     no-tails t u n =
         let a = none-names s _ (user-none m xs r t u q small n .1) in
         let b = none-names s _ (right-none m xs r t u q small n .1) in
@@ -126,7 +126,7 @@ module _ (m : List ℕ) (xs : List Item) (r : Represents m xs) (s : ℕ) where
         let a =
         over-at (entered (r .tour)) (queueHead q) h (λ t p n. none-names s _ (other-head m xs r q small t (entered-busy m xs r t p) n))
         ∙ ap (λ (k : ℕ). k * queueHead q h) (holder-once m xs r q small) in
-        let b = plain-names s (word c h (16 + q)) f (holder-head m xs r q small) (omega (arith, low, few)) in
+        let b = plain-names s (word c h (QUEUE-HEADS + q)) f (holder-head m xs r q small) (omega (arith, low, few)) in
         let d = ap (λ (k : List ℕ). occurrences s (withFirst k [])) (first-is m xs r q small .1) in
         let e = occurs-cons f s [] in
         let g = occurs-nil s in
@@ -151,11 +151,11 @@ module _ (m : List ℕ) (xs : List Item) (r : Represents m xs) (s : ℕ) where
         omega (arith, d, e, f)
 
   -- ALL FOUR
-  task-heads : (t : ℕ) → occurrences s (locals 16 (drop 16 (c .recs t))) ≡ total 4 (λ q. queueHead q t + (enteredHeads q t + exitedHead q t))
+  task-heads : (t : ℕ) → occurrences s (locals HEAD-WORDS (drop QUEUE-HEADS (c .recs t))) ≡ total 4 (λ q. queueHead q t + (enteredHeads q t + exitedHead q t))
   unfolding total namesAt
   task-heads t = let a = heads-count s c t in omega (arith, a)
 
-  task-tails : (t : ℕ) → occurrences s (locals 12 (drop 32 (c .recs t))) ≡ total 4 (λ q. enteredTails q t + exitedTail q t)
+  task-tails : (t : ℕ) → occurrences s (locals TAIL-WORDS (drop TAILS (c .recs t))) ≡ total 4 (λ q. enteredTails q t + exitedTail q t)
   unfolding total namesAt
   task-tails t = let a = tails-count s c t in omega (arith, a)
 

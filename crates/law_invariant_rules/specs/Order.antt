@@ -8,10 +8,10 @@ use Prim.Native.Nat.{ℕ, _+_, _-_, _<_}
 use native.Mathlib.Omega.{arith}
 use lib.Dec.{eqb}
 use borrow.Author.Tests.{eq-eqb, lt-ltb, le-ltb}
-use Rattle.spec_layout.specs.Layout.{RIGHTS, CHILDREN, USER, numberWord, read}
+use Rattle.spec_layout.specs.Layout.{CHILDREN, USER, Opened}
 use Rattle.spec_tree.specs.Rights.{uses}
 use Rattle.spec_tree.specs.Queues.{queue-each}
-use Rattle.spec_rules.specs.Contents.{Contents, decode, word}
+use Rattle.spec_rules.specs.Contents.{Contents, decode, taskRights}
 use Rattle.spec_rules.specs.Rules.{Unfinished}
 use Rattle.spec_rules.specs.Test.{passedAt, orderAt, orderOf, orderTest}
 use Rattle.law_rules_views.specs.Marks.{at-entered, at-entered-none, at-exited, at-exited-none}
@@ -32,18 +32,18 @@ module _ (m : List ℕ) (xs : List Item) (r : Represents m xs) where
   pub line-plain : (q : ℕ) → q < 4 → All Plain (segments (r .line q))
   line-plain q small =
       let few = r .sized .number-range .1 in
-      all-map (λ s. s < read m numberWord) Plain (segments (r .line q)) (λ s l. omega (arith, l, few)) (line-opened m xs r q small)
+      all-map (Opened m) Plain (segments (r .line q)) (λ s l. omega (arith, l, few)) (line-opened m xs r q small)
 
   module _ (q : ℕ) (small : q < 4) where
     abbrev M : Memory
     M = queueMemory m q
 
-    module _ (t : ℕ) (u : Unfinished c t) (yes : uses (word c t RIGHTS) q ≡ true) where
+    module _ (t : ℕ) (u : Unfinished c t) (yes : uses (taskRights c t) q ≡ true) where
       -- where task t is exited
       exited-passed : {a b : Mode} (v : Extent) → M .children t ≡ v → Inside a v b → PlainMode a → orderAt c q (128 + t) (stateOf b) ≡ stateOf a
       unfolding passedAt
       exited-passed {b = b} v e i p =
-          at-exited c q (128 + t) (stateOf b) (le-ltb (128 + t) 128 (omega arith)) (ap (λ (k : ℕ). uses (word c k RIGHTS) q) back ∙ yes)
+          at-exited c q (128 + t) (stateOf b) (le-ltb (128 + t) 128 (omega arith)) (ap (λ (k : ℕ). uses (taskRights c k) q) back ∙ yes)
           ∙ ap (λ (k : ℕ). passedAt c q k CHILDREN (stateOf b)) back
           ∙ inside-passed _ _ i (children-words m xs r q small t u v e) p
         where

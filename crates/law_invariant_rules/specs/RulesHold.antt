@@ -36,7 +36,7 @@ module _ (m : List ℕ) (xs : List Item) (r : Represents m xs) where
       }
 
   opening : OpeningRules c
-  opening = record { length-range = r .sized .length-range; number-range = r .sized .number-range; product-range = r .sized .product-range }
+  opening = record { length-range = r .sized .length-range 0; number-range = r .sized .number-range; product-range = r .sized .product-range }
 
   pub passed : Passed c
   passed =

@@ -11,7 +11,7 @@ use Rattle.spec_words.specs.Words.{pass, halt}
 use Rattle.spec_lists.specs.Counting.{one, occurrences, total, occurs-nil, occurs-append, below?}
 use Rattle.spec_lists.specs.Sums.{total-term}
 use Rattle.spec_lists.specs.Tests.{upto}
-use Rattle.spec_layout.specs.Layout.{numberWord, read}
+use Rattle.spec_layout.specs.Layout.{numberWord, Opened, read}
 use Rattle.spec_rules.specs.Contents.{decode, part-word}
 use Rattle.spec_rules.specs.Test.{segmentTest}
 use Rattle.law_rules_segments.specs.Tested.{Sound, sound-segments}
@@ -22,17 +22,17 @@ use Rattle.law_maps.specs.Meaning.{freeIn}
 use Rattle.law_invariant.specs.Represents.{Represents, opened}
 
 -- a segment opened with or not
-pub opened-below : (m : List ℕ) (s : ℕ) → s < read m numberWord → opened m s ≡ 1
+pub opened-below : (m : List ℕ) (s : ℕ) → Opened m s → opened m s ≡ 1
 unfolding opened one
-opened-below m s l = halt _ _ (lt-ltb s (read m numberWord) l)
+opened-below m s l = halt _ _ (lt-ltb s _ l)
 
 opened-above : (m : List ℕ) (s : ℕ) → read m numberWord ≤ s → opened m s ≡ 0
 unfolding opened one
-opened-above m s l = pass _ (le-ltb s (read m numberWord) l) refl
+opened-above m s l = pass _ (le-ltb s _ l) refl
 
-pub opened-says : (m : List ℕ) (s : ℕ) → 0 < opened m s → s < read m numberWord
+pub opened-says : (m : List ℕ) (s : ℕ) → 0 < opened m s → Opened m s
 opened-says m s p =
-    ⊎-elim (λ l. l) (λ l. let a = opened-above m s l in let z : ⊥ = omega (arith, a, p) in absurd z) (below? s (read m numberWord))
+    ⊎-elim (λ l. l) (λ l. let a = opened-above m s l in let z : ⊥ = omega (arith, a, p) in absurd z) (below? s _)
 
 module _ (m : List ℕ) (xs : List Item) (r : Represents m xs) where
   -- how often segment s stands in the line of queue q
@@ -55,16 +55,16 @@ module _ (m : List ℕ) (xs : List Item) (r : Represents m xs) where
       let g = occurs-nil s in
       omega (arith, a, b, d, e, f, g)
 
-  pub held-opened : (q s : ℕ) → q < 4 → 0 < held s q → s < read m numberWord
+  pub held-opened : (q s : ℕ) → q < 4 → 0 < held s q → Opened m s
   held-opened q s l p =
       opened-says m s (let a = pool-total s in let b = total-term 4 (held s) q l in omega (arith, a, b, p))
 
   -- the segments of a line
-  pub line-opened : (q : ℕ) → q < 4 → All (λ s. s < read m numberWord) (segments (r .line q))
-  line-opened q l = all-in (λ s. s < read m numberWord) (segments (r .line q)) (λ s p. held-opened q s l p)
+  pub line-opened : (q : ℕ) → q < 4 → All (Opened m) (segments (r .line q))
+  line-opened q l = all-in (Opened m) (segments (r .line q)) (λ s p. held-opened q s l p)
 
   -- THE RECORDS of all segments opened with
-  sound : (s : ℕ) → s < read m numberWord → Sound (decode m) s
+  sound : (s : ℕ) → Opened m s → Sound (decode m) s
   sound s l =
       record {
         first = let a = r .sized .firsts s l in let b = part-word m s 0 in omega (arith, a, b);

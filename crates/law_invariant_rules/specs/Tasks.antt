@@ -10,15 +10,14 @@ use lib.Dec.{ltb}
 use borrow.Author.Tests.{lt-ltb, ltb-true, le-ltb}
 use Rattle.spec_words.specs.Words.{pick, both-true, both-on, pass, halt}
 use Rattle.spec_lists.specs.Counting.{occurrences, occurs-first, occurs-later}
-use Rattle.spec_layout.specs.Layout.{RIGHTS, CHILDREN, USER, RIGHT}
+use Rattle.spec_layout.specs.Layout.{RIGHTS, QUEUE-HEADS, HEADS, TAILS, CHILDREN, USER, RIGHT}
 use Rattle.spec_tree.specs.Rights.{uses}
 use Rattle.spec_tree.specs.Tour.{entered}
-use Rattle.spec_rules.specs.Contents.{Contents, decode, word}
+use Rattle.spec_rules.specs.Contents.{Contents, decode, word, taskRights}
 use Rattle.spec_rules.specs.Rules.{Unfinished}
 use Rattle.law_rules_views.specs.Toured.{Toured, entered-holder}
 use Rattle.law_rules_same.specs.Passed.{toured}
 use Rattle.law_rules_same.specs.Same.{whole-tour}
-use Rattle.spec_outcomes.specs.Waits.{rightsOf}
 use Rattle.spec_order.specs.Steps.{Item}
 use Rattle.spec_lists.specs.Maps.{All}
 use Rattle.law_gaps.specs.Line.{Extent, Mark, base, exited, pass as past, Line, marks, Fits}
@@ -55,7 +54,7 @@ module _ (m : List ℕ) (xs : List Item) (r : Represents m xs) where
   -- ONE QUEUE: the words of its views
   module _ (q : ℕ) (small : q < 4) where
     module _ (t : ℕ) (u : Unfinished c t) where
-      pub children-words : (v : Extent) → queueMemory m q .children t ≡ v → ViewWords v (word c t (20 + q)) (word c t (32 + q))
+      pub children-words : (v : Extent) → queueMemory m q .children t ≡ v → ViewWords v (word c t (HEADS + q)) (word c t (TAILS + q))
       unfolding queueMemory ofTasks
       children-words v e = kind-words m q CHILDREN t v small (omega arith) (u .0) (sym (halt _ _ (unfinished-alive m t u)) ∙ e)
 
@@ -67,34 +66,34 @@ module _ (m : List ℕ) (xs : List Item) (r : Represents m xs) where
       unfolding queueMemory ofTasks
       right-words v e = kind-words m q RIGHT t v small (omega arith) (u .0) (sym (halt _ _ (unfinished-alive m t u)) ∙ e)
 
-      pub head-word : queueMemory m q .store .heads t ≡ optional (word c t (16 + q))
+      pub head-word : queueMemory m q .store .heads t ≡ optional (word c t (QUEUE-HEADS + q))
       unfolding queueMemory ofTasks
-      head-word = halt _ _ (unfinished-alive m t u) ∙ head-at m q t small (u .0) ∙ ap optional (sym (word-is m t (16 + q)))
+      head-word = halt _ _ (unfinished-alive m t u) ∙ head-at m q t small (u .0) ∙ ap optional (sym (word-is m t (QUEUE-HEADS + q)))
 
-      pub uses-word : usesIn m q t ≡ uses (word c t RIGHTS) q
-      unfolding usesIn rightsOf
+      pub uses-word : usesIn m q t ≡ uses (taskRights c t) q
+      unfolding usesIn
       uses-word = both-on (lt-ltb t 128 (u .0)) ∙ ap (λ (k : ℕ). uses k q) (sym (word-is m t RIGHTS))
 
     -- What a mark of the line says of its task: a task with a right to the queue has marks of its own.
     abbrev pub Marked : Mark → Type 0
     Marked (base d) = Unit {0}
-    Marked (exited t) = Unfinished c t × (uses (word c t RIGHTS) q ≡ true)
-    Marked (entering t d) = Unfinished c t × (uses (word c t RIGHTS) q ≡ true)
+    Marked (exited t) = Unfinished c t × (uses (taskRights c t) q ≡ true)
+    Marked (entering t d) = Unfinished c t × (uses (taskRights c t) q ≡ true)
     Marked (past x) =
-        ((x < 128) × Unfinished c x × (uses (word c x RIGHTS) q ≡ false))
-        ⊎ ((128 ≤ x) × Unfinished c (x - 128) × (uses (word c (x - 128) RIGHTS) q ≡ false))
+        ((x < 128) × Unfinished c x × (uses (taskRights c x) q ≡ false))
+        ⊎ ((128 ≤ x) × Unfinished c (x - 128) × (uses (taskRights c (x - 128)) q ≡ false))
 
     -- a mark of the tour is where an unfinished task is entered or exited
     abbrev Busy : ℕ → Type 0
     Busy x = ((x < 128) × Unfinished c x) ⊎ ((128 ≤ x) × (x < 256) × Unfinished c (x - 128))
 
-    exited-mark : (t : ℕ) → usesIn m q t ≡ true → Busy (128 + t) → Unfinished c t × (uses (word c t RIGHTS) q ≡ true)
+    exited-mark : (t : ℕ) → usesIn m q t ≡ true → Busy (128 + t) → Unfinished c t × (uses (taskRights c t) q ≡ true)
     exited-mark t e (inl w) = let l = w .0 in let z : ⊥ = omega (arith, l) in absurd z
     exited-mark t e (inr w) =
         let u = subst (λ (k : ℕ). Unfinished c k) (let z : 128 + t - 128 ≡ t = omega arith in z) (w .2) in
         (u, sym (uses-word t u) ∙ e)
 
-    entered-mark : (t : ℕ) → usesIn m q t ≡ true → Busy t → Unfinished c t × (uses (word c t RIGHTS) q ≡ true)
+    entered-mark : (t : ℕ) → usesIn m q t ≡ true → Busy t → Unfinished c t × (uses (taskRights c t) q ≡ true)
     entered-mark t e (inl w) = (w .1, sym (uses-word t (w .1)) ∙ e)
     entered-mark t e (inr w) =
         let l = w .0 in

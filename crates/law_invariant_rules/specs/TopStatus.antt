@@ -13,7 +13,7 @@ use Rattle.spec_words.specs.Words.{pick, both, either, both-off}
 use Rattle.spec_lists.specs.Counting.{equal?}
 use Rattle.spec_lists.specs.Tests.{each, upto, eachWord, upto-says, says-upto}
 use Rattle.spec_lists.specs.Distinct.{distinct}
-use Rattle.spec_layout.specs.Layout.{NONE, FREE, UNFINISHED, STATUS, RIGHTS, PARENT, OLDER, YOUNGER, YOUNGEST, CHILDREN, USER, RIGHT}
+use Rattle.spec_layout.specs.Layout.{NONE, STATUS, RIGHTS, PARENT, OLDER, YOUNGER, YOUNGEST, FREE, UNFINISHED, VIEW-WORDS, CHILDREN, USER, RIGHT}
 use Rattle.spec_tree.specs.Rights.{uses, subset, eachQueue}
 use Rattle.spec_tree.specs.Tour.{END, tour, entered, after, entering}
 use Rattle.spec_rules.specs.Contents.{Contents, word, part, locals, heads, tails, owners}
@@ -86,7 +86,7 @@ module _ (c d : Contents) (s : ButTop c d) where
   -- VIEWS
   same-views : viewsTest d ≡ viewsTest c
   unfolding viewsTest
-  same-views = fun-ext λ t. ap₂ (λ (x : ℕ) (l : List ℕ). eachWord (viewWord x) 28 0 l) (other t RIGHTS (omega arith)) (s .views t)
+  same-views = fun-ext λ t. ap₂ (λ (x : ℕ) (l : List ℕ). eachWord (viewWord x) VIEW-WORDS 0 l) (other t RIGHTS (omega arith)) (s .views t)
 
   same-passed : (q t k o : ℕ) → passedAt d q t k o ≡ passedAt c q t k o
   unfolding passedAt

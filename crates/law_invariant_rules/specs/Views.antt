@@ -8,10 +8,10 @@ use Prim.Native.Nat.{ℕ, _+_, _<_}
 use native.Mathlib.Omega.{arith}
 use Rattle.spec_lists.specs.Counting.{equal?}
 use Rattle.spec_lists.specs.Tests.{each}
-use Rattle.spec_layout.specs.Layout.{NONE, NL, RIGHTS, CHILDREN, USER, RIGHT}
+use Rattle.spec_layout.specs.Layout.{NONE, NL, QUEUE-HEADS, HEADS, TAILS, CHILDREN, USER, RIGHT}
 use Rattle.spec_tree.specs.Rights.{uses}
 use Rattle.spec_tree.specs.Tour.{entered}
-use Rattle.spec_rules.specs.Contents.{Contents, decode, word}
+use Rattle.spec_rules.specs.Contents.{Contents, decode, word, taskRights}
 use Rattle.spec_rules.specs.Rules.{Unfinished}
 use Rattle.spec_rules.specs.Test.{viewsTest}
 use Rattle.law_rules_views.specs.Tested.{says-words}
@@ -32,8 +32,8 @@ module _ (m : List ℕ) (xs : List Item) (r : Represents m xs) where
   -- one task
   module _ (t : ℕ) (u : Unfinished c t) where
     -- without a right its views are vacant
-    module _ (q : ℕ) (small : q < 4) (n : uses (word c t RIGHTS) q ≡ false) where
-      pub children-none : (word c t (20 + q) ≡ NONE) × (word c t (32 + q) ≡ NONE)
+    module _ (q : ℕ) (small : q < 4) (n : uses (taskRights c t) q ≡ false) where
+      pub children-none : (word c t (HEADS + q) ≡ NONE) × (word c t (TAILS + q) ≡ NONE)
       children-none = children-words m xs r q small t u vacant (r .queue q small .bare t (uses-word m xs r q small t u ∙ n) .0)
 
       pub user-none : (word c t (24 + q) ≡ NONE) × (word c t (36 + q) ≡ NONE)
@@ -42,17 +42,17 @@ module _ (m : List ℕ) (xs : List Item) (r : Represents m xs) where
       pub right-none : (word c t (28 + q) ≡ NONE) × (word c t (40 + q) ≡ NONE)
       right-none = right-words m xs r q small t u vacant (r .queue q small .bare t (uses-word m xs r q small t u ∙ n) .2)
 
-      head-none : word c t (16 + q) ≡ NONE
+      head-none : word c t (QUEUE-HEADS + q) ≡ NONE
       head-none =
           other-head m xs r q small t u
-          (λ e. false≢true (sym n ∙ ap (λ (k : ℕ). uses (word c k RIGHTS) q) e ∙ holder-uses m xs r q small))
+          (λ e. false≢true (sym n ∙ ap (λ (k : ℕ). uses (taskRights c k) q) e ∙ holder-uses m xs r q small))
 
     -- a queue head is a segment or none
-    head-local : (q : ℕ) → q < 4 → word c t (16 + q) ≡ NL → ⊥
+    head-local : (q : ℕ) → q < 4 → word c t (QUEUE-HEADS + q) ≡ NL → ⊥
     head-local q small e =
         ⊎-elim
         (λ z.
-        let a = ap (λ (k : ℕ). word c k (16 + q)) z ∙ holder-head m xs r q small in
+        let a = ap (λ (k : ℕ). word c k (QUEUE-HEADS + q)) z ∙ holder-head m xs r q small in
         let b = first-opened m xs r q small in
         let d = r .sized .number-range .1 in
         omega (arith, a, b, d, e))

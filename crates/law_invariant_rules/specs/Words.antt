@@ -7,7 +7,7 @@ use Prim.Native.Nat.{ℕ, _+_, _*_, _<_}
 use borrow.Author.Tests.{eqb-true}
 use Rattle.spec_words.specs.Words.{both-true}
 use Rattle.spec_lists.specs.Counting.{equal?}
-use Rattle.spec_layout.specs.Layout.{NONE, NL, head, tail, read}
+use Rattle.spec_layout.specs.Layout.{NONE, NL, HEADS, TAILS, head, tail, read}
 use Rattle.spec_rules.specs.Contents.{decode, word}
 use Rattle.spec_rules.specs.Views.{view}
 use Rattle.law_rules_views.specs.Marks.{yes-no}
@@ -47,10 +47,10 @@ view-words h e =
 
 -- view k of task t in memory
 pub kind-words : (m : List ℕ) (q k t : ℕ) (v : Extent) → q < 4 → k < 3 → t < 128 → viewIn m q k t ≡ v
-    → ViewWords v (word (decode m) t (20 + k * 4 + q)) (word (decode m) t (32 + k * 4 + q))
+    → ViewWords v (word (decode m) t (HEADS + k * 4 + q)) (word (decode m) t (TAILS + k * 4 + q))
 unfolding viewOf
 kind-words m q k t v hq hk ht i =
-    subst (λ (h : ℕ). ViewWords v h (word (decode m) t (32 + k * 4 + q))) (sym (word-is m t (20 + k * 4 + q)))
-    (subst (λ (e : ℕ). ViewWords v (read m (head k t q)) e) (sym (word-is m t (32 + k * 4 + q)))
+    subst (λ (h : ℕ). ViewWords v h (word (decode m) t (TAILS + k * 4 + q))) (sym (word-is m t (HEADS + k * 4 + q)))
+    (subst (λ (e : ℕ). ViewWords v (read m (head k t q)) e) (sym (word-is m t (TAILS + k * 4 + q)))
     (subst (λ (w : Extent). ViewWords w (read m (head k t q)) (read m (tail k t q))) (sym (view-at m q k t hq hk ht) ∙ i)
     (view-words (read m (head k t q)) (read m (tail k t q)))))

@@ -11,13 +11,13 @@ use lib.ListN.{drop, take}
 use borrow.Author.Tests.{eq-eqb, lt-ltb, ltb-true}
 use Rattle.spec_words.specs.Words.{both, both-on, both-right-off, true-both}
 use Rattle.spec_lists.specs.Counting.{occurrences, occurs-here, occurs-append, occurs-first}
-use Rattle.spec_layout.specs.Layout.{NONE, FREE, STATUS, RIGHTS, YOUNGEST, numberWord, freeTasks, freeTask, task, address, read, write}
+use Rattle.spec_layout.specs.Layout.{NONE, FREE-TASKS, STATUS, RIGHTS, YOUNGEST, FREE, numberWord, freeTasks, freeTask, task, rightsOf as rightsIn}
+use Rattle.spec_layout.specs.Layout.{address, read, write}
 use Rattle.spec_tree.specs.Rights.{uses, subset}
 use Rattle.spec_rules.specs.Contents.{Contents, decode, word}
 use Rattle.spec_rules.specs.Rules.{Unfinished}
 use Rattle.law_rules_tasks.specs.Tested.{Idle, idle-says}
 use Rattle.spec_outcomes.specs.Spawn.{childMade}
-use Rattle.spec_outcomes.specs.Waits.{rightsOf as rightsIn}
 use Rattle.spec_order.specs.Steps.{Task, Item, spot, spawns, numberOf, rightsOf, made, advance}
 use Rattle.spec_order.specs.Waits.{unfinished, blocked}
 use Rattle.law_order.specs.Reached.{Fresh}
@@ -84,9 +84,9 @@ module _ (m : List ℕ) (ys zs : List Item) (s : Task) (r : Represents m (ys ++ 
   among =
       let a = some-free in
       let b = few-free in
-      let e = ap (λ (x : ℕ). occurrences child (take x (drop 320 m))) (let z : read m freeTasks ≡ suc h = omega (arith, a) in z) in
+      let e = ap (λ (x : ℕ). occurrences child (take x (drop FREE-TASKS m))) (let z : read m freeTasks ≡ suc h = omega (arith, a) in z) in
       let f = ap (occurrences child) (idle-last m (r .linked .sized) h (omega (arith, b))) in
-      let g = occurs-append child (take h (drop 320 m)) (child ∷ []) in
+      let g = occurs-append child (take h (drop FREE-TASKS m)) (child ∷ []) in
       let i = occurs-here child child [] refl in
       omega (arith, e, f, g, i)
 
@@ -134,7 +134,7 @@ module _ (m : List ℕ) (ys zs : List Item) (s : Task) (r : Represents m (ys ++ 
   abbrev pub newTour : List ℕ
   newTour = stands .later ++ t ∷ child ∷ (128 + child) ∷ stands .earlier
 
-  sub-word : subset u (read m (task t RIGHTS)) ≡ true
+  sub-word : subset u (rightsIn m t) ≡ true
   sub-word = ap (subset u) (r .linked .rights s (mine-spot m ys zs s r)) ∙ sub
 
   pub child-unmarked : (occurrences child (r .tour) ≡ 0) × (occurrences (128 + child) (r .tour) ≡ 0)
@@ -208,9 +208,9 @@ module _ (m : List ℕ) (ys zs : List Item) (s : Task) (r : Represents m (ys ++ 
   new-uses q = put-path (usesIn m q) (usesIn after q) child (uses u q) there others
     where
       there : usesIn after q child ≡ uses u q
-      there = unfold usesIn rightsIn in both-on (lt-ltb child 128 child-small) ∙ ap (λ (x : ℕ). uses x q) (words .rights)
+      there = unfold usesIn in both-on (lt-ltb child 128 child-small) ∙ ap (λ (x : ℕ). uses x q) (words .rights)
 
       others : (x : ℕ) → (x ≡ child → ⊥) → usesIn after q x ≡ usesIn m q x
       others x n =
-          unfold usesIn rightsIn both in
+          unfold usesIn both in
           pick-path (ltb x 128) _ _ false (λ e. ap (λ (y : ℕ). uses y q) (other-word x RIGHTS (ltb-true x 128 e) (omega arith) n))

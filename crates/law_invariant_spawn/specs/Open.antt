@@ -10,12 +10,11 @@ use lib.Dec.{ltb, eqb}
 use borrow.Author.Tests.{eq-eqb, lt-ltb, le-ltb}
 use Rattle.spec_words.specs.Words.{load, pick, pass as skip, halt, both, true-both, both-off, both-right-off}
 use Rattle.spec_lists.specs.Counting.{one, one-no, occurrences, occurs-nil, occurs-here, occurs-past, equal?, below?}
-use Rattle.spec_layout.specs.Layout.{STATUS, RIGHTS, CHILDREN, USER, RIGHT, numberWord, read}
+use Rattle.spec_layout.specs.Layout.{STATUS, RIGHTS, CHILDREN, USER, RIGHT, numberWord, Opened, read}
 use Rattle.spec_tree.specs.Rights.{uses}
 use Rattle.spec_tree.specs.Queues.{by-four, all-used, all-popped}
 use Rattle.spec_rules.specs.Test.{inRange}
 use Rattle.spec_outcomes.specs.Open.{opened as openedWords}
-use Rattle.spec_outcomes.specs.Waits.{rightsOf as rightsIn}
 use Rattle.spec_order.specs.Steps.{begin, numberOf, rightsOf}
 use Rattle.law_order_waits.specs.Played.{opens}
 use Rattle.law_order_waits.specs.Popper.{firstPopper}
@@ -25,7 +24,7 @@ use Rattle.spec_lists.specs.Maps.{put, put-same, put-other}
 use Rattle.law_gaps.specs.Line.{nonlocal, local, Extent, vacant, extent, base, exited, entered, Line}
 use Rattle.law_gaps.specs.Store.{Memory}
 use Rattle.law_gaps.specs.After.{After, after-marks, after-fits}
-use Rattle.law_gaps.specs.TaskRows.{Opened, open-row}
+use Rattle.law_gaps.specs.TaskRows.{Opened as OpenedQueue, open-row}
 use Rattle.law_links.specs.Linked.{word-is}
 use Rattle.law_maps.specs.Meaning.{Meaning, listed, nextIn, freeIn, headsIn, viewIn}
 use Rattle.law_maps.specs.Kept.{Means}
@@ -107,7 +106,7 @@ module _ (l n : ℕ) (range : inRange l n ≡ true) where
 
   -- it has every right
   top-uses : (q : ℕ) → q < 4 → usesIn m q 0 ≡ true
-  unfolding usesIn rightsIn load
+  unfolding usesIn load
   top-uses q i = true-both refl (ap (λ (r : ℕ). uses r q) (top-link l n high low RIGHTS (omega arith)) ∙ all-used q i)
 
   -- ONE QUEUE
@@ -139,7 +138,7 @@ module _ (l n : ℕ) (range : inRange l n ≡ true) where
         (λ d. skip (headsIn m q x) (alive-free x d) refl ∙ sym (put-other (λ z. none) 0 (some q) x d))
         (equal? x 0)
 
-    is-opened : Opened (λ x. occurrences x (q ∷ freeIn m)) q after
+    is-opened : OpenedQueue (λ x. occurrences x (q ∷ freeIn m)) q after
     unfolding queueMemory ofTasks
     is-opened =
         record {
@@ -196,21 +195,21 @@ module _ (l n : ℕ) (range : inRange l n ≡ true) where
       (below? x 4)
     where
       below-number : x < n → opened m x ≡ 1
-      below-number i = unfold opened one in halt 1 0 (let d = number in lt-ltb x (read m numberWord) (omega (arith, d, i)))
+      below-number i = unfold opened one in halt 1 0 (let d = number in lt-ltb x _ (omega (arith, d, i)))
 
       past-number : n ≤ x → opened m x ≡ 0
-      past-number i = unfold opened one in skip 1 (let d = number in le-ltb x (read m numberWord) (omega (arith, d, i))) refl
+      past-number i = unfold opened one in skip 1 (let d = number in le-ltb x _ (omega (arith, d, i))) refl
 
-  first-nexts : Nexts (read m numberWord) (nextIn m)
+  first-nexts : Nexts (Opened m) (nextIn m)
   first-nexts s h =
-      subst (Leads (read m numberWord)) (sym (ap (λ (M : Meaning). M .next s) (means .means))) (⊎-elim
-      (λ k. subst (Leads (read m numberWord)) (sym (halt none _ (lt-ltb s 4 k))) tt)
+      subst (Leads (Opened m)) (sym (ap (λ (M : Meaning). M .next s) (means .means))) (⊎-elim
+      (λ k. subst (Leads (Opened m)) (sym (halt none _ (lt-ltb s 4 k))) tt)
       (λ k.
       let d = number in
       let b = low in
       let a = high in
-      subst (Leads (read m numberWord)) (sym (skip none (le-ltb s 4 k) (halt (some 0) none (lt-ltb s 256 (omega (arith, h, d, b))))))
-      (let z : 0 < read m numberWord = omega (arith, d, a) in z))
+      subst (Leads (Opened m)) (sym (skip none (le-ltb s 4 k) (halt (some 0) none (lt-ltb s 256 (omega (arith, h, d, b))))))
+      (let z : Opened m 0 = omega (arith, d, a) in z))
       (below? s 4))
 
 -- OPENING gives the invariant.

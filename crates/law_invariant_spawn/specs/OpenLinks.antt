@@ -11,7 +11,8 @@ use borrow.Author.Tests.{leb-true}
 use Rattle.spec_words.specs.Words.{load, size, pick, both-true}
 use Rattle.spec_words.specs.Blocks.{storeAll, size-storeAll, block-same}
 use Rattle.spec_lists.specs.Counting.{occurrences, occurs-nil, occurs-here, occurs-past, occurs-append, equal?}
-use Rattle.spec_layout.specs.Layout.{WORDS, STATUS, RIGHTS, PARENT, OLDER, YOUNGER, YOUNGEST, freeTasks, freeTask, freeSegment, task, address, read}
+use Rattle.spec_layout.specs.Layout.{WORDS, FREE-TASKS, STATUS, RIGHTS, PARENT, OLDER, YOUNGER, YOUNGEST, freeTasks, freeSegment, freeTask, task}
+use Rattle.spec_layout.specs.Layout.{rightsOf as rightsIn, address, read}
 use Rattle.spec_tree.specs.Tour.{entered}
 use Rattle.spec_rules.specs.Contents.{Contents, decode, word}
 use Rattle.spec_rules.specs.Test.{within, inRange}
@@ -95,17 +96,18 @@ module _ (l n : ℕ) (hn : 4 ≤ n) (hn' : n ≤ 256) where
   c = decode m
 
   -- The lowest j places of the stack have the numbers above 127 - j, each once.
-  low-places : (j : ℕ) → j ≤ 127 → (x : ℕ) → (0 < occurrences x (take j (drop 320 m)) → (127 < x + j) × (x ≤ 127)) × (occurrences x (take j (drop 320 m)) ≤ 1)
+  low-places : (j : ℕ) → j ≤ 127 → (x : ℕ)
+      → (0 < occurrences x (take j (drop FREE-TASKS m)) → (127 < x + j) × (x ≤ 127)) × (occurrences x (take j (drop FREE-TASKS m)) ≤ 1)
   low-places zero h x = let a = occurs-nil x in ((λ p. let z : ⊥ = omega (arith, a, p) in absurd z), omega (arith, a))
   low-places (suc j) h x =
       let w = low-places j (omega (arith, h)) x in
-      let e = ap (occurrences x) (idle-last m opened-sized j (omega (arith, h))) ∙ occurs-append x (take j (drop 320 m)) (read m (freeTask j) ∷ []) in
+      let e = ap (occurrences x) (idle-last m opened-sized j (omega (arith, h))) ∙ occurs-append x (take j (drop FREE-TASKS m)) (read m (freeTask j) ∷ []) in
       let f = idle-at j (omega (arith, h)) in
       let o = occurs-nil x in
       ⊎-elim
       (λ q.
       let g = occurs-here (read m (freeTask j)) x [] q in
-      let none : occurrences x (take j (drop 320 m)) ≡ 0 = ⊎-elim (λ z. z) (λ p. let v = w .0 p .0 in let z : ⊥ = omega (arith, v, q, f, h) in absurd z)
+      let none : occurrences x (take j (drop FREE-TASKS m)) ≡ 0 = ⊎-elim (λ z. z) (λ p. let v = w .0 p .0 in let z : ⊥ = omega (arith, v, q, f, h) in absurd z)
       (eq-zero-or-pos _) in
       ((λ p. (omega (arith, q, f, h), omega (arith, q, f))), omega (arith, e, g, o, none)))
       (λ q.
@@ -114,8 +116,8 @@ module _ (l n : ℕ) (hn : 4 ≤ n) (hn' : n ≤ 256) where
       ((λ p. let v = w .0 (omega (arith, e, g, o, p)) in let a = v .0 in let b = v .1 in (omega (arith, a), b)), omega (arith, e, g, o, one)))
       (equal? (read m (freeTask j)) x)
 
-  idle-is : c .idle ≡ take 127 (drop 320 m)
-  idle-is = ap (λ (k : ℕ). take k (drop 320 m)) idle-many
+  idle-is : c .idle ≡ take 127 (drop FREE-TASKS m)
+  idle-is = ap (λ (k : ℕ). take k (drop FREE-TASKS m)) idle-many
 
   idle-long : length (c .idle) ≡ 127
   idle-long = let e = idle-many in idle-length m opened-sized (omega (arith, e)) ∙ e
@@ -173,7 +175,7 @@ module _ (l n : ℕ) (hn : 4 ≤ n) (hn' : n ≤ 256) where
         spots = unfold pick in refl;
         rights = λ s i.
             let e = top-only s i in
-            ap (λ (o : Task). read m (task (numberOf o) RIGHTS)) e ∙ top-link RIGHTS (omega arith) ∙ ap rightsOf (sym e);
+            ap (λ (o : Task). rightsIn m (numberOf o)) e ∙ top-link RIGHTS (omega arith) ∙ ap rightsOf (sym e);
         parents = λ s o k i j e.
             let f : [] ≡ k ∷ nameOf o = ap nameOf (sym (top-only s i)) ∙ e in
             let z : _≡_ {A = ℕ} 0 1 = cc in

@@ -8,7 +8,7 @@ use native.Mathlib.Omega.{arith}
 use lib.Dec.{eqb}
 use Rattle.spec_words.specs.Words.{pick}
 use Rattle.spec_lists.specs.Counting.{occurrences, occurs-append, occurs-nil}
-use Rattle.spec_layout.specs.Layout.{numberWord, read}
+use Rattle.spec_layout.specs.Layout.{Opened}
 use Rattle.spec_tree.specs.Queues.{by-four}
 use Rattle.spec_order.specs.Steps.{Item}
 use Rattle.law_order_waits.specs.Played.{Played}
@@ -61,7 +61,7 @@ module _ (m : List ℕ) (T : List ℕ) (xs : List Item) (own : ℕ → ℕ → �
   held q r x = let e = r .laid .held .chains .once x in omega (arith, e)
 
   pub of-rows : ((x : ℕ) → own 0 x + own 1 x + own 2 x + own 3 x + occurrences x (freeIn m) ≡ opened m x)
-      → Linked m T xs → Played xs → Sized m → Nexts (read m numberWord) (nextIn m) → Represents m xs
+      → Linked m T xs → Played xs → Sized m → Nexts (Opened m) (nextIn m) → Represents m xs
   unfolding oneOf pick queueMemory ofTasks
   of-rows sum l p z n =
       let r0 = rows 0 (omega arith) in

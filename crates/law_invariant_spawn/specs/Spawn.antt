@@ -2,11 +2,11 @@
 use mathlib.Core.Path.{_≡_, ap, sym, subst}
 use mathlib.Core.Bool.{true, false}
 use mathlib.Core.List.{List, [], _∷_, _++_}
-use Prim.Native.Nat.{ℕ, _+_, _-_}
+use Prim.Native.Nat.{ℕ, _+_, _-_, _<_}
 use native.Mathlib.Omega.{arith}
 use lib.Dec.{ltb}
 use Rattle.spec_lists.specs.Counting.{one, occurrences, occurs-append, occurs-nil}
-use Rattle.spec_layout.specs.Layout.{numberWord, freeTasks, freeTask, read, write}
+use Rattle.spec_layout.specs.Layout.{freeTasks, freeTask, Opened, read, write}
 use Rattle.spec_tree.specs.Rights.{subset}
 use Rattle.spec_outcomes.specs.Spawn.{childMade}
 use Rattle.spec_order.specs.Steps.{Task, Item, spot, spawns, numberOf, rightsOf, advance}
@@ -52,10 +52,10 @@ module _ (m : List ℕ) (ys zs : List Item) (s : Task) (r : Represents m (ys ++ 
       let h = r .pool .total x in
       omega (arith, a, b, c, d, e, f, g, h)
 
-  same-nexts : Nexts (read n numberWord) (nextIn n)
+  same-nexts : Nexts (Opened n) (nextIn n)
   same-nexts =
-      subst (λ (k : ℕ). Nexts k (nextIn n)) (sym (same-number m ys zs s r u sub some-free))
-      (subst (Nexts (read m numberWord)) (sym (ap (λ (M : Meaning). M .next) (means m ys zs s r u sub some-free .means))) (words-nexts m (r .sized) (r .nexts)))
+      subst (λ (k : ℕ). Nexts (λ s. s < k) (nextIn n)) (sym (same-number m ys zs s r u sub some-free))
+      (subst (Nexts (Opened m)) (sym (ap (λ (M : Meaning). M .next) (means m ys zs s r u sub some-free .means))) (words-nexts m (r .sized) (r .nexts)))
 
   -- where program order allows the step
   pub spawn-played : Played (advance t (spawns (read m (freeTask (read m freeTasks - 1))) u) Old)

@@ -7,7 +7,7 @@ use Prim.Native.Nat.{ℕ, suc, _+_, _-_, _*_, _<_, _≤_}
 use native.Mathlib.Omega.{arith}
 use lib.ListN.{length, drop, take, length-append}
 use Rattle.spec_lists.specs.Counting.{occurrences, equal?, occurs-here, occurs-past, occurs-append, occurs-nil}
-use Rattle.spec_layout.specs.Layout.{STATUS, RIGHTS, PARENT, freeTasks, read}
+use Rattle.spec_layout.specs.Layout.{FREE-TASKS, STATUS, RIGHTS, PARENT, freeTasks, read}
 use Rattle.spec_rules.specs.Contents.{Contents, decode, word}
 use Rattle.spec_rules.specs.Test.{topTest, idleTest}
 use Rattle.law_rules_tasks.specs.Tested.{Top, Idle, top-says, says-top, idle-says, says-idle}
@@ -55,7 +55,7 @@ module _ (m n : List ℕ) (T : List ℕ) (xs : List Item) (h : Linked m T xs) (t
       let e = w .height in
       let k = high in
       let l = few in
-      ap (λ (i : ℕ). take i (drop 320 n)) (e ∙ (let z : read m freeTasks + 1 ≡ suc (read m freeTasks) = omega arith in z))
+      ap (λ (i : ℕ). take i (drop FREE-TASKS n)) (e ∙ (let z : read m freeTasks + 1 ≡ suc (read m freeTasks) = omega arith in z))
       ∙ idle-last n (w .sized) (read m freeTasks) (omega (arith, k, l))
       ∙ ap₂ (λ (i : List ℕ) (x : ℕ). i ++ (x ∷ [])) (same-stack m n (h .sized) (w .sized) (read m freeTasks) (omega (arith, k, l)) (w .stack)) (w .given)
 

@@ -6,7 +6,7 @@ use mathlib.Core.Logic.{inl, ⊎-elim}
 use Prim.Native.Nat.{ℕ, _+_, _<_, _≤_}
 use native.Mathlib.Omega.{arith}
 use Rattle.spec_lists.specs.Counting.{occurrences, occurs-append, occurs-here}
-use Rattle.spec_layout.specs.Layout.{STATUS, RIGHTS, PARENT, OLDER, task, read}
+use Rattle.spec_layout.specs.Layout.{STATUS, RIGHTS, PARENT, OLDER, task, rightsOf as rightsIn, read}
 use Rattle.spec_tree.specs.Tour.{entered}
 use Rattle.spec_rules.specs.Contents.{decode}
 use Rattle.spec_rules.specs.Rules.{Child}
@@ -71,7 +71,7 @@ module _ (m n : List ℕ) (T : List ℕ) (ys zs : List Item) (s : Task) (play : 
       ap (λ (x : ℕ). read n (task x k)) (v .2 .number)
       ∙ cut-word m n t stay (numberOf (v .0)) k (spot-unfinished m T Old h (v .0) (v .1) .0) l (λ e. gone ys zs s play o i (v .2 .number ∙ e))
 
-  rights-are : (o : Task) → In (spot o) New → read n (task (numberOf o) RIGHTS) ≡ rightsOf o
+  rights-are : (o : Task) → In (spot o) New → rightsIn n (numberOf o) ≡ rightsOf o
   rights-are o i = let v = was o i in stays o v i RIGHTS (omega arith) ∙ h .rights (v .0) (v .1) ∙ sym (v .2 .rights)
 
   parents-are : (o p : Task) (k : ℕ) → In (spot o) New → In (spot p) New → nameOf o ≡ k ∷ nameOf p → read n (task (numberOf o) PARENT) ≡ numberOf p

@@ -8,7 +8,7 @@ use lib.ListN.{length, drop, take}
 use Rattle.spec_words.specs.Words.{size}
 use Rattle.spec_lists.specs.Counting.{occurrences}
 use Rattle.spec_lists.specs.Distinct.{Distinct}
-use Rattle.spec_layout.specs.Layout.{WORDS, STATUS, RIGHTS, PARENT, OLDER, YOUNGER, YOUNGEST, task, freeTasks, freeTask, read}
+use Rattle.spec_layout.specs.Layout.{WORDS, FREE-TASKS, STATUS, RIGHTS, PARENT, OLDER, YOUNGER, YOUNGEST, freeTasks, freeTask, task, read}
 use Rattle.spec_tree.specs.Rights.{subset}
 use Rattle.spec_rules.specs.Contents.{Contents, decode, word}
 use Rattle.law_rules_tasks.specs.Marks.{Kin}
@@ -75,7 +75,7 @@ module _ (m n : List ℕ) (w : SameLinks m n) where
   pub same-idle : size m ≡ WORDS → length (c .idle) ≤ 127 → d .idle ≡ c .idle
   same-idle s few =
       let h = idle-height m s few in
-      ap (λ (k : ℕ). take k (drop 320 n)) (w .height)
+      ap (λ (k : ℕ). take k (drop FREE-TASKS n)) (w .height)
       ∙ same-stack m n s (w .sized) (read m freeTasks) (omega (arith, h)) (λ i l. w .stack i (omega (arith, l, h)))
 
   -- the idle records are still free

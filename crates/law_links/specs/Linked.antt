@@ -8,7 +8,7 @@ use native.Mathlib.Omega.{arith}
 use lib.ListN.{length}
 use Rattle.spec_words.specs.Words.{size}
 use Rattle.spec_lists.specs.Counting.{occurrences, occurs-nil, occurs-here, occurs-past, occurs-append, equal?}
-use Rattle.spec_layout.specs.Layout.{WORDS, UNFINISHED, STATUS, RIGHTS, PARENT, OLDER, task, read, recordOf}
+use Rattle.spec_layout.specs.Layout.{WORDS, STATUS, PARENT, OLDER, UNFINISHED, task, rightsOf as rightsIn, read, recordOf}
 use Rattle.spec_layout.specs.Frame.{record-word}
 use Rattle.spec_tree.specs.Tour.{MARKS, tour, entered}
 use Rattle.spec_rules.specs.Contents.{Contents, decode, word, holders}
@@ -40,7 +40,7 @@ pub record Linked (m : List ℕ) (T : List ℕ) (xs : List Item) : Type 0 where
   pub running : read m (task 0 STATUS) ≡ UNFINISHED
   -- the tasks that the tour meets are those with spots, in the same order
   pub spots : entered T ≡ numbersBack xs
-  pub rights : (s : Task) → In (spot s) xs → read m (task (numberOf s) RIGHTS) ≡ rightsOf s
+  pub rights : (s : Task) → In (spot s) xs → rightsIn m (numberOf s) ≡ rightsOf s
   -- links by names
   pub parents : (s o : Task) (k : ℕ) → In (spot s) xs → In (spot o) xs → nameOf s ≡ k ∷ nameOf o → read m (task (numberOf s) PARENT) ≡ numberOf o
   pub ages : (s o : Task) → In (spot s) xs → In (spot o) xs → read m (task (numberOf s) OLDER) ≡ numberOf o → isOlder (nameOf o) (nameOf s) ≡ true

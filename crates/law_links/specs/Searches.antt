@@ -9,14 +9,14 @@ use lib.Dec.{eqb, ltb}
 use borrow.Author.Tests.{lt-ltb, ltb-true, eq-eqb, ne-eqb}
 use Rattle.spec_words.specs.Words.{load, pass, halt, both, both-true, true-both, same-test}
 use Rattle.spec_lists.specs.Counting.{occurrences, occurs-nil, occurs-here, occurs-past, equal?, occurs-later}
-use Rattle.spec_layout.specs.Layout.{PARENT, OLDER, YOUNGEST, task, read, recordOf}
+use Rattle.spec_layout.specs.Layout.{PARENT, OLDER, YOUNGEST, task, rightsOf as rightsIn, read, recordOf}
 use Rattle.spec_layout.specs.Frame.{record-word}
 use Rattle.spec_tree.specs.Rights.{pushes, pops, subset}
 use Rattle.spec_tree.specs.Tour.{END, oldest}
 use Rattle.spec_rules.specs.Rules.{walk}
 use Rattle.law_rules_tasks.specs.Holders.{entered-count}
 use Rattle.law_gaps.specs.Search.{firstOf}
-use Rattle.spec_outcomes.specs.Waits.{rightsOf as rightsIn, pusherBefore}
+use Rattle.spec_outcomes.specs.Waits.{pusherBefore}
 use Rattle.spec_outcomes.specs.Finish.{heir}
 use Rattle.spec_order.specs.Steps.{Name, Task, Item, spot, nameOf, numberOf, rightsOf}
 use Rattle.spec_order.specs.Waits.{isOlder, someSpot}
@@ -60,7 +60,7 @@ says-first f (y ∷ l) x small p e d = go (f y) refl (says-first f l x small)
 -- A PUSHER BEFORE the task: "an unfinished task, other than the caller, with push right on q"
 module _ (m : List ℕ) (T : List ℕ) (ys zs : List Item) (s : Task) (h : Linked m T (ys ++ spot s ∷ zs)) (p : Place m T ys zs s) where
   pub same-pusher : (q : ℕ) → pusherBefore m (numberOf s) q ≡ someSpot (λ o. pushes (rightsOf o) q) ys
-  unfolding pusherBefore rightsIn
+  unfolding pusherBefore
   same-pusher q =
       ap (λ (x : ℕ). not (eqb x END)) (p .search f)
       ∙ same-test _ _

@@ -8,7 +8,8 @@ use native.Mathlib.Omega.{arith}
 use lib.ListN.{drop, take}
 use Rattle.spec_words.specs.Words.{size}
 use Rattle.spec_lists.specs.Counting.{occurrences, occurs-here, occurs-append}
-use Rattle.spec_layout.specs.Layout.{WORDS, NONE, FREE, UNFINISHED, STATUS, RIGHTS, PARENT, OLDER, YOUNGER, YOUNGEST, task, freeTasks, freeTask, read}
+use Rattle.spec_layout.specs.Layout.{WORDS, NONE, FREE-TASKS, STATUS, PARENT, OLDER, YOUNGER, YOUNGEST, FREE, UNFINISHED, freeTasks, freeTask, task}
+use Rattle.spec_layout.specs.Layout.{rightsOf, read}
 use Rattle.spec_rules.specs.Contents.{Contents, decode, word}
 use Rattle.spec_rules.specs.Rules.{Unfinished}
 use Rattle.law_rules_tasks.specs.Marks.{Kin}
@@ -22,7 +23,7 @@ use Rattle.law_links.specs.Marks.{free-unmarked, unfinished-entered}
 pub record Spawned (m n : List ℕ) (t r u : ℕ) : Type 0 where
   pub sized : size n ≡ WORDS
   pub status : read n (task u STATUS) ≡ UNFINISHED
-  pub rights : read n (task u RIGHTS) ≡ r
+  pub rights : rightsOf n u ≡ r
   pub parent : read n (task u PARENT) ≡ t
   pub older-is : read n (task u OLDER) ≡ read m (task t YOUNGEST)
   pub younger : read n (task u YOUNGER) ≡ NONE
@@ -73,7 +74,7 @@ module _ (m n : List ℕ) (t u : ℕ) where
     stacked =
         let e = w .height in
         let l = high in
-        ap (λ (k : ℕ). take k (drop 320 m)) (e ∙ (let z : read n freeTasks + 1 ≡ suc (read n freeTasks) = omega arith in z))
+        ap (λ (k : ℕ). take k (drop FREE-TASKS m)) (e ∙ (let z : read n freeTasks + 1 ≡ suc (read n freeTasks) = omega arith in z))
         ∙ idle-last m (h .sized) (read n freeTasks) (omega (arith, e, l))
         ∙ ap₂ (λ (k : List ℕ) (x : ℕ). k ++ (x ∷ []))
         (sym (same-stack m n (h .sized) (w .sized) (read n freeTasks) (omega (arith, e, l)) (w .stack))) (w .taken)

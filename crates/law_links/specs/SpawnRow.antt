@@ -6,7 +6,7 @@ use mathlib.Core.Logic.{⊎-elim}
 use Prim.Native.Nat.{ℕ, _+_, _<_}
 use native.Mathlib.Omega.{arith}
 use Rattle.spec_lists.specs.Counting.{occurrences, occurs-here, occurs-append, occurs-first, occurs-later}
-use Rattle.spec_layout.specs.Layout.{NONE, STATUS, RIGHTS, PARENT, OLDER, YOUNGER, YOUNGEST, task, read}
+use Rattle.spec_layout.specs.Layout.{NONE, STATUS, RIGHTS, PARENT, OLDER, YOUNGER, YOUNGEST, task, rightsOf, read}
 use Rattle.spec_tree.specs.Rights.{subset}
 use Rattle.spec_rules.specs.Contents.{Contents, decode, word}
 use Rattle.spec_rules.specs.Rules.{Unfinished}
@@ -18,7 +18,7 @@ use Rattle.law_links.specs.Marks.{mark-once, unfinished-entered, unfinis
 use Rattle.law_links.specs.Spawn.{Spawned, AfterSpawn}
 
 module _ (m n : List ℕ) (T : List ℕ) (xs : List Item) (h : Linked m T xs) (t r u : ℕ) (w : Spawned m n t r u) (stay : AfterSpawn m n t u)
-    (b a : List ℕ) (here : T ≡ b ++ t ∷ a) (small : t < 128) (sub : subset r (read m (task t RIGHTS)) ≡ true) where
+    (b a : List ℕ) (here : T ≡ b ++ t ∷ a) (small : t < 128) (sub : subset r (rightsOf m t) ≡ true) where
   open AfterSpawn stay using (child-above, child-below, spawner, sibling, stays)
 
   abbrev c : Contents

@@ -11,8 +11,8 @@ use borrow.Author.Tests.{eqb-false, ne-eqb}
 use Rattle.spec_words.specs.Words.{size, load-other, pick, pick-true, pick-false, pass, halt}
 use Rattle.spec_words.specs.Blocks.{storeAll, size-storeAll}
 use Rattle.spec_lists.specs.Counting.{equal?}
-use Rattle.spec_layout.specs.Layout.{WORDS, NONE, UNFINISHED, USER, STATUS, RIGHTS, PARENT, OLDER, YOUNGER, YOUNGEST, Field, task, head, tail, queueHead, freeTasks}
-use Rattle.spec_layout.specs.Layout.{freeTask, address, read, write}
+use Rattle.spec_layout.specs.Layout.{WORDS, NONE, TASKS, TASK-WORDS, STATUS, RIGHTS, PARENT, OLDER, YOUNGER, YOUNGEST, UNFINISHED, USER, Field}
+use Rattle.spec_layout.specs.Layout.{freeTasks, freeTask, task, queueHead, head, tail, address, read, write}
 use Rattle.spec_layout.specs.Frame.{size-write, read-same, read-other}
 use Rattle.spec_outcomes.specs.Spawn.{forQueues, keptQueue, keptUser, childViews, passedOn, childMade}
 use Rattle.law_links.specs.Blocks.{block-in, block-task, block-word, block-front}
@@ -53,7 +53,7 @@ other-word m x k y j v a b d e n = read-other m (task y j) (task x k) v (d, e) (
 -- a write to a task leaves the words in front alone
 pub away : (n : List ℕ) (y j v : ℕ) (f : Field) → address f < 1472 → read (write n (task y j) v) f ≡ read n f
 unfolding read write address
-away n y j v f l = load-other n (1472 + y * 48 + j) (address f) v (λ e. omega (arith, e, l))
+away n y j v f l = load-other n (TASKS + y * TASK-WORDS + j) (address f) v (λ e. omega (arith, e, l))
 
 views-length : (m : List ℕ) (t r : ℕ) → length (childViews m t r) ≡ 28
 unfolding childViews forQueues

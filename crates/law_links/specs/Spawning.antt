@@ -5,7 +5,7 @@ use mathlib.Core.List.{List, [], _∷_, _++_, append-assoc, tail-eq-of-cons-eq}
 use mathlib.Core.Logic.{_⊎_, inl, inr, ⊎-elim}
 use Prim.Native.Nat.{ℕ, _+_, _<_}
 use native.Mathlib.Omega.{arith}
-use Rattle.spec_layout.specs.Layout.{STATUS, RIGHTS, PARENT, OLDER, YOUNGER, YOUNGEST, task, read, recordOf}
+use Rattle.spec_layout.specs.Layout.{STATUS, RIGHTS, PARENT, OLDER, YOUNGER, YOUNGEST, task, rightsOf as rightsIn, read, recordOf}
 use Rattle.spec_layout.specs.Frame.{record-word}
 use Rattle.spec_words.specs.Words.{load}
 use Rattle.spec_lists.specs.Counting.{occurrences, occurs-append, occurs-first}
@@ -38,7 +38,7 @@ back-spawn ys zs (taskOf p t q k) u r =
 module _ (m n : List ℕ) (T : List ℕ) (ys zs : List Item) (s : Task) (r u : ℕ) (play : Played (ys ++ spot s ∷ zs))
     (next : Played (ys ++ (made s (spawns u r) ++ zs)))
     (h : Linked m T (ys ++ spot s ∷ zs)) (w : Spawned m n (numberOf s) r u) (b a : List ℕ) (here : T ≡ b ++ numberOf s ∷ a)
-    (later : entered b ≡ numbersBack zs) (earlier : entered a ≡ numbersBack ys) (sub : subset r (read m (task (numberOf s) RIGHTS)) ≡ true) where
+    (later : entered b ≡ numbersBack zs) (earlier : entered a ≡ numbersBack ys) (sub : subset r (rightsIn m (numberOf s)) ≡ true) where
   abbrev t : ℕ
   t = numberOf s
 
@@ -96,11 +96,11 @@ module _ (m n : List ℕ) (T : List ℕ) (ys zs : List Item) (s : Task) (r u : �
       ap (λ (x : ℕ). read n (task x k)) (v .2 .number)
       ∙ kept-word m n t u stay (numberOf (v .0)) k (spot-unfinished m T Old h (v .0) (v .1)) l f g
 
-  rights-are : (o : Task) → In (spot o) New → read n (task (numberOf o) RIGHTS) ≡ rightsOf o
+  rights-are : (o : Task) → In (spot o) New → rightsIn n (numberOf o) ≡ rightsOf o
   rights-are o i =
       ⊎-elim
       (λ v. word-stays o v RIGHTS (omega arith) (λ q. omega (arith, q)) (λ q. omega (arith, q)) ∙ h .rights (v .0) (v .1) ∙ sym (v .2 .rights))
-      (λ v. ap (λ (x : ℕ). read n (task x RIGHTS)) (v .1) ∙ w .rights ∙ sym (v .2))
+      (λ v. ap (λ (x : ℕ). rightsIn n x) (v .1) ∙ w .rights ∙ sym (v .2))
       (which o i)
 
   -- the child has no children yet

@@ -9,13 +9,13 @@ use lib.Dec.{eqb}
 use borrow.Author.Tests.{ltb-true, lt-ltb, eqb-true, eq-eqb, ne-eqb}
 use Rattle.spec_words.specs.Words.{load, both, both-true, true-both, same-test}
 use Rattle.spec_lists.specs.Counting.{equal?}
-use Rattle.spec_layout.specs.Layout.{NONE, STATUS, OLDER, YOUNGEST, task, read, recordOf}
+use Rattle.spec_layout.specs.Layout.{NONE, STATUS, OLDER, YOUNGEST, task, rightsOf as rightsIn, read, recordOf}
 use Rattle.spec_layout.specs.Frame.{record-word}
 use Rattle.spec_tree.specs.Rights.{pops, sharesPop}
 use Rattle.spec_tree.specs.Tour.{sibling}
 use Rattle.spec_rules.specs.Contents.{decode, word}
 use Rattle.spec_rules.specs.Rules.{walk}
-use Rattle.spec_outcomes.specs.Waits.{rightsOf as rightsIn, unfinished as unfinishedIn, blocked as blockedIn, childPops as childPopsIn, hasChild as hasChildIn}
+use Rattle.spec_outcomes.specs.Waits.{unfinished as unfinishedIn, blocked as blockedIn, childPops as childPopsIn, hasChild as hasChildIn}
 use Rattle.spec_order.specs.Steps.{Name, Task, Item, spot, nameOf, numberOf, rightsOf}
 use Rattle.spec_order.specs.Waits.{isChild, someSpot, unfinished, blocked, childPops, hasChild}
 use Rattle.law_order.specs.Items.{In}
@@ -52,7 +52,6 @@ module _ (m : List ℕ) (T : List ℕ) (xs : List Item) (play : Played xs) (h : 
       (true-both (lt-ltb (numberOf (w .0)) 128 (u .0)) (eq-eqb _ _ (sym (word-is m (numberOf (w .0)) STATUS) ∙ u .1))))
 
   pub same-rights : (s : Task) → In (spot s) xs → rightsIn m (numberOf s) ≡ rightsOf s
-  unfolding rightsIn
   same-rights s i = h .rights s i
 
   -- a list of siblings ends within 128 steps, from a task's older sibling on and from its youngest child on

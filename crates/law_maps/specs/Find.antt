@@ -9,7 +9,7 @@ use lib.Dec.{ltb, eqb}
 use lib.ListN.{length}
 use borrow.Author.Tests.{eq-eqb, ne-eqb, lt-ltb}
 use Rattle.spec_words.specs.Words.{both, either, both-right-off, true-both}
-use Rattle.spec_layout.specs.Layout.{NL, RIGHTS, CHILDREN, numberWord, count, queueHead, task, read}
+use Rattle.spec_layout.specs.Layout.{NL, CHILDREN, count, Opened, rightsOf, queueHead, read}
 use Rattle.spec_tree.specs.Rights.{uses}
 use Rattle.spec_outcomes.specs.Segments.{valueAt}
 use Rattle.spec_outcomes.specs.Views.{viewOf, taskAt, takesPart, standsAt}
@@ -25,7 +25,7 @@ use Rattle.law_maps.specs.Extents.{not-empty}
 
 module _ (m : List ℕ) (t q : ℕ) (ht : t < 128) (hq : q < 4) where
   -- THE FIRST SEGMENT s
-  module _ (s : ℕ) (z : Sized m) (hs : s < read m numberWord) (e : headsIn m q t ≡ some s) where
+  module _ (s : ℕ) (z : Sized m) (hs : Opened m s) (e : headsIn m q t ≡ some s) where
     head-is : read m (queueHead t q) ≡ s
     head-is = link-word (read m (queueHead t q)) s (sym (head-at m q t hq ht) ∙ e)
 
@@ -47,12 +47,12 @@ module _ (m : List ℕ) (t q : ℕ) (ht : t < 128) (hq : q < 4) where
         both-right-off _ (ap not (eq-eqb _ _ (ap (λ (x : ℕ). read m (count x)) head-is ∙ count-length m s (number-below z hs) ∙ ap length f)))
 
 -- THE MARKS at which a view stands that a view can be reduced into, for marks of tasks
-pub part-taken : (m : List ℕ) (q x : ℕ) → takesPart m q x ≡ partTaken (λ t. uses (read m (task t RIGHTS)) q) x
+pub part-taken : (m : List ℕ) (q x : ℕ) → takesPart m q x ≡ partTaken (λ t. uses (rightsOf m t) q) x
 unfolding takesPart partTaken taskAt markedTask
 part-taken m q x = refl
 
 pub view-stands : (m : List ℕ) (q x : ℕ) → q < 4 → x < 256
-    → standsAt m q x ≡ viewStands (λ t. uses (read m (task t RIGHTS)) q) (viewIn m q CHILDREN) x
+    → standsAt m q x ≡ viewStands (λ t. uses (rightsOf m t) q) (viewIn m q CHILDREN) x
 unfolding standsAt viewStands
 view-stands m q x hq hx =
     ap₂ (λ (a b : Bool). both a (either (ltb x 128) (either (eqb (x - 128) 0) b)))

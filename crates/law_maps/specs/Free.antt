@@ -1,5 +1,5 @@
 -- The stack of free segments: a free segment is taken, a segment is given back.
-use mathlib.Core.Path.{_≡_, refl, ap, ap₂, sym, subst, _∙_}
+use mathlib.Core.Path.{_≡_, refl, ap, ap₂, sym, _∙_}
 use mathlib.Core.Bool.{Bool, true, false}
 use mathlib.Core.Option.{none, some, Option·none-ne-some, Option·some-injective}
 use mathlib.Core.List.{List, [], _∷_, head-eq-of-cons-eq, tail-eq-of-cons-eq}
@@ -11,7 +11,8 @@ use lib.Dec.{eqb}
 use borrow.Author.Tests.{eq-eqb, ne-eqb, eqb-true, lt-ltb}
 use Rattle.spec_words.specs.Words.{store, size, pass, halt}
 use Rattle.spec_words.specs.Blocks.{storeAll, store-more, store-none}
-use Rattle.spec_layout.specs.Layout.{WORDS, NONE, lengthWord, numberWord, freeSegments, freeSegment, segment, value, first, count, next, address, read, write}
+use Rattle.spec_layout.specs.Layout.{WORDS, NONE, SEGMENTS, SEGMENT-WORDS, numberWord, freeSegments, freeSegment, segment, value, first, count, next}
+use Rattle.spec_layout.specs.Layout.{lengthOf, valueWord, Opened, segmentsOf, freeHeight, address, read, write}
 use Rattle.spec_layout.specs.Frame.{read-same, size-write}
 use Rattle.spec_outcomes.specs.Segments.{valueAt, nextFree, taken, released}
 use Rattle.spec_outcomes.specs.Places.{place-low}
@@ -59,11 +60,11 @@ module _ (m : List ℕ) (s a b c : ℕ) where
   pub record-set : storeAll m (address (segment s 0)) (a ∷ b ∷ c ∷ []) ≡ recordSet
   unfolding write address
   record-set =
-      store-more m (448 + s * 4 + 0) a (b ∷ c ∷ [])
-      ∙ store-more _ (suc (448 + s * 4 + 0)) b (c ∷ [])
-      ∙ store-more _ (suc (suc (448 + s * 4 + 0))) c []
+      store-more m (SEGMENTS + s * SEGMENT-WORDS + 0) a (b ∷ c ∷ [])
+      ∙ store-more _ (suc (SEGMENTS + s * SEGMENT-WORDS + 0)) b (c ∷ [])
+      ∙ store-more _ (suc (suc (SEGMENTS + s * SEGMENT-WORDS + 0))) c []
       ∙ store-none _ _
-      ∙ places (448 + s * 4)
+      ∙ places (SEGMENTS + s * SEGMENT-WORDS)
     where
       places : (i : ℕ) → store (store (store m (i + 0) a) (suc (i + 0)) b) (suc (suc (i + 0))) c ≡ store (store (store m (i + 0) a) (i + 1) b) (i + 2) c
       places i = let p : suc (i + 0) ≡ i + 1 = omega arith in let q : suc (i + 1) ≡ i + 2 = omega arith in simp (p, q)
@@ -99,16 +100,16 @@ unfolding stack
 stack-length f zero = refl
 stack-length f (suc n) = ap suc (stack-length f n)
 
-pub height-length : (m : List ℕ) → read m freeSegments ≡ length (freeIn m)
+pub height-length : (m : List ℕ) (q : ℕ) → freeHeight m q ≡ length (freeIn m)
 unfolding freeIn
-height-length m = sym (stack-length (λ i. read m (freeSegment i)) (read m freeSegments))
+height-length m q = sym (stack-length (λ i. read m (freeSegment i)) (freeHeight m q))
 
 -- the segment used next is the front of the free ones
 pub next-free : (m : List ℕ) (q g : ℕ) (r : List ℕ) → freeIn m ≡ g ∷ r → nextFree m q ≡ g
 unfolding freeIn nextFree
 next-free m q g r e =
-    let j = stack-first (λ i. read m (freeSegment i)) (read m freeSegments) g r e in
-    ap (λ (i : ℕ). read m (freeSegment i)) (let a = j .1 in let w : read m freeSegments - 1 ≡ j .0 = omega (arith, a) in w) ∙ j .2
+    let j = stack-first (λ i. read m (freeSegment i)) (freeHeight m q) g r e in
+    ap (λ (i : ℕ). read m (freeSegment i)) (let a = j .1 in let w : freeHeight m q - 1 ≡ j .0 = omega (arith, a) in w) ∙ j .2
 
 -- a write to the stack keeps segments and values
 module _ (m n : List ℕ) (z : Sized m) (o : SegmentsOnly m n) (hh : read n freeSegments ≤ read m numberWord)
@@ -124,11 +125,11 @@ module _ (m n : List ℕ) (z : Sized m) (o : SegmentsOnly m n) (hh : read n free
       e refl refl
 
 -- THE TOP TAKEN OFF
-stack-lowered : (m : List ℕ) (g : ℕ) (r : List ℕ) → Sized m → freeIn m ≡ g ∷ r
-    → Becomes m (write m freeSegments (read m freeSegments - 1)) (withFree (meaningOf m) r)
+stack-lowered : (m : List ℕ) (q g : ℕ) (r : List ℕ) → Sized m → freeIn m ≡ g ∷ r
+    → Becomes m (write m freeSegments (freeHeight m q - 1)) (withFree (meaningOf m) r)
 unfolding address freeIn
-stack-lowered m g r z e =
-    let h = read m freeSegments in
+stack-lowered m q g r z e =
+    let h = freeHeight m q in
     let n = write m freeSegments (h - 1) in
     let j = stack-first (λ i. read m (freeSegment i)) h g r e in
     let lower : read n freeSegments ≡ h - 1 = read-same m freeSegments (h - 1) (z .words) (omega arith) in
@@ -143,11 +144,11 @@ stack-lowered m g r z e =
     ∙ j .3)
 
 -- A SEGMENT PUT ON TOP
-stack-raised : (m : List ℕ) (s : ℕ) → Sized m → read m freeSegments < read m numberWord
-    → Becomes m (write (write m (freeSegment (read m freeSegments)) s) freeSegments (read m freeSegments + 1)) (withFree (meaningOf m) (s ∷ freeIn m))
+stack-raised : (m : List ℕ) (q s : ℕ) → Sized m → freeHeight m q < segmentsOf m q
+    → Becomes m (write (write m (freeSegment (freeHeight m q)) s) freeSegments (freeHeight m q + 1)) (withFree (meaningOf m) (s ∷ freeIn m))
 unfolding address freeIn stack
-stack-raised m s z hh =
-    let h = read m freeSegments in
+stack-raised m q s z hh =
+    let h = freeHeight m q in
     let m1 = write m (freeSegment h) s in
     let n = write m1 freeSegments (h + 1) in
     let room : h < 256 = number-below z hh in
@@ -167,20 +168,19 @@ stack-raised m s z hh =
     above i ∙ read-away m (freeSegment h) (freeSegment i) s (λ q. omega (arith, q, l)))))
 
 -- THE RECORD AND THE VALUES of a segment that is made, and of one that is given up
-segment-made : (m : List ℕ) (s l v : ℕ) → Sized m → s < read m numberWord → read m lengthWord ≡ l
-    → Becomes m (write (recordSet m s 0 1 NONE) (value (s * l)) v) (withContents (withNext (meaningOf m) s none) s (v ∷ []))
+segment-made : (m : List ℕ) (s l v : ℕ) → Sized m → Opened m s → lengthOf m s ≡ l
+    → Becomes m (write (recordSet m s 0 1 NONE) (value (s * l + 0)) v) (withContents (withNext (meaningOf m) s none) s (v ∷ []))
 unfolding address listed
 segment-made m s l v z hs el =
     let hs' : s < 256 = number-below z hs in
     let m1 = recordSet m s 0 1 NONE in
-    let n = write m1 (value (s * l)) v in
+    let n = write m1 (value (s * l + 0)) v in
     let o1 = set-only m s 0 1 NONE (z .words) hs' in
-    let el1 : read m1 lengthWord ≡ l = same-length (o1 .only) ∙ el in
-    let start : s * read m1 lengthWord + 0 ≡ s * l = ap (λ (x : ℕ). s * x + 0) el1 ∙ (let w : s * l + 0 ≡ s * l = omega arith in w) in
-    let long : 1 ≤ l = rw (← el) (z .length-range .0) in
-    let o : OnlySegment m n s = segment-then o1 (subst (λ i. OnlySegment m1 (write m1 (value i) v) s) start (value-written m1 s 0 v (rw el1 long))) in
+    let el1 : lengthOf m1 s ≡ l = same-length (o1 .only) s ∙ el in
+    let long : 1 ≤ l = rw (← el) (z .length-range s .0) in
+    let o : OnlySegment m n s = segment-then o1 (rw el1 at (value-written m1 s 0 v (rw el1 long))) in
     let words : (k : ℕ) → k < 4 → read n (segment s k) ≡ read m1 (segment s k) = λ k g.
-    read-away m1 (value (s * l)) (segment s k) v (λ w. omega (arith, w, hs', g)) in
+    read-away m1 (value (s * l + 0)) (segment s k) v (λ w. omega (arith, w, hs', g)) in
     let first0 : read n (first s) ≡ 0 = words 0 (omega arith) ∙ set-first m s 0 1 NONE (z .words) hs' in
     let count1 : read n (count s) ≡ 1 = words 1 (omega arith) ∙ set-count m s 0 1 NONE (z .words) hs' in
     segments-become (o .only)
@@ -189,13 +189,13 @@ segment-made m s l v z hs el =
     (values-changed m n s z hs' o _
     (contents-at n s hs' ∙ ap (listed (valueAt n s)) count1
     ∙ ap (λ (x : ℕ). x ∷ [])
-    (value-word n s 0 l 0 (same-length (o .only) ∙ el) first0
-    ∙ ap (λ (i : ℕ). read n (value i)) (ap (λ (i : ℕ). s * l + i) (place-low l 0 0 long) ∙ (let w : s * l + (0 + 0) ≡ s * l = omega arith in w))
-    ∙ read-same m1 (value (s * l)) v (o1 .only .words ∙ z .words)
+    (value-word n s 0 l 0 (same-length (o .only) s ∙ el) first0
+    ∙ ap (λ (i : ℕ). read n (value (s * l + i))) (place-low l 0 0 long)
+    ∙ read-same m1 (value (s * l + 0)) v (o1 .only .words ∙ z .words)
     (let w = value-inside m s 0 z hs (rw el long) in let u = ap (λ (x : ℕ). s * x) el in omega (arith, w, u)))))
     (free-kept m n s z hs' o) refl refl
 
-segment-emptied : (m : List ℕ) (s : ℕ) → Sized m → s < read m numberWord
+segment-emptied : (m : List ℕ) (s : ℕ) → Sized m → Opened m s
     → Becomes m (recordSet m s 0 0 0) (withContents (withNext (meaningOf m) s (some 0)) s [])
 unfolding address listed
 segment-emptied m s z hs =
@@ -204,45 +204,45 @@ segment-emptied m s z hs =
     let o = set-only m s 0 0 0 (z .words) hs' in
     let count0 : read n (count s) ≡ 0 = set-count m s 0 0 0 (z .words) hs' in
     segments-become (o .only)
-    (segment-sized m n s z hs' o (λ g. (rw (set-first m s 0 0 0 (z .words) hs') (z .length-range .0), rw count0 (omega arith))))
+    (segment-sized m n s z hs' o (λ g. (rw (set-first m s 0 0 0 (z .words) hs') (z .length-range s .0), rw count0 (omega arith))))
     (next-changed m n s z hs' o (some 0) (ap optional (set-next m s 0 0 0 (z .words) hs') ∙ optional-some 0 (λ e. omega (arith, e))))
     (values-changed m n s z hs' o [] (contents-at n s hs' ∙ ap (listed (valueAt n s)) count0))
     (free-kept m n s z hs' o) refl refl
 
 -- A FREE SEGMENT TAKEN, with v as its only value and no next
-pub segment-taken : (m : List ℕ) (q v g : ℕ) (r : List ℕ) → Sized m → freeIn m ≡ g ∷ r → g < read m numberWord
+pub segment-taken : (m : List ℕ) (q v g : ℕ) (r : List ℕ) → Sized m → freeIn m ≡ g ∷ r → Opened m g
     → Becomes m (taken m q v) (withFree (withContents (withNext (meaningOf m) g none) g (v ∷ [])) r)
 unfolding taken
 segment-taken m q v g r z e hg =
-    let m1 = write m freeSegments (read m freeSegments - 1) in
-    let a = stack-lowered m g r z e in
-    let b = segment-made m1 g (read m lengthWord) v (a .sized) (rw (a .kept .number) hg) (a .kept .length) in
+    let m1 = write m freeSegments (freeHeight m q - 1) in
+    let a = stack-lowered m q g r z e in
+    let b = segment-made m1 g (lengthOf m g) v (a .sized) (rw (a .kept .number) hg) (a .kept .length g) in
     let c = becomes-then (λ M. withContents (withNext M g none) g (v ∷ [])) a b in
     becomes-at (sym (made m1)) c
   where
-    made : (m1 : List ℕ) → write (storeAll m1 (address (segment (nextFree m q) 0)) (0 ∷ 1 ∷ NONE ∷ [])) (value (nextFree m q * read m lengthWord)) v
-        ≡ write (recordSet m1 g 0 1 NONE) (value (g * read m lengthWord)) v
+    made : (m1 : List ℕ) → write (storeAll m1 (address (segment (nextFree m q) 0)) (0 ∷ 1 ∷ NONE ∷ [])) (valueWord m (nextFree m q) 0) v
+        ≡ write (recordSet m1 g 0 1 NONE) (valueWord m g 0) v
     made m1 =
-        ap (λ (s : ℕ). write (storeAll m1 (address (segment s 0)) (0 ∷ 1 ∷ NONE ∷ [])) (value (s * read m lengthWord)) v) (next-free m q g r e)
-        ∙ ap (λ (l : List ℕ). write l (value (g * read m lengthWord)) v) (record-set m1 g 0 1 NONE)
+        ap (λ (s : ℕ). write (storeAll m1 (address (segment s 0)) (0 ∷ 1 ∷ NONE ∷ [])) (valueWord m s 0) v) (next-free m q g r e)
+        ∙ ap (λ (l : List ℕ). write l (valueWord m g 0) v) (record-set m1 g 0 1 NONE)
 
 -- SEGMENT s GIVEN BACK
-pub segment-released : (m : List ℕ) (q s : ℕ) → Sized m → s < read m numberWord → length (freeIn m) < read m numberWord
+pub segment-released : (m : List ℕ) (q s : ℕ) → Sized m → Opened m s → length (freeIn m) < segmentsOf m q
     → Becomes m (released m q s) (withFree (withContents (withNext (meaningOf m) s (some 0)) s []) (s ∷ freeIn m))
 unfolding released
 segment-released m q s z hs room =
     let m1 = recordSet m s 0 0 0 in
     let o = set-only m s 0 0 0 (z .words) (number-below z hs) in
     let a = segment-emptied m s z hs in
-    let b = stack-raised m1 s (a .sized) (rw (o .height, a .kept .number) hh) in
+    let b = stack-raised m1 q s (a .sized) (rw (o .height, a .kept .number) hh) in
     let c = becomes-then (λ M. withFree M (s ∷ M .free)) a b in
     becomes-at (sym (given m1 (record-set m s 0 0 0) (o .height))) c
   where
-    hh : read m freeSegments < read m numberWord
-    hh = rw (height-length m) room
+    hh : freeHeight m q < segmentsOf m q
+    hh = rw (height-length m q) room
 
-    given : (m1 : List ℕ) → storeAll m (address (segment s 0)) (0 ∷ 0 ∷ 0 ∷ []) ≡ m1 → read m1 freeSegments ≡ read m freeSegments → released m q s
-        ≡ write (write m1 (freeSegment (read m1 freeSegments)) s) freeSegments (read m1 freeSegments + 1)
+    given : (m1 : List ℕ) → storeAll m (address (segment s 0)) (0 ∷ 0 ∷ 0 ∷ []) ≡ m1 → freeHeight m1 q ≡ freeHeight m q → released m q s
+        ≡ write (write m1 (freeSegment (freeHeight m1 q)) s) freeSegments (freeHeight m1 q + 1)
     given m1 e h =
         halt _ _ (lt-ltb _ _ (number-below z hh))
         ∙ ap₂ (λ (l : List ℕ) (i : ℕ). write (write l (freeSegment i) s) freeSegments (i + 1)) e (sym h)

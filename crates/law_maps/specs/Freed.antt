@@ -13,7 +13,7 @@ use Rattle.spec_words.specs.Words.{pick, both, true-both, both-off, both-right-
 use Rattle.spec_words.specs.Blocks.{storeAll}
 use Rattle.spec_lists.specs.Marks.{zeros}
 use Rattle.spec_lists.specs.Counting.{below?}
-use Rattle.spec_layout.specs.Layout.{freeTasks, freeTask, task, address, read, write}
+use Rattle.spec_layout.specs.Layout.{QUEUE-HEADS, HEADS, TAILS, freeTasks, freeTask, task, address, read, write}
 use Rattle.spec_rules.specs.Views.{view}
 use Rattle.spec_outcomes.specs.Views.{viewOf}
 use Rattle.spec_outcomes.specs.Finish.{recordFreed}
@@ -98,7 +98,7 @@ module _ (m : List ℕ) (t : ℕ) (z : Sized m) (ht : t < 128) where
   heads-freed q hq =
       put-path (headsIn m q) (headsIn n q) t (some 0)
       (head-at n q t hq ht ∙ ap optional (freed-word (16 + q) (omega (arith, hq))) ∙ optional-some 0 (λ e. omega (arith, e)))
-      (λ u d. head-same-at m n q u (λ a b. other-word u (16 + q) d (omega (arith, hq))))
+      (λ u d. head-same-at m n q u (λ a b. other-word u (QUEUE-HEADS + q) d (omega (arith, hq))))
 
   views-freed : (q k : ℕ) → q < 4 → k < 3 → viewIn n q k ≡ put (viewIn m q k) t zeroView
   unfolding viewOf
@@ -108,7 +108,7 @@ module _ (m : List ℕ) (t : ℕ) (z : Sized m) (ht : t < 128) where
       ∙ ap₂ (λ (x y : ℕ). extentOf (view x y)) (freed-word (20 + k * 4 + q) (omega (arith, hq, hk))) (freed-word (32 + k * 4 + q) (omega (arith, hq, hk)))
       ∙ zero-view)
       (λ u d. view-same-at m n q k u (λ a b e.
-      (other-word u (20 + k * 4 + q) d (omega (arith, hq, hk)), other-word u (32 + k * 4 + q) d (omega (arith, hq, hk)))))
+      (other-word u (HEADS + k * 4 + q) d (omega (arith, hq, hk)), other-word u (TAILS + k * 4 + q) d (omega (arith, hq, hk)))))
 
   -- THE RECORD OF t IS FREED
   pub record-freed : Means n (freedIn (meaningOf m) t)

@@ -9,7 +9,8 @@ use lib.ListN.{length, drop}
 use lib.Seq.{drop-set-lt}
 use borrow.Author.Tests.{eq-eqb, ne-eqb, lt-ltb}
 use Rattle.spec_words.specs.Words.{store, both, pass, halt}
-use Rattle.spec_layout.specs.Layout.{NONE, NL, numberWord, count, next, task, queueHead, address, read, write, recordOf}
+use Rattle.spec_layout.specs.Layout.{NONE, NL, SEGMENTS, SEGMENT-WORDS, TASKS, TASK-WORDS, QUEUE-HEADS, task, count, next, Opened, segmentsOf}
+use Rattle.spec_layout.specs.Layout.{queueHead, address, read, write, recordOf}
 use Rattle.spec_tree.specs.Tour.{MARKS, seek}
 use Rattle.spec_outcomes.specs.Segments.{indexOf, headIndex, renamed, released, linked}
 use Rattle.law_maps.specs.Meaning.{nextIn, contentsIn, freeIn, headsIn, meaningOf, storeIn, Sized}
@@ -47,17 +48,17 @@ named-same m n s t q e d =
 -- a write of a next leaves the records of the tasks
 pub next-records : (m : List ℕ) (s h : ℕ) → s < 256 → recordOf (write m (next s) h) ≡ recordOf m
 unfolding recordOf write address store
-next-records m s h hs = fun-ext λ t. drop-set-lt (1472 + t * 48) m (448 + s * 4 + 2) h (omega arith)
+next-records m s h hs = fun-ext λ t. drop-set-lt (TASKS + t * TASK-WORDS) m (SEGMENTS + s * SEGMENT-WORDS + 2) h (omega arith)
 
 -- WHAT NAMES s NAMES h
 pub head-renamed : (m : List ℕ) (s h t q : ℕ) → NamedBy m s t q → renamed m q s h ≡ write m (queueHead t q) h
 unfolding renamed
 head-renamed m s h t q d =
     halt _ _ (lt-ltb (headTask m s) 128 (rw (d .task) (d .task-range)))
-    ∙ ap (λ (x : ℕ). write m (task x (16 + headIndex m s x)) h) (d .task)
-    ∙ ap (λ (i : ℕ). write m (task t (16 + i)) h) (d .index)
+    ∙ ap (λ (x : ℕ). write m (task x (QUEUE-HEADS + headIndex m s x)) h) (d .task)
+    ∙ ap (λ (i : ℕ). write m (task t (QUEUE-HEADS + i)) h) (d .index)
 
-module _ (m : List ℕ) (q s h : ℕ) (z : Sized m) (hs : s < read m numberWord) (hh : h ≡ NONE → ⊥) where
+module _ (m : List ℕ) (q s h : ℕ) (z : Sized m) (hs : Opened m s) (hh : h ≡ NONE → ⊥) where
   next-some : Becomes m (write m (next s) h) (withNext (meaningOf m) s (some h))
   next-some = becomes-as (ap (withNext (meaningOf m) s) (optional-some h hh)) (next-written m s h z (number-below z hs))
 
@@ -69,7 +70,7 @@ module _ (m : List ℕ) (q s h : ℕ) (z : Sized m) (hs : s < read m numberWord)
       becomes-at (sym (pass _ (ne-eqb (read m (count s)) 0 (λ q. let a : 0 ≡ suc (length r) = sym q ∙ n in omega (arith, a))) refl)) next-some
 
   -- A LINK FROM AN EMPTY SEGMENT, which is freed
-  pub segment-freed : (t : ℕ) → NamedBy m s t q → contentsIn m s ≡ [] → length (freeIn m) < read m numberWord
+  pub segment-freed : (t : ℕ) → NamedBy m s t q → contentsIn m s ≡ [] → length (freeIn m) < segmentsOf m q
       → Becomes m (linked m q s h) (withHead (withFree (withNext (meaningOf m) s (some 0)) (s ∷ freeIn m)) q t (some h))
   unfolding linked
   segment-freed t d e room =
@@ -93,9 +94,9 @@ module _ (m : List ℕ) (q s h : ℕ) (z : Sized m) (hs : s < read m numberWord)
 -- BOTH AT ONCE. What the link from s to h needs: a segment, a segment's number, and, where s is empty, that it is the
 -- first segment of the queue view of queue q, which is the holder's, and that the stack of free segments has room.
 pub record Linkable (m : List ℕ) (q holder s h : ℕ) : Type 0 where
-  pub from : s < read m numberWord
+  pub from : Opened m s
   pub to : h < NL
-  pub freed : contentsIn m s ≡ [] → NamedBy m s holder q × (length (freeIn m) < read m numberWord)
+  pub freed : contentsIn m s ≡ [] → NamedBy m s holder q × (length (freeIn m) < segmentsOf m q)
 
 pub link-made : (m : List ℕ) (q holder s h : ℕ) → Sized m → Linkable m q holder s h
     → Becomes m (linked m q s h) (withStore (meaningOf m) q (storeLinked holder s h (storeIn m q)))

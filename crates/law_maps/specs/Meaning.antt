@@ -4,10 +4,11 @@
 use mathlib.Core.Path.{_≡_}
 use mathlib.Core.Option.{Option, none, some}
 use mathlib.Core.List.{List, [], _∷_}
-use Prim.Native.Nat.{ℕ, zero, suc, _*_, _<_, _≤_}
+use Prim.Native.Nat.{ℕ, zero, suc, _<_, _≤_}
 use lib.Dec.{ltb, eqb}
 use Rattle.spec_words.specs.Words.{size, pick, both}
-use Rattle.spec_layout.specs.Layout.{WORDS, NONE, NL, CHILDREN, USER, RIGHT, lengthWord, numberWord, freeSegments, freeSegment, first, count, next, queueHead, read}
+use Rattle.spec_layout.specs.Layout.{WORDS, NONE, NL, CHILDREN, USER, RIGHT, numberWord, freeSegments, freeSegment, first, count, next, lengthOf}
+use Rattle.spec_layout.specs.Layout.{Opened, ValuesFit, queueHead, read}
 use Rattle.spec_rules.specs.Views.{View, view}
 use Rattle.spec_outcomes.specs.Segments.{valueAt}
 use Rattle.spec_outcomes.specs.Views.{viewOf, isEmpty}
@@ -80,9 +81,9 @@ memoryIn m q = memoryOf (meaningOf m) q
 -- free segments, first places and counts.
 pub record Sized (m : List ℕ) : Type 0 where
   pub words : size m ≡ WORDS
-  pub length-range : (1 ≤ read m lengthWord) × (read m lengthWord ≤ 64)
+  pub length-range : (s : ℕ) → (1 ≤ lengthOf m s) × (lengthOf m s ≤ 64)
   pub number-range : (4 ≤ read m numberWord) × (read m numberWord ≤ 256)
-  pub product-range : read m lengthWord * read m numberWord ≤ 8192
+  pub product-range : ValuesFit m
   pub free-height : read m freeSegments ≤ read m numberWord
-  pub firsts : (s : ℕ) → s < read m numberWord → read m (first s) < read m lengthWord
-  pub counts : (s : ℕ) → s < read m numberWord → read m (count s) ≤ read m lengthWord
+  pub firsts : (s : ℕ) → Opened m s → read m (first s) < lengthOf m s
+  pub counts : (s : ℕ) → Opened m s → read m (count s) ≤ lengthOf m s

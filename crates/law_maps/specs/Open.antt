@@ -9,7 +9,7 @@ use lib.Dec.{ltb, eqb}
 use borrow.Author.Tests.{eq-eqb, ne-eqb, lt-ltb, le-ltb, ltb-true}
 use Rattle.spec_words.specs.Words.{load, pick, both, both-true, pass, halt}
 use Rattle.spec_lists.specs.Counting.{equal?, below?}
-use Rattle.spec_layout.specs.Layout.{NONE, NL, USER, numberWord, freeSegment, first, count, next, task, queueHead, read}
+use Rattle.spec_layout.specs.Layout.{NONE, NL, HEADS, TAILS, VIEW-WORDS, USER, numberWord, freeSegment, task, first, count, next, queueHead, read}
 use Rattle.spec_tree.specs.Queues.{by-four}
 use Rattle.spec_rules.specs.Views.{view}
 use Rattle.spec_outcomes.specs.Segments.{valueAt}
@@ -120,15 +120,15 @@ module _ (l n : ℕ) (hl : 1 ≤ l) (hl' : l ≤ 64) (hn : 4 ≤ n) (hn' : n ≤
       ∙ optional-some 0 (λ e. omega (arith, e)) ∙ sym (pass _ (ne-eqb t 0 d) refl))
       (equal? t 0))
 
-  top-word : (i j w : ℕ) → i < 28 → j ≡ 16 + i → load topViews i ≡ w → read new (task 0 j) ≡ w
+  top-word : (i j w : ℕ) → i < VIEW-WORDS → j ≡ 16 + i → load topViews i ≡ w → read new (task 0 j) ≡ w
   top-word i j w h e f = ap (λ (x : ℕ). read new (task 0 x)) e ∙ core-top l n hn hn' i h ∙ f
 
   top-kinds : (q : ℕ) → q < 4 → (k : ℕ) → k < 3 → extentOf (viewOf new q 0 k) ≡ topView q k
   unfolding viewOf pick
   top-kinds q hq zero h =
       ap₂ (λ (x y : ℕ). extentOf (view x y))
-      (top-word (4 + q) (20 + q) NONE (omega (arith, hq)) (omega arith) (top-heads q hq .0))
-      (top-word (16 + q) (32 + q) NONE (omega (arith, hq)) (omega arith) (top-tails q hq .0))
+      (top-word (4 + q) (HEADS + q) NONE (omega (arith, hq)) (omega arith) (top-heads q hq .0))
+      (top-word (16 + q) (TAILS + q) NONE (omega (arith, hq)) (omega arith) (top-tails q hq .0))
       ∙ no-view
   top-kinds q hq (suc zero) h =
       ap₂ (λ (x y : ℕ). extentOf (view x y))
@@ -168,7 +168,7 @@ module _ (l n : ℕ) (hl : 1 ≤ l) (hl' : l ≤ 64) (hn : 4 ≤ n) (hn' : n ≤
   sized-new : Sized new
   sized-new = record {
     words = size-core l n hn hn';
-    length-range = (rw (core-length l n hn hn') hl, rw (core-length l n hn hn') hl');
+    length-range = λ s. (rw (core-length l n hn hn') hl, rw (core-length l n hn hn') hl');
     number-range = (rw (core-number l n hn hn') hn, rw (core-number l n hn hn') hn');
     product-range = rw (core-length l n hn hn', core-number l n hn hn') hp;
     free-height = let a = core-height l n hn hn' in let b = core-number l n hn hn' in omega (arith, a, b);

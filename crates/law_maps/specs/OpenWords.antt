@@ -7,7 +7,8 @@ use lib.ListN.{length, replicate, length-replicate}
 use Rattle.spec_words.specs.Words.{load, size}
 use Rattle.spec_words.specs.Blocks.{storeAll, block-other, size-storeAll, block-same}
 use Rattle.spec_lists.specs.Marks.{zeros}
-use Rattle.spec_layout.specs.Layout.{WORDS, NONE, header, freeSegment, segment, task, address, read, lengthWord, numberWord, freeSegments, first, count, next}
+use Rattle.spec_layout.specs.Layout.{WORDS, NONE, SEGMENTS, SEGMENT-WORDS, TASKS, TASK-WORDS, QUEUE-HEADS, VIEW-WORDS, lengthWord, numberWord}
+use Rattle.spec_layout.specs.Layout.{freeSegments, header, freeSegment, segment, task, first, count, next, address, read}
 use Rattle.spec_tree.specs.Queues.{by-four}
 use Rattle.spec_outcomes.specs.Open.{down, emptySegment, topLinks, topViews, stacked, segmented, topped, opened}
 use Rattle.law_maps.specs.SegmentsOnly.{SegmentsOnly}
@@ -160,9 +161,9 @@ module _ (l n : ℕ) (hn : 4 ≤ n) (hn' : n ≤ 256) where
   bare-empty : (s : ℕ) → Empty bare s 0
   unfolding read address
   bare-empty s = record {
-    start = bare-zero (448 + s * 4 + 0) (omega arith);
-    number = bare-zero (448 + s * 4 + 1) (omega arith);
-    link = bare-zero (448 + s * 4 + 2) (omega arith);
+    start = bare-zero (SEGMENTS + s * SEGMENT-WORDS + 0) (omega arith);
+    number = bare-zero (SEGMENTS + s * SEGMENT-WORDS + 1) (omega arith);
+    link = bare-zero (SEGMENTS + s * SEGMENT-WORDS + 2) (omega arith);
   }
 
   first-four : (s : ℕ) → s < 4 → Empty seg4 s NONE
@@ -235,7 +236,7 @@ module _ (l n : ℕ) (hn : 4 ≤ n) (hn' : n ≤ 256) where
   pub core-other : (s : ℕ) → 4 ≤ s → s < 256 → Empty core s 0
   core-other s h b = topped-empty s 0 b (other-segments s h b)
 
-  pub core-top : (i : ℕ) → i < 28 → read core (task 0 (16 + i)) ≡ load topViews i
+  pub core-top : (i : ℕ) → i < VIEW-WORDS → read core (task 0 (QUEUE-HEADS + i)) ≡ load topViews i
   core-top i h = record-same links1 0 16 topViews (omega arith) (omega arith) size-links i h
 
   pub core-free : (u j : ℕ) → (u ≡ 0 → ⊥) → u < 128 → j < 48 → read core (task u j) ≡ 0
@@ -244,4 +245,4 @@ module _ (l n : ℕ) (hn : 4 ≤ n) (hn' : n ≤ 256) where
       record-other links1 0 16 topViews (omega arith) (omega arith) u j hj (λ e a b. d e)
       ∙ record-other seg4 0 0 topLinks (omega arith) (omega arith) u j hj (λ e a b. d e)
       ∙ four-only .same (task u j) (hu, hj)
-      ∙ bare-zero (1472 + u * 48 + j) (omega arith)
+      ∙ bare-zero (TASKS + u * TASK-WORDS + j) (omega arith)

@@ -9,7 +9,7 @@ use lib.Dec.{eqb}
 use lib.ListN.{length}
 use borrow.Author.Tests.{eq-eqb, ne-eqb}
 use Rattle.spec_words.specs.Words.{pick, either, true-left, true-right, pass, halt, neither}
-use Rattle.spec_layout.specs.Layout.{NONE, numberWord, count, next, queueHead, read, write}
+use Rattle.spec_layout.specs.Layout.{NONE, count, next, Opened, segmentsOf, queueHead, read, write}
 use Rattle.spec_outcomes.specs.Segments.{dropped, released}
 use Rattle.spec_outcomes.specs.Find.{popped}
 use Rattle.spec_lists.specs.Maps.{put, put-same}
@@ -33,7 +33,7 @@ pub memory-popped : (M : Meaning) (q t s : ℕ) (r : List ℕ) → memoryOf (pop
 unfolding memoryPopped
 memory-popped M q t s r = memory-store M q (poppedTo r (M .next s) t s (storeOf M q))
 
-module _ (m : List ℕ) (t q s w : ℕ) (r : List ℕ) (z : Sized m) (ht : t < 128) (hq : q < 4) (hs : s < read m numberWord)
+module _ (m : List ℕ) (t q s w : ℕ) (r : List ℕ) (z : Sized m) (ht : t < 128) (hq : q < 4) (hs : Opened m s)
     (eh : headsIn m q t ≡ some s) (e : contentsIn m s ≡ w ∷ r) where
   abbrev M : Meaning
   M = meaningOf m
@@ -76,7 +76,7 @@ module _ (m : List ℕ) (t q s w : ℕ) (r : List ℕ) (z : Sized m) (ht : t < 1
       gone)
 
   -- the segment is freed, and h is the first
-  is-freed : (h : ℕ) → r ≡ [] → nextIn m s ≡ some h → length (freeIn m) < read m numberWord
+  is-freed : (h : ℕ) → r ≡ [] → nextIn m s ≡ some h → length (freeIn m) < segmentsOf m q
       → Becomes m (popped m t q)
       (withStore M q (record { next = put (M .next) s (some 0); contents = put (M .contents) s []; heads = put (M .heads q) t (some h); free = s ∷ M .free }))
   is-freed h er en room =
@@ -96,7 +96,7 @@ module _ (m : List ℕ) (t q s w : ℕ) (r : List ℕ) (z : Sized m) (ht : t < 1
       all)
 
   -- THE FIRST VALUE IS GONE. Where a segment is freed, the stack of free segments has room.
-  pub value-popped : (r ≡ [] → (h : ℕ) → nextIn m s ≡ some h → length (freeIn m) < read m numberWord) → Becomes m (popped m t q) (poppedIn M q t s r)
+  pub value-popped : (r ≡ [] → (h : ℕ) → nextIn m s ≡ some h → length (freeIn m) < segmentsOf m q) → Becomes m (popped m t q) (poppedIn M q t s r)
   value-popped room = go r refl (nextIn m s) refl
     where
       with-values : (xs : List ℕ) → Meaning

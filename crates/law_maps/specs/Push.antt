@@ -4,7 +4,7 @@ use mathlib.Core.Option.{none, some}
 use mathlib.Core.List.{List, [], _∷_}
 use Prim.Native.Nat.{ℕ, _<_}
 use native.Mathlib.Omega.{arith}
-use Rattle.spec_layout.specs.Layout.{NONE, NL, USER, numberWord, head, tail, next, read, write}
+use Rattle.spec_layout.specs.Layout.{NONE, NL, USER, next, Opened, head, tail, read, write}
 use Rattle.spec_rules.specs.Views.{view}
 use Rattle.spec_outcomes.specs.Segments.{nextFree, taken}
 use Rattle.spec_outcomes.specs.Views.{viewOf, setView, joined}
@@ -32,7 +32,7 @@ abbrev pub apartIn : Meaning → ℕ → ℕ → ℕ → ℕ → ℕ → ℕ →
 apartIn M q holder t k u g rest v =
     withView (joinedIn (takenIn M g rest v) q holder k u (extent (local g) nonlocal)) q USER t (extent nonlocal (local g))
 
-module _ (m : List ℕ) (t q v g : ℕ) (rest : List ℕ) (z : Sized m) (ht : t < 128) (hq : q < 4) (ef : freeIn m ≡ g ∷ rest) (hg : g < read m numberWord) where
+module _ (m : List ℕ) (t q v g : ℕ) (rest : List ℕ) (z : Sized m) (ht : t < 128) (hq : q < 4) (ef : freeIn m ≡ g ∷ rest) (hg : Opened m g) where
   abbrev M : Meaning
   M = meaningOf m
 
@@ -49,7 +49,7 @@ module _ (m : List ℕ) (t q v g : ℕ) (rest : List ℕ) (z : Sized m) (ht : t 
   not-far e = let a = number-below z hg in omega (arith, a, e)
 
   -- A NEW SEGMENT BEHIND e
-  pub pushed-behind : (e : ℕ) (h x : End) → e < read m numberWord → viewIn m q USER t ≡ extent h x
+  pub pushed-behind : (e : ℕ) (h x : End) → Opened m e → viewIn m q USER t ≡ extent h x
       → Becomes m (write (write n (next e) (nextFree m q)) (tail USER t q) (nextFree m q)) (behindIn M q t h e g rest v)
   pushed-behind e h x he ev =
       let n1 = write n (next e) g in

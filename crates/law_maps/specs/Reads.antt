@@ -9,7 +9,7 @@ use native.Mathlib.Omega.{arith}
 use lib.Dec.{ltb}
 use borrow.Author.Tests.{lt-ltb, ltb-true}
 use Rattle.spec_words.specs.Words.{pick, both, both-true, true-both, halt}
-use Rattle.spec_layout.specs.Layout.{lengthWord, freeSegments, freeSegment, value, first, count, next, head, tail, queueHead, task, read}
+use Rattle.spec_layout.specs.Layout.{freeSegments, freeSegment, task, value, first, count, next, lengthOf, valueWord, queueHead, head, tail, read}
 use Rattle.spec_rules.specs.Views.{view}
 use Rattle.spec_outcomes.specs.Segments.{place, valueAt}
 use Rattle.spec_outcomes.specs.Views.{viewOf}
@@ -58,7 +58,7 @@ unfolding viewIn
 view-at m q k t hq hk ht = halt _ _ (true-both (lt-ltb _ _ hq) (true-both (lt-ltb _ _ hk) (lt-ltb _ _ ht)))
 
 -- a value by its word
-pub value-word : (m : List ℕ) (s k l f : ℕ) → read m lengthWord ≡ l → read m (first s) ≡ f → valueAt m s k ≡ read m (value (s * l + place l f k))
+pub value-word : (m : List ℕ) (s k l f : ℕ) → lengthOf m s ≡ l → read m (first s) ≡ f → valueAt m s k ≡ read m (value (s * l + place l f k))
 unfolding valueAt
 value-word m s k l f el ef = ap₂ (λ (x y : ℕ). read m (value (s * x + place x y k))) el ef
 
@@ -71,13 +71,13 @@ module _ (m n : List ℕ) where
   pub next-same : ((s : ℕ) → s < 256 → read n (next s) ≡ read m (next s)) → nextIn n ≡ nextIn m
   next-same h = fun-ext λ s. next-same-at s (h s)
 
-  pub value-same : (s k : ℕ) → read n lengthWord ≡ read m lengthWord → read n (first s) ≡ read m (first s)
-      → (let i = s * read m lengthWord + place (read m lengthWord) (read m (first s)) k in read n (value i) ≡ read m (value i)) → valueAt n s k ≡ valueAt m s k
+  pub value-same : (s k : ℕ) → lengthOf n s ≡ lengthOf m s → read n (first s) ≡ read m (first s)
+      → (let f = valueWord m s (place (lengthOf m s) (read m (first s)) k) in read n f ≡ read m f) → valueAt n s k ≡ valueAt m s k
   value-same s k el ef h = value-word n s k _ _ el ef ∙ h ∙ sym (value-word m s k _ _ refl refl)
 
-  pub contents-same-at : (s : ℕ) → read n lengthWord ≡ read m lengthWord
+  pub contents-same-at : (s : ℕ) → lengthOf n s ≡ lengthOf m s
       → (s < 256 → (read n (first s) ≡ read m (first s)) × (read n (count s) ≡ read m (count s)))
-      → ((k : ℕ) → let i = s * read m lengthWord + place (read m lengthWord) (read m (first s)) k in read n (value i) ≡ read m (value i))
+      → ((k : ℕ) → let f = valueWord m s (place (lengthOf m s) (read m (first s)) k) in read n f ≡ read m f)
       → contentsIn n s ≡ contentsIn m s
   unfolding contentsIn
   contents-same-at s el hs hv =
@@ -85,10 +85,10 @@ module _ (m n : List ℕ) where
       let h = hs (ltb-true _ _ b) in
       ap (listed (valueAt n s)) (h .1) ∙ listed-path (valueAt m s) (valueAt n s) (read m (count s)) (λ k l. value-same s k el (h .0) (hv k)))
 
-  pub contents-same : read n lengthWord ≡ read m lengthWord
+  pub contents-same : ((s : ℕ) → lengthOf n s ≡ lengthOf m s)
       → ((s : ℕ) → s < 256 → (read n (first s) ≡ read m (first s)) × (read n (count s) ≡ read m (count s)))
       → ((i : ℕ) → read n (value i) ≡ read m (value i)) → contentsIn n ≡ contentsIn m
-  contents-same el hs hv = fun-ext λ s. contents-same-at s el (hs s) (λ k. hv _)
+  contents-same el hs hv = fun-ext λ s. contents-same-at s (el s) (hs s) (λ k. hv _)
 
   pub free-same : read n freeSegments ≡ read m freeSegments → ((i : ℕ) → i < read m freeSegments → read n (freeSegment i) ≡ read m (freeSegment i))
       → freeIn n ≡ freeIn m

@@ -109,7 +109,8 @@ module _ (m : List ℕ) (q t k holder : ℕ) (z : Sized m) (hq : q < 4) (hk : k 
         (λ e. becomes-at (sym (ap end (unlinked (both-right-off (ltb x NL) (le-ltb g NL (omega (arith, e)))))))
         (becomes-as (ap₂ After (sym (end-local x n)) (sym (end-nonlocal g e))) tail-taken))
         (λ d. let c = subst₂ (λ (w u : End). Links m q holder (extent (endOf h) w) (extent u (endOf y))) (end-local x n) (end-local g d) l in
-        becomes-at (sym (ap end (halt (linked m q x g) m (true-both (lt-ltb x NL (let a = number-below z (c .from) in omega (arith, a))) (lt-ltb g NL (c .to))))))
+        becomes-at
+        (sym (ap end (halt (linked m q x g) m (true-both (lt-ltb x NL (let a = number-below z (c .from) in omega (arith, a))) (lt-ltb g NL (c .to))))))
         (becomes-as (ap₂ After (sym (end-local x n)) (sym (end-local g d))) (tail-linked c)))
         (equal? g NL))
         (equal? x NL)

@@ -8,7 +8,7 @@ use native.Mathlib.Omega.{arith}
 use native.Mathlib.Nat.{mul-le-mul-right}
 use lib.ListN.{length}
 use Rattle.spec_lists.specs.Counting.{below?}
-use Rattle.spec_layout.specs.Layout.{lengthWord, value, first, count, address, read, write}
+use Rattle.spec_layout.specs.Layout.{value, first, count, lengthOf, valueWord, address, read, write}
 use Rattle.spec_outcomes.specs.Segments.{place, valueAt}
 use Rattle.spec_outcomes.specs.Places.{place-low, place-high, place-below}
 use Rattle.spec_lists.specs.Maps.{put}
@@ -68,13 +68,14 @@ pub count-length : (m : List ℕ) (s : ℕ) → s < 256 → read m (count s) ≡
 count-length m s h = sym (ap length (contents-at m s h) ∙ listed-length (valueAt m s) (read m (count s)))
 
 -- THE VALUES OF ALL SEGMENTS where only segment s has changed
-pub contents-changed : (m n : List ℕ) (s : ℕ) (xs : List ℕ) → 1 ≤ read m lengthWord → read n lengthWord ≡ read m lengthWord → contentsIn n s ≡ xs
+pub contents-changed : (m n : List ℕ) (s : ℕ) (xs : List ℕ) → ((t : ℕ) → 1 ≤ lengthOf m t) → ((t : ℕ) → lengthOf n t ≡ lengthOf m t)
+    → contentsIn n s ≡ xs
     → ((t : ℕ) → t < 256 → (t ≡ s → ⊥) → (read n (first t) ≡ read m (first t)) × (read n (count t) ≡ read m (count t)))
-    → ((t i : ℕ) → (t ≡ s → ⊥) → i < read m lengthWord → read n (value (t * read m lengthWord + i)) ≡ read m (value (t * read m lengthWord + i)))
+    → ((t i : ℕ) → (t ≡ s → ⊥) → i < lengthOf m t → read n (valueWord m t i) ≡ read m (valueWord m t i))
     → contentsIn n ≡ put (contentsIn m) s xs
 contents-changed m n s xs hl el e hs hv =
     put-path (contentsIn m) (contentsIn n) s xs e (λ t d.
-    contents-same-at m n t el (λ l. hs t l d) (λ k. hv t _ d (place-below (read m lengthWord) (read m (first t)) k hl)))
+    contents-same-at m n t (el t) (λ l. hs t l d) (λ k. hv t _ d (place-below (lengthOf m t) (read m (first t)) k (hl t))))
 
 -- a value stored in segment s is in no other
 pub value-elsewhere : (m : List ℕ) (l s t i j v : ℕ) → (t ≡ s → ⊥) → i < l → j < l

@@ -7,7 +7,8 @@ use Prim.Native.Nat.{ℕ, suc, _+_, _*_, _<_, _≤_}
 use native.Mathlib.Omega.{arith}
 use native.Mathlib.Nat.{mul-le-mul-left}
 use Rattle.spec_lists.specs.Counting.{equal?}
-use Rattle.spec_layout.specs.Layout.{lengthWord, numberWord, freeSegments, freeSegment, segment, value, first, count, next, address, read, write}
+use Rattle.spec_layout.specs.Layout.{lengthWord, numberWord, freeSegments, freeSegment, segment, value, first, count, next, lengthOf, valueWord}
+use Rattle.spec_layout.specs.Layout.{Opened, address, read, write}
 use Rattle.spec_layout.specs.Frame.{read-same}
 use Rattle.spec_lists.specs.Maps.{put}
 use Rattle.law_maps.specs.Meaning.{optional, nextIn, contentsIn, freeIn, meaningOf, Sized}
@@ -24,10 +25,10 @@ pub record OnlySegment (m n : List ℕ) (s : ℕ) : Type 0 where
   pub height : read n freeSegments ≡ read m freeSegments
   pub stack : (i : ℕ) → i < 256 → read n (freeSegment i) ≡ read m (freeSegment i)
   pub records : (t k : ℕ) → t < 256 → k < 4 → (t ≡ s → ⊥) → read n (segment t k) ≡ read m (segment t k)
-  pub values : (t i : ℕ) → (t ≡ s → ⊥) → i < read m lengthWord → read n (value (t * read m lengthWord + i)) ≡ read m (value (t * read m lengthWord + i))
+  pub values : (t i : ℕ) → (t ≡ s → ⊥) → i < lengthOf m t → read n (valueWord m t i) ≡ read m (valueWord m t i)
 
-pub same-length : {m n : List ℕ} → SegmentsOnly m n → read n lengthWord ≡ read m lengthWord
-same-length o = o .same lengthWord (omega arith, λ q. omega (arith, q))
+pub same-length : {m n : List ℕ} → SegmentsOnly m n → (s : ℕ) → lengthOf n s ≡ lengthOf m s
+same-length o s = o .same lengthWord (omega arith, λ q. omega (arith, q))
 
 pub segment-then : {m n p : List ℕ} {s : ℕ} → OnlySegment m n s → OnlySegment n p s → OnlySegment m p s
 segment-then {m} {n} {p} {s} a b =
@@ -39,8 +40,8 @@ segment-then {m} {n} {p} {s} a b =
       values = λ t i d l. values t i d l ∙ a .values t i d l;
     }
   where
-    values : (t i : ℕ) → (t ≡ s → ⊥) → i < read m lengthWord → read p (value (t * read m lengthWord + i)) ≡ read n (value (t * read m lengthWord + i))
-    values t i d l = let e = same-length (a .only) in rw e at (b .values t i d (rw e l))
+    values : (t i : ℕ) → (t ≡ s → ⊥) → i < lengthOf m t → read p (valueWord m t i) ≡ read n (valueWord m t i)
+    values t i d l = let e = same-length (a .only) t in rw e at (b .values t i d (rw e l))
 
 -- two words of the records of segments
 pub segment-other : (m : List ℕ) (s k t j v : ℕ) → k < 4 → j < 4 → (t ≡ s → j ≡ k → ⊥) → read (write m (segment s k) v) (segment t j) ≡ read m (segment t j)
@@ -57,34 +58,34 @@ record-written m s k v hs hk =
       height = read-away m (segment s k) freeSegments v (λ e. omega (arith, e));
       stack = λ i l. read-away m (segment s k) (freeSegment i) v (λ e. omega (arith, e, l));
       records = λ t j l g d. segment-other m s k t j v hk g (λ e f. d e);
-      values = λ t i d l. read-away m (segment s k) (value (t * read m lengthWord + i)) v (λ e. omega (arith, e, hs, hk));
+      values = λ t i d l. read-away m (segment s k) (valueWord m t i) v (λ e. omega (arith, e, hs, hk));
     }
 
-pub value-written : (m : List ℕ) (s i v : ℕ) → i < read m lengthWord → OnlySegment m (write m (value (s * read m lengthWord + i)) v) s
+pub value-written : (m : List ℕ) (s i v : ℕ) → i < lengthOf m s → OnlySegment m (write m (valueWord m s i) v) s
 unfolding address
 value-written m s i v hi =
-    let a = s * read m lengthWord + i in
+    let a = s * lengthOf m s + i in
     record {
       only = value-only m a v;
       height = read-away m (value a) freeSegments v (λ e. omega (arith, e));
       stack = λ j l. read-away m (value a) (freeSegment j) v (λ e. omega (arith, e, l));
       records = λ t k l g d. read-away m (value a) (segment t k) v (λ e. omega (arith, e, l, g));
-      values = λ t j d l. value-elsewhere m (read m lengthWord) s t i j v d hi l;
+      values = λ t j d l. value-elsewhere m (lengthOf m s) s t i j v d hi l;
     }
 
 -- the value area has the words of every segment
-pub value-inside : (m : List ℕ) (s i : ℕ) → Sized m → s < read m numberWord → i < read m lengthWord → s * read m lengthWord + i < 8192
+pub value-inside : (m : List ℕ) (s i : ℕ) → Sized m → Opened m s → i < lengthOf m s → s * lengthOf m s + i < 8192
 value-inside m s i z hs hi =
-    let a : read m lengthWord * suc s ≤ read m lengthWord * read m numberWord = mul-le-mul-left (read m lengthWord) hs in
+    let a : lengthOf m s * suc s ≤ lengthOf m s * read m numberWord = mul-le-mul-left (lengthOf m s) hs in
     let b = z .product-range in
     omega (arith, a, b, hi)
 
-pub number-below : {m : List ℕ} {s : ℕ} → Sized m → s < read m numberWord → s < 256
+pub number-below : {m : List ℕ} {s : ℕ} → Sized m → Opened m s → s < 256
 number-below z h = let a = z .number-range .1 in omega (arith, a, h)
 
 -- WHAT IT DOES to the segments
 module _ (m n : List ℕ) (s : ℕ) (z : Sized m) (hs : s < 256) (o : OnlySegment m n s) where
-  pub segment-sized : (s < read m numberWord → (read n (first s) < read m lengthWord) × (read n (count s) ≤ read m lengthWord)) → Sized n
+  pub segment-sized : (Opened m s → (read n (first s) < lengthOf m s) × (read n (count s) ≤ lengthOf m s)) → Sized n
   segment-sized h =
       segments-sized (o .only) z (rw (o .height) (z .free-height))
       (λ t l. ⊎-elim (λ e. rw e (h (rw e at l) .0)) (λ d. rw (o .records t 0 (number-below z l) (omega arith) d) (z .firsts t l)) (equal? t s))
@@ -95,7 +96,7 @@ module _ (m n : List ℕ) (s : ℕ) (z : Sized m) (hs : s < 256) (o : OnlySegmen
 
   pub values-changed : (xs : List ℕ) → contentsIn n s ≡ xs → contentsIn n ≡ put (contentsIn m) s xs
   values-changed xs e =
-      contents-changed m n s xs (z .length-range .0) (same-length (o .only)) e
+      contents-changed m n s xs (λ t. z .length-range t .0) (same-length (o .only)) e
       (λ t l d. (o .records t 0 l (omega arith) d, o .records t 1 l (omega arith) d))
       (o .values)
 

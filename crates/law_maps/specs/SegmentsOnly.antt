@@ -3,8 +3,8 @@ use mathlib.Core.Path.{_≡_, _∙_}
 use mathlib.Core.List.{List}
 use Prim.Native.Nat.{ℕ, _<_, _≤_}
 use native.Mathlib.Omega.{arith}
-use Rattle.spec_layout.specs.Layout.{Field, header, freeSegment, freeTask, segment, task, value, address, read, write, lengthWord, numberWord, freeSegments}
-use Rattle.spec_layout.specs.Layout.{freeTasks, first, count}
+use Rattle.spec_layout.specs.Layout.{Field, lengthWord, numberWord, freeSegments, freeTasks, header, freeSegment, freeTask, segment, task, value}
+use Rattle.spec_layout.specs.Layout.{first, count, lengthOf, Opened, address, read, write}
 use Rattle.law_maps.specs.Meaning.{Meaning, meaningOf, Sized, nextIn, contentsIn, freeIn, headsIn, viewIn}
 use Rattle.law_maps.specs.Update.{meaning-path}
 use Rattle.law_maps.specs.Reads.{heads-same, views-same}
@@ -52,12 +52,12 @@ value-only m i v =
     write-only m (value i) v (λ f h e. let a = beside-segments f h .3 in omega (arith, a, e))
 
 pub segments-sized : {m n : List ℕ} → SegmentsOnly m n → Sized m → read n freeSegments ≤ read m numberWord
-    → ((s : ℕ) → s < read m numberWord → read n (first s) < read m lengthWord) → ((s : ℕ) → s < read m numberWord → read n (count s) ≤ read m lengthWord)
+    → ((s : ℕ) → Opened m s → read n (first s) < lengthOf m s) → ((s : ℕ) → Opened m s → read n (count s) ≤ lengthOf m s)
     → Sized n
 segments-sized {m} {n} o z a b c =
     record {
       words = o .words ∙ z .words;
-      length-range = (rw length (z .length-range .0), rw length (z .length-range .1));
+      length-range = λ s. (rw length (z .length-range s .0), rw length (z .length-range s .1));
       number-range = (rw number (z .number-range .0), rw number (z .number-range .1));
       product-range = rw (length, number) (z .product-range);
       free-height = rw number a;
@@ -78,7 +78,7 @@ segments-become {m} {n} {M} o z a b c d e =
     record {
       kept = record {
         words = o .words;
-        length = o .same lengthWord (omega arith, λ q. omega (arith, q));
+        length = λ s. o .same lengthWord (omega arith, λ q. omega (arith, q));
         number = o .same numberWord (omega arith, λ q. omega (arith, q));
         links = λ t k h l. o .same (task t k) (h, omega (arith, l));
         idle-height = o .same freeTasks (omega arith, λ q. omega (arith, q));

@@ -10,7 +10,7 @@ use lib.Dec.{ltb}
 use borrow.Author.Tests.{lt-ltb, le-ltb}
 use Rattle.spec_words.specs.Words.{load, pick, pass, halt}
 use Rattle.spec_lists.specs.Counting.{equal?, below?}
-use Rattle.spec_layout.specs.Layout.{NONE, YOUNGEST, CHILDREN, USER, RIGHT, task, head, tail, queueHead, read}
+use Rattle.spec_layout.specs.Layout.{NONE, YOUNGEST, HEADS, TAILS, VIEW-WORDS, CHILDREN, USER, RIGHT, task, queueHead, head, tail, read}
 use Rattle.spec_tree.specs.Rights.{pops, uses}
 use Rattle.spec_rules.specs.Views.{view}
 use Rattle.spec_outcomes.specs.Views.{viewOf}
@@ -100,15 +100,15 @@ module _ (m : List ℕ) (t r c : ℕ) (z : Sized m) (ht : t < 128) (hc : c < 128
         (equal? u c))
 
     -- THE VIEWS of the child
-    child-word : (i j : ℕ) → i < 28 → j ≡ 16 + i → read n (task c j) ≡ load (childViews m t r) i
+    child-word : (i j : ℕ) → i < VIEW-WORDS → j ≡ 16 + i → read n (task c j) ≡ load (childViews m t r) i
     child-word i j h e = ap (λ (x : ℕ). read n (task c x)) e ∙ made-child m t r c (z .words) ht hc apart ho i h
 
-    child-none : (k i j : ℕ) → k < 3 → i < 28 → j < 28 → 20 + k * 4 + q ≡ 16 + i → 32 + k * 4 + q ≡ 16 + j
+    child-none : (k i j : ℕ) → k < 3 → i < VIEW-WORDS → j < 28 → 20 + k * 4 + q ≡ 16 + i → 32 + k * 4 + q ≡ 16 + j
         → load (childViews m t r) i ≡ NONE → load (childViews m t r) j ≡ NONE → viewIn n q k c ≡ vacant
     unfolding viewOf
     child-none k i j hk hi hj ei ej a b =
         view-at n q k c hq hk hc
-        ∙ ap₂ (λ (x y : ℕ). extentOf (view x y)) (child-word i (20 + k * 4 + q) hi ei ∙ a) (child-word j (32 + k * 4 + q) hj ej ∙ b)
+        ∙ ap₂ (λ (x y : ℕ). extentOf (view x y)) (child-word i (HEADS + k * 4 + q) hi ei ∙ a) (child-word j (TAILS + k * 4 + q) hj ej ∙ b)
         ∙ no-view
 
     child-user : viewIn n q USER c ≡ pick (uses r q) (viewIn m q USER t) vacant

@@ -10,7 +10,8 @@ use lib.Seq.{getD-append-add}
 use borrow.Author.Tests.{eqb-false}
 use Rattle.spec_words.specs.Words.{load, size, pick}
 use Rattle.spec_words.specs.Blocks.{storeAll, size-storeAll}
-use Rattle.spec_layout.specs.Layout.{WORDS, NONE, UNFINISHED, YOUNGER, YOUNGEST, USER, task, head, tail, queueHead, address, read, write}
+use Rattle.spec_layout.specs.Layout.{WORDS, NONE, YOUNGER, YOUNGEST, UNFINISHED, QUEUE-HEADS, VIEW-WORDS, USER, task, queueHead, head, tail, address}
+use Rattle.spec_layout.specs.Layout.{read, write}
 use Rattle.spec_tree.specs.Queues.{by-four}
 use Rattle.spec_outcomes.specs.Spawn.{forQueues, passedUser, passedQueue, keptUser, keptQueue, noWords, childViews, passedOn, childMade, queues-four}
 use Rattle.law_maps.specs.TasksOnly.{TasksOnly, word-only, block-only}
@@ -192,7 +193,7 @@ module _ (m : List ℕ) (t r c : ℕ) (z : size m ≡ WORDS) (ht : t < 128) (hc 
       last-two u j a b ∙ passed-other viewed t r size-viewed ht u j b (λ e f g. d e) (λ e f g. d e) (λ e f g. d e) ∙ viewed-other u j n b
 
   -- the child
-  pub made-child : (i : ℕ) → i < 28 → read (childMade m t r c) (task c (16 + i)) ≡ load (childViews m t r) i
+  pub made-child : (i : ℕ) → i < VIEW-WORDS → read (childMade m t r c) (task c (QUEUE-HEADS + i)) ≡ load (childViews m t r) i
   made-child i h =
       last-two c (16 + i) (omega arith) (omega (arith, h))
       ∙ passed-other viewed t r size-viewed ht c (16 + i) (omega (arith, h)) (λ e f g. apart e) (λ e f g. apart e) (λ e f g. apart e)

@@ -5,8 +5,8 @@ use Prim.Native.Nat.{ℕ, _+_, _*_, _<_, _≤_}
 use native.Mathlib.Omega.{arith}
 use lib.ListN.{length as len}
 use Rattle.spec_words.specs.Blocks.{storeAll, block-other, size-storeAll}
-use Rattle.spec_layout.specs.Layout.{Field, header, freeSegment, freeTask, segment, task, value, address, read, write, lengthWord, numberWord, freeSegments}
-use Rattle.spec_layout.specs.Layout.{freeTasks, first, count}
+use Rattle.spec_layout.specs.Layout.{TASKS, TASK-WORDS, Field, lengthWord, numberWord, freeSegments, freeTasks, header, freeSegment, freeTask}
+use Rattle.spec_layout.specs.Layout.{segment, task, value, first, count, Opened, address, read, write}
 use Rattle.law_maps.specs.Meaning.{Meaning, meaningOf, Sized, nextIn, contentsIn, freeIn, headsIn, viewIn}
 use Rattle.law_maps.specs.Update.{meaning-path}
 use Rattle.law_maps.specs.Reads.{next-same, contents-same, free-same}
@@ -53,8 +53,8 @@ pub block-only : (m : List ℕ) (t k : ℕ) (ws : List ℕ) → t < 128 → k + 
 unfolding address read
 block-only m t k ws a b =
     record {
-      words = size-storeAll m (1472 + t * 48 + k) ws;
-      same = λ f h. block-other ws m (1472 + t * 48 + k) (address f) (λ j l e. beside-tasks f h .2 (omega (arith, e)) (omega (arith, e, a, b, l)));
+      words = size-storeAll m (TASKS + t * TASK-WORDS + k) ws;
+      same = λ f h. block-other ws m (TASKS + t * TASK-WORDS + k) (address f) (λ j l e. beside-tasks f h .2 (omega (arith, e)) (omega (arith, e, a, b, l)));
     }
 
 -- so the segments are kept, and what is left to show is what becomes of heads and views
@@ -64,7 +64,7 @@ tasks-mean {m} {n} {M} o z a b c d e =
     record {
       sized = record {
         words = o .words ∙ z .words;
-        length-range = (rw length (z .length-range .0), rw length (z .length-range .1));
+        length-range = λ s. (rw length (z .length-range s .0), rw length (z .length-range s .1));
         number-range = (rw number (z .number-range .0), rw number (z .number-range .1));
         product-range = rw (length, number) (z .product-range);
         free-height = rw (height, number) (z .free-height);
@@ -73,7 +73,7 @@ tasks-mean {m} {n} {M} o z a b c d e =
       };
       means = meaning-path (meaningOf n) M
           (next-same m n (λ s l. o .same (segment s 2) (l, omega arith)) ∙ a)
-          (contents-same m n length (λ s l. (o .same (first s) (l, omega arith), o .same (count s) (l, omega arith))) (λ i. o .same (value i) tt) ∙ b)
+          (contents-same m n (λ s. length) (λ s l. (o .same (first s) (l, omega arith), o .same (count s) (l, omega arith))) (λ i. o .same (value i) tt) ∙ b)
           (free-same m n height (λ i l. o .same (freeSegment i) (let h = z .free-height in let k = z .number-range .1 in omega (arith, l, h, k))) ∙ c)
           d
           e;
@@ -88,7 +88,7 @@ tasks-mean {m} {n} {M} o z a b c d e =
     height : read n freeSegments ≡ read m freeSegments
     height = o .same freeSegments (omega arith, λ q. omega (arith, q))
 
-    below : (s : ℕ) → s < read m numberWord → s < 256
+    below : (s : ℕ) → Opened m s → s < 256
     below s l = let k = z .number-range .1 in omega (arith, l, k)
 
 -- THE OPERATIONS ON VIEWS leave alone what is no word of a view of the tasks.
@@ -103,7 +103,7 @@ BesideViews (value i) = Unit {0}
 abbrev pub ViewsOnly : List ℕ → List ℕ → Type 0
 ViewsOnly = Only BesideViews
 
-pub beside-views : (f : Field) → BesideViews f → (t k : ℕ) → t < 128 → 16 ≤ k → k < 48 → address f ≡ 1472 + t * 48 + k → ⊥
+pub beside-views : (f : Field) → BesideViews f → (t k : ℕ) → t < 128 → 16 ≤ k → k < 48 → address f ≡ TASKS + t * TASK-WORDS + k → ⊥
 unfolding address
 beside-views (header j) h t k a b c e = omega arith
 beside-views (freeSegment i) h t k a b c e = omega arith
@@ -135,7 +135,7 @@ views-become {m} {n} {M} o z a b c d e =
     record {
       kept = record {
         words = o .words;
-        length = o .same lengthWord (omega arith);
+        length = λ s. o .same lengthWord (omega arith);
         number = o .same numberWord (omega arith);
         links = λ t k h l. o .same (task t k) (h, l);
         idle-height = o .same freeTasks (omega arith);

@@ -5,7 +5,7 @@ use Prim.Native.Nat.{ℕ, zero, suc, _+_, _-_, _*_, _<_, _≤_}
 use native.Mathlib.Omega.{arith}
 use native.Mathlib.Numerals.{add-one}
 use lib.ListN.{length}
-use Rattle.spec_layout.specs.Layout.{lengthWord, numberWord, segment, value, first, count, address, read, write}
+use Rattle.spec_layout.specs.Layout.{segment, value, first, count, lengthOf, Opened, address, read, write}
 use Rattle.spec_layout.specs.Frame.{read-same, size-write}
 use Rattle.spec_outcomes.specs.Segments.{place, valueAt, stored, dropped}
 use Rattle.spec_outcomes.specs.Places.{place-below}
@@ -19,18 +19,18 @@ use Rattle.law_maps.specs.Segment.{OnlySegment, segment-then, segment-ot
 use Rattle.law_maps.specs.Segment.{segment-sized, values-changed, free-kept}
 
 -- A VALUE STORED at the end of segment s
-pub value-stored : (m : List ℕ) (s v : ℕ) → Sized m → s < read m numberWord → read m (count s) < read m lengthWord
+pub value-stored : (m : List ℕ) (s v : ℕ) → Sized m → Opened m s → read m (count s) < lengthOf m s
     → Becomes m (stored m s v) (withContents (meaningOf m) s (contentsIn m s ++ v ∷ []))
 unfolding stored address
 value-stored m s v z hs hc =
-    let l = read m lengthWord in
+    let l = lengthOf m s in
     let f = read m (first s) in
     let c = read m (count s) in
     let a = s * l + place l f c in
     let m1 = write m (value a) v in
     let n = write m1 (count s) (c + 1) in
     let hs' : s < 256 = number-below z hs in
-    let hp : place l f c < l = place-below l f c (z .length-range .0) in
+    let hp : place l f c < l = place-below l f c (z .length-range s .0) in
     let o : OnlySegment m n s = segment-then (value-written m s (place l f c) v hp) (record-written m1 s 1 (c + 1) hs' (omega arith)) in
     let words : (t k : ℕ) → t < 256 → k < 4 → (k ≡ 1 → ⊥) → read n (segment t k) ≡ read m (segment t k) = λ t k g j e.
     segment-other m1 s 1 t k (c + 1) (omega arith) j (λ p q. e q) ∙ read-away m (value a) (segment t k) v (λ w. omega (arith, w, g, j)) in
@@ -43,10 +43,10 @@ value-stored m s v z hs hc =
     (values-changed m n s z hs' o _
     (contents-at n s hs' ∙ ap (listed (valueAt n s)) (number ∙ add-one c) ∙ listed-last (valueAt n s) c
     ∙ ap₂ (λ (x : List ℕ) (y : ℕ). x ++ y ∷ [])
-    (listed-path (valueAt m s) (valueAt n s) c (λ k g. value-same m n s k (same-length (o .only)) start
+    (listed-path (valueAt m s) (valueAt n s) c (λ k g. value-same m n s k (same-length (o .only) s) start
     (vals _ ∙ read-away m (value a) (value (s * l + place l f k)) v (λ e. place-apart l f k c (z .firsts s hs) g hc (omega (arith, e)))))
     ∙ sym (contents-at m s hs'))
-    (value-word n s c l f (same-length (o .only)) start ∙ vals a ∙ read-same m (value a) v (z .words) (value-inside m s _ z hs hp))))
+    (value-word n s c l f (same-length (o .only) s) start ∙ vals a ∙ read-same m (value a) v (z .words) (value-inside m s _ z hs hp))))
     (free-kept m n s z hs' o) refl refl
 
 -- a segment with a first value
@@ -61,11 +61,11 @@ first-value m s w r hs e =
     (j .2, count-length m s hs ∙ ap length e)
 
 -- THE FIRST VALUE of segment s DROPPED
-pub value-dropped : (m : List ℕ) (s w : ℕ) (r : List ℕ) → Sized m → s < read m numberWord → contentsIn m s ≡ w ∷ r
+pub value-dropped : (m : List ℕ) (s w : ℕ) (r : List ℕ) → Sized m → Opened m s → contentsIn m s ≡ w ∷ r
     → Becomes m (dropped m s) (withContents (meaningOf m) s r)
 unfolding dropped address
 value-dropped m s w r z hs e =
-    let l = read m lengthWord in
+    let l = lengthOf m s in
     let f = read m (first s) in
     let c = read m (count s) in
     let m1 = write m (first s) (place l f 1) in
@@ -82,13 +82,13 @@ value-dropped m s w r z hs e =
     let fewer : c - 1 ≡ j .0 = let a = j .1 in omega (arith, a) in
     let most : c ≤ l = z .counts s hs in
     segments-become (o .only)
-    (segment-sized m n s z hs' o (λ g. (rw start (place-below l f 1 (z .length-range .0)), rw number (omega (arith, most)))))
+    (segment-sized m n s z hs' o (λ g. (rw start (place-below l f 1 (z .length-range s .0)), rw number (omega (arith, most)))))
     (next-same m n (λ t g. segment-other m1 s 1 t 2 (c - 1) (omega arith) (omega arith) (λ p q. omega (arith, q))
     ∙ segment-other m s 0 t 2 (place l f 1) (omega arith) (omega arith) (λ p q. omega (arith, q))))
     (values-changed m n s z hs' o _
     (contents-at n s hs' ∙ ap (listed (valueAt n s)) (number ∙ fewer)
     ∙ listed-path (λ k. valueAt m s (suc k)) (valueAt n s) (j .0) (λ k g.
-    value-word n s k l _ (same-length (o .only)) start
+    value-word n s k l _ (same-length (o .only) s) start
     ∙ ap (λ (i : ℕ). read n (value (s * l + i))) (place-next l f k (z .firsts s hs) (let a = j .1 in omega (arith, a, g, most)))
     ∙ vals _
     ∙ sym (value-word m s (suc k) l f refl refl))

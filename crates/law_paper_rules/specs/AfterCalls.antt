@@ -13,7 +13,7 @@ use mathlib.Core.Logic.{_⊎_, _↔_, inl, inr, ⊎-elim}
 use Prim.Native.Nat.{ℕ, _+_, _<_, _≤_}
 use native.Mathlib.Omega.{arith}
 use Rattle.spec_lists.specs.Counting.{occurrences, occurs-nil, occurs-past, equal?}
-use Rattle.spec_layout.specs.Layout.{NONE, UNFINISHED, FINISHED, STATUS}
+use Rattle.spec_layout.specs.Layout.{NONE, STATUS, UNFINISHED, FINISHED, rightsOf as rightsIn}
 use Rattle.spec_answers.specs.declared.Answer.the-variants.{Moved}
 use Rattle.spec_answers.specs.Answers.{answerOf, wordsOf}
 use Rattle.spec_answers.specs.Calls.{Call}
@@ -22,7 +22,6 @@ use Rattle.spec_rules.specs.Contents.{decode, word, part, nexts, scan-decodes}
 use Rattle.spec_rules.specs.Rules.{Unfinished, Holder, Held}
 use Rattle.spec_rules.specs.Test.{test, rulesHold}
 use Rattle.law_rules_same.specs.Passed.{Passed, test-says}
-use Rattle.spec_outcomes.specs.Waits.{rightsOf as rightsIn}
 use Rattle.spec_outcomes.specs.Open.{openOutcome}
 use Rattle.spec_outcomes.specs.Outcomes.{wordsAfter}
 use Rattle.spec_order.specs.Steps.{Item, begin}

@@ -8,7 +8,7 @@ use mathlib.Core.Logic.{inr}
 use Prim.Native.Nat.{ℕ, _<_}
 use native.Mathlib.Omega.{arith}
 use Rattle.spec_words.specs.Words.{load, pick, both}
-use Rattle.spec_layout.specs.Layout.{NONE, NL, USER, RIGHT, UNFINISHED, STATUS, RIGHTS, next, task, head, tail, queueHead, address, read, recordOf}
+use Rattle.spec_layout.specs.Layout.{NONE, NL, STATUS, UNFINISHED, USER, RIGHT, task, next, rightsOf, queueHead, head, tail, address, read, recordOf}
 use Rattle.spec_answers.specs.declared.Answer.the-variants.{Moved}
 use Rattle.spec_answers.specs.Calls.{open-call, spawn-call, push-call, finish-call}
 use Rattle.spec_tree.specs.Rights.{bits, pushes, pops}
@@ -18,7 +18,6 @@ use Rattle.spec_rules.specs.Contents.{decode}
 use Rattle.spec_rules.specs.Rules.{Holder}
 use Rattle.spec_cases.specs.Rows.{Case, row}
 use Rattle.spec_outcomes.specs.Views.{viewOf, isEmpty}
-use Rattle.spec_outcomes.specs.Waits.{rightsOf}
 use Rattle.spec_outcomes.specs.Table.{lent, tried, isSome, computed, computes}
 use Rattle.law_gaps.specs.Line.{End, nonlocal, local, extent}
 use Rattle.law_links.specs.Linked.{word-is}
@@ -76,14 +75,13 @@ youngerPushes = row (open-call 4 8) (Moved 0) ∷ row (spawn-call 0 1) (Moved 1)
 abbrev shared : List ℕ → List ℕ
 shared m =
     read m (head RIGHT 1 0) ∷ read m (tail RIGHT 1 0) ∷ read m (head USER 2 0) ∷ read m (tail USER 2 0) ∷ read m (task 1 STATUS) ∷ read m (task 2 STATUS)
-    ∷ read m (task 1 RIGHTS) ∷ []
+    ∷ rightsOf m 1 ∷ []
 
 pub shared-words : seen shared (computed youngerPushes lent) ≡ 4 ∷ NL ∷ NL ∷ 4 ∷ UNFINISHED ∷ UNFINISHED ∷ 1 ∷ []
 unfolding computed seen read load address
 shared-words = refl
 
 pub rule-6-false : (m : List ℕ) → tried youngerPushes lent ≡ some m → Rule6 m 0 → ⊥
-unfolding rightsOf
 rule-6-false m e rule =
     let l = seen-after shared youngerPushes m _ e shared-words in
     let hr : read m (head RIGHT 1 0) ≡ 4 = cc in
@@ -92,7 +90,7 @@ rule-6-false m e rule =
     let tu : read m (tail USER 2 0) ≡ 4 = cc in
     let s1 : read m (task 1 STATUS) ≡ UNFINISHED = cc in
     let s2 : read m (task 2 STATUS) ≡ UNFINISHED = cc in
-    let r1 : read m (task 1 RIGHTS) ≡ 1 = cc in
+    let r1 : rightsOf m 1 ≡ 1 = cc in
     let w = rule (right 1) (user 2) 4 nonlocal nonlocal (busy m 1 (omega arith) s1) (busy m 2 (omega arith) s2)
     (view-of m RIGHT 1 4 NL (omega arith) (omega arith) hr tr ∙ head-four) (view-of m USER 2 NL 4 (omega arith) (omega arith) hu tu ∙ tail-four)
     (λ z. omega (arith, z)) in
@@ -160,7 +158,7 @@ onePopper = row (open-call 4 8) (Moved 0) ∷ row (spawn-call 0 2) (Moved 1) ∷
 
 abbrev handed : List ℕ → List ℕ
 handed m =
-    read m (queueHead 1 0) ∷ read m (head USER 1 0) ∷ read m (tail USER 1 0) ∷ read m (next 0) ∷ read m (task 1 STATUS) ∷ read m (task 1 RIGHTS)
+    read m (queueHead 1 0) ∷ read m (head USER 1 0) ∷ read m (tail USER 1 0) ∷ read m (next 0) ∷ read m (task 1 STATUS) ∷ rightsOf m 1
     ∷ place m (queue 1) ∷ place m (user 1) ∷ []
 
 pub handed-words : seen handed (computed onePopper lent) ≡ 0 ∷ NL ∷ 0 ∷ NONE ∷ UNFINISHED ∷ 2 ∷ 2 ∷ 4 ∷ []
@@ -168,7 +166,6 @@ unfolding computed seen read load address place placeIn behind pick recordOf exi
 handed-words = refl
 
 pub rule-8-false : (m : List ℕ) → tried onePopper lent ≡ some m → Rule8 m 0 → ⊥
-unfolding rightsOf
 rule-8-false m e rule =
     let l = seen-after handed onePopper m _ e handed-words in
     let hq : read m (queueHead 1 0) ≡ 0 = cc in
@@ -176,7 +173,7 @@ rule-8-false m e rule =
     let tu : read m (tail USER 1 0) ≡ 0 = cc in
     let n0 : read m (next 0) ≡ NONE = cc in
     let s1 : read m (task 1 STATUS) ≡ UNFINISHED = cc in
-    let r1 : read m (task 1 RIGHTS) ≡ 2 = cc in
+    let r1 : rightsOf m 1 ≡ 2 = cc in
     let pq : place m (queue 1) ≡ 2 = cc in
     let pu : place m (user 1) ≡ 4 = cc in
     let u = busy m 1 (omega arith) s1 in

@@ -11,14 +11,14 @@ use lib.ListN.{take, drop, set}
 use lib.Seq.{take-set-le, drop-set-add}
 use Rattle.spec_words.specs.Words.{load, store, load-other, pick}
 use Rattle.spec_lists.specs.Counting.{occurrences, equal?}
-use Rattle.spec_layout.specs.Layout.{Field, NONE, FINISHED, STATUS, RIGHTS, PARENT, OLDER, YOUNGEST, CHILDREN, USER, RIGHT}
-use Rattle.spec_layout.specs.Layout.{numberWord, freeSegments, next, task, address, read, write, recordOf}
+use Rattle.spec_layout.specs.Layout.{NONE, FREE-SEGMENTS, STATUS, RIGHTS, PARENT, OLDER, YOUNGEST, FINISHED, QUEUE-HEADS, HEADS, TAILS, CHILDREN}
+use Rattle.spec_layout.specs.Layout.{USER, RIGHT, Field, numberWord, freeSegments, task, next, rightsOf as rightsIn, address, read, write, recordOf}
 use Rattle.spec_layout.specs.Frame.{record-word}
 use Rattle.spec_tree.specs.Rights.{pops, sharesPop}
 use Rattle.spec_tree.specs.Tour.{END, MARKS, entering, after, tour, sibling}
 use Rattle.spec_rules.specs.Contents.{decode}
 use Rattle.spec_rules.specs.Rules.{Holder, Held}
-use Rattle.spec_outcomes.specs.Waits.{rightsOf as rightsIn, blocked, childPops}
+use Rattle.spec_outcomes.specs.Waits.{blocked, childPops}
 use Rattle.spec_order.specs.Steps.{Item}
 use Rattle.law_links.specs.Linked.{word-is}
 use Rattle.law_maps.specs.Meaning.{nextIn, headsIn, viewIn}
@@ -92,10 +92,10 @@ module _ (m : List ℕ) where
 
   kind-same : (q k t : ℕ) → viewIn n q k t ≡ viewIn m q k t
   kind-same q k t =
-      view-same-at m n q k t (λ a b d. (task-word t (20 + k * 4 + q) (omega arith), task-word t (32 + k * 4 + q) (omega arith)))
+      view-same-at m n q k t (λ a b d. (task-word t (HEADS + k * 4 + q) (omega arith), task-word t (TAILS + k * 4 + q) (omega arith)))
 
   head-same : (q t : ℕ) → headsIn n q t ≡ headsIn m q t
-  head-same q t = head-same-at m n q t (λ a b. task-word t (16 + q) (omega arith))
+  head-same q t = head-same-at m n q t (λ a b. task-word t (QUEUE-HEADS + q) (omega arith))
 
   pub finished-view : (q : ℕ) (v : ViewName) → viewAt n q v ≡ viewAt m q v
   finished-view q (queue t) = ap headOnly (head-same q t)
@@ -111,7 +111,6 @@ module _ (m : List ℕ) where
   place-same v = ap (λ (T : List ℕ). placeIn T v) (tour-same (recordOf m) (recordOf n) links MARKS 0)
 
   rights-same : (t : ℕ) → rightsIn n t ≡ rightsIn m t
-  unfolding rightsIn
   rights-same t = task-word t RIGHTS (omega arith)
 
   some-sibling : (a b : ℕ → Bool) (x y : ℕ) → ((c : ℕ) → b c ≡ a c) → y ≡ x
@@ -151,9 +150,9 @@ module _ (m : List ℕ) where
   free-same : read m freeSegments ≤ 256 → decode n .free ≡ decode m .free
   unfolding read write address store
   free-same l =
-      ap (λ (h : ℕ). take h (drop 64 n)) (same-word freeSegments (λ e. omega (arith, e)))
+      ap (λ (h : ℕ). take h (drop FREE-SEGMENTS n)) (same-word freeSegments (λ e. omega (arith, e)))
       ∙ ap (take (read m freeSegments)) (drop-set-add 64 m 1408 FINISHED)
-      ∙ take-set-le (read m freeSegments) (drop 64 m) 1408 FINISHED (omega (arith, l))
+      ∙ take-set-le (read m freeSegments) (drop FREE-SEGMENTS m) 1408 FINISHED (omega (arith, l))
 
   number-same : decode n .number ≡ decode m .number
   unfolding address

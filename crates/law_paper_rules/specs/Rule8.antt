@@ -13,9 +13,9 @@ use Rattle.spec_lists.specs.Counting.{occurrences}
 use Rattle.spec_tree.specs.Rights.{uses}
 use Rattle.spec_rules.specs.Contents.{decode}
 use Rattle.spec_rules.specs.Rules.{Holder}
-use Rattle.spec_outcomes.specs.Waits.{rightsOf as rightsIn}
 use Rattle.spec_order.specs.Steps.{Item}
 use Rattle.spec_lists.specs.Maps.{All, lastOf, all-append}
+use Rattle.spec_layout.specs.Layout.{rightsOf as rightsIn}
 use Rattle.law_gaps.specs.Line.{local, extent, Line, firstChain, base, exited, entered, pass}
 use Rattle.law_gaps.specs.Store.{Linked, Chain}
 use Rattle.law_maps.specs.Meaning.{headsIn, nextIn, contentsIn}

@@ -8,11 +8,11 @@ use Prim.Native.Nat.{ℕ, _<_}
 use native.Mathlib.Omega.{arith}
 use Rattle.spec_lists.specs.Counting.{occurrences, occurs-here, equal?}
 use Rattle.spec_lists.specs.Sums.{total-term}
-use Rattle.spec_layout.specs.Layout.{RIGHTS}
+use Rattle.spec_layout.specs.Layout.{RIGHTS, rightsOf as rightsIn}
 use Rattle.spec_tree.specs.Rights.{uses, pops as mayPop}
 use Rattle.spec_rules.specs.Contents.{decode}
 use Rattle.spec_rules.specs.Rules.{Holder, Held}
-use Rattle.spec_outcomes.specs.Waits.{rightsOf as rightsIn, blocked, childPops}
+use Rattle.spec_outcomes.specs.Waits.{blocked, childPops}
 use Rattle.spec_order.specs.Steps.{Task, Item, spot, numberOf, rightsOf}
 use Rattle.spec_order.specs.Waits.{blocked as orderBlocked, childPops as orderChildPops}
 use Rattle.law_order.specs.Items.{In, in-split}
@@ -80,7 +80,6 @@ module _ (m : List ℕ) (xs : List Item) (r : Represents m xs) (q : ℕ) (small 
       (w .0, w .1 ∙ ap (λ (x : ℕ). x ∷ w .0) i)
 
   pub holds-right : (t : ℕ) → Holder (decode m) t → (s : ℕ) × (headsIn m q t ≡ some s) → uses (rightsIn m t) q ≡ true
-  unfolding rightsIn
   holds-right t u w =
       ap (λ (x : ℕ). uses (rightsIn m x) q) (queue-holder t u (w .0) (w .1))
       ∙ ap (λ (x : ℕ). uses x q) (sym (word-is m (holder m xs r q small) RIGHTS))

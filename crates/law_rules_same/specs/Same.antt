@@ -6,7 +6,7 @@ use mathlib.Core.Logic.{_↔_}
 use Prim.Native.Nat.{ℕ, _+_, _*_, _≤_}
 use native.Mathlib.Omega.{arith}
 use Rattle.spec_words.specs.Words.{load}
-use Rattle.spec_layout.specs.Layout.{NONE, recordOf}
+use Rattle.spec_layout.specs.Layout.{NONE, TASKS, TASK-WORDS, recordOf}
 use Rattle.spec_tree.specs.Tour.{entered}
 use Rattle.spec_rules.specs.Contents.{Contents, word, heads, tails, holders, decode, scan-decodes}
 use Rattle.spec_rules.specs.Rules.{Rules}
@@ -18,9 +18,9 @@ use Rattle.law_rules_views.specs.Members.{load-drop}
 use Rattle.law_rules_views.specs.Toured.{Toured, same-heads, same-tails}
 use Rattle.law_rules_views.specs.Views.{views-say, says-views}
 
-decoded-word : (m : List ℕ) (t i : ℕ) → word (decode m) t i ≡ load m (1472 + t * 48 + i)
+decoded-word : (m : List ℕ) (t i : ℕ) → word (decode m) t i ≡ load m (TASKS + t * TASK-WORDS + i)
 unfolding word recordOf
-decoded-word m t i = load-drop m (1472 + t * 48) i
+decoded-word m t i = load-drop m (TASKS + t * TASK-WORDS) i
 
 module _ (c : Contents) where
   -- by the tests of tasks the tour goes through the holders
@@ -84,4 +84,4 @@ memory-rules m small = (
 )
   where
     words : (t i : ℕ) → word (decode m) t i ≤ NONE
-    words t i = let a = small (1472 + t * 48 + i) in let b = decoded-word m t i in omega (arith, a, b)
+    words t i = let a = small (TASKS + t * TASK-WORDS + i) in let b = decoded-word m t i in omega (arith, a, b)

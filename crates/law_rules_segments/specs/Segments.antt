@@ -17,11 +17,11 @@ use Rattle.law_rules_segments.specs.FromRules.{rules-tested, rules-sound
 
 module _ (c : Contents) where
   -- all numbers of a list are segments opened
-  abbrev pub Opened : List ℕ → Type 0
-  Opened xs = (s : ℕ) → 0 < occurrences s xs → s < c .number
+  abbrev pub AllOpened : List ℕ → Type 0
+  AllOpened xs = (s : ℕ) → 0 < occurrences s xs → s < c .number
 
   pub segments-say : (hs es : List ℕ) → c .number ≤ 256 → leb (length (c .free)) (c .number) ≡ true → upto (segmentTest c) (c .number) 0 ≡ true
-      → heldTest c hs es ≡ true → SegmentRules c hs es × Opened hs × Opened es
+      → heldTest c hs es ≡ true → SegmentRules c hs es × AllOpened hs × AllOpened es
   segments-say hs es small few segs held =
       let t = held-tested c hs es small held in (
         tested-rules c hs es small t (leb-true _ _ few) (segments-sound c segs),
@@ -29,7 +29,7 @@ module _ (c : Contents) where
         tails-below c hs es small t,
       )
 
-  pub says-segments : (hs es : List ℕ) → c .number ≤ 256 → SegmentRules c hs es → Opened hs → Opened es
+  pub says-segments : (hs es : List ℕ) → c .number ≤ 256 → SegmentRules c hs es → AllOpened hs → AllOpened es
       → (leb (length (c .free)) (c .number) ≡ true) × (upto (segmentTest c) (c .number) 0 ≡ true) × (heldTest c hs es ≡ true)
   says-segments hs es small r heads tails = (
     le-leb _ _ (r .free-few),

@@ -6,9 +6,9 @@ use Prim.Native.Nat.{ℕ, _<_, _≤_}
 use native.Mathlib.Omega.{arith}
 use native.Mathlib.Nat.{eq-zero-or-pos}
 use Rattle.spec_lists.specs.Counting.{occurrences, equal?}
-use Rattle.spec_layout.specs.Layout.{NONE, FREE, UNFINISHED, FINISHED, STATUS, RIGHTS, PARENT, OLDER, YOUNGER, YOUNGEST}
+use Rattle.spec_layout.specs.Layout.{NONE, STATUS, PARENT, OLDER, YOUNGER, YOUNGEST, FREE, UNFINISHED, FINISHED}
 use Rattle.spec_tree.specs.Rights.{subset}
-use Rattle.spec_rules.specs.Contents.{Contents, word}
+use Rattle.spec_rules.specs.Contents.{Contents, word, taskRights}
 use Rattle.spec_rules.specs.Rules.{Link, Unfinished, Holder, Child, TaskRules, walk}
 use Rattle.spec_rules.specs.Test.{treeTest}
 use Rattle.law_rules_tasks.specs.Marks.{Kin}
@@ -36,10 +36,10 @@ module _ (c : Contents) where
       inr (subst (λ (x : ℕ). Child c (word c t PARENT) x × (word c x OLDER ≡ t)) (sym (w .younger))
       (((λ z. omega (arith, a, z)), (reached-unfinished n i u r a, sym (w .parent))), q))
 
-  rights : (n j t : ℕ) → Reached c n j t → 0 < t → subset (word c t RIGHTS) (word c (word c t PARENT) RIGHTS) ≡ true
+  rights : (n j t : ℕ) → Reached c n j t → 0 < t → subset (taskRights c t) (taskRights c (word c t PARENT)) ≡ true
   rights n j t (top a b e) h = let z : ⊥ = omega (arith, a, h) in absurd z
-  rights n j t (youngest i p r l q w e) h = ap (λ (x : ℕ). subset (word c t RIGHTS) (word c x RIGHTS)) (w .parent) ∙ w .rights
-  rights n j t (older i u r l a q w e) h = ap (λ (x : ℕ). subset (word c t RIGHTS) (word c x RIGHTS)) (w .parent) ∙ w .rights
+  rights n j t (youngest i p r l q w e) h = ap (λ (x : ℕ). subset (taskRights c t) (taskRights c x)) (w .parent) ∙ w .rights
+  rights n j t (older i u r l a q w e) h = ap (λ (x : ℕ). subset (taskRights c t) (taskRights c x)) (w .parent) ∙ w .rights
 
   -- where a task other than the top is entered, the top has a child
   has-child : (n j t : ℕ) → Reached c n j t → 0 < t → word c 0 YOUNGEST ≡ NONE → ⊥
@@ -161,5 +161,5 @@ module _ (c : Contents) (first : Top c) (idle : Idle c) (e : treeTest c (count c
         top-rights = first .rights;
         child-rights = λ t p h.
             let v = child-visit t p h in
-            ap (λ (x : ℕ). subset (word c t RIGHTS) (word c x RIGHTS)) (sym (h .1 .1)) ∙ rights c (count c) (v .entered) t (v .reached) (child-above c t p h);
+            ap (λ (x : ℕ). subset (taskRights c t) (taskRights c x)) (sym (h .1 .1)) ∙ rights c (count c) (v .entered) t (v .reached) (child-above c t p h);
       }

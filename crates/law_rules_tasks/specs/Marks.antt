@@ -7,10 +7,10 @@ use Prim.Native.Nat.{ℕ, zero, suc, _+_, _-_, _<_, _≤_}
 use native.Mathlib.Omega.{arith}
 use borrow.Author.Tests.{lt-ltb, le-ltb, leb-true, le-leb, lt-leb, eqb-true, eq-eqb, ne-eqb}
 use Rattle.spec_words.specs.Words.{pass, halt, both-true, true-both, either-true, true-left, true-right}
-use Rattle.spec_layout.specs.Layout.{NONE, UNFINISHED, STATUS, RIGHTS, PARENT, OLDER, YOUNGER, YOUNGEST}
+use Rattle.spec_layout.specs.Layout.{NONE, STATUS, PARENT, OLDER, YOUNGER, YOUNGEST, UNFINISHED}
 use Rattle.spec_tree.specs.Rights.{subset}
 use Rattle.spec_tree.specs.Tour.{after, entering, exiting, tour}
-use Rattle.spec_rules.specs.Contents.{Contents, word}
+use Rattle.spec_rules.specs.Contents.{Contents, word, taskRights}
 use Rattle.spec_rules.specs.Test.{kin, within, linkTest, treeTest}
 
 module _ (c : Contents) where
@@ -21,7 +21,7 @@ module _ (c : Contents) where
     pub status : word c t STATUS ≡ UNFINISHED
     pub parent : word c t PARENT ≡ p
     pub younger : word c t YOUNGER ≡ y
-    pub rights : subset (word c t RIGHTS) (word c p RIGHTS) ≡ true
+    pub rights : subset (taskRights c t) (taskRights c p) ≡ true
 
   kin-says : (t p y : ℕ) → kin c t p y ≡ true → (t ≡ NONE) ⊎ Kin t p y
   unfolding kin within

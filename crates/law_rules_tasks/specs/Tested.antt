@@ -10,14 +10,14 @@ use Rattle.spec_words.specs.Words.{both-true, true-both, either-true, true-left
 use Rattle.spec_lists.specs.Counting.{occurrences}
 use Rattle.spec_lists.specs.Tests.{each-says, says-each}
 use Rattle.spec_lists.specs.Distinct.{Distinct, distinct-says, says-distinct}
-use Rattle.spec_layout.specs.Layout.{NONE, FREE, UNFINISHED, FINISHED, STATUS, RIGHTS, PARENT, OLDER, YOUNGER, YOUNGEST}
-use Rattle.spec_rules.specs.Contents.{Contents, word}
+use Rattle.spec_layout.specs.Layout.{NONE, STATUS, PARENT, OLDER, YOUNGER, YOUNGEST, FREE, UNFINISHED, FINISHED}
+use Rattle.spec_rules.specs.Contents.{Contents, word, taskRights}
 use Rattle.spec_rules.specs.Test.{topTest, idleTest}
 
 module _ (c : Contents) where
   pub record Top : Type 0 where
     pub status : (word c 0 STATUS ≡ UNFINISHED) ⊎ ((word c 0 STATUS ≡ FINISHED) × (word c 0 YOUNGEST ≡ NONE))
-    pub rights : word c 0 RIGHTS ≡ 255
+    pub rights : taskRights c 0 ≡ 255
     pub parent : word c 0 PARENT ≡ NONE
     pub older : word c 0 OLDER ≡ NONE
     pub younger : word c 0 YOUNGER ≡ NONE

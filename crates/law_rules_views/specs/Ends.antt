@@ -8,7 +8,7 @@ use native.Mathlib.Nat.{eq-zero-or-pos}
 use lib.ListN.{drop}
 use Rattle.spec_words.specs.Words.{load}
 use Rattle.spec_lists.specs.Counting.{occurrences, over, equal?, occurs-nil, occurs-cons, occurs-here, occurs-past}
-use Rattle.spec_layout.specs.Layout.{NL}
+use Rattle.spec_layout.specs.Layout.{NL, QUEUE-HEADS, TAILS, HEAD-WORDS, TAIL-WORDS}
 use Rattle.spec_tree.specs.Tour.{entered}
 use Rattle.spec_rules.specs.Contents.{Contents, word, locals, heads, tails}
 use Rattle.spec_rules.specs.Rules.{Holder}
@@ -38,8 +38,8 @@ over-some (y ∷ ys) g p =
 
 module _ (c : Contents) where
   -- all numbers of a list are segments opened
-  abbrev pub Opened : List ℕ → Type 0
-  Opened xs = (s : ℕ) → 0 < occurrences s xs → s < c .number
+  abbrev pub AllOpened : List ℕ → Type 0
+  AllOpened xs = (s : ℕ) → 0 < occurrences s xs → s < c .number
 
   -- so are the n words from i on of each holder that are below NL
   abbrev pub Fit : ℕ → ℕ → Type 0
@@ -65,7 +65,7 @@ module _ (c : Contents) where
   module _ (xs : List ℕ) (w : Toured c xs) where
     -- a list l made of the n words from i on of each task that is entered
     module _ (i n : ℕ) (l : List ℕ) (made : (s : ℕ) → occurrences s l ≡ over (entered xs) (λ y. occurrences s (locals n (drop i (c .recs y))))) where
-      opened-fit : Opened l → Fit i n
+      opened-fit : AllOpened l → Fit i n
       opened-fit f t j h k p =
           f (word c t (i + j))
           (let a = made (word c t (i + j)) in
@@ -73,20 +73,20 @@ module _ (c : Contents) where
           let d = listed t i n j k p in
           omega (arith, a, b, d))
 
-      fit-opened : Fit i n → Opened l
+      fit-opened : Fit i n → AllOpened l
       fit-opened f s p =
           let a = made s in
           let v = over-some (entered xs) (λ y. occurrences s (locals n (drop i (c .recs y)))) (omega (arith, a, p)) in
           below i n f (v .0) s (entered-holder c xs w (v .0) (v .1)) (v .2)
 
-    pub heads-fit : Opened (heads c (entered xs)) → Fit 16 16
-    heads-fit = opened-fit 16 16 (heads c (entered xs)) (λ s. over-heads c s (entered xs))
+    pub heads-fit : AllOpened (heads c (entered xs)) → Fit QUEUE-HEADS HEAD-WORDS
+    heads-fit = opened-fit QUEUE-HEADS HEAD-WORDS (heads c (entered xs)) (λ s. over-heads c s (entered xs))
 
-    pub tails-fit : Opened (tails c (entered xs)) → Fit 32 12
-    tails-fit = opened-fit 32 12 (tails c (entered xs)) (λ s. over-tails c s (entered xs))
+    pub tails-fit : AllOpened (tails c (entered xs)) → Fit TAILS TAIL-WORDS
+    tails-fit = opened-fit TAILS TAIL-WORDS (tails c (entered xs)) (λ s. over-tails c s (entered xs))
 
-    pub fit-heads : Fit 16 16 → Opened (heads c (entered xs))
-    fit-heads = fit-opened 16 16 (heads c (entered xs)) (λ s. over-heads c s (entered xs))
+    pub fit-heads : Fit QUEUE-HEADS HEAD-WORDS → AllOpened (heads c (entered xs))
+    fit-heads = fit-opened QUEUE-HEADS HEAD-WORDS (heads c (entered xs)) (λ s. over-heads c s (entered xs))
 
-    pub fit-tails : Fit 32 12 → Opened (tails c (entered xs))
-    fit-tails = fit-opened 32 12 (tails c (entered xs)) (λ s. over-tails c s (entered xs))
+    pub fit-tails : Fit TAILS TAIL-WORDS → AllOpened (tails c (entered xs))
+    fit-tails = fit-opened TAILS TAIL-WORDS (tails c (entered xs)) (λ s. over-tails c s (entered xs))

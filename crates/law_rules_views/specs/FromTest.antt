@@ -11,11 +11,11 @@ use lib.ListN.{length}
 use borrow.Author.Tests.{eqb-true, lt-ltb, le-ltb}
 use Rattle.spec_lists.specs.Counting.{occurrences, below?}
 use Rattle.spec_lists.specs.Tests.{each}
-use Rattle.spec_layout.specs.Layout.{NONE, NL, RIGHTS, CHILDREN, USER, RIGHT}
+use Rattle.spec_layout.specs.Layout.{NONE, NL, QUEUE-HEADS, HEADS, TAILS, TAIL-WORDS, VIEW-WORDS, CHILDREN, USER, RIGHT}
 use Rattle.spec_tree.specs.Rights.{uses}
 use Rattle.spec_tree.specs.Tour.{MARKS, tour, entered}
 use Rattle.spec_tree.specs.Queues.{each-queue}
-use Rattle.spec_rules.specs.Contents.{Contents, word, heads, tails, owners, holders}
+use Rattle.spec_rules.specs.Contents.{Contents, word, heads, tails, owners, holders, taskRights}
 use Rattle.spec_rules.specs.Views.{views, viewsOf, Joined}
 use Rattle.spec_rules.specs.Rules.{Holder, Link, Edge, ViewRules}
 use Rattle.spec_rules.specs.Test.{viewsTest, orderOf, orderTest, ownersTest}
@@ -25,7 +25,7 @@ use Rattle.law_rules_tasks.specs.Holders.{holder-below}
 use Rattle.law_rules_views.specs.Toured.{Toured, same-owners, holder-entered}
 use Rattle.law_rules_views.specs.Order.{Pair, state, state-nil, state-joined}
 use Rattle.law_rules_views.specs.Marks.{yes-no, PairAt, Fine, order-fine, order-state}
-use Rattle.law_rules_views.specs.Ends.{Opened, heads-fit, tails-fit}
+use Rattle.law_rules_views.specs.Ends.{AllOpened, heads-fit, tails-fit}
 use Rattle.law_rules_views.specs.Tested.{word-none, word-head, words-say}
 
 -- a word is a segment, NL or NONE
@@ -42,7 +42,7 @@ same-pair a b w =
 
 module _ (c : Contents) (small : (t i : ℕ) → word c t i ≤ NONE) (xs : List ℕ) (v : Toured c xs)
     (words : each (viewsTest c) (entered xs) ≡ true) (order : orderTest c xs ≡ true) (owned : ownersTest c (entered xs) ≡ true)
-    (opened-heads : Opened c (heads c (entered xs))) (opened-tails : Opened c (tails c (entered xs))) where
+    (opened-heads : AllOpened c (heads c (entered xs))) (opened-tails : AllOpened c (tails c (entered xs))) where
   state-one : (q : ℕ) → q < 4 → orderOf c q xs 0 ≡ 1
   unfolding orderTest
   state-one q l = eqb-true _ _ (each-queue (λ p. eqb (orderOf c p xs 0) 1) order q l)
@@ -64,28 +64,28 @@ module _ (c : Contents) (small : (t i : ℕ) → word c t i ≤ NONE) (xs : List
   unfolding ownersTest
   one-owner q l = sym (same-owners c xs v q) ∙ eqb-true _ _ (each-queue (λ p. eqb (length (owners c p (entered xs))) 1) owned q l)
 
-  no-views : (t i : ℕ) → Holder c t → i < 28 → uses (word c t RIGHTS) (i % 4) ≡ false → word c t (16 + i) ≡ NONE
-  no-views t i h l u = word-none (word c t RIGHTS) i (word c t (16 + i)) (words-say c xs v words t i h l) u
+  no-views : (t i : ℕ) → Holder c t → i < VIEW-WORDS → uses (taskRights c t) (i % 4) ≡ false → word c t (QUEUE-HEADS + i) ≡ NONE
+  no-views t i h l u = word-none (taskRights c t) i (word c t (QUEUE-HEADS + i)) (words-say c xs v words t i h l) u
 
-  queue-links : (t q : ℕ) → Holder c t → q < 4 → Link (c .number) (word c t (16 + q))
+  queue-links : (t q : ℕ) → Holder c t → q < 4 → Link (c .number) (word c t (QUEUE-HEADS + q))
   queue-links t q h l =
       ⊎-elim
       (λ a. inl (heads-fit c xs v opened-heads t q h (omega arith) a))
-      (λ a. ⊎-elim (λ e. absurd (word-head (word c t RIGHTS) q (word c t (16 + q)) (words-say c xs v words t q h (omega arith)) l e)) inr a)
-      (cases (word c t (16 + q)) (small t (16 + q)))
+      (λ a. ⊎-elim (λ e. absurd (word-head (taskRights c t) q (word c t (QUEUE-HEADS + q)) (words-say c xs v words t q h (omega arith)) l e)) inr a)
+      (cases (word c t (QUEUE-HEADS + q)) (small t (QUEUE-HEADS + q)))
 
   -- the ends of the views at the two marks of a holder
-  pair-entered : (t q : ℕ) → Holder c t → q < 4 → uses (word c t RIGHTS) q ≡ true → PairAt c q t USER × PairAt c q t RIGHT
+  pair-entered : (t q : ℕ) → Holder c t → q < 4 → uses (taskRights c t) q ≡ true → PairAt c q t USER × PairAt c q t RIGHT
   pair-entered t q h l u = fine q l t (entered-mark xs t (holder-entered c xs v t h)) .entered (lt-ltb t 128 (holder-below c t h)) u
 
-  pair-exited : (t q : ℕ) → Holder c t → q < 4 → uses (word c t RIGHTS) q ≡ true → PairAt c q t CHILDREN
+  pair-exited : (t q : ℕ) → Holder c t → q < 4 → uses (taskRights c t) q ≡ true → PairAt c q t CHILDREN
   pair-exited t q h l u =
-      rw e at (fine q l (128 + t) (v .exited t h) .exited (le-ltb (128 + t) 128 (omega arith)) (ap (λ (k : ℕ). uses (word c k RIGHTS) q) e ∙ u))
+      rw e at (fine q l (128 + t) (v .exited t h) .exited (le-ltb (128 + t) 128 (omega arith)) (ap (λ (k : ℕ). uses (taskRights c k) q) e ∙ u))
     where
       e : 128 + t - 128 ≡ t
       e = omega arith
 
-  pair : (t i : ℕ) → Holder c t → i < 12 → uses (word c t RIGHTS) (i % 4) ≡ true → Pair (word c t (20 + i)) (word c t (32 + i))
+  pair : (t i : ℕ) → Holder c t → i < TAIL-WORDS → uses (taskRights c t) (i % 4) ≡ true → Pair (word c t (HEADS + i)) (word c t (TAILS + i))
   pair t i h l u =
       ⊎-elim
       (λ a. here CHILDREN (omega arith) (pair-exited t (i % 4) h (omega arith) u))
@@ -96,7 +96,7 @@ module _ (c : Contents) (small : (t i : ℕ) → word c t i ≤ NONE) (xs : List
       (below? i 8))
       (below? i 4)
     where
-      here : (k : ℕ) → k * 4 + i % 4 ≡ i → PairAt c (i % 4) t k → Pair (word c t (20 + i)) (word c t (32 + i))
+      here : (k : ℕ) → k * 4 + i % 4 ≡ i → PairAt c (i % 4) t k → Pair (word c t (HEADS + i)) (word c t (TAILS + i))
       here k e w = same-pair (ap (word c t) (omega (arith, e))) (ap (word c t) (omega (arith, e))) w
 
   -- an end that is not NONE
@@ -104,28 +104,28 @@ module _ (c : Contents) (small : (t i : ℕ) → word c t i ≤ NONE) (xs : List
   edge w s n f = ⊎-elim (λ a. inl (f a)) (λ a. ⊎-elim inr (λ e. absurd (n e)) a) (cases w s)
 
   -- word i of the heads behind the queue's, and of the tails, among all view words
-  head-at : (t i : ℕ) → word c t (16 + (4 + i)) ≡ word c t (20 + i)
+  head-at : (t i : ℕ) → word c t (QUEUE-HEADS + (4 + i)) ≡ word c t (HEADS + i)
   head-at t i = ap (word c t) (omega arith)
 
-  tail-at : (t i : ℕ) → word c t (16 + (16 + i)) ≡ word c t (32 + i)
+  tail-at : (t i : ℕ) → word c t (QUEUE-HEADS + (16 + i)) ≡ word c t (TAILS + i)
   tail-at t i = ap (word c t) (omega arith)
 
-  view-links : (t i : ℕ) → Holder c t → i < 12
-      → ((word c t (20 + i) ≡ NONE) × (word c t (32 + i) ≡ NONE)) ⊎ (Edge (c .number) (word c t (20 + i)) × Edge (c .number) (word c t (32 + i)))
+  view-links : (t i : ℕ) → Holder c t → i < TAIL-WORDS
+      → ((word c t (HEADS + i) ≡ NONE) × (word c t (TAILS + i) ≡ NONE)) ⊎ (Edge (c .number) (word c t (HEADS + i)) × Edge (c .number) (word c t (TAILS + i)))
   view-links t i h l =
       ⊎-elim
       (λ u.
       ⊎-elim
       inl
-      (λ n. inr (edge _ (small t (20 + i)) (n .0) head-fit, edge _ (small t (32 + i)) (n .1) (tails-fit c xs v opened-tails t i h l)))
+      (λ n. inr (edge _ (small t (HEADS + i)) (n .0) head-fit, edge _ (small t (TAILS + i)) (n .1) (tails-fit c xs v opened-tails t i h l)))
       (pair t i h l u))
       (λ u. inl (
-        sym (head-at t i) ∙ no-views t (4 + i) h (omega arith) (ap (uses (word c t RIGHTS)) (let z : (4 + i) % 4 ≡ i % 4 = omega arith in z) ∙ u),
-        sym (tail-at t i) ∙ no-views t (16 + i) h (omega arith) (ap (uses (word c t RIGHTS)) (let z : (16 + i) % 4 ≡ i % 4 = omega arith in z) ∙ u),
+        sym (head-at t i) ∙ no-views t (4 + i) h (omega arith) (ap (uses (taskRights c t)) (let z : (4 + i) % 4 ≡ i % 4 = omega arith in z) ∙ u),
+        sym (tail-at t i) ∙ no-views t (16 + i) h (omega arith) (ap (uses (taskRights c t)) (let z : (16 + i) % 4 ≡ i % 4 = omega arith in z) ∙ u),
       ))
-      (yes-no (uses (word c t RIGHTS) (i % 4)))
+      (yes-no (uses (taskRights c t) (i % 4)))
     where
-      head-fit : word c t (20 + i) < NL → word c t (20 + i) < c .number
+      head-fit : word c t (HEADS + i) < NL → word c t (HEADS + i) < c .number
       head-fit p =
           let e = head-at t i in
           let a = heads-fit c xs v opened-heads t (4 + i) h (omega arith) (omega (arith, e, p)) in

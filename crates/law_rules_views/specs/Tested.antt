@@ -11,10 +11,10 @@ use borrow.Author.Tests.{leb-true, le-leb, eqb-true, eq-eqb, ne-eqb, eqb-false, 
 use Rattle.spec_words.specs.Words.{load, pass, halt, either, either-true, true-left, true-right}
 use Rattle.spec_lists.specs.Tests.{each, each-says, says-each, eachWord-says, says-eachWord}
 use Rattle.spec_lists.specs.Counting.{below?}
-use Rattle.spec_layout.specs.Layout.{NONE, NL, RIGHTS}
+use Rattle.spec_layout.specs.Layout.{NONE, NL, QUEUE-HEADS, VIEW-WORDS}
 use Rattle.spec_tree.specs.Rights.{uses}
 use Rattle.spec_tree.specs.Tour.{entered}
-use Rattle.spec_rules.specs.Contents.{Contents, word}
+use Rattle.spec_rules.specs.Contents.{Contents, word, taskRights}
 use Rattle.spec_rules.specs.Rules.{Holder}
 use Rattle.spec_rules.specs.Test.{viewWord, viewsTest}
 use Rattle.law_rules_views.specs.Members.{load-drop}
@@ -49,20 +49,23 @@ module _ (r i w : ℕ) where
 
 -- all view words of all holders
 module _ (c : Contents) (xs : List ℕ) (v : Toured c xs) where
-  pub words-say : each (viewsTest c) (entered xs) ≡ true → (t i : ℕ) → Holder c t → i < 28 → viewWord (word c t RIGHTS) i (word c t (16 + i)) ≡ true
+  pub words-say : each (viewsTest c) (entered xs) ≡ true → (t i : ℕ) → Holder c t → i < VIEW-WORDS
+      → viewWord (taskRights c t) i (word c t (QUEUE-HEADS + i)) ≡ true
   unfolding viewsTest word
   words-say e t i h l =
-      ap (viewWord (load (c .recs t) RIGHTS) i) (sym (load-drop (c .recs t) 16 i))
-      ∙ ap (λ (k : ℕ). viewWord (load (c .recs t) RIGHTS) k (load (drop 16 (c .recs t)) i)) (let z : i ≡ 0 + i = omega arith in z)
-      ∙ eachWord-says (viewWord (load (c .recs t) RIGHTS)) 28 0 (drop 16 (c .recs t)) (each-says (viewsTest c) (entered xs) e t (holder-entered c xs v t h)) i l
+      ap (viewWord (taskRights c t) i) (sym (load-drop (c .recs t) QUEUE-HEADS i))
+      ∙ ap (λ (k : ℕ). viewWord (taskRights c t) k (load (drop QUEUE-HEADS (c .recs t)) i)) (let z : i ≡ 0 + i = omega arith in z)
+      ∙ eachWord-says (viewWord (taskRights c t)) VIEW-WORDS 0 (drop QUEUE-HEADS (c .recs t))
+      (each-says (viewsTest c) (entered xs) e t (holder-entered c xs v t h)) i l
 
-  pub says-words : ((t i : ℕ) → Holder c t → i < 28 → viewWord (word c t RIGHTS) i (word c t (16 + i)) ≡ true) → each (viewsTest c) (entered xs) ≡ true
+  pub says-words : ((t i : ℕ) → Holder c t → i < VIEW-WORDS → viewWord (taskRights c t) i (word c t (QUEUE-HEADS + i)) ≡ true)
+      → each (viewsTest c) (entered xs) ≡ true
   unfolding viewsTest word
   says-words f =
       says-each (viewsTest c) (entered xs)
       (λ t p.
-      says-eachWord (viewWord (load (c .recs t) RIGHTS)) 28 0 (drop 16 (c .recs t))
+      says-eachWord (viewWord (taskRights c t)) VIEW-WORDS 0 (drop QUEUE-HEADS (c .recs t))
       (λ i l.
-      ap (λ (k : ℕ). viewWord (load (c .recs t) RIGHTS) k (load (drop 16 (c .recs t)) i)) (let z : 0 + i ≡ i = omega arith in z)
-      ∙ ap (viewWord (load (c .recs t) RIGHTS) i) (load-drop (c .recs t) 16 i)
+      ap (λ (k : ℕ). viewWord (taskRights c t) k (load (drop QUEUE-HEADS (c .recs t)) i)) (let z : 0 + i ≡ i = omega arith in z)
+      ∙ ap (viewWord (taskRights c t) i) (load-drop (c .recs t) QUEUE-HEADS i)
       ∙ f t i (entered-holder c xs v t p) l))

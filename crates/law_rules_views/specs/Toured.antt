@@ -9,7 +9,7 @@ use lib.Dec.{eqb}
 use lib.ListN.{length, drop}
 use Rattle.spec_words.specs.Words.{pick}
 use Rattle.spec_lists.specs.Counting.{occurrences, over, occurs-nil, occurs-append, over-same}
-use Rattle.spec_layout.specs.Layout.{NONE}
+use Rattle.spec_layout.specs.Layout.{NONE, QUEUE-HEADS, TAILS, HEAD-WORDS, TAIL-WORDS}
 use Rattle.spec_tree.specs.Tour.{MARKS, tour, entered}
 use Rattle.spec_rules.specs.Contents.{Contents, word, locals, heads, tails, owners, holders}
 use Rattle.spec_rules.specs.Rules.{Holder}
@@ -28,22 +28,22 @@ module _ (c : Contents) where
     pub held : (x : ℕ) → 0 < occurrences x xs → ((x < 128) × Holder c x) ⊎ ((128 ≤ x) × (x < 256) × Holder c (x - 128))
     pub exited : (t : ℕ) → Holder c t → 0 < occurrences (128 + t) xs
 
-  pub over-heads : (s : ℕ) (ts : List ℕ) → occurrences s (heads c ts) ≡ over ts (λ t. occurrences s (locals 16 (drop 16 (c .recs t))))
+  pub over-heads : (s : ℕ) (ts : List ℕ) → occurrences s (heads c ts) ≡ over ts (λ t. occurrences s (locals HEAD-WORDS (drop QUEUE-HEADS (c .recs t))))
   unfolding heads over
   over-heads s [] = occurs-nil s
   over-heads s (t ∷ ts) =
-      let a = occurs-append s (locals 16 (drop 16 (c .recs t))) (heads c ts) in let b = over-heads s ts in omega (arith, a, b)
+      let a = occurs-append s (locals HEAD-WORDS (drop QUEUE-HEADS (c .recs t))) (heads c ts) in let b = over-heads s ts in omega (arith, a, b)
 
-  pub over-tails : (s : ℕ) (ts : List ℕ) → occurrences s (tails c ts) ≡ over ts (λ t. occurrences s (locals 12 (drop 32 (c .recs t))))
+  pub over-tails : (s : ℕ) (ts : List ℕ) → occurrences s (tails c ts) ≡ over ts (λ t. occurrences s (locals TAIL-WORDS (drop TAILS (c .recs t))))
   unfolding tails over
   over-tails s [] = occurs-nil s
   over-tails s (t ∷ ts) =
-      let a = occurs-append s (locals 12 (drop 32 (c .recs t))) (tails c ts) in let b = over-tails s ts in omega (arith, a, b)
+      let a = occurs-append s (locals TAIL-WORDS (drop TAILS (c .recs t))) (tails c ts) in let b = over-tails s ts in omega (arith, a, b)
 
-  pub over-owners : (q : ℕ) (ts : List ℕ) → length (owners c q ts) ≡ over ts (λ t. pick (eqb (word c t (16 + q)) NONE) 0 1)
+  pub over-owners : (q : ℕ) (ts : List ℕ) → length (owners c q ts) ≡ over ts (λ t. pick (eqb (word c t (QUEUE-HEADS + q)) NONE) 0 1)
   unfolding owners over
   over-owners q [] = refl
-  over-owners q (t ∷ ts) = let a = over-owners q ts in let b = counted (eqb (word c t (16 + q)) NONE) t (owners c q ts) in omega (arith, a, b)
+  over-owners q (t ∷ ts) = let a = over-owners q ts in let b = counted (eqb (word c t (QUEUE-HEADS + q)) NONE) t (owners c q ts) in omega (arith, a, b)
 
   module _ (xs : List ℕ) (w : Toured xs) where
     same-over : (g : ℕ → ℕ) → over (entered xs) g ≡ over (holders c) g

@@ -14,7 +14,7 @@ use Rattle.spec_words.specs.Words.{load, store, size, pass, halt, both-true, bo
 use Rattle.spec_lists.specs.Tests.{upto}
 use Rattle.spec_lists.specs.Distinct.{fresh}
 use Rattle.spec_lists.specs.Marks.{marking}
-use Rattle.spec_layout.specs.Layout.{WORDS, lengthWord, numberWord, freeSegments, read, address}
+use Rattle.spec_layout.specs.Layout.{WORDS, FREE-SEGMENTS, lengthWord, numberWord, freeSegments, address, read}
 use Rattle.spec_tree.specs.Tour.{END, after, tour}
 use Rattle.spec_rules.specs.Contents.{decode}
 use Rattle.spec_rules.specs.Test.{within, inRange, topTest, idleTest, treeTest, segmentTest, viewTests}
@@ -74,7 +74,8 @@ module _ (m xs : List ℕ) (b : Begun m xs) where
 
   free-length : length (decode m .free) ≡ getD m 2 0
   unfolding read address load size
-  free-length = length-take-le (getD m 2 0) (drop 64 m) (let a = length-drop 64 m in let d = b .words in let e = height in omega (arith, a, d, e))
+  free-length =
+      length-take-le (getD m 2 0) (drop FREE-SEGMENTS m) (let a = length-drop FREE-SEGMENTS m in let d = b .words in let e = height in omega (arith, a, d, e))
 
   few : leb (length (decode m .free)) (decode m .number) ≡ true
   few = le-leb (length (decode m .free)) (decode m .number) (let a = free-length in let d = b .room in let e = at in omega (arith, a, d, e))

@@ -12,7 +12,7 @@ use borrow.Author.Tests.{leb-true, leb-false, lt-ltb, le-ltb}
 use Rattle.spec_words.specs.Words.{load, pick, both, pass, halt}
 use Rattle.spec_lists.specs.Counting.{one, occurrences, total, occurs-nil, occurs-cons, total-ext}
 use Rattle.spec_lists.specs.Sums.{total-first}
-use Rattle.spec_layout.specs.Layout.{NONE, NL}
+use Rattle.spec_layout.specs.Layout.{NONE, NL, QUEUE-HEADS, HEADS, TAILS, HEAD-WORDS, TAIL-WORDS}
 use Rattle.spec_tree.specs.Queues.{by-four}
 use Rattle.spec_rules.specs.Contents.{Contents, word, locals}
 use Rattle.law_rules_views.specs.Marks.{yes-no}
@@ -30,10 +30,10 @@ unfoldable pub namesAt : Contents → ℕ → ℕ → ℕ → ℕ
 namesAt c s t a = names s (word c t (a + 0)) + names s (word c t (a + 1)) + names s (word c t (a + 2)) + names s (word c t (a + 3))
 
 pub queues-owners : (c : Contents) (t : ℕ) (es : List Event) (q : ℕ) → q < 4
-    → ownersOf q (queuesAt c t es) ≡ one (not (eqb (word c t (16 + q)) NONE)) + ownersOf q es
+    → ownersOf q (queuesAt c t es) ≡ one (not (eqb (word c t (QUEUE-HEADS + q)) NONE)) + ownersOf q es
 unfolding queuesAt queueAt ownersOf one both pick
 queues-owners c t es =
-    by-four (λ q. ownersOf q (queuesAt c t es) ≡ one (not (eqb (word c t (16 + q)) NONE)) + ownersOf q es)
+    by-four (λ q. ownersOf q (queuesAt c t es) ≡ one (not (eqb (word c t (QUEUE-HEADS + q)) NONE)) + ownersOf q es)
     (omega arith) (omega arith) (omega arith) (omega arith)
 
 -- the events of the four queues, each of which adds to a count n
@@ -71,29 +71,29 @@ module _ (s : ℕ) where
   tail-count x es = front x (tailsOf es)
 
   module _ (c : Contents) (t : ℕ) where
-    view-heads : (k q : ℕ) (es : List Event) → occurrences s (headsOf (viewAt c t k q es)) ≡ names s (word c t (20 + k * 4 + q)) + occurrences s (headsOf es)
+    view-heads : (k q : ℕ) (es : List Event) → occurrences s (headsOf (viewAt c t k q es)) ≡ names s (word c t (HEADS + k * 4 + q)) + occurrences s (headsOf es)
     unfolding viewAt headsOf
-    view-heads k q es = head-count (word c t (20 + k * 4 + q)) es
+    view-heads k q es = head-count (word c t (HEADS + k * 4 + q)) es
 
-    view-tails : (k q : ℕ) (es : List Event) → occurrences s (tailsOf (viewAt c t k q es)) ≡ names s (word c t (32 + k * 4 + q)) + occurrences s (tailsOf es)
+    view-tails : (k q : ℕ) (es : List Event) → occurrences s (tailsOf (viewAt c t k q es)) ≡ names s (word c t (TAILS + k * 4 + q)) + occurrences s (tailsOf es)
     unfolding viewAt tailsOf
-    view-tails k q es = tail-count (word c t (32 + k * 4 + q)) es
+    view-tails k q es = tail-count (word c t (TAILS + k * 4 + q)) es
 
-    queue-heads : (q : ℕ) (es : List Event) → occurrences s (headsOf (queueAt c t q es)) ≡ names s (word c t (16 + q)) + occurrences s (headsOf es)
+    queue-heads : (q : ℕ) (es : List Event) → occurrences s (headsOf (queueAt c t q es)) ≡ names s (word c t (QUEUE-HEADS + q)) + occurrences s (headsOf es)
     unfolding queueAt headsOf
-    queue-heads q es = head-count (word c t (16 + q)) es
+    queue-heads q es = head-count (word c t (QUEUE-HEADS + q)) es
 
     pub kind-heads : (k : ℕ) (es : List Event) → occurrences s (headsOf (kindAt c t k es)) ≡ namesAt c s t (20 + k * 4) + occurrences s (headsOf es)
     unfolding kindAt namesAt
-    kind-heads k = four-add (λ v. occurrences s (headsOf v)) (viewAt c t k) (λ q. names s (word c t (20 + k * 4 + q))) (view-heads k)
+    kind-heads k = four-add (λ v. occurrences s (headsOf v)) (viewAt c t k) (λ q. names s (word c t (HEADS + k * 4 + q))) (view-heads k)
 
     pub kind-tails : (k : ℕ) (es : List Event) → occurrences s (tailsOf (kindAt c t k es)) ≡ namesAt c s t (32 + k * 4) + occurrences s (tailsOf es)
     unfolding kindAt namesAt
-    kind-tails k = four-add (λ v. occurrences s (tailsOf v)) (viewAt c t k) (λ q. names s (word c t (32 + k * 4 + q))) (view-tails k)
+    kind-tails k = four-add (λ v. occurrences s (tailsOf v)) (viewAt c t k) (λ q. names s (word c t (TAILS + k * 4 + q))) (view-tails k)
 
     pub queues-heads : (es : List Event) → occurrences s (headsOf (queuesAt c t es)) ≡ namesAt c s t 16 + occurrences s (headsOf es)
     unfolding queuesAt namesAt
-    queues-heads = four-add (λ v. occurrences s (headsOf v)) (queueAt c t) (λ q. names s (word c t (16 + q))) queue-heads
+    queues-heads = four-add (λ v. occurrences s (headsOf v)) (queueAt c t) (λ q. names s (word c t (QUEUE-HEADS + q))) queue-heads
 
     pub queues-tails : (es : List Event) → tailsOf (queuesAt c t es) ≡ tailsOf es
     unfolding queuesAt queueAt tailsOf
@@ -122,10 +122,10 @@ module _ (s : ℕ) where
       ∙ sym (total-first n (λ j. names s (load rec (a + j))))
 
   pub heads-count : (c : Contents) (t : ℕ)
-      → occurrences s (locals 16 (drop 16 (c .recs t))) ≡ namesAt c s t 16 + namesAt c s t 20 + namesAt c s t 24 + namesAt c s t 28
+      → occurrences s (locals HEAD-WORDS (drop QUEUE-HEADS (c .recs t))) ≡ namesAt c s t 16 + namesAt c s t 20 + namesAt c s t 24 + namesAt c s t 28
   unfolding namesAt total word
   heads-count c t = locals-count 16 16 (c .recs t) ∙ omega arith
 
-  pub tails-count : (c : Contents) (t : ℕ) → occurrences s (locals 12 (drop 32 (c .recs t))) ≡ namesAt c s t 32 + namesAt c s t 36 + namesAt c s t 40
+  pub tails-count : (c : Contents) (t : ℕ) → occurrences s (locals TAIL-WORDS (drop TAILS (c .recs t))) ≡ namesAt c s t 32 + namesAt c s t 36 + namesAt c s t 40
   unfolding namesAt total word
   tails-count c t = locals-count 12 32 (c .recs t) ∙ omega arith

@@ -10,10 +10,10 @@ use lib.ListN.{length}
 use borrow.Author.Tests.{lt-ltb, le-ltb}
 use Rattle.spec_words.specs.Words.{pick, pass, halt}
 use Rattle.spec_lists.specs.Counting.{one, occurrences, over, equal?, occurs-nil, occurs-here, occurs-past, below?}
-use Rattle.spec_layout.specs.Layout.{NONE, RIGHTS, CHILDREN, USER, RIGHT}
+use Rattle.spec_layout.specs.Layout.{NONE, QUEUE-HEADS, CHILDREN, USER, RIGHT}
 use Rattle.spec_tree.specs.Rights.{uses}
 use Rattle.spec_tree.specs.Tour.{entered}
-use Rattle.spec_rules.specs.Contents.{Contents, word, owners}
+use Rattle.spec_rules.specs.Contents.{Contents, word, owners, taskRights}
 use Rattle.spec_rules.specs.Test.{passedAt, orderAt, orderOf}
 use Rattle.law_rules_tasks.specs.Holders.{entered-here, entered-past}
 use Rattle.spec_view_events.specs.Events.{Event, queuesAt, kindAt, eventsAt, events}
@@ -60,7 +60,7 @@ module _ (c : Contents) where
       ∙ queues-order c x (kindAt c x RIGHT (kindAt c x USER es)) o q
       ∙ kind-order c x (kindAt c x USER es) RIGHT o q m
       ∙ kind-order c x es USER _ q m
-      ∙ ap (orderFrom q es) (twice (uses (word c x RIGHTS) q) (passedAt c q x USER) (passedAt c q x RIGHT o) o ∙ sym (halt _ _ (lt-ltb x 128 l))))
+      ∙ ap (orderFrom q es) (twice (uses (taskRights c x) q) (passedAt c q x USER) (passedAt c q x RIGHT o) o ∙ sym (halt _ _ (lt-ltb x 128 l))))
       (λ l.
       ap (λ (v : List Event). orderFrom q v o) (at-exited x es l)
       ∙ kind-order c (x - 128) es CHILDREN o q m
@@ -73,9 +73,9 @@ module _ (c : Contents) where
   order-marks q (x ∷ xs) o m = order-at q x (events c xs) o m ∙ order-marks q xs (orderAt c q x o) m
 
   -- QUEUE VIEWS
-  owner-count : (q t : ℕ) (ts : List ℕ) → length (owners c q (t ∷ ts)) ≡ one (not (eqb (word c t (16 + q)) NONE)) + length (owners c q ts)
+  owner-count : (q t : ℕ) (ts : List ℕ) → length (owners c q (t ∷ ts)) ≡ one (not (eqb (word c t (QUEUE-HEADS + q)) NONE)) + length (owners c q ts)
   unfolding owners one
-  owner-count q t ts = go (eqb (word c t (16 + q)) NONE)
+  owner-count q t ts = go (eqb (word c t (QUEUE-HEADS + q)) NONE)
     where
       go : (b : Bool) → length (pick b (owners c q ts) (t ∷ owners c q ts)) ≡ pick (not b) 1 0 + length (owners c q ts)
       go true = unfold pick in omega arith
@@ -89,7 +89,7 @@ module _ (c : Contents) where
       (λ l.
       ap (ownersOf q) (at-entered x (events c xs) l)
       ∙ queues-owners c x (kindAt c x RIGHT (kindAt c x USER (events c xs))) q m
-      ∙ ap (λ (k : ℕ). one (not (eqb (word c x (16 + q)) NONE)) + k)
+      ∙ ap (λ (k : ℕ). one (not (eqb (word c x (QUEUE-HEADS + q)) NONE)) + k)
       (kind-owners c x (kindAt c x USER (events c xs)) RIGHT q ∙ kind-owners c x (events c xs) USER q ∙ owners-marks q xs m)
       ∙ sym (ap (λ (ts : List ℕ). length (owners c q ts)) (entered-here x xs l) ∙ owner-count q x (entered xs)))
       (λ l.

@@ -8,10 +8,10 @@ use native.Mathlib.Omega.{arith}
 use lib.Dec.{eqb}
 use borrow.Author.Tests.{eq-eqb, ne-eqb, eqb-true, eqb-false, not-true}
 use Rattle.spec_words.specs.Words.{pick, either, both-true, true-both, either-true, true-left, true-right}
-use Rattle.spec_layout.specs.Layout.{NONE, NL, RIGHTS}
+use Rattle.spec_layout.specs.Layout.{NONE, NL, QUEUE-HEADS, HEADS, TAILS}
 use Rattle.spec_tree.specs.Rights.{uses}
 use Rattle.spec_tree.specs.Queues.{by-four}
-use Rattle.spec_rules.specs.Contents.{Contents, word}
+use Rattle.spec_rules.specs.Contents.{Contents, word, taskRights}
 use Rattle.spec_rules.specs.Test.{passedAt}
 use Rattle.law_rules_views.specs.Marks.{yes-no}
 use Rattle.spec_view_events.specs.Events.{Event, queueAt, viewAt, queuesAt, kindAt}
@@ -30,40 +30,40 @@ says-may u x f = ⊎-elim (λ e. true-right _ e) (λ e. true-left u (eq-eqb _ _ 
 
 module _ (c : Contents) (t : ℕ) where
   abbrev r : ℕ
-  r = word c t RIGHTS
+  r = taskRights c t
 
   -- the words of the four views of kind k, and of the queue views
   pub record MayKind (k : ℕ) : Type 0 where
-    pub heads : (q : ℕ) → q < 4 → uses r q ≡ false → word c t (20 + k * 4 + q) ≡ NONE
-    pub tails : (q : ℕ) → q < 4 → uses r q ≡ false → word c t (32 + k * 4 + q) ≡ NONE
+    pub heads : (q : ℕ) → q < 4 → uses r q ≡ false → word c t (HEADS + k * 4 + q) ≡ NONE
+    pub tails : (q : ℕ) → q < 4 → uses r q ≡ false → word c t (TAILS + k * 4 + q) ≡ NONE
 
   pub record MayQueues : Type 0 where
-    pub none : (q : ℕ) → q < 4 → uses r q ≡ false → word c t (16 + q) ≡ NONE
-    pub local : (q : ℕ) → q < 4 → word c t (16 + q) ≡ NL → ⊥
+    pub none : (q : ℕ) → q < 4 → uses r q ≡ false → word c t (QUEUE-HEADS + q) ≡ NONE
+    pub local : (q : ℕ) → q < 4 → word c t (QUEUE-HEADS + q) ≡ NL → ⊥
 
   module _ (es : List Event) where
     view-allowed : (k q : ℕ) → allowed (viewAt c t k q es) ≡ true
-        → ((uses r q ≡ false → word c t (20 + k * 4 + q) ≡ NONE) × (uses r q ≡ false → word c t (32 + k * 4 + q) ≡ NONE)) × (allowed es ≡ true)
+        → ((uses r q ≡ false → word c t (HEADS + k * 4 + q) ≡ NONE) × (uses r q ≡ false → word c t (TAILS + k * 4 + q) ≡ NONE)) × (allowed es ≡ true)
     unfolding viewAt allowed
     view-allowed k q e =
         let a = both-true _ _ e in
         let b = both-true _ _ (a .1) in
         ((may-says _ _ (a .0), may-says _ _ (b .0)), b .1)
 
-    allowed-view : (k q : ℕ) → (uses r q ≡ false → word c t (20 + k * 4 + q) ≡ NONE) → (uses r q ≡ false → word c t (32 + k * 4 + q) ≡ NONE)
+    allowed-view : (k q : ℕ) → (uses r q ≡ false → word c t (HEADS + k * 4 + q) ≡ NONE) → (uses r q ≡ false → word c t (TAILS + k * 4 + q) ≡ NONE)
         → allowed es ≡ true → allowed (viewAt c t k q es) ≡ true
     unfolding viewAt allowed
     allowed-view k q a b e = true-both (says-may _ _ a) (true-both (says-may _ _ b) e)
 
     queue-allowed : (q : ℕ) → allowed (queueAt c t q es) ≡ true
-        → ((uses r q ≡ false → word c t (16 + q) ≡ NONE) × (word c t (16 + q) ≡ NL → ⊥)) × (allowed es ≡ true)
+        → ((uses r q ≡ false → word c t (QUEUE-HEADS + q) ≡ NONE) × (word c t (QUEUE-HEADS + q) ≡ NL → ⊥)) × (allowed es ≡ true)
     unfolding queueAt allowed
     queue-allowed q e =
         let a = both-true _ _ e in
         let b = both-true _ _ (a .1) in
         ((may-says _ _ (a .0), eqb-false _ _ (not-true _ (b .0))), b .1)
 
-    allowed-queue : (q : ℕ) → (uses r q ≡ false → word c t (16 + q) ≡ NONE) → (word c t (16 + q) ≡ NL → ⊥) → allowed es ≡ true
+    allowed-queue : (q : ℕ) → (uses r q ≡ false → word c t (QUEUE-HEADS + q) ≡ NONE) → (word c t (QUEUE-HEADS + q) ≡ NL → ⊥) → allowed es ≡ true
         → allowed (queueAt c t q es) ≡ true
     unfolding queueAt allowed
     allowed-queue q a b e = true-both (says-may _ _ a) (true-both (ap not (ne-eqb _ _ b)) e)
@@ -76,8 +76,8 @@ module _ (c : Contents) (t : ℕ) where
       let v2 = view-allowed _ k 2 (v1 .1) in
       let v3 = view-allowed _ k 3 (v2 .1) in (
         record {
-          heads = by-four (λ q. uses r q ≡ false → word c t (20 + k * 4 + q) ≡ NONE) (v0 .0 .0) (v1 .0 .0) (v2 .0 .0) (v3 .0 .0);
-          tails = by-four (λ q. uses r q ≡ false → word c t (32 + k * 4 + q) ≡ NONE) (v0 .0 .1) (v1 .0 .1) (v2 .0 .1) (v3 .0 .1);
+          heads = by-four (λ q. uses r q ≡ false → word c t (HEADS + k * 4 + q) ≡ NONE) (v0 .0 .0) (v1 .0 .0) (v2 .0 .0) (v3 .0 .0);
+          tails = by-four (λ q. uses r q ≡ false → word c t (TAILS + k * 4 + q) ≡ NONE) (v0 .0 .1) (v1 .0 .1) (v2 .0 .1) (v3 .0 .1);
         },
         v3 .1,
       )
@@ -98,8 +98,8 @@ module _ (c : Contents) (t : ℕ) where
       let v2 = queue-allowed _ 2 (v1 .1) in
       let v3 = queue-allowed _ 3 (v2 .1) in (
         record {
-          none = by-four (λ q. uses r q ≡ false → word c t (16 + q) ≡ NONE) (v0 .0 .0) (v1 .0 .0) (v2 .0 .0) (v3 .0 .0);
-          local = by-four (λ q. word c t (16 + q) ≡ NL → ⊥) (v0 .0 .1) (v1 .0 .1) (v2 .0 .1) (v3 .0 .1);
+          none = by-four (λ q. uses r q ≡ false → word c t (QUEUE-HEADS + q) ≡ NONE) (v0 .0 .0) (v1 .0 .0) (v2 .0 .0) (v3 .0 .0);
+          local = by-four (λ q. word c t (QUEUE-HEADS + q) ≡ NL → ⊥) (v0 .0 .1) (v1 .0 .1) (v2 .0 .1) (v3 .0 .1);
         },
         v3 .1,
       )

@@ -11,10 +11,10 @@ use lib.ListN.{drop}
 use Rattle.spec_lists.specs.Counting.{occurrences, over, equal?, occurs-nil, occurs-here, occurs-past, over-same, below?}
 use Rattle.spec_lists.specs.Sums.{over-plus, over-ext}
 use Rattle.spec_lists.specs.Tests.{each}
-use Rattle.spec_layout.specs.Layout.{NONE, NL, RIGHTS, CHILDREN, USER, RIGHT}
+use Rattle.spec_layout.specs.Layout.{NONE, NL, QUEUE-HEADS, TAILS, HEAD-WORDS, TAIL-WORDS, VIEW-WORDS, CHILDREN, USER, RIGHT}
 use Rattle.spec_tree.specs.Rights.{uses}
 use Rattle.spec_tree.specs.Tour.{entered}
-use Rattle.spec_rules.specs.Contents.{Contents, word, locals, heads, tails, holders}
+use Rattle.spec_rules.specs.Contents.{Contents, word, locals, heads, tails, holders, taskRights}
 use Rattle.spec_rules.specs.Rules.{Holder}
 use Rattle.spec_rules.specs.Test.{viewWord, viewsTest}
 use Rattle.law_rules_tasks.specs.Holders.{entered-below, holder-below, holder-once, holders-hold, holder?}
@@ -89,31 +89,33 @@ module _ (c : Contents) (xs : List ℕ) (v : Toured c xs) (once : (y : ℕ) → 
   pub heads-same : (s : ℕ) → occurrences s (headsOf (events c xs)) ≡ occurrences s (heads c (entered xs))
   heads-same s =
       heads-marks c s xs
-      ∙ count-same (headsEntered c s) (headsExited c s) (λ t. occurrences s (locals 16 (drop 16 (c .recs t)))) (λ t. let a = heads-count s c t in omega (arith, a))
+      ∙ count-same (headsEntered c s) (headsExited c s) (λ t. occurrences s (locals HEAD-WORDS (drop QUEUE-HEADS (c .recs t))))
+      (λ t. let a = heads-count s c t in omega (arith, a))
       ∙ sym (over-heads c s (entered xs))
 
   pub tails-same : (s : ℕ) → occurrences s (tailsOf (events c xs)) ≡ occurrences s (tails c (entered xs))
   tails-same s =
       tails-marks c s xs
-      ∙ count-same (tailsEntered c s) (tailsExited c s) (λ t. occurrences s (locals 12 (drop 32 (c .recs t)))) (λ t. let a = tails-count s c t in omega (arith, a))
+      ∙ count-same (tailsEntered c s) (tailsExited c s) (λ t. occurrences s (locals TAIL-WORDS (drop TAILS (c .recs t))))
+      (λ t. let a = tails-count s c t in omega (arith, a))
       ∙ sym (over-tails c s (entered xs))
 
   -- WORDS
   -- all view words of a holder
   abbrev pub Words : ℕ → Type 0
-  Words t = (i : ℕ) → i < 28 → viewWord (word c t RIGHTS) i (word c t (16 + i)) ≡ true
+  Words t = (i : ℕ) → i < VIEW-WORDS → viewWord (taskRights c t) i (word c t (QUEUE-HEADS + i)) ≡ true
 
   pub kinds-words : (t : ℕ) → MayQueues c t → MayKind c t CHILDREN → MayKind c t USER → MayKind c t RIGHT → Words t
-  kinds-words t a b d e i l = word-right (word c t RIGHTS) i (word c t (16 + i)) none local
+  kinds-words t a b d e i l = word-right (taskRights c t) i (word c t (QUEUE-HEADS + i)) none local
     where
       -- head or tail of a view of a kind
-      at-head : (k : ℕ) → MayKind c t k → 4 + k * 4 + i % 4 ≡ i → uses (word c t RIGHTS) (i % 4) ≡ false → word c t (16 + i) ≡ NONE
+      at-head : (k : ℕ) → MayKind c t k → 4 + k * 4 + i % 4 ≡ i → uses (taskRights c t) (i % 4) ≡ false → word c t (QUEUE-HEADS + i) ≡ NONE
       at-head k m z u = ap (word c t) (let y : 16 + i ≡ 20 + k * 4 + i % 4 = omega (arith, z) in y) ∙ m .heads (i % 4) (omega arith) u
 
-      at-tail : (k : ℕ) → MayKind c t k → 16 + k * 4 + i % 4 ≡ i → uses (word c t RIGHTS) (i % 4) ≡ false → word c t (16 + i) ≡ NONE
+      at-tail : (k : ℕ) → MayKind c t k → 16 + k * 4 + i % 4 ≡ i → uses (taskRights c t) (i % 4) ≡ false → word c t (QUEUE-HEADS + i) ≡ NONE
       at-tail k m z u = ap (word c t) (let y : 16 + i ≡ 32 + k * 4 + i % 4 = omega (arith, z) in y) ∙ m .tails (i % 4) (omega arith) u
 
-      none : uses (word c t RIGHTS) (i % 4) ≡ false → word c t (16 + i) ≡ NONE
+      none : uses (taskRights c t) (i % 4) ≡ false → word c t (QUEUE-HEADS + i) ≡ NONE
       none u =
           ⊎-elim (λ x. ap (word c t) (let y : 16 + i ≡ 16 + i % 4 = omega (arith, x) in y) ∙ a .none (i % 4) (omega arith) u)
           (λ x4. ⊎-elim (λ x. at-head CHILDREN b (omega (arith, x4, x)) u)
@@ -124,7 +126,7 @@ module _ (c : Contents) (xs : List ℕ) (v : Toured c xs) (once : (y : ℕ) → 
           (λ x24. at-tail RIGHT e (omega (arith, x24, l)) u)
           (below? i 24)) (below? i 20)) (below? i 16)) (below? i 12)) (below? i 8)) (below? i 4)
 
-      local : i < 4 → word c t (16 + i) ≡ NL → ⊥
+      local : i < 4 → word c t (QUEUE-HEADS + i) ≡ NL → ⊥
       local x z = a .local i x z
 
   words-kind : (t k : ℕ) → k < 3 → Words t → MayKind c t k
@@ -132,20 +134,20 @@ module _ (c : Contents) (xs : List ℕ) (v : Toured c xs) (once : (y : ℕ) → 
       record {
         heads = λ q l u.
             ap (word c t) (let y : 20 + k * 4 + q ≡ 16 + (4 + k * 4 + q) = omega arith in y)
-            ∙ word-none (word c t RIGHTS) (4 + k * 4 + q) _ (f (4 + k * 4 + q) (omega arith))
-            (ap (uses (word c t RIGHTS)) (let y : (4 + k * 4 + q) % 4 ≡ q = omega (arith, l) in y) ∙ u);
+            ∙ word-none (taskRights c t) (4 + k * 4 + q) _ (f (4 + k * 4 + q) (omega arith))
+            (ap (uses (taskRights c t)) (let y : (4 + k * 4 + q) % 4 ≡ q = omega (arith, l) in y) ∙ u);
         tails = λ q l u.
             ap (word c t) (let y : 32 + k * 4 + q ≡ 16 + (16 + k * 4 + q) = omega arith in y)
-            ∙ word-none (word c t RIGHTS) (16 + k * 4 + q) _ (f (16 + k * 4 + q) (omega arith))
-            (ap (uses (word c t RIGHTS)) (let y : (16 + k * 4 + q) % 4 ≡ q = omega (arith, l) in y) ∙ u);
+            ∙ word-none (taskRights c t) (16 + k * 4 + q) _ (f (16 + k * 4 + q) (omega arith))
+            (ap (uses (taskRights c t)) (let y : (16 + k * 4 + q) % 4 ≡ q = omega (arith, l) in y) ∙ u);
       }
 
   words-queues : (t : ℕ) → Words t → MayQueues c t
   words-queues t f =
       record {
         none = λ q l u.
-            word-none (word c t RIGHTS) q _ (f q (omega arith)) (ap (uses (word c t RIGHTS)) (let y : q % 4 ≡ q = omega (arith, l) in y) ∙ u);
-        local = λ q l z. word-head (word c t RIGHTS) q _ (f q (omega arith)) l z;
+            word-none (taskRights c t) q _ (f q (omega arith)) (ap (uses (taskRights c t)) (let y : q % 4 ≡ q = omega (arith, l) in y) ∙ u);
+        local = λ q l z. word-head (taskRights c t) q _ (f q (omega arith)) l z;
       }
 
   pub words-there : allowed (events c xs) ≡ true → each (viewsTest c) (entered xs) ≡ true

@@ -12,7 +12,7 @@ use lib.Dec.{ltb, leb, eqb}
 use lib.ListN.{length, getD, getElem?}
 use borrow.Author.Tests.{ltb-true, ltb-false, leb-false, eqb-true, le-ltb}
 use Rattle.spec_words.specs.Words.{size, pick, halt, pass}
-use Rattle.spec_layout.specs.Layout.{WORDS, NL, FINISHED, STATUS, numberWord, count, next, task, queueHead, read}
+use Rattle.spec_layout.specs.Layout.{WORDS, NL, STATUS, FINISHED, task, count, next, Opened, queueHead, read}
 use Rattle.spec_answers.specs.declared.Answer.{Answer}
 use Rattle.spec_answers.specs.declared.Answer.the-variants.{Moved, Waits, Refused}
 use Rattle.spec_answers.specs.Answers.{outcome, answerOf, statusOf, valueOf}
@@ -49,13 +49,13 @@ lines-same f g (suc n) i e =
 
 -- THE BOUND: a chain of k segments has at most 64 k values.
 module _ (m : List ℕ) (w : Sound m) where
-  abbrev Opened : ℕ → Type 0
-  Opened s = s < NL → s < read m numberWord
+  abbrev LocalOpened : ℕ → Type 0
+  LocalOpened s = s < NL → Opened m s
 
-  next-opened : (s : ℕ) → s < read m numberWord → Opened (read m (next s))
+  next-opened : (s : ℕ) → Opened m s → LocalOpened (read m (next s))
   next-opened s l h = ⊎-elim (λ x. x) (λ e. let z : ⊥ = omega (arith, h, e) in absurd z) (w .nexts s l)
 
-  chain-ends : (k s i : ℕ) → Opened s → k * 64 ≤ i → queued k m s i ≡ Refused 7
+  chain-ends : (k s i : ℕ) → LocalOpened s → k * 64 ≤ i → queued k m s i ≡ Refused 7
   unfolding queued
   chain-ends zero s i o h = refl
   chain-ends (suc k) s i o h = go (leb NL s) refl (chain-ends k)
@@ -63,13 +63,13 @@ module _ (m : List ℕ) (w : Sound m) where
       rest : Answer
       rest = queued k m (read m (next s)) (i - read m (count s))
 
-      go : (b : Bool) → leb NL s ≡ b → ((s i : ℕ) → Opened s → k * 64 ≤ i → queued k m s i ≡ Refused 7)
+      go : (b : Bool) → leb NL s ≡ b → ((s i : ℕ) → LocalOpened s → k * 64 ≤ i → queued k m s i ≡ Refused 7)
           → pick (leb NL s) (Refused 7) (pick (ltb i (read m (count s))) (Moved (valueAt m s i)) rest) ≡ Refused 7
       go true e f = halt _ _ e
       go false e f =
           let l = o (leb-false _ _ e) in
           let c = w .counts s l in
-          let d = w .length-range .1 in
+          let d = w .length-range s .1 in
           let past = le-ltb i (read m (count s)) (omega (arith, c, d, h)) in
           pass _ e (pass _ past (f _ _ (next-opened s l) (omega (arith, c, d, h))))
 

@@ -8,8 +8,9 @@ use lib.Dec.{ltb, eqb}
 use borrow.Author.Tests.{ltb-true, not-true, not-false}
 use Rattle.spec_words.specs.Words.{size, both, halt, pass, both-true, true-both, both-off, both-on}
 use Rattle.spec_lists.specs.Tests.{upto-says}
+use Rattle.spec_layout.specs.Layout.{rightsOf}
 use Rattle.spec_rules.specs.Test.{rulesHold}
-use Rattle.spec_outcomes.specs.Waits.{rightsOf, unfinished, blocked}
+use Rattle.spec_outcomes.specs.Waits.{unfinished, blocked}
 use Rattle.spec_job.specs.Fields.{procedures, count, rights}
 use Rattle.spec_job.specs.Accepted.{accepted}
 use Rattle.spec_runner.specs.declared.StepAnswer.the-variants.{Waits, Refused}

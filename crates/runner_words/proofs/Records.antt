@@ -8,7 +8,7 @@ use borrow.Author.Tests.{lt-ltb, le-ltb, eq-eqb, ne-eqb}
 use Rattle.spec_words.specs.Words.{store, halt, pass, both-off}
 use Rattle.spec_words.specs.Blocks.{store-three}
 use Rattle.spec_layout.specs.Layout.{task, read}
-use Rattle.spec_outcomes.specs.Waits.{rightsOf, unfinished}
+use Rattle.spec_outcomes.specs.Waits.{unfinished}
 use Rattle.spec_job.specs.declared.Instruction.{Instruction}
 use Rattle.spec_job.specs.Fields.{procedures, count, rights, instructionAt}
 use Rattle.spec_runner.specs.Words.{procedureOf, positionOf, registerOf, put, instructionFor}
@@ -43,7 +43,7 @@ module _ (j m r : List ℕ) (t : ℕ) {p n : ℕ} (ep : p ≡ procedureOf r t) (
     no-instruction g = both-so (exists ∙ lt-ltb p n h) (sym (both-off _ (inside ∙ le-ltb i c g)))
 
     pub same-rights : i < c → {a b : ℕ} → a ≡ read m (task t 1) → b ≡ rights j p → eqb a b ≡ taskHolds j m r t
-    unfolding taskHolds rightsOf
+    unfolding taskHolds
     same-rights g ea eb =
         both-so (exists ∙ lt-ltb p n h) (both-so (inside ∙ lt-ltb i c g) (ap₂ eqb ea (eb ∙ ap (rights j) ep)))
 

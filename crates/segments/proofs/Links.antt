@@ -10,14 +10,14 @@ use lib.Seq.{drop-drop, getD-drop}
 use borrow.Author.Tests.{eq-eqb, ne-eqb, lt-ltb, le-ltb}
 use Rattle.spec_words.specs.Words.{load, pick, both, pass, halt}
 use Rattle.spec_lists.specs.Tests.{turn-left, turns-over}
-use Rattle.spec_layout.specs.Layout.{numberWord, segment, task, address, read, write, recordOf}
+use Rattle.spec_layout.specs.Layout.{QUEUE-HEADS, HEAD-WORDS, segment, task, segmentsOf, address, read, write, recordOf}
 use Rattle.spec_tree.specs.Tour.{MARKS, seek}
 use Rattle.spec_outcomes.specs.Segments.{indexOf, headIndex, linkedBy, renamed, released, linked}
 use Rattle.segments.specs.Names.{held, nextIs, headHere}
 
 -- THE HEADS of a task: the place of s, where the first i are others
 unfoldable pub headFrom : List ℕ → ℕ → ℕ → ℕ → ℕ
-headFrom m s t i = i + indexOf s (16 - i) (drop (16 + i) (recordOf m t))
+headFrom m s t i = i + indexOf s (HEAD-WORDS - i) (drop (QUEUE-HEADS + i) (recordOf m t))
 
 head-word : (m : List ℕ) (t i : ℕ) → load (drop (16 + i) (recordOf m t)) 0 ≡ read m (task t (16 + i))
 unfolding load recordOf read address
@@ -84,7 +84,7 @@ by-more : (k : ℕ) (m : List ℕ) (q s y : ℕ) → nextIs m q s y ≡ false �
 unfolding linkedBy nextIs held
 by-more k m q s y e = pass _ e refl
 
-pub by-start : (m : List ℕ) (q s n : ℕ) → n ≡ read m numberWord → linkedBy (n - 0) m q s 0 ≡ linkedBy (read m numberWord) m q s 0
+pub by-start : (m : List ℕ) (q s n : ℕ) → n ≡ segmentsOf m q → linkedBy (n - 0) m q s 0 ≡ linkedBy (segmentsOf m q) m q s 0
 by-start m q s n e = ap (λ (k : ℕ). linkedBy k m q s 0) (whole n ∙ e)
   where
     whole : (k : ℕ) → k - 0 ≡ k
@@ -129,7 +129,7 @@ module _ (m : List ℕ) (q s h t : ℕ) (et : t ≡ seek MARKS (headHere m s) (r
   unfolding renamed headHere
   rename-head m1 i l ei e = e ∙ (rw (ei, et)) ∙ sym (halt _ _ (ap (λ (x : ℕ). ltb x 128) (sym et) ∙ lt-ltb t 128 l))
 
-  module _ (y n : ℕ) (ey : y ≡ linkedBy (read m numberWord) m q s 0) (en : n ≡ read m numberWord) (l : 128 ≤ t) where
+  module _ (y n : ℕ) (ey : y ≡ linkedBy (segmentsOf m q) m q s 0) (en : n ≡ segmentsOf m q) (l : 128 ≤ t) where
     pub rename-next : (m1 : List ℕ) → y < n → m1 ≡ write m (segment y 2) h → m1 ≡ renamed m q s h
     unfolding renamed headHere
     rename-next m1 g e =

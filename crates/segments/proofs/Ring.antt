@@ -7,7 +7,7 @@ use native.Mathlib.Nat.{mul-le-mul, mul-le-mul-left, mul-suc, mul-comm}
 use lib.ListN.{length}
 use borrow.Rule.Slice.PartMut.{putMid, midOf, mid-len, set-mid-at}
 use Rattle.spec_words.specs.Words.{load, store, size}
-use Rattle.spec_layout.specs.Layout.{lengthWord, numberWord, segment, value, first, count, next, address, read, write}
+use Rattle.spec_layout.specs.Layout.{numberWord, segment, value, first, count, next, lengthOf, Opened, ValuesFit, address, read, write}
 use Rattle.segment_record.specs.Ring.{oneMore, oneLess}
 use Rattle.segment_record.specs.declared.Record.{Record}
 use Rattle.spec_outcomes.specs.Segments.{place, valueAt, stored, dropped}
@@ -17,7 +17,7 @@ use Rattle.spec_outcomes.specs.Places.{place-below}
 pub product-fits : (s l : ℕ) → s < 2 ^ 32 → l < 2 ^ 32 → s * l ≤ 4294967295 * 4294967295
 product-fits s l hs hl = let a : s ≤ 4294967295 = omega arith in let b : l ≤ 4294967295 = omega arith in mul-le-mul a b
 
-pub value-read : (m : List ℕ) (s k l f p r : ℕ) → l ≡ read m lengthWord → f ≡ read m (first s) → p ≡ place l f k
+pub value-read : (m : List ℕ) (s k l f p r : ℕ) → l ≡ lengthOf m s → f ≡ read m (first s) → p ≡ place l f k
     → r ≡ load m (8192 + (s * l + p)) → r ≡ valueAt m s k
 unfolding valueAt
 value-read m s k l f p r el ef ep er = er ∙ address-of m (s * l + p) ∙ simp (ep, ef, el)
@@ -37,7 +37,7 @@ unfolding write address
 store-value m n s l i v e = e ∙ ap (λ (a : ℕ). store m a v) (omega arith)
 
 -- the values of segment s are inside the memory
-pub values-inside : (m : List ℕ) (k s l : ℕ) → size m ≡ 16384 → s < read m numberWord → read m lengthWord * read m numberWord ≤ 8192 → l ≡ read m lengthWord
+pub values-inside : (m : List ℕ) (k s l : ℕ) → size m ≡ 16384 → Opened m s → ValuesFit m → l ≡ lengthOf m s
     → k ≡ length m → 8192 + (s * l + l) ≤ k
 unfolding size
 values-inside m k s l e h g el ek = fits s l (read m numberWord) h (rw (← el) at g)
@@ -53,15 +53,15 @@ values-inside m k s l e h g el ek = fits s l (read m numberWord) h (rw (← el) 
 abbrev pub OfSegment : List ℕ → ℕ → Record → Type 0
 OfSegment m s r = (r .first ≡ read m (first s)) × (r .count ≡ read m (count s)) × (r .next ≡ read m (next s))
 
-pub one-more : (m m1 m2 : List ℕ) (s v l p : ℕ) (r r1 : Record) → l ≡ read m lengthWord → OfSegment m s r → p ≡ place l (r .first) (r .count)
+pub one-more : (m m1 m2 : List ℕ) (s v l p : ℕ) (r r1 : Record) → l ≡ lengthOf m s → OfSegment m s r → p ≡ place l (r .first) (r .count)
     → m1 ≡ write m (value (s * l + p)) v → r1 ≡ oneMore r → m2 ≡ write m1 (segment s 1) (r1 .count) → m2 ≡ stored m s v
 unfolding stored
 one-more m m1 m2 s v l p r r1 el er ep e1 e e2 = simp (e2, e, e1, ep, er .0, er .1, el)
 
-pub one-less : (m m1 m2 : List ℕ) (s l p : ℕ) (r r1 : Record) → OfSegment m s r → l ≡ read m lengthWord → p ≡ place l (r .first) 1 → r1 ≡ oneLess r p
+pub one-less : (m m1 m2 : List ℕ) (s l p : ℕ) (r r1 : Record) → OfSegment m s r → l ≡ lengthOf m s → p ≡ place l (r .first) 1 → r1 ≡ oneLess r p
     → m1 ≡ write m (segment s 0) (r1 .first) → m2 ≡ write m1 (segment s 1) (r1 .count) → m2 ≡ dropped m s
 unfolding dropped
 one-less m m1 m2 s l p r r1 er el ep e e1 e2 = simp (e2, e1, e, ep, er .0, er .1, el)
 
-pub place-inside : (m : List ℕ) (s l n f p : ℕ) → l ≡ read m lengthWord → n ≡ read m (count s) → read m (count s) < read m lengthWord → p ≡ place l f n → p < l
+pub place-inside : (m : List ℕ) (s l n f p : ℕ) → l ≡ lengthOf m s → n ≡ read m (count s) → read m (count s) < lengthOf m s → p ≡ place l f n → p < l
 place-inside m s l n f p el en h ep = rw ep (place-below l f n (omega arith))

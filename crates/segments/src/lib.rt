@@ -7,11 +7,12 @@ ghost use lib.ListN.{length};
 ghost use Rattle.spec_words.specs.Words.{store, size};
 ghost use Rattle.spec_words.specs.Blocks.{storeAll};
 ghost use Rattle.spec_lists.specs.Marks.{marking};
-ghost use Rattle.spec_layout.specs.Layout.{recordOf, lengthWord, numberWord, freeSegments, segment, value, first, count, next, address, read, write};
+ghost use Rattle.spec_layout.specs.Layout.{segment, value, first, count, next, lengthOf, Opened, ValuesFit, segmentsOf, freeHeight, freeStack};
+ghost use Rattle.spec_layout.specs.Layout.{address, read, write, recordOf};
 ghost use Rattle.spec_tree.specs.Tour.{MARKS, seek};
 ghost use Rattle.spec_outcomes.specs.Segments.{place, valueAt, stored, dropped, noneFree, nextFree, taken, released};
 ghost use Rattle.spec_outcomes.specs.Segments.{headIndex, linkedBy, renamed, linked};
-ghost use Rattle.segments.specs.Names.{freeStack, held, freeMarks, nextIs, headHere};
+ghost use Rattle.segments.specs.Names.{held, freeMarks, nextIs, headHere};
 use layout::END;
 use layout::MARKS;
 use layout::NONE;
@@ -78,8 +79,8 @@ fn read_record(m: &[u32], s: u32) -> Record
 
 // One value more behind the others of segment s. Of the record, only the word that changed is written back.
 pub fn store_one(m: &mut [u32], s: u32, v: u32)
-    requires { ⌜ (size (now m) ≡ 16384) × (s < read (now m) numberWord)
-        × (read (now m) lengthWord * read (now m) numberWord ≤ 8192) × (read (now m) (count s) < read (now m) lengthWord) ⌝ }
+    requires { ⌜ (size (now m) ≡ 16384) × (Opened (now m) s)
+        × (ValuesFit (now m)) × (read (now m) (count s) < lengthOf (now m) s) ⌝ }
     ensures { λ _. ⌜ now (m .exit) ≡ stored (now (m .entry)) s v ⌝ }
 {
     let l = memory::length_of(m, s);
@@ -109,7 +110,7 @@ pub fn none_free(m: &[u32], q: u32) -> bool
 
 // The segment that is taken next.
 pub fn next_free(m: &[u32], q: u32) -> u32
-    requires { ⌜ 0 < read (now m) freeSegments ⌝ }
+    requires { ⌜ 0 < freeHeight (now m) q ⌝ }
     ensures { λ r. ⌜ r ≡ nextFree (now (m .entry)) q ⌝ }
 {
     memory::free_segment(m, memory::free_segments(m, q) - 1)
@@ -126,8 +127,8 @@ fn set_record(m: &mut [u32], s: u32, f: u32, n: u32, x: u32)
 
 // The next free segment gets v as its only value, and no next.
 pub fn take(m: &mut [u32], q: u32, v: u32)
-    requires { ⌜ (size (now m) ≡ 16384) × (0 < read (now m) freeSegments) × (nextFree (now m) q < read (now m) numberWord)
-        × (0 < read (now m) lengthWord) × (read (now m) lengthWord * read (now m) numberWord ≤ 8192) ⌝ }
+    requires { ⌜ (size (now m) ≡ 16384) × (0 < freeHeight (now m) q) × (Opened (now m) (nextFree (now m) q))
+        × (0 < lengthOf (now m) (nextFree (now m) q)) × (ValuesFit (now m)) ⌝ }
     ensures { λ _. ⌜ now (m .exit) ≡ taken (now (m .entry)) q v ⌝ }
 {
     let n = memory::free_segments(m, q);
@@ -253,7 +254,7 @@ fn next_is(m: &[u32], q: u32, d: &[u8; 256], s: u32, y: u32) -> bool
 
 // The segment with s as its next; the number of segments where there is none.
 fn linked_by(m: &[u32], q: u32, s: u32) -> u32
-    ensures { λ r. ⌜ r ≡ linkedBy (read (now (m .entry)) numberWord) (now (m .entry)) q s 0 ⌝ }
+    ensures { λ r. ⌜ r ≡ linkedBy (segmentsOf (now (m .entry)) q) (now (m .entry)) q s 0 ⌝ }
 {
     let mut d = [0u8; 256];
     mark_free(m, q, &mut d);

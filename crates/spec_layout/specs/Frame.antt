@@ -8,16 +8,17 @@ use lib.Dec.{ltb, eqb}
 use lib.Seq.{getD-drop}
 use borrow.Author.Tests.{eq-eqb, eqb-true, eqb-false, lt-ltb, le-ltb}
 use Rattle.spec_words.specs.Words.{load, store, size, pick, pass, halt, pick-true, pick-false, size-store, load-same, load-other}
-use Rattle.spec_layout.specs.Layout.{WORDS, Field, header, freeSegment, freeTask, segment, task, value, address, read, write, recordOf}
+use Rattle.spec_layout.specs.Layout.{WORDS, FREE-SEGMENTS, FREE-TASKS, SEGMENTS, SEGMENT-WORDS, TASKS, TASK-WORDS, VALUES, VALUE-WORDS, Field}
+use Rattle.spec_layout.specs.Layout.{header, freeSegment, freeTask, segment, task, value, address, read, write, recordOf}
 
 -- the fields that the memory has
 abbrev pub Within : Field → Type 0
-Within (header k) = k < 64
+Within (header k) = k < FREE-SEGMENTS
 Within (freeSegment i) = i < 256
 Within (freeTask i) = i < 128
-Within (segment s k) = (s < 256) × (k < 4)
-Within (task t k) = (t < 128) × (k < 48)
-Within (value i) = i < 8192
+Within (segment s k) = (s < 256) × (k < SEGMENT-WORDS)
+Within (task t k) = (t < 128) × (k < TASK-WORDS)
+Within (value i) = i < VALUE-WORDS
 
 pub inside : (f : Field) → Within f → address f < WORDS
 unfolding address
@@ -31,33 +32,34 @@ inside (value i) h = omega arith
 -- the field at an address
 fieldAt : ℕ → Field
 fieldAt a =
-    pick (ltb a 64) (header a)
-    (pick (ltb a 320) (freeSegment (a - 64))
-    (pick (ltb a 448) (freeTask (a - 320))
-    (pick (ltb a 1472) (segment ((a - 448) / 4) ((a - 448) % 4))
-    (pick (ltb a 7616) (task ((a - 1472) / 48) ((a - 1472) % 48))
-    (value (a - 8192))))))
+    pick (ltb a FREE-SEGMENTS) (header a)
+    (pick (ltb a FREE-TASKS) (freeSegment (a - FREE-SEGMENTS))
+    (pick (ltb a SEGMENTS) (freeTask (a - FREE-TASKS))
+    (pick (ltb a TASKS) (segment ((a - SEGMENTS) / SEGMENT-WORDS) ((a - SEGMENTS) % SEGMENT-WORDS))
+    (pick (ltb a 7616) (task ((a - TASKS) / TASK-WORDS) ((a - TASKS) % TASK-WORDS))
+    (value (a - VALUES))))))
 
 field-back : (f : Field) → Within f → fieldAt (address f) ≡ f
 unfolding fieldAt address
-field-back (header k) h = halt _ _ (lt-ltb k 64 h)
+field-back (header k) h = halt _ _ (lt-ltb k FREE-SEGMENTS h)
 field-back (freeSegment i) h =
-    pass _ (le-ltb (64 + i) 64 (omega arith)) (halt _ _ (lt-ltb (64 + i) 320 (omega arith)) ∙ ap freeSegment (omega arith))
+    pass _ (le-ltb (FREE-SEGMENTS + i) FREE-SEGMENTS (omega arith))
+    (halt _ _ (lt-ltb (FREE-SEGMENTS + i) FREE-TASKS (omega arith)) ∙ ap freeSegment (omega arith))
 field-back (freeTask i) h =
-    pass _ (le-ltb (320 + i) 64 (omega arith)) (pass _ (le-ltb (320 + i) 320 (omega arith))
-    (halt _ _ (lt-ltb (320 + i) 448 (omega arith)) ∙ ap freeTask (omega arith)))
+    pass _ (le-ltb (FREE-TASKS + i) FREE-SEGMENTS (omega arith)) (pass _ (le-ltb (FREE-TASKS + i) FREE-TASKS (omega arith))
+    (halt _ _ (lt-ltb (FREE-TASKS + i) SEGMENTS (omega arith)) ∙ ap freeTask (omega arith)))
 field-back (segment s k) h =
-    pass _ (le-ltb (448 + s * 4 + k) 64 (omega arith)) (pass _ (le-ltb (448 + s * 4 + k) 320 (omega arith))
-    (pass _ (le-ltb (448 + s * 4 + k) 448 (omega arith)) (halt _ _ (lt-ltb (448 + s * 4 + k) 1472 (omega arith))
+    pass _ (le-ltb (SEGMENTS + s * SEGMENT-WORDS + k) FREE-SEGMENTS (omega arith)) (pass _ (le-ltb (SEGMENTS + s * SEGMENT-WORDS + k) FREE-TASKS (omega arith))
+    (pass _ (le-ltb (SEGMENTS + s * SEGMENT-WORDS + k) SEGMENTS (omega arith)) (halt _ _ (lt-ltb (SEGMENTS + s * SEGMENT-WORDS + k) TASKS (omega arith))
     ∙ ap₂ segment (omega arith) (omega arith))))
 field-back (task t k) h =
-    pass _ (le-ltb (1472 + t * 48 + k) 64 (omega arith)) (pass _ (le-ltb (1472 + t * 48 + k) 320 (omega arith))
-    (pass _ (le-ltb (1472 + t * 48 + k) 448 (omega arith)) (pass _ (le-ltb (1472 + t * 48 + k) 1472 (omega arith))
-    (halt _ _ (lt-ltb (1472 + t * 48 + k) 7616 (omega arith)) ∙ ap₂ task (omega arith) (omega arith)))))
+    pass _ (le-ltb (TASKS + t * TASK-WORDS + k) FREE-SEGMENTS (omega arith)) (pass _ (le-ltb (TASKS + t * TASK-WORDS + k) FREE-TASKS (omega arith))
+    (pass _ (le-ltb (TASKS + t * TASK-WORDS + k) SEGMENTS (omega arith)) (pass _ (le-ltb (TASKS + t * TASK-WORDS + k) TASKS (omega arith))
+    (halt _ _ (lt-ltb (TASKS + t * TASK-WORDS + k) 7616 (omega arith)) ∙ ap₂ task (omega arith) (omega arith)))))
 field-back (value i) h =
-    pass _ (le-ltb (8192 + i) 64 (omega arith)) (pass _ (le-ltb (8192 + i) 320 (omega arith))
-    (pass _ (le-ltb (8192 + i) 448 (omega arith)) (pass _ (le-ltb (8192 + i) 1472 (omega arith))
-    (pass _ (le-ltb (8192 + i) 7616 (omega arith)) (ap value (omega arith))))))
+    pass _ (le-ltb (VALUES + i) FREE-SEGMENTS (omega arith)) (pass _ (le-ltb (VALUES + i) FREE-TASKS (omega arith))
+    (pass _ (le-ltb (VALUES + i) SEGMENTS (omega arith)) (pass _ (le-ltb (VALUES + i) TASKS (omega arith))
+    (pass _ (le-ltb (VALUES + i) 7616 (omega arith)) (ap value (omega arith))))))
 
 -- two fields at one address are the same
 pub apart : (f g : Field) → Within f → Within g → address f ≡ address g → f ≡ g
@@ -87,4 +89,4 @@ read-other m f g v hf hg n = load-other m (address f) (address g) v (λ e. n (ap
 -- a word of a task's record
 pub record-word : (m : List ℕ) (t k : ℕ) → load (recordOf m t) k ≡ read m (task t k)
 unfolding load recordOf read address
-record-word m t k = getD-drop (1472 + t * 48) m k 0
+record-word m t k = getD-drop (TASKS + t * TASK-WORDS) m k 0

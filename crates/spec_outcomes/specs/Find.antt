@@ -4,14 +4,14 @@ use mathlib.Core.List.{List}
 use Prim.Native.Nat.{ℕ}
 use lib.Dec.{leb, ltb, eqb}
 use Rattle.spec_words.specs.Words.{pick, both, either}
-use Rattle.spec_layout.specs.Layout.{NONE, NL, count, next, queueHead, read, write}
+use Rattle.spec_layout.specs.Layout.{NONE, NL, count, next, rightsOf, queueHead, read, write}
 use Rattle.spec_answers.specs.declared.Answer.the-variants.{Moved, Empty, NotEmpty, Waits, Refused}
 use Rattle.spec_answers.specs.declared.Finding.{Finding}
 use Rattle.spec_answers.specs.declared.Finding.the-variants as Finding
 use Rattle.spec_answers.specs.Answers.{Outcome, outcome}
 use Rattle.spec_tree.specs.Rights.{pops}
 use Rattle.spec_outcomes.specs.Segments.{valueAt, dropped, released}
-use Rattle.spec_outcomes.specs.Waits.{tested, rightsOf, unfinished, blocked, childPops, pusherBefore}
+use Rattle.spec_outcomes.specs.Waits.{tested, unfinished, blocked, childPops, pusherBefore}
 
 -- "pending means what the chain from the caller's queue head holds .. and nothing without a head": a segment with a next
 -- is never empty, so the chain holds a value where its first segment does

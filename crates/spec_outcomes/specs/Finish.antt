@@ -6,15 +6,15 @@ use lib.Dec.{ltb, eqb}
 use lib.ListN.{replicate}
 use Rattle.spec_words.specs.Words.{pick, both, either}
 use Rattle.spec_words.specs.Blocks.{storeAll}
-use Rattle.spec_layout.specs.Layout.{NONE, FINISHED, STATUS, PARENT, OLDER, YOUNGER, YOUNGEST, CHILDREN, USER, RIGHT, freeTasks, freeTask, task, queueHead, address}
-use Rattle.spec_layout.specs.Layout.{read, write, recordOf}
+use Rattle.spec_layout.specs.Layout.{NONE, TASK-WORDS, STATUS, PARENT, OLDER, YOUNGER, YOUNGEST, FINISHED, CHILDREN, USER, RIGHT, freeTasks, freeTask}
+use Rattle.spec_layout.specs.Layout.{task, rightsOf, queueHead, address, read, write, recordOf}
 use Rattle.spec_answers.specs.declared.Answer.the-variants.{Moved}
 use Rattle.spec_answers.specs.Answers.{Outcome, outcome}
 use Rattle.spec_tree.specs.Rights.{pops, eachQueue}
 use Rattle.spec_tree.specs.Tour.{oldest}
 use Rattle.spec_rules.specs.Views.{View}
 use Rattle.spec_outcomes.specs.Views.{viewOf, isEmpty, reducible, behind, reduced, merged, taskAt, kindAt, returnedTo}
-use Rattle.spec_outcomes.specs.Waits.{tested, rightsOf}
+use Rattle.spec_outcomes.specs.Waits.{tested}
 use Rattle.spec_outcomes.specs.Sync.{syncs, synced, whenReduced}
 
 -- the view that t returns for queue q: children, user and right view reduced
@@ -71,7 +71,7 @@ unlinked m t =
 -- its record is free. The height is below 128 on every memory that passes the rules.
 unfoldable pub recordFreed : List ℕ → ℕ → List ℕ
 recordFreed m t =
-    let m1 = storeAll m (address (task t 0)) (replicate 48 0) in
+    let m1 = storeAll m (address (task t 0)) (replicate TASK-WORDS 0) in
     let m2 = write m1 (freeTask (read m freeTasks)) t in
     pick (ltb (read m freeTasks) 128) (write m2 freeTasks (read m freeTasks + 1)) m1
 

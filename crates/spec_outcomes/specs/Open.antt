@@ -8,7 +8,7 @@ use lib.ListN.{replicate}
 use borrow.Author.Tests.{eq-eqb}
 use Rattle.spec_words.specs.Words.{size, pick, pass}
 use Rattle.spec_words.specs.Blocks.{storeAll}
-use Rattle.spec_layout.specs.Layout.{WORDS, NONE, NL, UNFINISHED, freeSegment, freeTask, segment, task, address}
+use Rattle.spec_layout.specs.Layout.{WORDS, NONE, NL, UNFINISHED, QUEUE-HEADS, freeSegment, freeTask, segment, task, address}
 use Rattle.spec_answers.specs.declared.Answer.the-variants.{Moved, Refused}
 use Rattle.spec_answers.specs.Answers.{Outcome, outcome}
 use Rattle.spec_rules.specs.Test.{inRange}
@@ -44,7 +44,7 @@ segmented m =
     storeAll m3 (address (segment 3 0)) emptySegment
 
 unfoldable pub topped : List ℕ → List ℕ
-topped m = storeAll (storeAll m (address (task 0 0)) topLinks) (address (task 0 16)) topViews
+topped m = storeAll (storeAll m (address (task 0 0)) topLinks) (address (task 0 QUEUE-HEADS)) topViews
 
 -- the words of a new core
 unfoldable pub opened : ℕ → ℕ → List ℕ

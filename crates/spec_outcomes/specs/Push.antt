@@ -4,14 +4,14 @@ use mathlib.Core.List.{List}
 use Prim.Native.Nat.{ℕ}
 use lib.Dec.{leb, ltb}
 use Rattle.spec_words.specs.Words.{pick}
-use Rattle.spec_layout.specs.Layout.{NL, USER, lengthWord, count, next, tail, read, write}
+use Rattle.spec_layout.specs.Layout.{NL, USER, count, next, lengthOf, rightsOf, tail, read, write}
 use Rattle.spec_answers.specs.declared.Answer.the-variants.{Moved, Waits, Refused}
 use Rattle.spec_answers.specs.Answers.{Outcome, outcome}
 use Rattle.spec_tree.specs.Rights.{pushes}
 use Rattle.spec_rules.specs.Views.{view}
 use Rattle.spec_outcomes.specs.Segments.{stored, noneFree, nextFree, taken}
 use Rattle.spec_outcomes.specs.Views.{viewOf, isEmpty, tailOf, reducible, setView, joined, taskAt, kindAt, justBefore}
-use Rattle.spec_outcomes.specs.Waits.{tested, rightsOf, unfinished, blocked}
+use Rattle.spec_outcomes.specs.Waits.{tested, unfinished, blocked}
 
 -- "A push makes a new segment when the user view is empty": "the new head is reduced into the view just before it", which
 -- stands at mark x, and the new segment is the tail of the user view. "A call that would move but needs a reduction the
@@ -36,7 +36,7 @@ pushed m t q v =
     let e = tailOf u in
     pick (isEmpty u) (pick (noneFree m q) (outcome (Refused 9) m) (pushedApart m t q v (justBefore m q t)))
     (pick (leb NL e) (outcome (Refused 2) m)
-    (pick (ltb (read m (count e)) (read m lengthWord)) (outcome (Moved v) (stored m e v))
+    (pick (ltb (read m (count e)) (lengthOf m e)) (outcome (Moved v) (stored m e v))
     (pick (noneFree m q) (outcome (Refused 9) m) (pushedBehind m t q v e))))
 
 -- 4, 5, 6, the wait for older siblings

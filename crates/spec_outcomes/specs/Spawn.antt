@@ -7,11 +7,12 @@ use lib.Dec.{eqb}
 use lib.ListN.{length}
 use Rattle.spec_words.specs.Words.{pick}
 use Rattle.spec_words.specs.Blocks.{storeAll}
-use Rattle.spec_layout.specs.Layout.{NONE, UNFINISHED, YOUNGER, YOUNGEST, USER, freeTasks, freeTask, task, head, tail, queueHead, address, read, write}
+use Rattle.spec_layout.specs.Layout.{NONE, YOUNGER, YOUNGEST, UNFINISHED, QUEUE-HEADS, USER, freeTasks, freeTask, task, rightsOf, queueHead, head}
+use Rattle.spec_layout.specs.Layout.{tail, address, read, write}
 use Rattle.spec_answers.specs.declared.Answer.the-variants.{Moved, Waits, Refused}
 use Rattle.spec_answers.specs.Answers.{Outcome, outcome}
 use Rattle.spec_tree.specs.Rights.{pops, uses, subset}
-use Rattle.spec_outcomes.specs.Waits.{tested, rightsOf, unfinished, blocked}
+use Rattle.spec_outcomes.specs.Waits.{tested, unfinished, blocked}
 
 -- four words, one for each queue
 unfoldable pub forQueues : (ℕ → ℕ) → List ℕ
@@ -56,7 +57,7 @@ unfoldable pub childMade : List ℕ → ℕ → ℕ → ℕ → List ℕ
 childMade m t r c =
     let o = read m (task t YOUNGEST) in
     let m1 = storeAll m (address (task c 0)) (UNFINISHED ∷ r ∷ t ∷ o ∷ NONE ∷ NONE ∷ []) in
-    let m2 = storeAll m1 (address (task c 16)) (childViews m t r) in
+    let m2 = storeAll m1 (address (task c QUEUE-HEADS)) (childViews m t r) in
     let m3 = write (passedOn m2 t r) (task t YOUNGEST) c in
     pick (eqb o NONE) m3 (write m3 (task o YOUNGER) c)
 

@@ -22,7 +22,7 @@ use Rattle.spec_outcomes.specs.Open.{down, stacked, segmented, topped, o
 use Rattle.spec_outcomes.specs.Segments.{place, valueAt, stored, dropped, noneFree, nextFree, taken, released, indexOf, headIndex, linkedBy, renamed, linked}
 use Rattle.spec_outcomes.specs.Views.{viewOf, isEmpty, headOf, tailOf, reducible, frees, behind, reduced, setView, joined, merged, taskAt, kindAt, takesPart}
 use Rattle.spec_outcomes.specs.Views.{standsAt, justBefore, returnedTo}
-use Rattle.spec_outcomes.specs.Waits.{tested, rightsOf, unfinished, blocked, childPops, hasChild, pusherBefore}
+use Rattle.spec_outcomes.specs.Waits.{tested, unfinished, blocked, childPops, hasChild, pusherBefore}
 use Rattle.spec_outcomes.specs.Spawn.{forQueues, passedUser, passedQueue, keptUser, keptQueue, childViews, passedOn, childMade, spawned, spawnTested}
 use Rattle.spec_outcomes.specs.Spawn.{spawnOutcome}
 use Rattle.spec_outcomes.specs.Push.{pushedApart, pushedBehind, pushed, pushTested, pushOutcome}
@@ -70,7 +70,7 @@ unfolding load store size pick both either storeAll rows one occurrences each up
     tables look scan word part locals heads tails owners within inRange topTest idleTest kin linkTest treeTest viewWord viewsTest marked passed passedAt
     orderAt orderOf orderTest ownersTest segmentTest chain chains heldTest viewTests test rulesHold down stacked segmented topped opened openOutcome place
     valueAt stored dropped noneFree nextFree taken released indexOf headIndex linkedBy renamed linked viewOf isEmpty headOf tailOf reducible frees behind
-    reduced setView joined merged taskAt kindAt takesPart standsAt justBefore returnedTo tested rightsOf unfinished blocked childPops hasChild pusherBefore
+    reduced setView joined merged taskAt kindAt takesPart standsAt justBefore returnedTo tested unfinished blocked childPops hasChild pusherBefore
     forQueues passedUser passedQueue keptUser keptQueue childViews passedOn childMade spawned spawnTested spawnOutcome pushedApart pushedBehind pushed
     pushTested pushOutcome hasValue finding popped popGives testGives popAllowed popTested testTested popOutcome testOutcome syncs syncedQueue synced
     whenReduced syncTested syncOutcome returned finishes viewsReturned heir queueReturned finishedQueue unlinked recordFreed finished topFinished finishTested

@@ -6,7 +6,7 @@ use Prim.Native.Nat.{ℕ, _+_, _-_}
 use lib.Dec.{ltb, eqb}
 use borrow.Author.Tests.{ne-eqb}
 use Rattle.spec_words.specs.Words.{pick, both, either, both-off}
-use Rattle.spec_layout.specs.Layout.{NONE, NL, CHILDREN, RIGHT, RIGHTS, count, head, tail, task, read, write, recordOf}
+use Rattle.spec_layout.specs.Layout.{NONE, NL, CHILDREN, RIGHT, count, rightsOf, head, tail, read, write, recordOf}
 use Rattle.spec_tree.specs.Rights.{uses}
 use Rattle.spec_tree.specs.Tour.{MARKS, after, seek}
 use Rattle.spec_rules.specs.Views.{View, view}
@@ -73,7 +73,7 @@ kindAt x = pick (ltb x 128) RIGHT CHILDREN
 
 -- "Siblings without a right to q are passed over"
 unfoldable pub takesPart : List ℕ → ℕ → ℕ → Bool
-takesPart m q x = uses (read m (task (taskAt x) RIGHTS)) q
+takesPart m q x = uses (rightsOf m (taskAt x)) q
 
 -- "and so is an empty children view on the way up, save the top's"
 unfoldable pub standsAt : List ℕ → ℕ → ℕ → Bool

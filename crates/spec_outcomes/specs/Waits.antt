@@ -6,7 +6,7 @@ use Prim.Native.Nat.{ℕ}
 use lib.Dec.{ltb, eqb}
 use borrow.Author.Tests.{eq-eqb}
 use Rattle.spec_words.specs.Words.{size, pick, pass, both}
-use Rattle.spec_layout.specs.Layout.{WORDS, NONE, UNFINISHED, STATUS, RIGHTS, OLDER, YOUNGEST, task, read, recordOf}
+use Rattle.spec_layout.specs.Layout.{WORDS, NONE, STATUS, OLDER, YOUNGEST, UNFINISHED, task, rightsOf, read, recordOf}
 use Rattle.spec_answers.specs.declared.Answer.the-variants.{Refused}
 use Rattle.spec_answers.specs.Answers.{Outcome, outcome}
 use Rattle.spec_tree.specs.Rights.{pushes, pops, sharesPop}
@@ -20,9 +20,6 @@ tested m o = pick (not (eqb (size m) WORDS)) (outcome (Refused 1) m) (pick (not 
 pub test-passes : (m : List ℕ) → size m ≡ WORDS → rulesHold m ≡ true → (o : Outcome) → tested m o ≡ o
 unfolding tested
 test-passes m s h o = pass _ (ap not (eq-eqb _ _ s)) (pass _ (ap not h) refl)
-
-unfoldable pub rightsOf : List ℕ → ℕ → ℕ
-rightsOf m t = read m (task t RIGHTS)
 
 -- 4 where not: "task is 128 or more, or not unfinished"
 unfoldable pub unfinished : List ℕ → ℕ → Bool

@@ -13,7 +13,9 @@ use borrow.Author.Tests.{ltb-true}
 use Rattle.spec_words.specs.Words.{load, pick, pick-true, pick-false, either}
 use Rattle.spec_words.specs.Blocks.{rows, row-at}
 use Rattle.spec_lists.specs.Counting.{occurrences}
-use Rattle.spec_layout.specs.Layout.{NONE, NL, STATUS, UNFINISHED, lengthWord, numberWord, freeSegments, freeTasks, segment, address, read, recordOf}
+use Rattle.spec_layout.specs.Layout.{NONE, NL, FREE-SEGMENTS, FREE-TASKS, SEGMENTS, SEGMENT-WORDS, TASKS, TASK-WORDS, STATUS, RIGHTS, UNFINISHED}
+use Rattle.spec_layout.specs.Layout.{QUEUE-HEADS, TAILS, HEAD-WORDS, TAIL-WORDS, lengthWord, numberWord, freeSegments, freeTasks, segment, address}
+use Rattle.spec_layout.specs.Layout.{read, recordOf}
 
 pub record Contents : Type 0 where
   -- the length L of a segment, and the number of segments opened
@@ -28,7 +30,7 @@ pub record Contents : Type 0 where
 
 -- the record of segment s
 unfoldable pub segmentOf : List ℕ → ℕ → List ℕ
-segmentOf m s = drop (448 + s * 4) m
+segmentOf m s = drop (SEGMENTS + s * SEGMENT-WORDS) m
 
 -- the contents of words m
 abbrev pub decode : List ℕ → Contents
@@ -36,8 +38,8 @@ decode m =
     record {
       length = read m lengthWord;
       number = read m numberWord;
-      free = take (read m freeSegments) (drop 64 m);
-      idle = take (read m freeTasks) (drop 320 m);
+      free = take (read m freeSegments) (drop FREE-SEGMENTS m);
+      idle = take (read m freeTasks) (drop FREE-TASKS m);
       segs = segmentOf m;
       recs = recordOf m;
     }
@@ -52,13 +54,13 @@ look n found f i = pick (ltb i (16 * n)) (getD (getD found (i / 16) []) (i % 16)
 
 unfoldable pub scan : List ℕ → Contents
 scan m =
-    let segments = tables 4 16 (drop 448 m) in
-    let tasks = tables 48 8 (drop 1472 m) in
+    let segments = tables SEGMENT-WORDS 16 (drop SEGMENTS m) in
+    let tasks = tables TASK-WORDS 8 (drop TASKS m) in
     record {
       length = read m lengthWord;
       number = read m numberWord;
-      free = take (read m freeSegments) (drop 64 m);
-      idle = take (read m freeTasks) (drop 320 m);
+      free = take (read m freeSegments) (drop FREE-SEGMENTS m);
+      idle = take (read m freeTasks) (drop FREE-TASKS m);
       segs = look 16 segments (segmentOf m);
       recs = look 8 tasks (recordOf m);
     }
@@ -98,22 +100,25 @@ unfolding scan segmentOf recordOf
 scan-decodes m = λ i. record {
   length = read m lengthWord;
   number = read m numberWord;
-  free = take (read m freeSegments) (drop 64 m);
-  idle = take (read m freeTasks) (drop 320 m);
-  segs = λ s. look-same 4 16 448 m s i;
-  recs = λ t. look-same 48 8 1472 m t i;
+  free = take (read m freeSegments) (drop FREE-SEGMENTS m);
+  idle = take (read m freeTasks) (drop FREE-TASKS m);
+  segs = λ s. look-same SEGMENT-WORDS 16 SEGMENTS m s i;
+  recs = λ t. look-same TASK-WORDS 8 TASKS m t i;
 }
 
--- word k of the record of task t, and of segment s
+-- word k of the record of task t, its rights, and word k of the record of segment s
 unfoldable pub word : Contents → ℕ → ℕ → ℕ
 word c t k = load (c .recs t) k
+
+abbrev pub taskRights : Contents → ℕ → ℕ
+taskRights c t = word c t RIGHTS
 
 unfoldable pub part : Contents → ℕ → ℕ → ℕ
 part c s k = load (c .segs s) k
 
 pub part-word : (m : List ℕ) (s k : ℕ) → part (decode m) s k ≡ read m (segment s k)
 unfolding part segmentOf load read address
-part-word m s k = getD-drop (448 + s * 4) m k 0
+part-word m s k = getD-drop (SEGMENTS + s * SEGMENT-WORDS) m k 0
 
 -- the first n words of r that are segments, no mark
 unfoldable pub locals : ℕ → List ℕ → List ℕ
@@ -123,16 +128,16 @@ locals (suc n) r = let rest = locals n (drop 1 r) in pick (ltb (load r 0) NL) (l
 -- the local heads, and the local tails, of all views of the tasks ts
 unfoldable pub heads : Contents → List ℕ → List ℕ
 heads c [] = []
-heads c (t ∷ ts) = locals 16 (drop 16 (c .recs t)) ++ heads c ts
+heads c (t ∷ ts) = locals HEAD-WORDS (drop QUEUE-HEADS (c .recs t)) ++ heads c ts
 
 unfoldable pub tails : Contents → List ℕ → List ℕ
 tails c [] = []
-tails c (t ∷ ts) = locals 12 (drop 32 (c .recs t)) ++ tails c ts
+tails c (t ∷ ts) = locals TAIL-WORDS (drop TAILS (c .recs t)) ++ tails c ts
 
 -- of the tasks ts those that have the queue view of q
 unfoldable pub owners : Contents → ℕ → List ℕ → List ℕ
 owners c q [] = []
-owners c q (t ∷ ts) = let rest = owners c q ts in pick (eqb (word c t (16 + q)) NONE) rest (t ∷ rest)
+owners c q (t ∷ ts) = let rest = owners c q ts in pick (eqb (word c t (QUEUE-HEADS + q)) NONE) rest (t ∷ rest)
 
 -- the tasks that have views: the top, finished or not, and the unfinished ones; of the n tasks from t on
 unfoldable pub holdersFrom : Contents → ℕ → ℕ → List ℕ

@@ -7,9 +7,10 @@ use mathlib.Core.Logic.{_⊎_}
 use Prim.Native.Nat.{ℕ, zero, suc, _+_, _*_, _%_, _<_, _≤_}
 use lib.ListN.{length}
 use Rattle.spec_lists.specs.Counting.{occurrences}
-use Rattle.spec_layout.specs.Layout.{NONE, NL, FREE, UNFINISHED, FINISHED, STATUS, RIGHTS, PARENT, OLDER, YOUNGER, YOUNGEST}
+use Rattle.spec_layout.specs.Layout.{NONE, NL, STATUS, PARENT, OLDER, YOUNGER, YOUNGEST, FREE, UNFINISHED, FINISHED, QUEUE-HEADS, HEADS, TAILS}
+use Rattle.spec_layout.specs.Layout.{TAIL-WORDS, VIEW-WORDS}
 use Rattle.spec_tree.specs.Rights.{uses, subset}
-use Rattle.spec_rules.specs.Contents.{Contents, word, part, heads, tails, owners, holders, nexts}
+use Rattle.spec_rules.specs.Contents.{Contents, word, part, heads, tails, owners, holders, nexts, taskRights}
 use Rattle.spec_rules.specs.Views.{views, Joined}
 
 -- below its limit or the mark for none
@@ -73,17 +74,17 @@ module _ (c : Contents) where
     pub no-sibling-ring : (t p : ℕ) → Child p t → (k : ℕ) × (k ≤ 128) × (walk (λ x. word c x OLDER) k t ≡ NONE)
     pub no-parent-ring : (t : ℕ) → Unfinished t → (k : ℕ) × (k ≤ 127) × (walk (λ x. word c x PARENT) k t ≡ 0)
     -- "child rights within the parent's"; "Task 0, the top task, has 255"
-    pub top-rights : word c 0 RIGHTS ≡ 255
-    pub child-rights : (t p : ℕ) → Child p t → subset (word c t RIGHTS) (word c p RIGHTS) ≡ true
+    pub top-rights : taskRights c 0 ≡ 255
+    pub child-rights : (t p : ℕ) → Child p t → subset (taskRights c t) (taskRights c p) ≡ true
 
   pub record ViewRules : Type 0 where
     -- "every link below its limit or the mark for none"
-    pub queue-links : (t q : ℕ) → Holder t → q < 4 → Link (c .number) (word c t (16 + q))
+    pub queue-links : (t q : ℕ) → Holder t → q < 4 → Link (c .number) (word c t (QUEUE-HEADS + q))
     -- the two ends of a view are both the mark for none, or neither; i is 4 times the kind of the view, plus its queue
-    pub view-links : (t i : ℕ) → Holder t → i < 12
-        → ((word c t (20 + i) ≡ NONE) × (word c t (32 + i) ≡ NONE)) ⊎ (Edge (c .number) (word c t (20 + i)) × Edge (c .number) (word c t (32 + i)))
+    pub view-links : (t i : ℕ) → Holder t → i < TAIL-WORDS
+        → ((word c t (HEADS + i) ≡ NONE) × (word c t (TAILS + i) ≡ NONE)) ⊎ (Edge (c .number) (word c t (HEADS + i)) × Edge (c .number) (word c t (TAILS + i)))
     -- "a task with any right to q has all four views of q", and one without has none: i counts the words of its views
-    pub no-views : (t i : ℕ) → Holder t → i < 28 → uses (word c t RIGHTS) (i % 4) ≡ false → word c t (16 + i) ≡ NONE
+    pub no-views : (t i : ℕ) → Holder t → i < VIEW-WORDS → uses (taskRights c t) (i % 4) ≡ false → word c t (QUEUE-HEADS + i) ≡ NONE
     -- "one queue view with a head for each queue"
     pub one-owner : (q : ℕ) → q < 4 → length (owners c q (holders c)) ≡ 1
     -- "for each queue, its queue view first and the other non-empty views in the paper's order, a tail is non-local

@@ -7,24 +7,26 @@ use lib.ListN.{length, getD, take, drop}
 use Rattle.spec_words.specs.Words.{load, size}
 use Rattle.spec_words.specs.Blocks.{take-more}
 use Rattle.spec_lists.specs.Tests.{turn-left, turns-over}
+use Rattle.spec_layout.specs.Layout.{FREE-SEGMENTS}
 
 -- the places from i on, of h
 unfoldable pub rest : List ℕ → ℕ → ℕ → List ℕ
-rest m h i = take (h - i) (drop (64 + i) m)
+rest m h i = take (h - i) (drop (FREE-SEGMENTS + i) m)
 
 module _ (m : List ℕ) (h : ℕ) where
-  pub rest-start : rest m h 0 ≡ take h (drop 64 m)
+  pub rest-start : rest m h 0 ≡ take h (drop FREE-SEGMENTS m)
   unfolding rest
-  rest-start = ap (λ (k : ℕ). take k (drop 64 m)) (let z : h - 0 ≡ h = omega arith in z)
+  rest-start = ap (λ (k : ℕ). take k (drop FREE-SEGMENTS m)) (let z : h - 0 ≡ h = omega arith in z)
 
   module _ (i : ℕ) where
-    pub rest-next : i < h → 64 + i < length m → rest m h i ≡ getD m (64 + i) 0 ∷ rest m h (i + 1)
+    pub rest-next : i < h → FREE-SEGMENTS + i < length m → rest m h i ≡ getD m (FREE-SEGMENTS + i) 0 ∷ rest m h (i + 1)
     unfolding rest load size
     rest-next l g =
-        ap (λ (k : ℕ). take k (drop (64 + i) m)) (turn-left h i l)
-        ∙ take-more (h - (i + 1)) (64 + i) m g
-        ∙ ap (λ (k : ℕ). getD m (64 + i) 0 ∷ take (h - (i + 1)) (drop k m)) (let z : 64 + i + 1 ≡ 64 + (i + 1) = omega arith in z)
+        ap (λ (k : ℕ). take k (drop (FREE-SEGMENTS + i) m)) (turn-left h i l)
+        ∙ take-more (h - (i + 1)) (FREE-SEGMENTS + i) m g
+        ∙ ap (λ (k : ℕ). getD m (FREE-SEGMENTS + i) 0 ∷ take (h - (i + 1)) (drop k m))
+        (let z : FREE-SEGMENTS + i + 1 ≡ FREE-SEGMENTS + (i + 1) = omega arith in z)
 
     pub rest-end : h ≤ i → rest m h i ≡ []
     unfolding rest
-    rest-end l = ap (λ (k : ℕ). take k (drop (64 + i) m)) (turns-over h i l)
+    rest-end l = ap (λ (k : ℕ). take k (drop (FREE-SEGMENTS + i) m)) (turns-over h i l)

@@ -7,23 +7,24 @@ use lib.ListN.{length, drop}
 use Rattle.spec_words.specs.Words.{pick, both, either}
 use Rattle.spec_lists.specs.Tests.{each, upto, eachWord}
 use Rattle.spec_lists.specs.Distinct.{distinct}
-use Rattle.spec_layout.specs.Layout.{NONE, NL, FREE, UNFINISHED, FINISHED, STATUS, RIGHTS, PARENT, OLDER, YOUNGER, YOUNGEST, CHILDREN, USER, RIGHT}
+use Rattle.spec_layout.specs.Layout.{NONE, NL, VALUE-WORDS, STATUS, PARENT, OLDER, YOUNGER, YOUNGEST, FREE, UNFINISHED, FINISHED, QUEUE-HEADS, HEADS}
+use Rattle.spec_layout.specs.Layout.{TAILS, VIEW-WORDS, CHILDREN, USER, RIGHT}
 use Rattle.spec_tree.specs.Rights.{uses, subset, eachQueue}
 use Rattle.spec_tree.specs.Tour.{tour, entered, after}
-use Rattle.spec_rules.specs.Contents.{Contents, scan, word, part, heads, tails, owners}
+use Rattle.spec_rules.specs.Contents.{Contents, scan, word, part, heads, tails, owners, taskRights}
 
 unfoldable pub within : ℕ → ℕ → ℕ → Bool
 within a x b = both (leb a x) (leb x b)
 
 -- "L is 1 to 64, segments 4 to 256, and L times segments is at most 8,192"
 unfoldable pub inRange : ℕ → ℕ → Bool
-inRange l n = both (within 1 l 64) (both (within 4 n 256) (leb (l * n) 8192))
+inRange l n = both (within 1 l 64) (both (within 4 n 256) (leb (l * n) VALUE-WORDS))
 
 -- THE TOP: unfinished, or finished without children; all rights, no parent, no siblings
 unfoldable pub topTest : Contents → Bool
 topTest c =
     both (either (eqb (word c 0 STATUS) UNFINISHED) (both (eqb (word c 0 STATUS) FINISHED) (eqb (word c 0 YOUNGEST) NONE)))
-    (both (eqb (word c 0 RIGHTS) 255) (both (eqb (word c 0 PARENT) NONE) (both (eqb (word c 0 OLDER) NONE) (eqb (word c 0 YOUNGER) NONE))))
+    (both (eqb (taskRights c 0) 255) (both (eqb (word c 0 PARENT) NONE) (both (eqb (word c 0 OLDER) NONE) (eqb (word c 0 YOUNGER) NONE))))
 
 -- FREE RECORDS: at most 127 on the stack, none twice, none of them task 0, each with the status of a free one
 unfoldable pub idleTest : Contents → Bool
@@ -36,7 +37,7 @@ unfoldable pub kin : Contents → ℕ → ℕ → ℕ → Bool
 kin c t p y =
     either (eqb t NONE)
     (both (within 1 t 127) (both (eqb (word c t STATUS) UNFINISHED) (both (eqb (word c t PARENT) p) (both (eqb (word c t YOUNGER) y)
-    (subset (word c t RIGHTS) (word c p RIGHTS))))))
+    (subset (taskRights c t) (taskRights c p))))))
 
 -- the link that is followed at mark x
 unfoldable pub linkTest : Contents → ℕ → Bool
@@ -54,7 +55,7 @@ viewWord r i w = pick (uses r (i % 4)) (either (leb 4 i) (not (eqb w NL))) (eqb 
 
 -- all view words of task t
 unfoldable pub viewsTest : Contents → ℕ → Bool
-viewsTest c t = eachWord (viewWord (word c t RIGHTS)) 28 0 (drop 16 (c .recs t))
+viewsTest c t = eachWord (viewWord (taskRights c t)) VIEW-WORDS 0 (drop QUEUE-HEADS (c .recs t))
 
 -- THE ORDER of one queue's views, from the last to the first. The state is 0 where the view behind begins with a local
 -- head, or none is behind; 1 where it begins with a non-local head; 2 where the rule is broken
@@ -68,14 +69,14 @@ passed h e o =
 
 -- in front of view k of task t
 unfoldable pub passedAt : Contents → ℕ → ℕ → ℕ → ℕ → ℕ
-passedAt c q t k o = passed (word c t (20 + k * 4 + q)) (word c t (32 + k * 4 + q)) o
+passedAt c q t k o = passed (word c t (HEADS + k * 4 + q)) (word c t (TAILS + k * 4 + q)) o
 
 -- the state in front of the views at mark x
 unfoldable pub orderAt : Contents → ℕ → ℕ → ℕ → ℕ
 orderAt c q x o =
     pick (ltb x 128)
-    (pick (uses (word c x RIGHTS) q) (passedAt c q x USER (passedAt c q x RIGHT o)) o)
-    (pick (uses (word c (x - 128) RIGHTS) q) (passedAt c q (x - 128) CHILDREN o) o)
+    (pick (uses (taskRights c x) q) (passedAt c q x USER (passedAt c q x RIGHT o)) o)
+    (pick (uses (taskRights c (x - 128)) q) (passedAt c q (x - 128) CHILDREN o) o)
 
 -- in front of all views at the marks xs
 unfoldable pub orderOf : Contents → ℕ → List ℕ → ℕ → ℕ

@@ -5,10 +5,10 @@ use mathlib.Core.List.{List, [], _∷_}
 use Prim.Native.Nat.{ℕ, _+_, _-_, _*_}
 use lib.Dec.{ltb, eqb}
 use Rattle.spec_words.specs.Words.{pick, both}
-use Rattle.spec_layout.specs.Layout.{NONE, NL, RIGHTS, CHILDREN, USER, RIGHT}
+use Rattle.spec_layout.specs.Layout.{NONE, NL, HEADS, TAILS, CHILDREN, USER, RIGHT}
 use Rattle.spec_tree.specs.Rights.{uses}
 use Rattle.spec_tree.specs.Tour.{MARKS, tour}
-use Rattle.spec_rules.specs.Contents.{Contents, word}
+use Rattle.spec_rules.specs.Contents.{Contents, word, taskRights}
 
 -- a view: its head and its tail
 pub data View : Type 0 where
@@ -16,7 +16,7 @@ pub data View : Type 0 where
 
 -- view k of task t
 unfoldable pub viewAt : Contents → ℕ → ℕ → ℕ → View
-viewAt c q t k = view (word c t (20 + k * 4 + q)) (word c t (32 + k * 4 + q))
+viewAt c q t k = view (word c t (HEADS + k * 4 + q)) (word c t (TAILS + k * 4 + q))
 
 -- a view in front of others; an empty one is left out
 unfoldable pub more : View → List View → List View
@@ -26,8 +26,8 @@ more (view h e) vs = pick (both (eqb h NONE) (eqb e NONE)) vs (view h e ∷ vs)
 unfoldable pub viewsAt : Contents → ℕ → ℕ → List View → List View
 viewsAt c q x vs =
     pick (ltb x 128)
-    (pick (uses (word c x RIGHTS) q) (more (viewAt c q x USER) (more (viewAt c q x RIGHT) vs)) vs)
-    (pick (uses (word c (x - 128) RIGHTS) q) (more (viewAt c q (x - 128) CHILDREN) vs) vs)
+    (pick (uses (taskRights c x) q) (more (viewAt c q x USER) (more (viewAt c q x RIGHT) vs)) vs)
+    (pick (uses (taskRights c (x - 128)) q) (more (viewAt c q (x - 128) CHILDREN) vs) vs)
 
 -- the views of a list of marks, which goes from the last view to the first, in front of vs
 unfoldable pub viewsOf : Contents → ℕ → List ℕ → List View → List View

@@ -11,11 +11,11 @@ use Rattle.spec_lists.specs.Tests.{upto-says}
 use Rattle.spec_tree.specs.Rights.{pushes, pops, subset}
 use Rattle.spec_answers.specs.declared.Answer.the-variants.{Moved, Waits, Refused}
 use Rattle.spec_answers.specs.Answers.{Outcome, outcome}
-use Rattle.spec_outcomes.specs.Waits.{rightsOf, unfinished, blocked}
+use Rattle.spec_outcomes.specs.Waits.{unfinished, blocked}
 use Rattle.spec_outcomes.specs.Push.{pushed, pushTested}
 use Rattle.spec_outcomes.specs.Find.{popAllowed}
 use Rattle.spec_outcomes.specs.Spawn.{spawned, spawnTested}
-use Rattle.spec_layout.specs.Layout.{freeTasks, read}
+use Rattle.spec_layout.specs.Layout.{freeTasks, rightsOf, read}
 use lib.Dec.{eqb}
 use Rattle.spec_job.specs.Operations.{rowOf}
 use Rattle.spec_job.specs.Test.{whichHolds, fitting, instructionHolds, jobAnswer}

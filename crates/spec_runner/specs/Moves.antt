@@ -5,7 +5,7 @@ use mathlib.Core.List.{List}
 use Prim.Native.Nat.{ℕ}
 use lib.Dec.{leb, ltb, eqb}
 use Rattle.spec_words.specs.Words.{pick, both, either}
-use Rattle.spec_layout.specs.Layout.{NL, USER, lengthWord, freeTasks, count, read}
+use Rattle.spec_layout.specs.Layout.{NL, USER, freeTasks, count, lengthOf, rightsOf, read}
 use Rattle.spec_answers.specs.declared.Answer.{Answer}
 use Rattle.spec_answers.specs.declared.Answer.the-variants.{Moved, Empty, NotEmpty, Waits, Refused}
 use Rattle.spec_answers.specs.declared.Finding.{Finding}
@@ -14,7 +14,7 @@ use Rattle.spec_tree.specs.Rights.{pushes, pops, subset, eachQueue}
 use Rattle.spec_rules.specs.Views.{view}
 use Rattle.spec_outcomes.specs.Segments.{noneFree, nextFree}
 use Rattle.spec_outcomes.specs.Views.{viewOf, isEmpty, tailOf, reducible, taskAt, kindAt, justBefore}
-use Rattle.spec_outcomes.specs.Waits.{rightsOf, unfinished, blocked, hasChild}
+use Rattle.spec_outcomes.specs.Waits.{unfinished, blocked, hasChild}
 use Rattle.spec_outcomes.specs.Find.{finding}
 use Rattle.spec_outcomes.specs.Sync.{syncs}
 use Rattle.spec_outcomes.specs.Finish.{finishes}
@@ -37,7 +37,7 @@ fitsApart m q x = reducible (viewOf m q (taskAt x) (kindAt x)) (view (nextFree m
 
 -- the tail segment e has room, or a segment is free
 unfoldable pub hasRoom : List ℕ → ℕ → ℕ → Bool
-hasRoom m q e = either (ltb (read m (count e)) (read m lengthWord)) (not (noneFree m q))
+hasRoom m q e = either (ltb (read m (count e)) (lengthOf m e)) (not (noneFree m q))
 
 -- a value can be pushed to the user view of task t
 unfoldable pub valueFits : List ℕ → ℕ → ℕ → Bool

@@ -6,7 +6,7 @@ use mathlib.Core.Option.{Option, none, some}
 use Prim.Native.Nat.{ℕ}
 use lib.Dec.{leb, ltb, eqb}
 use Rattle.spec_words.specs.Words.{pick, both, both-right-on, either, pass}
-use Rattle.spec_layout.specs.Layout.{NL, USER, lengthWord, count, read}
+use Rattle.spec_layout.specs.Layout.{NL, USER, count, lengthOf, rightsOf, read}
 use Rattle.spec_answers.specs.declared.Answer.{Answer}
 use Rattle.spec_answers.specs.declared.Answer.the-variants.{Moved, Empty, NotEmpty, Waits, Refused}
 use Rattle.spec_answers.specs.declared.Finding.{Finding}
@@ -15,7 +15,7 @@ use Rattle.spec_answers.specs.Answers.{Outcome as CoreOutcome, outcome as answe
 use Rattle.spec_tree.specs.Rights.{pushes, pops, subset}
 use Rattle.spec_outcomes.specs.Segments.{noneFree}
 use Rattle.spec_outcomes.specs.Views.{viewOf, isEmpty, tailOf, justBefore}
-use Rattle.spec_outcomes.specs.Waits.{rightsOf, unfinished, blocked, hasChild}
+use Rattle.spec_outcomes.specs.Waits.{unfinished, blocked, hasChild}
 use Rattle.spec_outcomes.specs.Push.{pushedApart, pushedBehind, pushed, pushTested}
 use Rattle.spec_outcomes.specs.Spawn.{spawned, spawnTested}
 use Rattle.spec_outcomes.specs.Find.{finding, popGives, testGives, popAllowed, popTested, testTested}
@@ -82,7 +82,7 @@ module _ (m : List ℕ) (t : ℕ) (alive : unfinished m t ≡ true) (free : bloc
       (turned _ 2 _ _ refl
       ∙ ap (both (not (leb NL (tailOf (viewOf m q t USER)))))
       (chosen _ _ _
-      ∙ ap₂ (pick (ltb (read m (count (tailOf (viewOf m q t USER)))) (read m lengthWord)))
+      ∙ ap₂ (pick (ltb (read m (count (tailOf (viewOf m q t USER)))) (lengthOf m (tailOf (viewOf m q t USER)))))
       (gives v _)
       (turned _ 9 _ _ refl ∙ both-right-on _ (behind q v _))))
 

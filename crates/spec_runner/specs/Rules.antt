@@ -6,9 +6,9 @@ use Prim.Native.Nat.{ℕ}
 use lib.Dec.{ltb, eqb}
 use Rattle.spec_words.specs.Words.{size, pick, both}
 use Rattle.spec_lists.specs.Tests.{upto}
-use Rattle.spec_layout.specs.Layout.{WORDS}
+use Rattle.spec_layout.specs.Layout.{WORDS, rightsOf}
 use Rattle.spec_rules.specs.Test.{rulesHold}
-use Rattle.spec_outcomes.specs.Waits.{rightsOf, unfinished}
+use Rattle.spec_outcomes.specs.Waits.{unfinished}
 use Rattle.spec_job.specs.Fields.{procedures, count, rights}
 use Rattle.spec_job.specs.Test.{refusal10, refusal11, refusal12}
 use Rattle.spec_runner.specs.declared.StepAnswer.the-variants.{Refused}

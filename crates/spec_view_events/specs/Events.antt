@@ -4,9 +4,9 @@ use mathlib.Core.List.{List, [], _∷_}
 use Prim.Native.Nat.{ℕ, zero, suc, _+_, _-_, _*_}
 use lib.Dec.{ltb}
 use Rattle.spec_words.specs.Words.{pick}
-use Rattle.spec_layout.specs.Layout.{RIGHTS, CHILDREN, USER, RIGHT}
+use Rattle.spec_layout.specs.Layout.{QUEUE-HEADS, HEADS, TAILS, CHILDREN, USER, RIGHT}
 use Rattle.spec_tree.specs.Rights.{uses}
-use Rattle.spec_rules.specs.Contents.{Contents, word}
+use Rattle.spec_rules.specs.Contents.{Contents, word, taskRights}
 
 pub data Event : Type 0 where
   -- a word of a view; the Bool says whether the task has a right to the view's queue
@@ -30,10 +30,10 @@ viewOf u q h e es = entry u h ∷ entry u e ∷ order u q h e ∷ tail e ∷ hea
 
 module _ (c : Contents) where
   unfoldable pub queueAt : ℕ → ℕ → List Event → List Event
-  queueAt t q es = queueOf (uses (word c t RIGHTS) q) q (word c t (16 + q)) es
+  queueAt t q es = queueOf (uses (taskRights c t) q) q (word c t (QUEUE-HEADS + q)) es
 
   unfoldable pub viewAt : ℕ → ℕ → ℕ → List Event → List Event
-  viewAt t k q es = viewOf (uses (word c t RIGHTS) q) q (word c t (20 + k * 4 + q)) (word c t (32 + k * 4 + q)) es
+  viewAt t k q es = viewOf (uses (taskRights c t) q) q (word c t (HEADS + k * 4 + q)) (word c t (TAILS + k * 4 + q)) es
 
   -- the four queue views of task t, and its four views of kind k
   unfoldable pub queuesAt : ℕ → List Event → List Event

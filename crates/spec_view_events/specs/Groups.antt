@@ -8,9 +8,9 @@ use lib.Bits.{bitAnd, and-le-l, and-le-r}
 use lib.Dec.{eqb}
 use lib.ListN.{getD}
 use Rattle.spec_words.specs.Words.{both-on}
-use Rattle.spec_layout.specs.Layout.{NONE, RIGHTS}
+use Rattle.spec_layout.specs.Layout.{NONE, RIGHTS, QUEUE-HEADS, HEADS, TAILS}
 use Rattle.spec_tree.specs.Rights.{uses, bits}
-use Rattle.spec_rules.specs.Contents.{Contents, decode, word}
+use Rattle.spec_rules.specs.Contents.{Contents, decode, word, taskRights}
 use Rattle.spec_view_events.specs.Events.{Event, queueOf, viewOf, queueAt, viewAt, queuesAt, kindAt}
 use Rattle.spec_view_events.specs.Run.{run}
 use Rattle.spec_view_events.specs.Parts.{word-at}
@@ -49,39 +49,39 @@ module _ (m : List ℕ) (t : ℕ) where
   c = decode m
 
   -- the rights to queue q, where r has them in its two low bits
-  right-at : (q r : ℕ) → r ≡ getD m (1473 + t * 48) 0 / 4 ^ q → not (eqb (r % 4) 0) ≡ uses (word c t RIGHTS) q
+  right-at : (q r : ℕ) → r ≡ getD m (1473 + t * 48) 0 / 4 ^ q → not (eqb (r % 4) 0) ≡ uses (taskRights c t) q
   unfolding uses bits
   right-at q r e =
-      ap (λ (i : ℕ). not (eqb (i % 4) 0)) (e ∙ ap (λ (i : ℕ). i / 4 ^ q) (word-at m t 1 (1473 + t * 48) (omega arith)))
+      ap (λ (i : ℕ). not (eqb (i % 4) 0)) (e ∙ ap (λ (i : ℕ). i / 4 ^ q) (word-at m t RIGHTS (1473 + t * 48) (omega arith)))
 
   pub queue-at : (q r a : ℕ) → r ≡ getD m (1473 + t * 48) 0 / 4 ^ q → a ≡ 1488 + t * 48 + q
       → (es : List Event) → queueOf (not (eqb (r % 4) 0)) q (getD m a 0) es ≡ queueAt c t q es
   unfolding queueAt
-  queue-at q r a e p es = ap₂ (λ (u : Bool) (h : ℕ). queueOf u q h es) (right-at q r e) (word-at m t (16 + q) a (omega (arith, p)))
+  queue-at q r a e p es = ap₂ (λ (u : Bool) (h : ℕ). queueOf u q h es) (right-at q r e) (word-at m t (QUEUE-HEADS + q) a (omega (arith, p)))
 
   pub view-at : (k q r a : ℕ) → r ≡ getD m (1473 + t * 48) 0 / 4 ^ q → a ≡ 1492 + t * 48 + k * 4 + q
       → (es : List Event) → viewOf (not (eqb (r % 4) 0)) q (getD m a 0) (getD m (a + 12) 0) es ≡ viewAt c t k q es
   unfolding viewAt
   view-at k q r a e p es =
       ap (λ (u : Bool). viewOf u q (getD m a 0) (getD m (a + 12) 0) es) (right-at q r e)
-      ∙ ap₂ (λ (h x : ℕ). viewOf (uses (word c t RIGHTS) q) q h x es)
-      (word-at m t (20 + k * 4 + q) a (omega (arith, p))) (word-at m t (32 + k * 4 + q) (a + 12) (omega (arith, p)))
+      ∙ ap₂ (λ (h x : ℕ). viewOf (uses (taskRights c t) q) q h x es)
+      (word-at m t (HEADS + k * 4 + q) a (omega (arith, p))) (word-at m t (TAILS + k * 4 + q) (a + 12) (omega (arith, p)))
 
   module _ (d f w : List ℕ) where
     queue-skip : (q a : ℕ) (es : List Event) → a ≡ 1488 + t * 48 + q → getD m a 0 ≡ NONE → run c es d f w ≡ run c (queueAt c t q es) d f w
     unfolding queueAt
     queue-skip q a es p e =
         sym (both-on refl)
-        ∙ queue-none c es d f w (uses (word c t RIGHTS) q) q (word c t (16 + q)) (sym (word-at m t (16 + q) a (omega (arith, p))) ∙ e)
+        ∙ queue-none c es d f w (uses (taskRights c t) q) q (word c t (QUEUE-HEADS + q)) (sym (word-at m t (QUEUE-HEADS + q) a (omega (arith, p))) ∙ e)
 
     view-skip : (k q a b : ℕ) (es : List Event) → a ≡ 1492 + t * 48 + k * 4 + q → b ≡ a + 12 → getD m a 0 ≡ NONE → getD m b 0 ≡ NONE
         → run c es d f w ≡ run c (viewAt c t k q es) d f w
     unfolding viewAt
     view-skip k q a b es p l e g =
         sym (both-on refl)
-        ∙ view-none c es d f w (uses (word c t RIGHTS) q) q (word c t (20 + k * 4 + q)) (word c t (32 + k * 4 + q)) (
-          sym (word-at m t (20 + k * 4 + q) a (omega (arith, p))) ∙ e,
-          sym (word-at m t (32 + k * 4 + q) b (omega (arith, p, l))) ∙ g,
+        ∙ view-none c es d f w (uses (taskRights c t) q) q (word c t (HEADS + k * 4 + q)) (word c t (TAILS + k * 4 + q)) (
+          sym (word-at m t (HEADS + k * 4 + q) a (omega (arith, p))) ∙ e,
+          sym (word-at m t (TAILS + k * 4 + q) b (omega (arith, p, l))) ∙ g,
         )
 
     -- where all of them are empty, the test goes on behind them

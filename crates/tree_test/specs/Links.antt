@@ -6,9 +6,9 @@ use native.Mathlib.Omega.{arith}
 use lib.Dec.{leb, eqb}
 use borrow.Author.Tests.{leb-true, le-leb, lt-leb, eqb-true, ne-eqb, eq-eqb}
 use Rattle.spec_words.specs.Words.{both, both-on, both-off, both-true, true-both}
-use Rattle.spec_layout.specs.Layout.{UNFINISHED, STATUS, RIGHTS, PARENT, YOUNGER}
+use Rattle.spec_layout.specs.Layout.{STATUS, PARENT, YOUNGER, UNFINISHED}
 use Rattle.spec_tree.specs.Rights.{subset}
-use Rattle.spec_rules.specs.Contents.{Contents, word}
+use Rattle.spec_rules.specs.Contents.{Contents, word, taskRights}
 use Rattle.law_rules_tasks.specs.Marks.{Kin}
 
 module _ (c : Contents) where
@@ -16,7 +16,7 @@ module _ (c : Contents) where
   unfoldable pub fitting : ℕ → ℕ → ℕ → ℕ → Bool
   fitting t p y b =
       both (leb 1 t) (both (leb t 127) (both (eqb (word c t STATUS) UNFINISHED) (both (eqb (word c t PARENT) p) (both (eqb (word c t YOUNGER) y)
-      (subset (word c t RIGHTS) b)))))
+      (subset (taskRights c t) b)))))
 
   module _ (t p y b : ℕ) where
     pub fit-top : t < 1 → false ≡ fitting t p y b
@@ -44,12 +44,12 @@ module _ (c : Contents) where
         unfolding fitting
         fit-younger e f n = sym (in-reach _ ∙ both-on (eq-eqb _ _ e) ∙ both-on (eq-eqb _ _ f) ∙ both-off _ (ne-eqb _ _ n))
 
-        pub fit-rights : word c t STATUS ≡ UNFINISHED → word c t PARENT ≡ p → word c t YOUNGER ≡ y → subset (word c t RIGHTS) b ≡ fitting t p y b
+        pub fit-rights : word c t STATUS ≡ UNFINISHED → word c t PARENT ≡ p → word c t YOUNGER ≡ y → subset (taskRights c t) b ≡ fitting t p y b
         unfolding fitting
         fit-rights e f g = sym (in-reach _ ∙ both-on (eq-eqb _ _ e) ∙ both-on (eq-eqb _ _ f) ∙ both-on (eq-eqb _ _ g))
 
   -- what the tests say together
-  pub fit-says : (t p y : ℕ) → fitting t p y (word c p RIGHTS) ≡ true → Kin c t p y
+  pub fit-says : (t p y : ℕ) → fitting t p y (taskRights c p) ≡ true → Kin c t p y
   unfolding fitting
   fit-says t p y e =
       let l = both-true _ _ e in
@@ -68,7 +68,7 @@ module _ (c : Contents) where
         rights = g .1;
       }
 
-  pub says-fit : (t p y : ℕ) → Kin c t p y → fitting t p y (word c p RIGHTS) ≡ true
+  pub says-fit : (t p y : ℕ) → Kin c t p y → fitting t p y (taskRights c p) ≡ true
   unfolding fitting
   says-fit t p y w =
       let a = w .above in

@@ -7,9 +7,9 @@ use native.Mathlib.Nat.{mul-le-mul}
 use lib.Dec.{leb, eqb}
 use borrow.Author.Tests.{le-leb, lt-leb, ne-eqb, eq-eqb}
 use Rattle.spec_words.specs.Words.{both, both-on, both-off, both-right-off, true-left, true-right, neither}
-use Rattle.spec_layout.specs.Layout.{NONE, UNFINISHED, FINISHED, STATUS, RIGHTS, PARENT, OLDER, YOUNGER, YOUNGEST, task, read}
+use Rattle.spec_layout.specs.Layout.{NONE, STATUS, RIGHTS, PARENT, OLDER, YOUNGER, YOUNGEST, UNFINISHED, FINISHED, task, rightsOf, read}
 use Rattle.spec_layout.specs.Frame.{record-word}
-use Rattle.spec_rules.specs.Contents.{decode, word}
+use Rattle.spec_rules.specs.Contents.{decode, word, taskRights}
 use Rattle.spec_rules.specs.Test.{within, inRange, topTest}
 
 module _ (l n : ℕ) where
@@ -41,12 +41,12 @@ module _ (l n : ℕ) where
 -- the top has all rights, no parent and no siblings
 unfoldable pub topAlone : List ℕ → Bool
 topAlone m =
-    both (eqb (read m (task 0 RIGHTS)) 255)
+    both (eqb (rightsOf m 0) 255)
     (both (eqb (read m (task 0 PARENT)) NONE) (both (eqb (read m (task 0 OLDER)) NONE) (eqb (read m (task 0 YOUNGER)) NONE)))
 
 module _ (m : List ℕ) where
   alone : topAlone m
-      ≡ both (eqb (word (decode m) 0 RIGHTS) 255)
+      ≡ both (eqb (taskRights (decode m) 0) 255)
       (both (eqb (word (decode m) 0 PARENT) NONE) (both (eqb (word (decode m) 0 OLDER) NONE) (eqb (word (decode m) 0 YOUNGER) NONE)))
   unfolding topAlone word
   alone = rw (record-word m 0 RIGHTS, record-word m 0 PARENT, record-word m 0 OLDER, record-word m 0 YOUNGER) refl

@@ -9,9 +9,9 @@ use lib.Dec.{leb, ltb, eqb}
 use borrow.Author.Tests.{ltb-true, ltb-false, lt-ltb, le-ltb, leb-true, leb-false, le-leb, lt-leb, eqb-true, ne-eqb, eq-eqb}
 use Rattle.spec_words.specs.Words.{pick, pick-true, pick-false, pass, halt, same-test}
 use Rattle.spec_lists.specs.Counting.{equal?}
-use Rattle.spec_layout.specs.Layout.{NONE, RIGHTS, PARENT, OLDER, YOUNGEST}
+use Rattle.spec_layout.specs.Layout.{NONE, PARENT, OLDER, YOUNGEST}
 use Rattle.spec_tree.specs.Tour.{END, after, tour}
-use Rattle.spec_rules.specs.Contents.{Contents, word}
+use Rattle.spec_rules.specs.Contents.{Contents, word, taskRights}
 use Rattle.spec_rules.specs.Test.{treeTest}
 use Rattle.law_rules_tasks.specs.Marks.{Kin, tree-none, tree-last, last-tree, tree-rest, entered-on, entered-none, entered-child, exited-on, exited-none, exited-older, tour-cons}
 use Rattle.law_rules_tasks.specs.Marks.{tour-none}
@@ -23,14 +23,14 @@ module _ (c : Contents) where
   unfoldable pub enteredNext : ℕ → ℕ
   enteredNext t =
       let u = word c t YOUNGEST in
-      pick (eqb u NONE) (128 + t) (pick (fitting c u t NONE (word c t RIGHTS)) u END)
+      pick (eqb u NONE) (128 + t) (pick (fitting c u t NONE (taskRights c t)) u END)
 
   -- the mark after the one where task t is exited; END where the link is wrong or the parent is no task
   unfoldable pub exitedNext : ℕ → ℕ
   exitedNext t =
       let u = word c t OLDER in
       let p = word c t PARENT in
-      pick (leb 128 p) END (pick (eqb u NONE) (128 + p) (pick (fitting c u p t (word c p RIGHTS)) u END))
+      pick (leb 128 p) END (pick (eqb u NONE) (128 + p) (pick (fitting c u p t (taskRights c p)) u END))
 
   unfoldable pub nextMark : ℕ → ℕ
   nextMark x = pick (ltb x 128) (enteredNext x) (exitedNext (x - 128))
@@ -50,15 +50,15 @@ module _ (c : Contents) where
   unfolding enteredNext
   entered-leaf t u e q = sym (halt _ _ (eq-eqb _ _ (sym e ∙ q)))
 
-  pub entered-down : (t u : ℕ) → u ≡ word c t YOUNGEST → (u ≡ NONE → ⊥) → fitting c u t NONE (word c t RIGHTS) ≡ true → u ≡ enteredNext t
+  pub entered-down : (t u : ℕ) → u ≡ word c t YOUNGEST → (u ≡ NONE → ⊥) → fitting c u t NONE (taskRights c t) ≡ true → u ≡ enteredNext t
   unfolding enteredNext
   entered-down t u e n f =
-      e ∙ sym (pass _ (ne-eqb _ _ (λ q. n (e ∙ q))) (halt _ _ (ap (λ (v : ℕ). fitting c v t NONE (word c t RIGHTS)) (sym e) ∙ f)))
+      e ∙ sym (pass _ (ne-eqb _ _ (λ q. n (e ∙ q))) (halt _ _ (ap (λ (v : ℕ). fitting c v t NONE (taskRights c t)) (sym e) ∙ f)))
 
-  pub entered-wrong : (t u : ℕ) → u ≡ word c t YOUNGEST → (u ≡ NONE → ⊥) → fitting c u t NONE (word c t RIGHTS) ≡ false → END ≡ enteredNext t
+  pub entered-wrong : (t u : ℕ) → u ≡ word c t YOUNGEST → (u ≡ NONE → ⊥) → fitting c u t NONE (taskRights c t) ≡ false → END ≡ enteredNext t
   unfolding enteredNext
   entered-wrong t u e n f =
-      sym (pass _ (ne-eqb _ _ (λ q. n (e ∙ q))) (pass _ (ap (λ (v : ℕ). fitting c v t NONE (word c t RIGHTS)) (sym e) ∙ f) refl))
+      sym (pass _ (ne-eqb _ _ (λ q. n (e ∙ q))) (pass _ (ap (λ (v : ℕ). fitting c v t NONE (taskRights c t)) (sym e) ∙ f) refl))
 
   module _ (t p : ℕ) (a : p ≡ word c t PARENT) where
     pub left-out : 127 < p → END ≡ exitedNext t
@@ -69,18 +69,18 @@ module _ (c : Contents) where
       inside : leb 128 (word c t PARENT) ≡ false
       inside = lt-leb 128 (word c t PARENT) (omega (arith, a, h))
 
-      same : fitting c (word c t OLDER) (word c t PARENT) t (word c (word c t PARENT) RIGHTS) ≡ fitting c u p t (word c p RIGHTS)
+      same : fitting c (word c t OLDER) (word c t PARENT) t (taskRights c (word c t PARENT)) ≡ fitting c u p t (taskRights c p)
       same = rw (e, a) refl
 
       pub exited-up : u ≡ NONE → 128 + p ≡ exitedNext t
       unfolding exitedNext
       exited-up q = ap (λ (v : ℕ). 128 + v) a ∙ sym (pass _ inside (halt _ _ (eq-eqb _ _ (sym e ∙ q))))
 
-      pub exited-over : (u ≡ NONE → ⊥) → fitting c u p t (word c p RIGHTS) ≡ true → u ≡ exitedNext t
+      pub exited-over : (u ≡ NONE → ⊥) → fitting c u p t (taskRights c p) ≡ true → u ≡ exitedNext t
       unfolding exitedNext
       exited-over n f = e ∙ sym (pass _ inside (pass _ (ne-eqb _ _ (λ q. n (e ∙ q))) (halt _ _ (same ∙ f))))
 
-      pub exited-wrong : (u ≡ NONE → ⊥) → fitting c u p t (word c p RIGHTS) ≡ false → END ≡ exitedNext t
+      pub exited-wrong : (u ≡ NONE → ⊥) → fitting c u p t (taskRights c p) ≡ false → END ≡ exitedNext t
       unfolding exitedNext
       exited-wrong n f = sym (pass _ inside (pass _ (ne-eqb _ _ (λ q. n (e ∙ q))) (pass _ (same ∙ f) refl)))
 
@@ -105,9 +105,10 @@ module _ (c : Contents) where
       ⊎ (Kin c (word c t OLDER) (word c t PARENT) t × (exitedNext t ≡ word c t OLDER))
 
   entered-cases : (t : ℕ) → enteredNext t < END → Entered t
-  entered-cases t h = ⊎-elim (λ q. inl (q, sym (entered-leaf t _ refl q))) (λ n. go n (fitting c (word c t YOUNGEST) t NONE (word c t RIGHTS)) refl) (equal? _ NONE)
+  entered-cases t h =
+      ⊎-elim (λ q. inl (q, sym (entered-leaf t _ refl q))) (λ n. go n (fitting c (word c t YOUNGEST) t NONE (taskRights c t)) refl) (equal? _ NONE)
     where
-      go : (word c t YOUNGEST ≡ NONE → ⊥) → (b : Bool) → fitting c (word c t YOUNGEST) t NONE (word c t RIGHTS) ≡ b → Entered t
+      go : (word c t YOUNGEST ≡ NONE → ⊥) → (b : Bool) → fitting c (word c t YOUNGEST) t NONE (taskRights c t) ≡ b → Entered t
       go n true f = inr (fit-says c _ _ _ f, sym (entered-down t _ refl n f))
       go n false f = let a = entered-wrong t _ refl n f in let z : ⊥ = omega (arith, a, h) in absurd z
 
@@ -115,7 +116,7 @@ module _ (c : Contents) where
   exited-cases t h = near (leb 128 (word c t PARENT)) refl
     where
       go : word c t PARENT ≤ 127 → (word c t OLDER ≡ NONE → ⊥) → (b : Bool)
-          → fitting c (word c t OLDER) (word c t PARENT) t (word c (word c t PARENT) RIGHTS) ≡ b → Left t
+          → fitting c (word c t OLDER) (word c t PARENT) t (taskRights c (word c t PARENT)) ≡ b → Left t
       go l n true f = inr (fit-says c _ _ _ f, sym (exited-over t _ refl l _ refl n f))
       go l n false f = let a = exited-wrong t _ refl l _ refl n f in let z : ⊥ = omega (arith, a, h) in absurd z
 

@@ -7,12 +7,12 @@ use native.Mathlib.Omega.{arith}
 use lib.Dec.{ltb, eqb}
 use borrow.Author.Tests.{lt-ltb, le-ltb, eq-eqb, ne-eqb, not-true, not-false}
 use Rattle.spec_words.specs.Words.{pick, both, either, pass, halt, true-left, true-right, both-on, both-off, both-right-on, both-right-off}
-use Rattle.spec_layout.specs.Layout.{NONE, NL, CHILDREN, RIGHT, PARENT, OLDER, YOUNGEST, RIGHTS, task, head, tail, read, recordOf}
+use Rattle.spec_layout.specs.Layout.{NONE, NL, CHILDREN, RIGHT, PARENT, OLDER, YOUNGEST, task, rightsOf, head, tail, read, recordOf}
 use Rattle.spec_layout.specs.Frame.{record-word}
 use Rattle.spec_tree.specs.Rights.{pushes, pops, uses, sharesPop}
 use Rattle.spec_tree.specs.Tour.{END, MARKS, entering, after, seek, sibling, oldest}
 use Rattle.spec_rules.specs.Views.{view}
-use Rattle.spec_outcomes.specs.Waits.{rightsOf, blocked, childPops, pusherBefore}
+use Rattle.spec_outcomes.specs.Waits.{blocked, childPops, pusherBefore}
 use Rattle.spec_outcomes.specs.Views.{viewOf, isEmpty, headOf, taskAt, kindAt, takesPart, standsAt, justBefore, returnedTo}
 use Rattle.spec_outcomes.specs.Finish.{heir}
 use Rattle.walks.specs.declared.Asks.{Asks}
@@ -36,9 +36,9 @@ after-exited m x h e g d =
     ∙ sym (pass _ (le-ltb x 128 h) refl)
 
 -- WAITS
-pub blocked-by : {a o r : ℕ} (m : List ℕ) (t : ℕ) → a ≡ read m (task t RIGHTS) → o ≡ read m (task t OLDER)
+pub blocked-by : {a o r : ℕ} (m : List ℕ) (t : ℕ) → a ≡ rightsOf m t → o ≡ read m (task t OLDER)
     → r ≡ sibling 128 (λ c. sharesPop (rightsOf m c) a) (recordOf m) o → not (eqb r NONE) ≡ blocked m t
-unfolding blocked rightsOf
+unfolding blocked
 blocked-by m t e f g =
     ap (λ (c : ℕ). not (eqb c NONE))
     (g ∙ ap₂ (λ (a o : ℕ). sibling 128 (λ c. sharesPop (rightsOf m c) a) (recordOf m) o) e f)
@@ -69,10 +69,10 @@ pub at-exited : (x : ℕ) → 128 ≤ x → CHILDREN ≡ kindAt x
 unfolding kindAt
 at-exited x h = sym (pass _ (le-ltb x 128 h) refl)
 
-pub takes-part : {t w : ℕ} {b : Bool} (m : List ℕ) (q x : ℕ) → t ≡ taskAt x → w ≡ read m (task t RIGHTS) → b ≡ uses w q
+pub takes-part : {t w : ℕ} {b : Bool} (m : List ℕ) (q x : ℕ) → t ≡ taskAt x → w ≡ rightsOf m t → b ≡ uses w q
     → b ≡ takesPart m q x
 unfolding takesPart
-takes-part m q x e f g = g ∙ ap (λ (w : ℕ). uses w q) (f ∙ ap (λ (t : ℕ). read m (task t RIGHTS)) e)
+takes-part m q x e f g = g ∙ ap (λ (w : ℕ). uses w q) (f ∙ ap (λ (t : ℕ). rightsOf m t) e)
 
 module _ (m : List ℕ) (q x : ℕ) where
   pub entered-counts : x ≤ 128 → true ≡ counts m q x
@@ -122,14 +122,12 @@ module _ (m : List ℕ) (t q c d : ℕ) where
   pub heir-self : c ≡ t → d ≡ pick (both (not (eqb c t)) (pops (rightsOf m c) q)) c d
   heir-self e = sym (pass _ (both-off _ (ap not (eq-eqb c t e))) refl)
 
-  pub heir-pops : {w : ℕ} {b : Bool} → (c ≡ t → ⊥) → w ≡ read m (task c RIGHTS) → b ≡ pops w q → b ≡ true
+  pub heir-pops : {w : ℕ} {b : Bool} → (c ≡ t → ⊥) → w ≡ rightsOf m c → b ≡ pops w q → b ≡ true
       → c ≡ pick (both (not (eqb c t)) (pops (rightsOf m c) q)) c d
-  unfolding rightsOf
   heir-pops n e f g = sym (halt _ _ (sym (both-so (ap not (ne-eqb c t n)) (sym g ∙ f ∙ ap (λ (w : ℕ). pops w q) e))))
 
-  pub heir-not : {w : ℕ} {b : Bool} → (c ≡ t → ⊥) → w ≡ read m (task c RIGHTS) → b ≡ pops w q → b ≡ false
+  pub heir-not : {w : ℕ} {b : Bool} → (c ≡ t → ⊥) → w ≡ rightsOf m c → b ≡ pops w q → b ≡ false
       → d ≡ pick (both (not (eqb c t)) (pops (rightsOf m c) q)) c d
-  unfolding rightsOf
   heir-not n e f g = sym (pass _ (sym (both-so (ap not (ne-eqb c t n)) (sym g ∙ f ∙ ap (λ (w : ℕ). pops w q) e))) refl)
 
 pub heir-from : {p c r : ℕ} (m : List ℕ) (t q : ℕ) → p ≡ read m (task t PARENT) → c ≡ read m (task p YOUNGEST)

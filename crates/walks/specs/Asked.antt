@@ -6,7 +6,7 @@ use lib.Dec.{ltb, eqb}
 use Rattle.spec_words.specs.Words.{both, either}
 use Rattle.spec_layout.specs.Layout.{CHILDREN}
 use Rattle.spec_tree.specs.Rights.{pushes}
-use Rattle.spec_outcomes.specs.Waits.{rightsOf}
+use Rattle.spec_layout.specs.Layout.{rightsOf}
 use Rattle.spec_outcomes.specs.Views.{viewOf, isEmpty, takesPart, standsAt}
 use Rattle.walks.specs.declared.Asks.{Asks}
 use Rattle.walks.specs.declared.Asks.the-variants.{Pushes, TakesPart, Stands}

@@ -2,7 +2,7 @@ use mathlib.Core.Path.{_≡_, refl, sym, _∙_}
 use Prim.Native.Nat.{_≤_, _<_, _-_, _^_}
 use native.Mathlib.Omega.{arith}
 use borrow.Author.Needs.{needs}
-use Rattle.spec_layout.specs.Layout.{numberWord, read}
+use Rattle.spec_layout.specs.Layout.{segmentsOf}
 use Rattle.spec_outcomes.specs.Segments.{linkedBy}
 use Rattle.segments.specs.Names.{freeMarks}
 use Rattle.segments.proofs.Links.{by-start, by-found, by-next, by-end}
@@ -10,7 +10,7 @@ use Rattle.segments.proofs.linked_by.Statement.{statement}
 use Rattle.segments.proofs.linked_by.Tie as tie
 
 abbrev Inv-loop : tie.InvT-loop
-Inv-loop m q s d n y₀ y = (y ≤ n) × (n < 2 ^ 32) × (linkedBy (n - y) m q s y ≡ linkedBy (read m numberWord) m q s 0)
+Inv-loop m q s d n y₀ y = (y ≤ n) × (n < 2 ^ 32) × (linkedBy (n - y) m q s y ≡ linkedBy (segmentsOf m q) m q s 0)
 
 abbrev μ-loop : tie.MeasureT-loop
 μ-loop m q s d n y₀ y = n - y

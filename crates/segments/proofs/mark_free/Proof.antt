@@ -4,8 +4,8 @@ use native.Mathlib.Omega.{arith}
 use borrow.Author.Needs.{needs}
 use lib.ListN.{length}
 use Rattle.spec_lists.specs.Marks.{marking}
+use Rattle.spec_layout.specs.Layout.{freeStack}
 use Rattle.spec_rules.specs.Stack.{rest, rest-end}
-use Rattle.segments.specs.Names.{freeStack}
 use Rattle.segments.proofs.Free.{rest-out, marks-start, marks-next, marks-none}
 use Rattle.segments.proofs.mark_free.Statement.{statement}
 use Rattle.segments.proofs.mark_free.Tie as tie

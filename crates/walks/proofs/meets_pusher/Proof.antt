@@ -3,13 +3,11 @@ use mathlib.Core.Path.{ap, _∙_, sym}
 use borrow.Author.Tests.{lt-ltb, le-ltb}
 use Rattle.spec_words.specs.Words.{both-off}
 use Rattle.spec_tree.specs.Rights.{pushes}
-use Rattle.spec_outcomes.specs.Waits.{rightsOf}
 use Rattle.walks.proofs.Glue.{both-so}
 use Rattle.walks.proofs.meets_pusher.Statement.{statement}
 use Rattle.walks.proofs.meets_pusher.Tie as tie
 
 returns : tie.Need-returns
-unfolding rightsOf
 returns c =
     both-so (lt-ltb _ _ (c .before .before .if1 .taken))
     (c .pushes .ensures ∙ ap (λ (w : ℕ). pushes w (c .before .before .before .before .args .q)) (c .before .rights .ensures))

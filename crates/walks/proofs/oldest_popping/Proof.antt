@@ -3,10 +3,9 @@ use mathlib.Core.Bool.{not}
 use lib.Dec.{eqb}
 use native.Mathlib.Omega.{arith}
 use Rattle.spec_words.specs.Words.{both}
-use Rattle.spec_layout.specs.Layout.{recordOf}
+use Rattle.spec_layout.specs.Layout.{rightsOf, recordOf}
 use Rattle.spec_tree.specs.Tour.{oldest}
 use Rattle.spec_tree.specs.Rights.{pops}
-use Rattle.spec_outcomes.specs.Waits.{rightsOf}
 use Rattle.walks.specs.Steps.{oldest-none, oldest-end, oldest-on}
 use Rattle.walks.proofs.oldest_popping.Statement.{statement}
 use Rattle.walks.proofs.oldest_popping.Tie as tie

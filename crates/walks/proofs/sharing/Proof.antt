@@ -1,10 +1,9 @@
 use Prim.Native.Nat.{ℕ}
 use mathlib.Core.Path.{_≡_, refl, sym, _∙_, ap}
 use native.Mathlib.Omega.{arith}
-use Rattle.spec_layout.specs.Layout.{recordOf}
+use Rattle.spec_layout.specs.Layout.{rightsOf, recordOf}
 use Rattle.spec_tree.specs.Tour.{sibling}
 use Rattle.spec_tree.specs.Rights.{sharesPop}
-use Rattle.spec_outcomes.specs.Waits.{rightsOf}
 use Rattle.walks.specs.Steps.{sibling-none, sibling-end, sibling-here, sibling-on}
 use Rattle.walks.proofs.sharing.Statement.{statement}
 use Rattle.walks.proofs.sharing.Tie as tie
@@ -19,14 +18,12 @@ returns : tie.Need-returns Inv-loop μ-loop
 returns c = sibling-end _ _ _ _ (c .before .loop-test .taken) (c .if1 .taken) ∙ c .before .before .loop .inv
 
 returns-2 : tie.Need-returns-2 Inv-loop μ-loop
-unfolding rightsOf
 returns-2 c =
     sibling-here _ _ _ _ (c .before .before .before .before .loop-test .taken) (c .before .before .before .if1 .left)
     (ap (λ (w : ℕ). sharesPop w (c .before .before .before .before .before .before .before .args .a)) (sym (c .before .before .rights .ensures))
     ∙ sym (c .before .shares-pop .ensures) ∙ c .if2 .taken) ∙ c .before .before .before .before .before .loop .inv
 
 loop-again : tie.Need-loop-again Inv-loop μ-loop
-unfolding rightsOf
 loop-again c =
     sibling-on _ _ _ _ _ (c .before .before .before .before .before .loop-test .taken) (c .before .before .before .before .if1 .left)
     (ap (λ (w : ℕ). sharesPop w (c .before .before .before .before .before .before .before .before .args .a)) (sym (c .before .before .before .rights .ensures))
