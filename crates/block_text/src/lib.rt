@@ -1,5 +1,4 @@
 // Lines of a run in blocks of at most 1,024, put at the start of lent bytes. A block gives the number of its bytes.
-ghost use mathlib.Core.Path.{_≡_};
 ghost use Prim.Native.Nat.{_+_, _^_, _<_, _≤_};
 ghost use lib.ListN.{length};
 ghost use Rattle.text.specs.Puts.{Puts};

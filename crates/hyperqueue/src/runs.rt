@@ -1,6 +1,5 @@
 // Jobs with overlap, for hosts in other languages: opening a job, a step of a task, the ready map.
 ghost use mathlib.Core.Path.{_≡_};
-ghost use Prim.Native.Nat.{_+_, _*_};
 ghost use Rattle.spec_runner.specs.Open.{openOutcome};
 ghost use Rattle.spec_runner.specs.Step.{stepOutcome};
 ghost use Rattle.spec_runner.specs.Ready.{readyOutcome};

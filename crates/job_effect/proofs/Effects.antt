@@ -4,8 +4,8 @@ use mathlib.Core.Bool.{Bool, true, false}
 use mathlib.Core.Logic.{_⊎_, inl, inr}
 use Prim.Native.Nat.{ℕ, zero, suc, _+_, _%_, _≤_}
 use native.Mathlib.Omega.{arith}
-use borrow.Author.Tests.{eq-eqb, ne-eqb}
-use Rattle.spec_words.specs.Words.{halt, pass}
+use lib.Dec.{eqb}
+use Rattle.spec_words.specs.Words.{pick}
 use Rattle.spec_job.specs.Operations.{Operation, rowOf, operationOf, operationAt}
 use Rattle.spec_job.specs.Effects.{sum, effect}
 use Rattle.spec_job.specs.Rows.{above, returns-at}
@@ -20,9 +20,6 @@ module _ (x i r v : ℕ) (b : Bool) (e : Made) where
   pub keyed : {k n : ℕ} → k ≡ n → Does n → Does k
   keyed h g = g ∙ ap (λ (k : ℕ). coded (effect (operationAt k) i r x (foundWith b v))) (sym h)
 
-  found-keyed : (k : ℕ) {a : Bool} → b ≡ a → e ≡ coded (effect (operationAt k) i r x (foundWith a v)) → Does k
-  found-keyed k h g = g ∙ ap (λ (b : Bool). coded (effect (operationAt k) i r x (foundWith b v))) (sym h)
-
   pub pushes : e ≡ gives 1 x r (i + 1) → Does 1
   unfolding operationAt operationOf rowOf effect coded numberOf
   pushes g = g
@@ -31,33 +28,27 @@ module _ (x i r v : ℕ) (b : Bool) (e : Made) where
   unfolding operationAt operationOf rowOf effect coded numberOf sum
   pushes-sum h g = g ∙ ap (λ (y : ℕ). gives 1 y r (i + 1)) h
 
-  pub takes : b ≡ true → e ≡ gives 2 v v (i + 1) → Does 3
-  unfolding operationAt operationOf rowOf effect coded numberOf foundWith
-  takes h g = found-keyed 3 h g
+  pub pops : e ≡ pick b (gives 2 v v (i + 1)) (gives 5 0 r (i + 1)) → Does 3
+  pops g = g ∙ same b
+    where
+      same : (b : Bool) → pick b (gives 2 v v (i + 1)) (gives 5 0 r (i + 1)) ≡ coded (effect (operationAt 3) i r x (foundWith b v))
+      same true = unfold pick operationAt operationOf rowOf effect coded numberOf foundWith in refl
+      same false = unfold pick operationAt operationOf rowOf effect coded numberOf foundWith in refl
 
-  pub takes-none : b ≡ false → e ≡ gives 5 0 r (i + 1) → Does 3
-  unfolding operationAt operationOf rowOf effect coded numberOf foundWith
-  takes-none h g = found-keyed 3 h g
-
-  pub stays-on : b ≡ true → e ≡ gives 6 0 r (i + 1) → Does 4
-  unfolding operationAt operationOf rowOf effect coded numberOf foundWith
-  stays-on h g = found-keyed 4 h g
-
-  pub goes-empty : b ≡ false → e ≡ gives 5 0 r x → Does 4
-  unfolding operationAt operationOf rowOf effect coded numberOf foundWith
-  goes-empty h g = found-keyed 4 h g
+  pub tests : e ≡ pick b (gives 6 0 r (i + 1)) (gives 5 0 r x) → Does 4
+  tests g = g ∙ same b
+    where
+      same : (b : Bool) → pick b (gives 6 0 r (i + 1)) (gives 5 0 r x) ≡ coded (effect (operationAt 4) i r x (foundWith b v))
+      same true = unfold pick operationAt operationOf rowOf effect coded numberOf foundWith in refl
+      same false = unfold pick operationAt operationOf rowOf effect coded numberOf foundWith in refl
 
   pub goes : e ≡ gives 3 0 r x → Does 5
   unfolding operationAt operationOf rowOf effect coded numberOf
   goes g = g
 
-  pub goes-zero : r ≡ 0 → e ≡ gives 3 0 r x → Does 6
+  pub goes-zero : e ≡ gives 3 0 r (pick (eqb r 0) x (i + 1)) → Does 6
   unfolding operationAt operationOf rowOf effect coded numberOf
-  goes-zero h g = g ∙ ap (gives 3 0 r) (sym (halt _ _ (eq-eqb r 0 h)))
-
-  pub stays-off : (r ≡ 0 → ⊥) → e ≡ gives 3 0 r (i + 1) → Does 6
-  unfolding operationAt operationOf rowOf effect coded numberOf
-  stays-off h g = g ∙ ap (gives 3 0 r) (sym (pass _ (ne-eqb r 0 h) refl))
+  goes-zero g = g
 
   pub adds : {y : ℕ} → y ≡ (r + x) % 4294967296 → e ≡ gives 3 0 y (i + 1) → Does 7
   unfolding operationAt operationOf rowOf effect coded numberOf sum

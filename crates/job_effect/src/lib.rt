@@ -2,6 +2,8 @@
 // operation is coded once.
 ghost use mathlib.Core.Path.{_≡_};
 ghost use Prim.Native.Nat.{_^_, _<_};
+ghost use lib.Dec.{eqb};
+ghost use Rattle.spec_words.specs.Words.{pick};
 ghost use Rattle.spec_job.specs.Operations.{operationAt};
 ghost use Rattle.spec_job.specs.Effects.{effect};
 ghost use Rattle.job_effect.specs.Made.{gives, foundWith, coded};
@@ -32,6 +34,39 @@ fn gives(answer: u32, value: u32, register: u32, next: u32) -> Made
     }
 }
 
+// A pop that found value v, or nothing.
+fn pop_effect(r: u32, next: u32, found: bool, v: u32) -> Made
+    ensures { λ e. ⌜ e ≡ pick found (gives 2 v v next) (gives 5 0 r next) ⌝ }
+{
+    if found {
+        gives(TOOK, v, v, next)
+    } else {
+        gives(EMPTY, 0, r, next)
+    }
+}
+
+// Goes to instruction x where nothing was found.
+fn test_effect(x: u32, r: u32, next: u32, found: bool) -> Made
+    ensures { λ e. ⌜ e ≡ pick found (gives 6 0 r next) (gives 5 0 r x) ⌝ }
+{
+    if found {
+        gives(NOT_EMPTY, 0, r, next)
+    } else {
+        gives(EMPTY, 0, r, x)
+    }
+}
+
+// Goes to instruction x where the register is zero.
+fn zero_effect(x: u32, r: u32, next: u32) -> Made
+    ensures { λ e. ⌜ e ≡ gives 3 0 r (pick (eqb r 0) x next) ⌝ }
+{
+    if r == 0 {
+        gives(MOVED, 0, r, x)
+    } else {
+        gives(MOVED, 0, r, next)
+    }
+}
+
 // Operation k with operand x, by a task at instruction i with register r. `found` says whether its queue had a value, and v is that value.
 pub fn effect(k: u32, x: u32, i: u32, r: u32, found: bool, v: u32) -> Made
     requires { ⌜ i < 2 ^ 31 ⌝ }
@@ -42,28 +77,10 @@ pub fn effect(k: u32, x: u32, i: u32, r: u32, found: bool, v: u32) -> Made
     match k {
         1 => gives(PUSHED, x, r, next),
         2 => gives(PUSHED, sum, r, next),
-        3 => {
-            if found {
-                gives(TOOK, v, v, next)
-            } else {
-                gives(EMPTY, 0, r, next)
-            }
-        }
-        4 => {
-            if found {
-                gives(NOT_EMPTY, 0, r, next)
-            } else {
-                gives(EMPTY, 0, r, x)
-            }
-        }
+        3 => pop_effect(r, next, found, v),
+        4 => test_effect(x, r, next, found),
         5 => gives(MOVED, 0, r, x),
-        6 => {
-            if r == 0 {
-                gives(MOVED, 0, r, x)
-            } else {
-                gives(MOVED, 0, r, next)
-            }
-        }
+        6 => zero_effect(x, r, next),
         7 => gives(MOVED, 0, sum, next),
         8 => gives(SPAWNED, 0, r, next),
         9 => gives(MOVED, 0, r, next),

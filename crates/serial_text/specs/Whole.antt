@@ -1,6 +1,6 @@
 -- THE TEXT OF A SERIAL RUN: a line for each step made, then a line for each value left, or the line of why it stopped.
-use mathlib.Core.List.{List, [], _++_}
-use Prim.Native.Nat.{ℕ, zero, suc, _+_, _*_}
+use mathlib.Core.List.{List, _++_}
+use Prim.Native.Nat.{ℕ, _+_, _*_}
 use lib.ListN.{length, getD, replicate}
 use Rattle.spec_words.specs.Words.{load}
 use Rattle.spec_plain.specs.Machine.{queue}

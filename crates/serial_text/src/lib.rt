@@ -1,6 +1,5 @@
 // The text of a serial run in blocks of at most 1,024 lines, put at the start of lent bytes. A block gives the number of its
 // bytes.
-ghost use mathlib.Core.Path.{_≡_};
 ghost use Prim.Native.Nat.{_+_, _^_, _<_, _≤_};
 ghost use lib.ListN.{length};
 ghost use Rattle.spec_serial.specs.Working.{lists};

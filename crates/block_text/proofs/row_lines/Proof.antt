@@ -1,3 +1,4 @@
+-- The invariant: the lines of the first i rows stand at the start, each of at most 52 bytes, so that all fit.
 use Rattle.block_text.specs.Lines.{linesFrom}
 use Rattle.block_text.specs.Blocks.{rowLine, no-lines, one-line, all-lines}
 use Rattle.text.specs.Puts.{Puts}

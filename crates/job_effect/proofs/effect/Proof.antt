@@ -1,5 +1,5 @@
 -- Each arm gives the effect of the operation that has its number; the last one has the numbers that return.
-use Rattle.job_effect.proofs.Effects.{pushes, pushes-sum, takes, takes-none, stays-on, goes-empty, goes, goes-zero, stays-off, adds, spawns, syncs, keyed, returns-done, others}
+use Rattle.job_effect.proofs.Effects.{pushes, pushes-sum, pops, tests, goes, goes-zero, adds, spawns, syncs, keyed, returns-done, others}
 use borrow.Author.Needs.{needs}
 use Rattle.job_effect.proofs.effect.Statement.{statement}
 use Rattle.job_effect.proofs.effect.Tie as tie
@@ -11,39 +11,32 @@ returns-2 : tie.Need-returns-2
 returns-2 c = keyed _ _ _ _ _ _ (c .before .match .keys2) (pushes-sum _ _ _ _ _ _ (c .before .before .wrapping-add-u32 .ensures) (c .gives2 .ensures))
 
 returns-3 : tie.Need-returns-3
-returns-3 c = keyed _ _ _ _ _ _ (c .before .before .match .keys3) (takes _ _ _ _ _ _ (c .before .if1 .taken) (c .gives3 .ensures))
+returns-3 c = keyed _ _ _ _ _ _ (c .before .match .keys3) (pops _ _ _ _ _ _ (c .pop-effect .ensures))
 
 returns-4 : tie.Need-returns-4
-returns-4 c = keyed _ _ _ _ _ _ (c .before .before .match .keys3) (takes-none _ _ _ _ _ _ (c .before .if1 .left) (c .gives4 .ensures))
+returns-4 c = keyed _ _ _ _ _ _ (c .before .match .keys4) (tests _ _ _ _ _ _ (c .test-effect .ensures))
 
 returns-5 : tie.Need-returns-5
-returns-5 c = keyed _ _ _ _ _ _ (c .before .before .match .keys4) (stays-on _ _ _ _ _ _ (c .before .if2 .taken) (c .gives5 .ensures))
+returns-5 c = keyed _ _ _ _ _ _ (c .before .match .keys5) (goes _ _ _ _ _ _ (c .gives3 .ensures))
 
 returns-6 : tie.Need-returns-6
-returns-6 c = keyed _ _ _ _ _ _ (c .before .before .match .keys4) (goes-empty _ _ _ _ _ _ (c .before .if2 .left) (c .gives6 .ensures))
+returns-6 c = keyed _ _ _ _ _ _ (c .before .match .keys6) (goes-zero _ _ _ _ _ _ (c .zero-effect .ensures))
 
 returns-7 : tie.Need-returns-7
-returns-7 c = keyed _ _ _ _ _ _ (c .before .match .keys5) (goes _ _ _ _ _ _ (c .gives7 .ensures))
+returns-7 c = keyed _ _ _ _ _ _ (c .before .match .keys7) (adds _ _ _ _ _ _ (c .before .before .wrapping-add-u32 .ensures) (c .gives4 .ensures))
 
 returns-8 : tie.Need-returns-8
-returns-8 c = keyed _ _ _ _ _ _ (c .before .before .match .keys6) (goes-zero _ _ _ _ _ _ (c .before .if3 .taken) (c .gives8 .ensures))
+returns-8 c = keyed _ _ _ _ _ _ (c .before .match .keys8) (spawns _ _ _ _ _ _ (c .gives5 .ensures))
 
 returns-9 : tie.Need-returns-9
-returns-9 c = keyed _ _ _ _ _ _ (c .before .before .match .keys6) (stays-off _ _ _ _ _ _ (c .before .if3 .left) (c .gives9 .ensures))
+returns-9 c = keyed _ _ _ _ _ _ (c .before .match .keys9) (syncs _ _ _ _ _ _ (c .gives6 .ensures))
 
 returns-10 : tie.Need-returns-10
-returns-10 c = keyed _ _ _ _ _ _ (c .before .match .keys7) (adds _ _ _ _ _ _ (c .before .before .wrapping-add-u32 .ensures) (c .gives10 .ensures))
-
-returns-11 : tie.Need-returns-11
-returns-11 c = keyed _ _ _ _ _ _ (c .before .match .keys8) (spawns _ _ _ _ _ _ (c .gives11 .ensures))
-
-returns-12 : tie.Need-returns-12
-returns-12 c = keyed _ _ _ _ _ _ (c .before .match .keys9) (syncs _ _ _ _ _ _ (c .gives12 .ensures))
-
-returns-13 : tie.Need-returns-13
-returns-13 c = returns-done _ _ _ _ _ _ (others _ (c .before .match .rest)) (c .gives13 .ensures)
+returns-10 c = returns-done _ _ _ _ _ _ (others _ (c .before .match .rest)) (c .gives7 .ensures)
 
 pub effect-spec : {M : Type 1} → statement M
 effect-spec =
     tie.close
-    (tie.spec (λ c κs. search needs) (λ c. search needs) (λ c κs. search needs) (λ c κs. search needs) (λ c κs. search needs) (λ c κs. search needs) (λ c κs. search needs) (λ c κs. search needs) (λ c κs. search needs) (λ c κs. search needs) (λ c κs. search needs) (λ c κs. search needs) (λ c κs. search needs) (λ c κs. search needs) (λ c κs. search needs) returns returns-2 returns-3 returns-4 returns-5 returns-6 returns-7 returns-8 returns-9 returns-10 returns-11 returns-12 returns-13)
+    (tie.spec (λ c κs. search needs) (λ c. search needs) (λ c κs. search needs) (λ c κs. search needs) (λ c κs. search needs) (λ c κs. search needs)
+    (λ c κs. search needs) (λ c κs. search needs) (λ c κs. search needs) (λ c κs. search needs) (λ c κs. search needs) (λ c κs. search needs)
+    returns returns-2 returns-3 returns-4 returns-5 returns-6 returns-7 returns-8 returns-9 returns-10)

@@ -1,3 +1,4 @@
+-- The invariant: what is left to test from procedure p on decides as all bodies do.
 use mathlib.Core.Path.{_≡_, ap, sym, _∙_}
 use Prim.Native.Nat.{ℕ, _≤_, _-_}
 use native.Mathlib.Omega.{arith}

@@ -1,3 +1,4 @@
+-- The invariant: what is left to test from instruction i on decides as the whole body does.
 use mathlib.Core.Path.{_≡_, sym, _∙_}
 use Prim.Native.Nat.{_≤_, _-_}
 use native.Mathlib.Omega.{arith}

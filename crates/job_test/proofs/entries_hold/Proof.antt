@@ -1,3 +1,4 @@
+-- The invariant: what is left to test from entry p on decides as all entries do, and each entry passed moves a by at most 768 bytes.
 use mathlib.Core.Path.{_≡_, ap, sym, _∙_}
 use Prim.Native.Nat.{ℕ, _≤_, _+_, _*_, _-_}
 use native.Mathlib.Omega.{arith}

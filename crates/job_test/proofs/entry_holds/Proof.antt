@@ -1,3 +1,4 @@
+-- Each test is one part of `entryHolds`, in its order; the first that fails decides.
 use Rattle.spec_job.specs.Test.{between, entryHolds}
 use Rattle.spec_words.specs.Words.{both-on, both-off}
 use borrow.Author.Tests.{eq-eqb, ne-eqb, not-true, not-false}

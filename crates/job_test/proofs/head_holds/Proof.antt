@@ -1,3 +1,4 @@
+-- Each test is one part of `headHolds`, in its order; the first that fails decides.
 use Rattle.spec_job.specs.Test.{between, headHolds}
 use Rattle.spec_job.specs.Fields.{entryAt}
 use Rattle.spec_words.specs.Words.{size, both-on, both-off}

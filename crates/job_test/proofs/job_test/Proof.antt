@@ -1,3 +1,4 @@
+-- The tests are made in the order of `jobAnswer`, so the first that fails gives the number.
 use Rattle.spec_job.specs.Test.{refusal10, refusal11, refusal12, jobAnswer}
 use Rattle.spec_words.specs.Words.{pass, halt}
 use borrow.Author.Tests.{not-false}

@@ -1,3 +1,4 @@
+-- Each arm has the numbers of the rows of the table that name the same kind of "which".
 use Rattle.job_test.proofs.Rows.{which-pushed, which-popped, which-procedure, which-zero, which-goes, which-past}
 use Prim.Native.Nat.{zero-le}
 use mathlib.Core.Logic.{inl, inr, ⊎-elim}

@@ -1,3 +1,4 @@
+-- The invariant: the lent memories keep their lengths, and the number of a call stays within 64 bits. Each read gives at most 1,024 tasks.
 use Rattle.overlap.proofs.Reading.{read-few}
 use Rattle.read_file.specs.Inside.{read-counts}
 use Prim.Native.Nat.{_-_, _+_, _<_}

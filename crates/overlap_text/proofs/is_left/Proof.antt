@@ -1,3 +1,4 @@
+-- Only an answer that moved has a value.
 use Rattle.overlap_text.specs.Whole.{isValue}
 use Rattle.overlap_text.specs.Blocks.{left-says}
 use mathlib.Core.Path.{ap, sym, _∙_}

@@ -1,3 +1,4 @@
+-- The invariant: i values are left before place i, and the count goes on from there.
 use borrow.Author.Tests.{not-true, not-false}
 use Rattle.overlap_text.specs.Blocks.{Counted, count-starts, count-goes-on, count-ends, count-full}
 use Prim.Native.Nat.{_-_, _≤_}

@@ -1,3 +1,4 @@
+-- The invariant: n of the first t tasks are unfinished.
 use Rattle.overlap_text.specs.Blocks.{unfinishedTo, none-counted, one-small, one-counted, all-counted}
 use Prim.Native.Nat.{_-_, _≤_}
 use native.Mathlib.Omega.{arith}

@@ -1,3 +1,4 @@
+-- The invariant: the lines of the first i values stand at the start, each of at most 52 bytes, so that all fit.
 use borrow.Author.Needs.{needs}
 use mathlib.Core.Path.{_≡_, refl, _∙_}
 use lib.ListN.{length}

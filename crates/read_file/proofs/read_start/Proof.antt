@@ -1,3 +1,4 @@
+-- The invariant: n bytes are read, and they stand within the lent bytes; a read that gives none ends the loop.
 use Rattle.read_file.proofs.Parts.{counts, whole-kept, more-inside}
 use borrow.Author.Needs.{needs}
 use native.Mathlib.Omega.{arith}

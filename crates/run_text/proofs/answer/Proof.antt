@@ -1,3 +1,4 @@
+-- Each arm has the text of its number in `answerTexts`; numbers past the last are "refused".
 use Prim.Native.Nat.{zero-le}
 use mathlib.Core.Path.{refl}
 use Rattle.run_text.proofs.Parts.{said, said-past}

@@ -1,3 +1,4 @@
+-- Each arm is one case of `endLine`.
 use native.Mathlib.Omega.{arith}
 use mathlib.Core.Path.{refl}
 use Rattle.text.specs.Text.{ascii}

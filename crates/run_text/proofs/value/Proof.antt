@@ -1,3 +1,4 @@
+-- The arms are the numbers with a value and those without, as `hasValue` says.
 use native.Mathlib.Omega.{arith}
 use mathlib.Core.Path.{refl}
 use Rattle.text.specs.Text.{ascii}

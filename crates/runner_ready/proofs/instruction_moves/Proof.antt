@@ -1,3 +1,4 @@
+-- Each arm has the numbers of the operations that are decided alike.
 use mathlib.Core.Logic.{inl, inr, ⊎-elim}
 use mathlib.Core.Path.{_∙_}
 use Rattle.runner_ready.proofs.Steps.{pushing, finding, going, spawning, syncing, finishing}

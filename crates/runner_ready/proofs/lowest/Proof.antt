@@ -1,3 +1,4 @@
+-- The first word that is not 0 has the lowest bit; the words before it have none.
 use lib.Count.{trailing-le}
 use native.Mathlib.Omega.{arith}
 use Rattle.runner_ready.proofs.Bits.{in-first, in-second, in-third, in-fourth, in-none}

@@ -1,3 +1,4 @@
+-- The tests are made in the order of `mapRefusal`, so the first that fails gives the number.
 use Rattle.spec_words.specs.Words.{size}
 use Rattle.runner_words.specs.Refusals.{fits}
 use Rattle.runner_ready.proofs.Map.{job-refuses, rules-refuse, runner-refuses, none-refuses}

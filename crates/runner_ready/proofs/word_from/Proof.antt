@@ -1,3 +1,4 @@
+-- The invariant: w has the bits of the first k tasks from i on.
 use borrow.Author.Needs.{needs}
 use native.Mathlib.Omega.{arith}
 use Prim.Native.Nat.{_-_, _≤_}

@@ -1,3 +1,4 @@
+-- Each arm is one case of `numberOf`, by the word of the answer.
 use Rattle.runner_run.specs.Rows.{numbered}
 use Rattle.spec_serial.specs.Answers.{numberOf}
 use Rattle.spec_runner.specs.Answers.{wordOf}

@@ -1,3 +1,4 @@
+-- The invariant: the first i tasks have made their steps, and their rows are written.
 use Rattle.runner_run.specs.Made.{fitting, task-there, row-there, all-made, Made, none-made, next-made}
 use lib.ListN.{length, take}
 use Prim.Native.Nat.{_-_, _≤_}

@@ -1,3 +1,4 @@
+-- Each arm is one case of `printed`.
 use Rattle.runner_run.specs.Rows.{printed}
 use mathlib.Core.Path.{ap, sym}
 use borrow.Author.Needs.{needs}

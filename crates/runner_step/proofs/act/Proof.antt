@@ -1,3 +1,4 @@
+-- The core's answer decides as `replyOf` says: the step goes on with what was found, or nothing was changed.
 use Rattle.runner_step.proofs.Replies.{moved, nothing, something, popped-none, waits, turned-down}
 use borrow.Author.Needs.{needs}
 use Rattle.runner_step.proofs.act.Statement.{statement}

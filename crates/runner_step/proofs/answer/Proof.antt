@@ -1,3 +1,4 @@
+-- Each arm has the word of its number; numbers past the last are "refused".
 use mathlib.Core.Path.{refl}
 use Rattle.spec_runner.specs.Answers.{answerWith}
 use Rattle.runner_step.specs.Parts.{wordNumbered}

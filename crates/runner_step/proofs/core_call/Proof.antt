@@ -1,3 +1,4 @@
+-- Each arm has the numbers of the operations that make the same core call, or none.
 use Rattle.runner_step.proofs.Calls.{queue-made, none-made, spawn-made, sync-made, finish-made}
 use native.Mathlib.Omega.{arith}
 use Rattle.spec_job.specs.Rows.{above}

@@ -1,3 +1,4 @@
+-- The tests are made in the order of `stepOutcome`; what they say is what `act` asks.
 use Rattle.spec_words.specs.Words.{size}
 use Rattle.runner_step.proofs.Tests.{first-refused, core-fails, runner-fails, no-task, waits, acts, ready}
 use Rattle.runner_words.specs.Refusals.{fits}

@@ -1,3 +1,4 @@
+-- Each arm has the numbers of the operations after which the runner's words are alike.
 use Rattle.runner_step.proofs.Writes.{spawn-writes, goes-writes, sync-writes, finish-writes}
 use Rattle.spec_job.specs.Rows.{above}
 use native.Mathlib.Omega.{arith}

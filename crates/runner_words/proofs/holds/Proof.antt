@@ -1,3 +1,4 @@
+-- The invariant: what is left to test from record t on decides as all 128 records do.
 use mathlib.Core.Path.{_≡_, refl, sym, _∙_}
 use Prim.Native.Nat.{_≤_, _-_}
 use native.Mathlib.Omega.{arith}

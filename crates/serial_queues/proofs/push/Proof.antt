@@ -1,3 +1,4 @@
+-- The place behind the last value is free, since there are fewer than 4,096; the ring then has one value more.
 use Rattle.serial_queues.specs.Pushed.{pushed}
 use Rattle.serial_queues.proofs.Queues.{no-queue, fewer}
 use native.Mathlib.Omega.{arith}

@@ -1,3 +1,4 @@
+-- The loop's invariant, `Goes`: the run from the start of the body is the run from instruction i on. A step, a child and a return each keep it.
 use Rattle.serial_runner.proofs.Arms.{inner-nine, inner-low, inner-some, eight-some, none-low, none-high}
 use Rattle.serial_runner.proofs.Measures.{body-falls, child-falls, size-kept}
 use Rattle.serial_runner.specs.Child.{child-too-deep, child-runs}

@@ -1,3 +1,4 @@
+-- The tests are made in the order of `serialOutcome`; an accepted job runs the top from cleared lists.
 use Rattle.serial_runner.proofs.Measures.{size-cleared}
 use Rattle.serial_runner.specs.Whole.{wrong-working, wrong-answers, job-refused, job-accepted, job-short, cleared, top-runs}
 use Rattle.spec_serial.specs.Outcome.{turnedDown}

@@ -1,3 +1,4 @@
+-- Each arm has the number of its operation; what is left of the numbers uses no queue.
 use Rattle.serial_steps.proofs.Operations.{keyed, plain-does, past-four}
 use Rattle.serial_steps.proofs.Bound.{room}
 use native.Mathlib.Omega.{arith}

@@ -1,3 +1,4 @@
+-- The digits of n / 10, and the last digit behind them, are those of n; the number falls at each call.
 use borrow.Author.Needs.{needs}
 use native.Mathlib.Omega.{arith}
 use Rattle.text.proofs.Digits.{one-digit, more-digits, digit-position}

@@ -1,3 +1,4 @@
+-- The invariant: the first i bytes of the text stand from `at` on.
 use borrow.Author.Needs.{needs}
 use mathlib.Core.Path.{_≡_, refl, _∙_}
 use lib.ListN.{length, take}
