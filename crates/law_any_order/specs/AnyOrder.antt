@@ -46,7 +46,7 @@ use Rattle.spec_runner.specs.declared.StepAnswer.the-variants.{Waits, Refused}
 use Rattle.spec_runner.specs.Answers.{hasMoved, answerOf}
 use Rattle.law_any_order.specs.Statement.{Stand, stepped, afterCalls, fresh, stepAnswer, AllFinished, Wants, a-record, a-segment, Agreed, Promise}
 use Rattle.law_any_order.specs.States.{state-unfinished}
-use Rattle.law_any_order.specs.Goes.{represents, Stays, waits, eight, nine, Does, stays, goes}
+use Rattle.law_any_order.specs.Goes.{represents, Stays, waits, eight, nine, StaysOrGoes, stays, goes}
 use Rattle.law_any_order.specs.Looking.{step-does}
 use Rattle.law_any_order.specs.Running.{Running}
 use Rattle.law_any_order.specs.Called.{stays-still, place, Mover, Called, absent, held, went, refused-four, has-gone, called-by}
@@ -162,7 +162,7 @@ module _ (j : List ℕ) (ticks : ℕ → ℕ) (e : jobAnswer j ≡ Moved 0) wher
             let m = subst (Can (jobTasks j) W (n .runner) none-back) (sym (at-task .line)) c in
             moves-able j ticks (represents (place j ticks e s a b n r) .played) a b n (r .beside) (r .times) (r .same) (m .end) (m .done) _ (m .line) (m .move)
 
-        go : Does j (s .core) (s .runner) (s .order) a b n → Ready (n .number)
+        go : StaysOrGoes j (s .core) (s .runner) (s .order) a b n → Ready (n .number)
         go (stays x y o) = ⊎-elim (λ w. absurd (w .0 able)) inr (stayed n x y (unfold stepAnswer answerOf in ap answerOf o))
         go (goes g) = inl (has-gone j ticks e s a b n r g)
 

@@ -34,7 +34,7 @@ use Rattle.law_any_order.specs.Statement.{Stand, eventFor, stepped, step
 use Rattle.law_any_order.specs.States.{state-unfinished}
 use Rattle.law_any_order.specs.Written.{Written}
 use Rattle.law_any_order.specs.Tested.{tests-pass}
-use Rattle.law_any_order.specs.Goes.{Place, Stays, waits, eight, nine, Goes, Does, stays, goes}
+use Rattle.law_any_order.specs.Goes.{Place, Stays, waits, eight, nine, Goes, StaysOrGoes, stays, goes}
 use Rattle.law_any_order.specs.Goes as common
 use Rattle.law_any_order.specs.Running.{Running, same-stand, next-stand}
 use Rattle.law_any_order.specs.Names.{name-is, event-is}
@@ -138,7 +138,7 @@ module _ (j : List ℕ) (ticks : ℕ → ℕ) (e : jobAnswer j ≡ Moved 0) wher
                 ∙ ap₂ (λ (es : List Event) (x : Event). es ++ x ∷ []) (run .log) (ap (eventWith j (n .runner)) (o .finds));
           })
 
-    pub called-by : Does j (s .core) (s .runner) (s .order) a b n → Called s (a ++ spot n ∷ b) t
+    pub called-by : StaysOrGoes j (s .core) (s .runner) (s .order) a b n → Called s (a ++ spot n ∷ b) t
     unfolding stepAnswer answerOf
     called-by (stays x y o) = held a b n x refl refl y (ap answerOf o) (same-stand j s t x (stays-still x y) o)
     called-by (goes g) =

@@ -20,7 +20,7 @@ use Rattle.law_invariant.specs.Represents.{Represents}
 use Rattle.spec_outcomes.specs.Segments.{noneFree}
 use Rattle.law_in_order.specs.Answered.{needsSegment, answered}
 use Rattle.law_in_order.specs.State.{State}
-use Rattle.law_in_order.specs.Ladder.{blocked-same, rights-are}
+use Rattle.law_in_order.specs.Refusals.{blocked-same, rights-are}
 use Rattle.law_in_order.specs.InOrder.{call-does}
 use Rattle.spec_job.specs.declared.Instruction.{Instruction}
 use Rattle.spec_job.specs.Fields.{instructionAt}
@@ -67,9 +67,9 @@ pub record Goes (j m r : List ℕ) (xs : List Mark) (a b : List (Item Numbered))
   pub after : After j order a b n tasks found
   pub written : Written runner (standing a ++ (tasks ++ standing b))
 
-pub data Does (j m r : List ℕ) (xs : List Mark) (a b : List (Item Numbered)) (n : Numbered) : Type 0 where
-  stays : (x : StepAnswer) → Stays j m r xs n x → stepOutcome j m r (n .number) ≡ outcome x m r → Does j m r xs a b n
-  goes : Goes j m r xs a b n → Does j m r xs a b n
+pub data StaysOrGoes (j m r : List ℕ) (xs : List Mark) (a b : List (Item Numbered)) (n : Numbered) : Type 0 where
+  stays : (x : StepAnswer) → Stays j m r xs n x → stepOutcome j m r (n .number) ≡ outcome x m r → StaysOrGoes j m r xs a b n
+  goes : Goes j m r xs a b n → StaysOrGoes j m r xs a b n
 
 -- A TASK THAT STANDS: task n stands between a and b on the line of an accepted job, in a state with the core's words m, the runner's
 -- words r and the steps and spots xs.
@@ -121,7 +121,7 @@ module _ {j m r : List ℕ} {xs : List Mark} {a b : List (Item Numbered)} {n : N
   tested-is = tests-pass j m r xs (a ++ spot n ∷ b) (p .state) (p .beside) (p .written) (p .stood) (p .accepted) _
 
   -- a task that an older sibling blocks waits
-  pub blocked-waits : blocked t xs ≡ true → Does j m r xs a b n
+  pub blocked-waits : blocked t xs ≡ true → StaysOrGoes j m r xs a b n
   unfolding stepTested
   blocked-waits d =
       stays Waits (waits (λ able. false≢true (sym (able .free) ∙ d)))

@@ -37,7 +37,7 @@ use Rattle.spec_runner.specs.declared.StepAnswer.the-variants as Step
 use Rattle.spec_runner.specs.Step.{callOf, replyOf, runnerAfter, done, replied}
 use Rattle.spec_job.specs.declared.Instruction.{Instruction}
 use Rattle.law_any_order.specs.Answered.{pop-answer, test-answer}
-use Rattle.law_any_order.specs.Goes.{Place, waits, Does}
+use Rattle.law_any_order.specs.Goes.{Place, waits, StaysOrGoes}
 use Rattle.law_any_order.specs.Goes as common
 use Rattle.law_any_order.specs.Operations as other
 
@@ -58,7 +58,7 @@ module _ {j m r : List ℕ} {xs : List Mark} {a b : List (Item Numbered)} {n : N
   stands = common.stands p
 
   abbrev Result : Type 0
-  Result = Does j m r xs a b n
+  Result = StaysOrGoes j m r xs a b n
 
   -- program order has the pop right too
   held-right : (q : ℕ) → mayPop (rightsOf j (u .task)) q ≡ true → mayPop (rightsAt t xs) q ≡ true
@@ -152,9 +152,9 @@ module _ {j m r : List ℕ} {xs : List Mark} {a b : List (Item Numbered)} {n : N
   unblocked = let s = instructionOf j u in by-number (s .operation) (omega arith) (s .which) (s .operand) refl
 
 -- THE STEP OF A TASK THAT STANDS
-pub step-does : {j m r : List ℕ} {xs : List Mark} {a b : List (Item Numbered)} {n : Numbered} → Place j m r xs a b n → Does j m r xs a b n
+pub step-does : {j m r : List ℕ} {xs : List Mark} {a b : List (Item Numbered)} {n : Numbered} → Place j m r xs a b n → StaysOrGoes j m r xs a b n
 step-does {j} {m} {r} {xs} {a} {b} {n} p = go (blocked (n .number) xs) refl
   where
-    go : (d : Bool) → blocked (n .number) xs ≡ d → Does j m r xs a b n
+    go : (d : Bool) → blocked (n .number) xs ≡ d → StaysOrGoes j m r xs a b n
     go true d = common.blocked-waits p d
     go false d = unblocked p d

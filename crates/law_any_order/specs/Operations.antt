@@ -51,7 +51,7 @@ use Rattle.law_any_order.specs.Written.{Written, Other}
 use Rattle.law_any_order.specs.Rewritten as words
 use Rattle.law_any_order.specs.Tested.{nobody}
 use Rattle.law_any_order.specs.Answered.{push-answer, spawn-answer, sync-answer, finish-answer}
-use Rattle.law_any_order.specs.Goes.{Place, Stays, waits, eight, nine, Does, stays, goes}
+use Rattle.law_any_order.specs.Goes.{Place, Stays, waits, eight, nine, StaysOrGoes, stays, goes}
 use Rattle.law_any_order.specs.Goes as common
 
 module _ {j m r : List ℕ} {xs : List Mark} {a b : List (Item Numbered)} {n : Numbered} (p : Place j m r xs a b n) (free : blocked (n .number) xs ≡ false) where
@@ -78,7 +78,7 @@ module _ {j m r : List ℕ} {xs : List Mark} {a b : List (Item Numbered)} {n : N
   written = subst (Written r) (standing-append a (spot n ∷ b)) (p .written)
 
   abbrev Result : Type 0
-  Result = Does j m r xs a b n
+  Result = StaysOrGoes j m r xs a b n
 
   -- AN INSTRUCTION of the task
   module _ (i : Instruction) (is : instructionOf j u ≡ i) where

@@ -14,7 +14,7 @@ use Rattle.spec_order.specs.Steps.{Item as Mark, numberOf, rightsOf as rightsWi
 use Rattle.spec_order.specs.Waits.{unfinished}
 use Rattle.law_invariant.specs.Represents.{Represents}
 use Rattle.law_in_order.specs.State.{State, state-rules, state-size}
-use Rattle.law_in_order.specs.Ladder.{rights-same, rights-are}
+use Rattle.law_in_order.specs.Refusals.{rights-same, rights-are}
 use Rattle.spec_job.specs.Fields.{procedures, count, rights}
 use Rattle.spec_job.specs.Test.{jobAnswer}
 use Rattle.spec_plain.specs.Stack.{Stands, rightsOf}

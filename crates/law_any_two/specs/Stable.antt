@@ -29,7 +29,7 @@ use Rattle.law_job_moves.specs.MovesAble.{moves-able}
 use Rattle.spec_runner.specs.declared.StepAnswer.{StepAnswer}
 use Rattle.spec_runner.specs.Answers.{answerOf}
 use Rattle.law_any_order.specs.Statement.{Stand, stepped, stepAnswer, afterCalls, fresh}
-use Rattle.law_any_order.specs.Goes.{Place, Stays, waits, eight, nine, Goes, Does, stays, goes, represents}
+use Rattle.law_any_order.specs.Goes.{Place, Stays, waits, eight, nine, Goes, StaysOrGoes, stays, goes, represents}
 use Rattle.law_any_order.specs.Looking.{step-does}
 use Rattle.law_any_order.specs.Running.{Running}
 use Rattle.law_any_order.specs.Called.{place, Mover, its-move, has-gone, goes-event, after-goes}
@@ -107,7 +107,7 @@ module _ (j : List ℕ) (ticks : ℕ → ℕ) (accept : jobAnswer j ≡ Moved 0)
     unfolding stepAnswer
     still-moves = go (step-does here)
       where
-        go : Does j (then .core) (then .runner) (then .order) (stood .before) (stood .behind) n → Still j s then (n .number)
+        go : StaysOrGoes j (then .core) (then .runner) (then .order) (stood .before) (stood .behind) n → Still j s then (n .number)
         go (stays x y i) =
             ⊎-elim (λ w. absurd (w .0 (still-able (now .able)))) wants
             (stayed j ticks accept then _ after n x y (unfold stepAnswer answerOf in ap answerOf i))

@@ -18,7 +18,7 @@ use Rattle.law_links.specs.Waits.{same-childPops}
 use Rattle.law_invariant.specs.Represents.{Represents}
 use Rattle.law_invariant.specs.At.{mine-spot}
 use Rattle.law_invariant.specs.Pop.{finds-same}
-use Rattle.law_in_order.specs.Ladder.{blocked-same}
+use Rattle.law_in_order.specs.Refusals.{blocked-same}
 
 module _ (m : List ℕ) (ys zs : List Item) (s : Task) (r : Represents m (ys ++ spot s ∷ zs)) (q : ℕ) (small : q < 4) (may : mayPop (rightsOf s) q ≡ true) where
   abbrev t : ℕ

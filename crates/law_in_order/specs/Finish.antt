@@ -24,7 +24,7 @@ use Rattle.law_order_waits.specs.Played.{Asked, plays}
 use Rattle.law_invariant.specs.At.{mine-spot}
 use Rattle.law_invariant_finish.specs.Sync.{sync-allowed}
 use Rattle.law_invariant_finish.specs.Finish.{finish-allowed, finish-represents}
-use Rattle.law_in_order.specs.Does.{Does, does-as}
+use Rattle.law_in_order.specs.Yields.{Yields, does-as}
 use Rattle.law_in_order.specs.Sync.{child-same, when-reduced}
 use Rattle.law_in_order.specs.State.{State}
 use Rattle.law_in_order.specs.TopFinish.{top-ended}
@@ -62,7 +62,7 @@ finish-task m ys zs s r n b c =
 
 finishes-well : (m : List ℕ) (ys zs : List Item) (s : Task) → Represents m (ys ++ spot s ∷ zs) → blocked (numberOf s) (ys ++ spot s ∷ zs) ≡ false
     → hasChild (numberOf s) (ys ++ spot s ∷ zs) ≡ false
-    → (allowed m (numberOf s) ≡ true) × Does State (ys ++ spot s ∷ zs) (finish-call (numberOf s)) (outcome (Moved 0) (words m (numberOf s))) (Moved 0)
+    → (allowed m (numberOf s) ≡ true) × Yields State (ys ++ spot s ∷ zs) (finish-call (numberOf s)) (outcome (Moved 0) (words m (numberOf s))) (Moved 0)
 unfolding allowed words answerOf wordsOf noted counted
 finishes-well m ys zs s r b c = go (eqb (numberOf s) 0) refl
   where
@@ -71,7 +71,7 @@ finishes-well m ys zs s r b c = go (eqb (numberOf s) 0) refl
 
     go : (d : Bool) → eqb (numberOf s) 0 ≡ d
         → (pick (eqb (numberOf s) 0) (eachQueue (syncs m (numberOf s))) (eachQueue (finishesIn m (numberOf s))) ≡ true)
-        × Does State (ys ++ spot s ∷ zs) (finish-call (numberOf s)) (outcome (Moved 0) (pick (eqb (numberOf s) 0) (topFinished m) (finished m (numberOf s))))
+        × Yields State (ys ++ spot s ∷ zs) (finish-call (numberOf s)) (outcome (Moved 0) (pick (eqb (numberOf s) 0) (topFinished m) (finished m (numberOf s))))
         (Moved 0)
     go true e = (
       halt _ _ e ∙ sync-allowed m ys zs s r (child-same m ys zs s r ∙ c),
@@ -84,6 +84,6 @@ finishes-well m ys zs s r b c = go (eqb (numberOf s) 0) refl
         )
 
 pub finish-does : (m : List ℕ) (xs : List Item) (t : ℕ) → Represents m xs
-    → Does State xs (finish-call t) (finishTested m t) (forTask t xs (pick (either (blocked t xs) (hasChild t xs)) Waits (Moved 0)))
+    → Yields State xs (finish-call t) (finishTested m t) (forTask t xs (pick (either (blocked t xs) (hasChild t xs)) Waits (Moved 0)))
 finish-does m xs t r =
     does-as State _ _ _ _ (tested-is m t) refl (when-reduced State (λ m xs r. inl r) finish-call (allowed m) (words m) m (finishes-well m) xs t r)

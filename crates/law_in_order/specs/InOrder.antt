@@ -27,7 +27,7 @@ use Rattle.spec_order.specs.Waits.{unfinished, blocked}
 use Rattle.spec_order.specs.Ordered.{rightsAt, forTask, forQueue, ordered}
 use Rattle.law_invariant.specs.Represents.{Represents}
 use Rattle.law_in_order.specs.Answered.{needsSegment, decided, answered}
-use Rattle.law_in_order.specs.Does.{Does, does-as}
+use Rattle.law_in_order.specs.Yields.{Yields, does-as}
 use Rattle.law_in_order.specs.State.{Ended, State, state-rules, state-size}
 use Rattle.law_in_order.specs.Open.{open-does, opens}
 use Rattle.law_in_order.specs.Spawn.{spawn-does, fresh-task}
@@ -47,8 +47,8 @@ module _ (m : List ℕ) (xs : List Item) (st : State m xs) where
   pub tested-is : (o : Outcome) → tested m o ≡ o
   tested-is = test-passes m (state-size m xs st) (state-rules m xs st)
 
-  through : {c : Call} {a : Answer} (o : Outcome) → Does State xs c o a → Does State xs c (tested m o) a
-  through {c} {a} o d = subst (λ (x : Outcome). Does State xs c x a) (sym (tested-is o)) d
+  through : {c : Call} {a : Answer} (o : Outcome) → Yields State xs c o a → Yields State xs c (tested m o) a
+  through {c} {a} o d = subst (λ (x : Outcome). Yields State xs c x a) (sym (tested-is o)) d
 
 -- 9 where it is decided
 nine : (b : Bool) (v : ℕ) → pick (eqb (statusOf (pick b (Refused 9) (Moved v))) 9) (Refused 9) (Moved v) ≡ pick b (Refused 9) (Moved v)
@@ -58,32 +58,32 @@ nine false v = refl
 
 -- the same once the top has finished
 module _ (m : List ℕ) (xs : List Item) (e : Ended m xs) where
-  spawn-ended : (t u : ℕ) → (a : Answer) → Does State xs (spawn-call t u) (spawnTested m t u) (forTask t xs a)
+  spawn-ended : (t u : ℕ) → (a : Answer) → Yields State xs (spawn-call t u) (spawnTested m t u) (forTask t xs a)
   unfolding spawnTested
   spawn-ended t u a = ended-refuses m xs e (spawn-call t u) _ a t
 
-  push-ended : (t q v : ℕ) → (a : Answer) → Does State xs (push-call t q v) (pushTested m t q v) (forTask t xs a)
+  push-ended : (t q v : ℕ) → (a : Answer) → Yields State xs (push-call t q v) (pushTested m t q v) (forTask t xs a)
   unfolding pushTested
   push-ended t q v a = ended-refuses m xs e (push-call t q v) _ a t
 
-  pop-ended : (t q : ℕ) → (a : Answer) → Does State xs (pop-call t q) (popTested m t q) (forTask t xs a)
+  pop-ended : (t q : ℕ) → (a : Answer) → Yields State xs (pop-call t q) (popTested m t q) (forTask t xs a)
   unfolding popTested popAllowed
   pop-ended t q a = ended-refuses m xs e (pop-call t q) _ a t
 
-  test-ended : (t q : ℕ) → (a : Answer) → Does State xs (test-call t q) (testTested m t q) (forTask t xs a)
+  test-ended : (t q : ℕ) → (a : Answer) → Yields State xs (test-call t q) (testTested m t q) (forTask t xs a)
   unfolding testTested popAllowed
   test-ended t q a = ended-refuses m xs e (test-call t q) _ a t
 
-  sync-ended : (t : ℕ) → (a : Answer) → Does State xs (sync-call t) (syncTested m t) (forTask t xs a)
+  sync-ended : (t : ℕ) → (a : Answer) → Yields State xs (sync-call t) (syncTested m t) (forTask t xs a)
   unfolding syncTested whenReduced
   sync-ended t a = ended-refuses m xs e (sync-call t) _ a t
 
-  finish-ended : (t : ℕ) → (a : Answer) → Does State xs (finish-call t) (finishTested m t) (forTask t xs a)
+  finish-ended : (t : ℕ) → (a : Answer) → Yields State xs (finish-call t) (finishTested m t) (forTask t xs a)
   unfolding whenReduced
   finish-ended t a = does-as State _ _ _ _ (finish-tested m t) refl (ended-refuses m xs e (finish-call t) _ a t)
 
 -- A CALL IN A STATE
-pub call-does : (c : Call) (m : List ℕ) (xs : List Item) → State m xs → Does State xs c (outcomeOf c m) (answered c m xs)
+pub call-does : (c : Call) (m : List ℕ) (xs : List Item) → State m xs → Yields State xs c (outcomeOf c m) (answered c m xs)
 unfolding outcomeOf answered ordered decided valueOf spawnOutcome pushOutcome popOutcome testOutcome syncOutcome finishOutcome leftOutcome
 call-does (open-call l n) m xs st = open-does m xs l n (state-size m xs st) st
 call-does (spawn-call t u) m xs (inl r) = through m xs (inl r) (spawnTested m t u) (spawn-does State runs m xs t u r)

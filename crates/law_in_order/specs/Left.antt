@@ -41,14 +41,14 @@ use Rattle.law_invariant.specs.Represents.{queueMemory, ofTasks, Represents, op
 use Rattle.law_invariant.specs.Parts.{holders, parts-of, opened-single}
 use Rattle.law_invariant.specs.Laids.{held-opened}
 use Rattle.law_invariant.specs.FirstNamed.{segment-below, holder-unfinished, here}
-use Rattle.law_in_order.specs.Does.{Does, refuses, waits, chooses, does-as}
+use Rattle.law_in_order.specs.Yields.{Yields, refuses, waits, chooses, does-as}
 use Rattle.law_in_order.specs.Alone.{tour-alone, line-alone}
 use Rattle.law_in_order.specs.Chains.{nth-user, queued-chain}
 use Rattle.law_in_order.specs.State.{Ended, State}
 
 -- BEFORE THE END the top is unfinished
 pub left-waits : (m : List ℕ) (xs : List Item) (q i : ℕ) → Represents m xs
-    → Does State xs (left-call q i) (leftTested m q i) (pick (leb 4 q) (Refused 5) (pick (unfinished 0 xs) Waits (leftAnswer (leftOver q i xs))))
+    → Yields State xs (left-call q i) (leftTested m q i) (pick (leb 4 q) (Refused 5) (pick (unfinished 0 xs) Waits (leftAnswer (leftOver q i xs))))
 unfolding leftTested
 left-waits m xs q i r =
     chooses State (leb 4 q) (leb 4 q) refl (λ e. refuses State m xs (left-call q i) 5 (inl r)) (λ e.
@@ -172,12 +172,12 @@ module _ (m : List ℕ) (xs : List Item) (e : Ended m xs) where
         ∙ sym (e .same-left q i small))
 
   -- the answer changes nothing
-  answers : (q i : ℕ) (o : Option ℕ) → Does State xs (left-call q i) (outcome (leftAnswer o) m) (leftAnswer o)
+  answers : (q i : ℕ) (o : Option ℕ) → Yields State xs (left-call q i) (outcome (leftAnswer o) m) (leftAnswer o)
   unfolding answerOf wordsOf noted counted leftAnswer
   answers q i none = record { answer = refl; holds = inr e }
   answers q i (some v) = record { answer = refl; holds = inr e }
 
-  pub left-ended : (q i : ℕ) → Does State xs (left-call q i) (leftTested m q i)
+  pub left-ended : (q i : ℕ) → Yields State xs (left-call q i) (leftTested m q i)
       (pick (leb 4 q) (Refused 5) (pick (unfinished 0 xs) Waits (leftAnswer (leftOver q i xs))))
   unfolding leftTested
   left-ended q i =
@@ -219,6 +219,6 @@ module _ (m : List ℕ) (xs : List Item) (e : Ended m xs) where
           (λ n. not-top l k n)
           (equal? t 0))
 
-  pub ended-refuses : (c : Call) (o : Outcome) (a : Answer) (t : ℕ) → Does State xs c (pick (not (unfinishedIn m t)) (outcome (Refused 4) m) o) (forTask t xs a)
+  pub ended-refuses : (c : Call) (o : Outcome) (a : Answer) (t : ℕ) → Yields State xs c (pick (not (unfinishedIn m t)) (outcome (Refused 4) m) o) (forTask t xs a)
   unfolding forTask
   ended-refuses c o a t = does-as State _ _ _ (Refused 4) (halt _ _ (ap not (gone t))) (skip _ (e .none-left t) refl) (refuses State m xs c 4 (inr e))

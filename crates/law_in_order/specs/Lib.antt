@@ -1,6 +1,6 @@
 pub mod Answered
-pub mod Does
-pub mod Ladder
+pub mod Yields
+pub mod Refusals
 pub mod Push
 pub mod Finding
 pub mod Pop

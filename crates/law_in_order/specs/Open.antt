@@ -16,11 +16,11 @@ use Rattle.spec_rules.specs.Test.{inRange}
 use Rattle.spec_outcomes.specs.Open.{opened, openOutcome}
 use Rattle.spec_order.specs.Steps.{Item, begin, counted, noted}
 use Rattle.law_invariant_spawn.specs.Open.{open-represents}
-use Rattle.law_in_order.specs.Does.{Does, refuses, chooses-not, does-as}
+use Rattle.law_in_order.specs.Yields.{Yields, refuses, chooses-not, does-as}
 use Rattle.law_in_order.specs.State.{State}
 
 pub open-does : (m : List ℕ) (xs : List Item) (l n : ℕ) → size m ≡ WORDS → State m xs
-    → Does State xs (open-call l n) (openOutcome m l n) (pick (inRange l n) (Moved 0) (Refused 3))
+    → Yields State xs (open-call l n) (openOutcome m l n) (pick (inRange l n) (Moved 0) (Refused 3))
 unfolding openOutcome answerOf wordsOf noted counted
 open-does m xs l n e st =
     does-as State _ _ _ _ (skip _ (ap not (eq-eqb (size m) WORDS e)) refl) refl

@@ -23,8 +23,8 @@ use Rattle.law_invariant.specs.Represents.{Represents}
 use Rattle.law_invariant.specs.At.{mine-spot}
 use Rattle.law_invariant.specs.Pop.{held-value, pop-represents}
 use Rattle.law_invariant.specs.Test.{test-represents}
-use Rattle.law_in_order.specs.Does.{Does, refuses, waits}
-use Rattle.law_in_order.specs.Ladder.{for-task, for-queue, rights-are, rights-same}
+use Rattle.law_in_order.specs.Yields.{Yields, refuses, waits}
+use Rattle.law_in_order.specs.Refusals.{for-task, for-queue, rights-are, rights-same}
 use Rattle.law_in_order.specs.Finding.{finding-same, finding-cases}
 
 module _ (P : List ℕ → List Item → Type 0) (holds-of : (m : List ℕ) (xs : List Item) → Represents m xs → P m xs) where
@@ -38,11 +38,11 @@ module _ (P : List ℕ → List Item → Type 0) (holds-of : (m : List ℕ) (xs 
     unfinished-here : unfinished t Old ≡ true
     unfinished-here = says-unfinished Old s (mine-spot m ys zs s r)
 
-    pops-well : Does P Old (pop-call t q) (popGives m t q (findingIn m t q)) (popAnswer (finding t q Old))
+    pops-well : Yields P Old (pop-call t q) (popGives m t q (findingIn m t q)) (popAnswer (finding t q Old))
     unfolding popGives popAnswer Fresh Asked answerOf wordsOf noted counted
     pops-well =
-        subst (λ (f : Finding). Does P Old (pop-call t q) (popGives m t q (findingIn m t q)) (popAnswer f)) (finding-same m ys zs s r q small may)
-        (finding-cases m ys zs s r q small may (λ f. Does P Old (pop-call t q) (popGives m t q f) (popAnswer f))
+        subst (λ (f : Finding). Yields P Old (pop-call t q) (popGives m t q (findingIn m t q)) (popAnswer f)) (finding-same m ys zs s r q small may)
+        (finding-cases m ys zs s r q small may (λ f. Yields P Old (pop-call t q) (popGives m t q f) (popAnswer f))
         (waits P m Old (pop-call t q) (holds-of m Old r))
         (λ b c h.
         let w = held-value m ys zs s r q small may b c h in
@@ -54,11 +54,11 @@ module _ (P : List ℕ → List Item → Type 0) (holds-of : (m : List ℕ) (xs 
         })
         (λ b. refuses P m Old (pop-call t q) 7 (holds-of m Old r)))
 
-    tests-well : Does P Old (test-call t q) (testGives m (findingIn m t q)) (testAnswer (finding t q Old))
+    tests-well : Yields P Old (test-call t q) (testGives m (findingIn m t q)) (testAnswer (finding t q Old))
     unfolding testGives testAnswer Fresh Asked answerOf wordsOf noted counted
     tests-well =
-        subst (λ (f : Finding). Does P Old (test-call t q) (testGives m (findingIn m t q)) (testAnswer f)) (finding-same m ys zs s r q small may)
-        (finding-cases m ys zs s r q small may (λ f. Does P Old (test-call t q) (testGives m f) (testAnswer f))
+        subst (λ (f : Finding). Yields P Old (test-call t q) (testGives m (findingIn m t q)) (testAnswer f)) (finding-same m ys zs s r q small may)
+        (finding-cases m ys zs s r q small may (λ f. Yields P Old (test-call t q) (testGives m f) (testAnswer f))
         (waits P m Old (test-call t q) (holds-of m Old r))
         (λ b c h. record { answer = refl; holds = stays b })
         (λ b. record { answer = refl; holds = stays b }))
@@ -69,7 +69,7 @@ module _ (P : List ℕ → List Item → Type 0) (holds-of : (m : List ℕ) (xs 
             holds-of m (advance t (tests q) Old) (test-represents m ys zs s r q (plays t (tests q) (r .played) unfinished-here tt b tt))
 
   pub pop-does : (m : List ℕ) (xs : List Item) (t q : ℕ) → Represents m xs
-      → Does P xs (pop-call t q) (popTested m t q) (forTask t xs (forQueue q (mayPop (rightsAt t xs) q) (popAnswer (finding t q xs))))
+      → Yields P xs (pop-call t q) (popTested m t q) (forTask t xs (forQueue q (mayPop (rightsAt t xs) q) (popAnswer (finding t q xs))))
   unfolding popTested popAllowed
   pop-does m xs t q =
       for-task P holds-of (λ t. pop-call t q)
@@ -82,7 +82,7 @@ module _ (P : List ℕ → List Item → Type 0) (holds-of : (m : List ℕ) (xs 
       xs t
 
   pub test-does : (m : List ℕ) (xs : List Item) (t q : ℕ) → Represents m xs
-      → Does P xs (test-call t q) (testTested m t q) (forTask t xs (forQueue q (mayPop (rightsAt t xs) q) (testAnswer (finding t q xs))))
+      → Yields P xs (test-call t q) (testTested m t q) (forTask t xs (forQueue q (mayPop (rightsAt t xs) q) (testAnswer (finding t q xs))))
   unfolding testTested popAllowed
   test-does m xs t q =
       for-task P holds-of (λ t. test-call t q)

@@ -44,8 +44,8 @@ use Rattle.law_invariant.specs.Room.{held-free}
 use Rattle.law_invariant.specs.Push.{stands, push-into, push-behind, user-word}
 use Rattle.law_invariant.specs.PushApart.{apart-reducible, push-apart}
 use Rattle.law_in_order.specs.Answered.{needsSegment}
-use Rattle.law_in_order.specs.Does.{Does, refuses, waits, chooses, never, does-as}
-use Rattle.law_in_order.specs.Ladder.{for-task, for-queue, rights-are, rights-same, blocked-same}
+use Rattle.law_in_order.specs.Yields.{Yields, refuses, waits, chooses, never, does-as}
+use Rattle.law_in_order.specs.Refusals.{for-task, for-queue, rights-are, rights-same, blocked-same}
 
 -- a free segment, where there is one
 pub some-free : (m : List ℕ) (q : ℕ) → noneFree m q ≡ false → (g : ℕ) × (rest : List ℕ) × (freeIn m ≡ g ∷ rest)
@@ -84,11 +84,11 @@ module _ (P : List ℕ → List Item → Type 0) (runs : (m : List ℕ) (xs : Li
     unfolding Fresh Asked
     play = plays t (pushes q v) (r .played) (says-unfinished Old s (mine-spot m ys zs s r)) tt free tt
 
-    moves : (w : List ℕ) → Represents w New → Does P Old c (outcome (Moved v) w) (Moved v)
+    moves : (w : List ℕ) → Represents w New → Yields P Old c (outcome (Moved v) w) (Moved v)
     unfolding answerOf wordsOf noted counted
     moves w h = record { answer = refl; holds = runs w New h }
 
-    none-left : Does P Old c (outcome (Refused 9) m) (Refused 9)
+    none-left : Yields P Old c (outcome (Refused 9) m) (Refused 9)
     none-left = refuses P m Old c 9 (runs m Old r)
 
     abbrev u : View
@@ -120,7 +120,7 @@ module _ (P : List ℕ → List Item → Type 0) (runs : (m : List ℕ) (xs : Li
     Answers = pick (both (needsSegment m t q) (noneFree m q)) (Refused 9) (Moved v)
 
     -- the user view is empty
-    apart : queueMemory m q .user t ≡ vacant → Does P Old c (pushed m t q v) Answers
+    apart : queueMemory m q .user t ≡ vacant → Yields P Old c (pushed m t q v) Answers
     unfolding pushed pushedApart
     apart d =
         let e = vacant-empty u (view-is d) in
@@ -135,7 +135,7 @@ module _ (P : List ℕ → List Item → Type 0) (runs : (m : List ℕ) (xs : Li
         needed e = unfold needsSegment in both-on (true-left _ e)
 
     -- the tail segment of the user view is z
-    behind : (h : End) (z : ℕ) → queueMemory m q .user t ≡ extent h (local z) → Does P Old c (pushed m t q v) Answers
+    behind : (h : End) (z : ℕ) → queueMemory m q .user t ≡ extent h (local z) → Yields P Old c (pushed m t q v) Answers
     unfolding pushed pushedBehind viewOf tailOf
     behind h z d =
         let e = extent-filled u h (local z) (view-is d) in
@@ -180,11 +180,11 @@ module _ (P : List ℕ → List Item → Type 0) (runs : (m : List ℕ) (xs : Li
             omega (arith, a, b, k)
 
         go : (b : Bool) → ltb (read m (count e0)) (lengthOf m e0) ≡ b
-            → Does P Old c (pick b (outcome (Moved v) (stored m e0 v)) (pick (noneFree m q) (outcome (Refused 9) m) (pushedBehind m t q v e0)))
+            → Yields P Old c (pick b (outcome (Moved v) (stored m e0 v)) (pick (noneFree m q) (outcome (Refused 9) m) (pushedBehind m t q v e0)))
             (pick (not b) (pick (noneFree m q) (Refused 9) (Moved v)) (Moved v))
         go true f =
             unfold pick in
-            subst (λ (x : ℕ). Does P Old c (outcome (Moved v) (stored m x v)) (Moved v)) (sym tail-is)
+            subst (λ (x : ℕ). Yields P Old c (outcome (Moved v) (stored m x v)) (Moved v)) (sym tail-is)
             (moves _ (push-into m ys zs s r q v small may h z d low (let l = ltb-true (read m (count e0)) (lengthOf m e0) f in omega (arith, l, count-is))
             play))
         go false f =
@@ -192,21 +192,21 @@ module _ (P : List ℕ → List Item → Type 0) (runs : (m : List ℕ) (xs : Li
             chooses P (noneFree m q) (noneFree m q) refl (λ b. none-left) (λ b.
             let k = some-free m q b in
             let w = filled (contentsIn m z) refl (λ l. let j = ltb-false (read m (count e0)) (lengthOf m e0) f in omega (arith, l, j, count-is)) in
-            subst (λ (x : ℕ). Does P Old c (outcome (Moved v) (write (write (taken m q v) (next x) (nextFree m q)) (tail USER t q) (nextFree m q))) (Moved v))
+            subst (λ (x : ℕ). Yields P Old c (outcome (Moved v) (write (write (taken m q v) (next x) (nextFree m q)) (tail USER t q) (nextFree m q))) (Moved v))
             (sym tail-is)
             (moves _ (push-behind m ys zs s r q v small may h z (k .0) (k .1) (w .0) (w .1) d low (k .2) (w .2) (apart-from (k .0) (k .1) (k .2)) play)))
 
-    pushes-well : Does P Old c (pushed m t q v) Answers
+    pushes-well : Yields P Old c (pushed m t q v) Answers
     pushes-well = go (queueMemory m q .user t) refl
       where
-        go : (e : Extent) → queueMemory m q .user t ≡ e → Does P Old c (pushed m t q v) Answers
+        go : (e : Extent) → queueMemory m q .user t ≡ e → Yields P Old c (pushed m t q v) Answers
         go vacant d = apart d
         go (extent h x) d =
             let w = user-local (views .1) .0 h x d in
             behind h (w .0) (d ∙ ap (extent h) (w .1))
 
   pub push-does : (m : List ℕ) (xs : List Item) (t q v : ℕ) → Represents m xs
-      → Does P xs (push-call t q v) (pushTested m t q v)
+      → Yields P xs (push-call t q v) (pushTested m t q v)
       (forTask t xs (forQueue q (mayPush (rightsAt t xs) q)
       (pick (blocked t xs) Waits (pick (both (needsSegment m t q) (noneFree m q)) (Refused 9) (Moved v)))))
   unfolding pushTested

@@ -25,8 +25,8 @@ use Rattle.law_links.specs.Many.{spots-many}
 use Rattle.law_invariant.specs.Represents.{Represents}
 use Rattle.law_invariant_spawn.specs.Spawn.{spawn-represents, spawn-fresh}
 use Rattle.law_in_order.specs.Answered.{nextTask}
-use Rattle.law_in_order.specs.Does.{Does, refuses, waits, chooses, chooses-not}
-use Rattle.law_in_order.specs.Ladder.{for-task, rights-are, rights-same, blocked-same}
+use Rattle.law_in_order.specs.Yields.{Yields, refuses, waits, chooses, chooses-not}
+use Rattle.law_in_order.specs.Refusals.{for-task, rights-are, rights-same, blocked-same}
 
 -- a free record is wanting exactly where 128 tasks are unfinished
 none-idle : (m : List ℕ) (xs : List Item) → Represents m xs → eqb (read m freeTasks) 0 ≡ eqb (spots xs) 128
@@ -43,7 +43,7 @@ module _ (P : List ℕ → List Item → Type 0) (holds-of : (m : List ℕ) (xs 
 
   -- the caller has a spot
   spawns-well : (m : List ℕ) (u : ℕ) (ys zs : List Item) (s : Task) → Represents m (ys ++ spot s ∷ zs)
-      → Does P (ys ++ spot s ∷ zs) (spawn-call (numberOf s) u)
+      → Yields P (ys ++ spot s ∷ zs) (spawn-call (numberOf s) u)
       (pick (not (subset u (rightsIn m (numberOf s)))) (outcome (Refused 6) m)
       (pick (blockedIn m (numberOf s)) (outcome Waits m) (pick (eqb (read m freeTasks) 0) (outcome (Refused 8) m) (spawned m (numberOf s) u))))
       (Answers m u (numberOf s) (ys ++ spot s ∷ zs))
@@ -70,7 +70,7 @@ module _ (P : List ℕ → List Item → Type 0) (holds-of : (m : List ℕ) (xs 
       c : Call
       c = spawn-call (numberOf s) u
 
-  pub spawn-does : (m : List ℕ) (xs : List Item) (t u : ℕ) → Represents m xs → Does P xs (spawn-call t u) (spawnTested m t u) (forTask t xs (Answers m u t xs))
+  pub spawn-does : (m : List ℕ) (xs : List Item) (t u : ℕ) → Represents m xs → Yields P xs (spawn-call t u) (spawnTested m t u) (forTask t xs (Answers m u t xs))
   unfolding spawnTested
   spawn-does m xs t u =
       for-task P holds-of (λ t. spawn-call t u)

@@ -20,8 +20,8 @@ use Rattle.law_links.specs.Waits.{same-hasChild}
 use Rattle.law_invariant.specs.Represents.{Represents}
 use Rattle.law_invariant.specs.At.{mine-spot}
 use Rattle.law_invariant_finish.specs.Sync.{sync-allowed, sync-represents}
-use Rattle.law_in_order.specs.Does.{Does, waits, chooses, never}
-use Rattle.law_in_order.specs.Ladder.{for-task, blocked-same}
+use Rattle.law_in_order.specs.Yields.{Yields, waits, chooses, never}
+use Rattle.law_in_order.specs.Refusals.{for-task, blocked-same}
 
 -- the waits of sync and finish, by the words and by program order
 module _ (m : List ℕ) (ys zs : List Item) (s : Task) (r : Represents m (ys ++ spot s ∷ zs)) where
@@ -46,9 +46,9 @@ module _ (P : List ℕ → List Item → Type 0) (holds-of : (m : List ℕ) (xs 
   pub when-reduced : (c : ℕ → Call) (allowed : ℕ → Bool) (n : ℕ → List ℕ) (m : List ℕ)
       → ((ys zs : List Item) (s : Task) → Represents m (ys ++ spot s ∷ zs) → blocked (numberOf s) (ys ++ spot s ∷ zs) ≡ false
       → hasChild (numberOf s) (ys ++ spot s ∷ zs) ≡ false
-      → (allowed (numberOf s) ≡ true) × Does P (ys ++ spot s ∷ zs) (c (numberOf s)) (outcome (Moved 0) (n (numberOf s))) (Moved 0))
+      → (allowed (numberOf s) ≡ true) × Yields P (ys ++ spot s ∷ zs) (c (numberOf s)) (outcome (Moved 0) (n (numberOf s))) (Moved 0))
       → (xs : List Item) (t : ℕ) → Represents m xs
-      → Does P xs (c t) (whenReduced m t (allowed t) (outcome (Moved 0) (n t))) (forTask t xs (pick (either (blocked t xs) (hasChild t xs)) Waits (Moved 0)))
+      → Yields P xs (c t) (whenReduced m t (allowed t) (outcome (Moved 0) (n t))) (forTask t xs (pick (either (blocked t xs) (hasChild t xs)) Waits (Moved 0)))
   unfolding whenReduced
   when-reduced c allowed n m f =
       for-task P holds-of c
@@ -64,7 +64,7 @@ module _ (P : List ℕ → List Item → Type 0) (holds-of : (m : List ℕ) (xs 
       never P (outcome (Refused 2) m) (not (allowed (numberOf s))) (ap not (g .0)) (g .1)))
 
   pub sync-does : (m : List ℕ) (xs : List Item) (t : ℕ) → Represents m xs
-      → Does P xs (sync-call t) (syncTested m t) (forTask t xs (pick (either (blocked t xs) (hasChild t xs)) Waits (Moved 0)))
+      → Yields P xs (sync-call t) (syncTested m t) (forTask t xs (pick (either (blocked t xs) (hasChild t xs)) Waits (Moved 0)))
   unfolding syncTested answerOf wordsOf noted counted
   sync-does m xs t =
       when-reduced sync-call (λ t. eachQueue (syncs m t)) (synced m) m

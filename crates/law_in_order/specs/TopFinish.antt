@@ -32,7 +32,7 @@ use Rattle.law_invariant.specs.Walks.{top-uses}
 use Rattle.law_invariant_finish.specs.Sync.{all-synced, quiet}
 use Rattle.law_in_order.specs.Chains.{nth-user}
 use Rattle.law_in_order.specs.Alone.{tour-alone}
-use Rattle.law_in_order.specs.Ladder.{rights-same, rights-are}
+use Rattle.law_in_order.specs.Refusals.{rights-same, rights-are}
 use Rattle.law_in_order.specs.Sync.{child-same, after-sync}
 use Rattle.law_in_order.specs.State.{Ended}
 

@@ -21,7 +21,7 @@ use Rattle.spec_rules.specs.Test.{within, inRange, topTest, idleTest, treeTest,
 use Rattle.law_rules_views.specs.Marks.{yes-no}
 use Rattle.spec_view_events.specs.Events.{events}
 use Rattle.spec_view_events.specs.Run.{PLACED, run}
-use Rattle.spec_view_events.specs.Does.{Ready}
+use Rattle.spec_view_events.specs.Sees.{Ready}
 use Rattle.spec_view_events.specs.Walk.{Marks}
 use Rattle.spec_view_events.specs.Parts.{number-at}
 use Rattle.law_view_events.specs.Whole.{coded, marks, views-same}

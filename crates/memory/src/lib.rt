@@ -6,7 +6,7 @@ ghost use lib.ListN.{length, replicate};
 ghost use Rattle.spec_words.specs.Words.{load, store, pick};
 ghost use Rattle.spec_words.specs.Blocks.{storeAll};
 ghost use Prim.Native.Nat.{_<_, _^_};
-ghost use Rattle.spec_layout.specs.Layout.{address, read, write, header, freeSegment, freeTask, segment, task, value};
+ghost use Rattle.spec_layout.specs.Layout.{address, read, write, header, freeSegment, freeTask, segment, task};
 ghost use Rattle.spec_layout.specs.Layout.{lengthWord, numberWord, freeSegments, freeTasks, first, count, next, queueHead, head, tail};
 ghost use Rattle.spec_layout.specs.Layout.{STATUS, RIGHTS, PARENT, OLDER, YOUNGER, YOUNGEST};
 use layout::CHILDREN_HEADS;

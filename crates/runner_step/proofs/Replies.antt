@@ -22,7 +22,7 @@ use Rattle.spec_runner.specs.Answers.{outcome}
 use Rattle.spec_runner.specs.Laws.{core-outcome}
 use Rattle.spec_runner.specs.Step.{Reply, goes, stops, callOf, replyOf, replied, coreOutcome, repliedTo, makes}
 use Rattle.job_effect.specs.Made.{foundWith}
-use Rattle.runner_step.specs.Parts.{called, acted, Does}
+use Rattle.runner_step.specs.Parts.{called, acted, Makes}
 
 -- with a call, or without one
 makes-called : (t : ℕ) (s : Instruction) (c : Option Call) (m r : List ℕ) → repliedTo t s (called c m) m r ≡ makes t s c m r
@@ -55,20 +55,20 @@ module _ (j m n r : List ℕ) (t : ℕ) {s : Instruction} {x : ℕ} (es : s ≡ 
 
   -- THE STEP GOES ON
   module _ {b : StepAnswer} (u : List ℕ) where
-    pub moved : {v : ℕ} → a ≡ Moved v → Does t s (foundWith true v) v r b u → outcome b n u ≡ acted j m r t
+    pub moved : {v : ℕ} → a ≡ Moved v → Makes t s (foundWith true v) v r b u → outcome b n u ≡ acted j m r t
     unfolding replyOf replied foundWith
     moved h d = d .does n ∙ ap (λ (a : Answer). replied t s (replyOf a) n m r) (sym h) ∙ replied-is
 
-    pub nothing : a ≡ Empty → Does t s (foundWith false 0) 0 r b u → outcome b n u ≡ acted j m r t
+    pub nothing : a ≡ Empty → Makes t s (foundWith false 0) 0 r b u → outcome b n u ≡ acted j m r t
     unfolding replyOf replied foundWith
     nothing h d = d .does n ∙ ap (λ (a : Answer). replied t s (replyOf a) n m r) (sym h) ∙ replied-is
 
-    pub something : a ≡ NotEmpty → Does t s (foundWith true 0) 0 r b u → outcome b n u ≡ acted j m r t
+    pub something : a ≡ NotEmpty → Makes t s (foundWith true 0) 0 r b u → outcome b n u ≡ acted j m r t
     unfolding replyOf replied foundWith
     something h d = d .does n ∙ ap (λ (a : Answer). replied t s (replyOf a) n m r) (sym h) ∙ replied-is
 
     -- 7 is no refusal of the step
-    pub popped-none : {k : ℕ} → a ≡ Refused k → k ≡ 7 → Does t s (foundWith false 0) 0 r b u → outcome b n u ≡ acted j m r t
+    pub popped-none : {k : ℕ} → a ≡ Refused k → k ≡ 7 → Makes t s (foundWith false 0) 0 r b u → outcome b n u ≡ acted j m r t
     unfolding replyOf replied foundWith
     popped-none {k} h z d =
         d .does n

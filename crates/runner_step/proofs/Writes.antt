@@ -14,7 +14,7 @@ use Rattle.spec_runner.specs.Step.{runnerAfter, done}
 use Rattle.spec_job.specs.Rows.{returns-at}
 use Rattle.job_effect.specs.declared.Made.{Made}
 use Rattle.job_effect.specs.Made.{coded}
-use Rattle.runner_step.specs.Parts.{wordNumbered, word-numbered, Writes, Does}
+use Rattle.runner_step.specs.Parts.{wordNumbered, word-numbered, Writes, Makes}
 use Rattle.runner_step.proofs.Numbers.{goes-at}
 
 module _ (t : ℕ) (s : Instruction) (c i x : ℕ) (r : List ℕ) {p : ℕ} (ep : p ≡ procedureOf r t) where
@@ -53,7 +53,7 @@ pub does-it : (t : ℕ) (s : Instruction) (f : Option ℕ) (c : ℕ) (r u : List
     → e ≡ coded (effect (operationAt (s .operation)) i x (s .operand) f)
     → Writes t s c (e .next) (e .register) r u
     → a ≡ answerWith (wordNumbered (e .answer)) (e .value) c
-    → Does t s f c r a u
+    → Makes t s f c r a u
 unfolding done coded
 does-it t s f c r u {i} {x} {e} ei ex ee w ea =
     record {

@@ -51,5 +51,5 @@ pub record Writes (t : ℕ) (s : Instruction) (c i x : ℕ) (r u : List ℕ) : T
   pub writes : (e : Effect) → e .next ≡ i → e .register ≡ x → u ≡ runnerAfter (operationAt (s .operation)) t c s e r
 
 -- From the runner's words r instruction s of task t makes u, with answer a, whatever the core's words are.
-pub record Does (t : ℕ) (s : Instruction) (f : Option ℕ) (c : ℕ) (r : List ℕ) (a : StepAnswer) (u : List ℕ) : Type 0 where
+pub record Makes (t : ℕ) (s : Instruction) (f : Option ℕ) (c : ℕ) (r : List ℕ) (a : StepAnswer) (u : List ℕ) : Type 0 where
   pub does : (n : List ℕ) → outcome a n u ≡ done t s f c n r

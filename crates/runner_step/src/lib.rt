@@ -11,7 +11,7 @@ ghost use Rattle.spec_runner.specs.Words.{positionOf};
 ghost use Rattle.spec_runner.specs.Answers.{answerWith, outcome};
 ghost use Rattle.spec_runner.specs.Step.{callOf, stepOutcome};
 ghost use Rattle.job_effect.specs.Made.{foundWith};
-ghost use Rattle.runner_step.specs.Parts.{wordNumbered, called, acted, Writes, Does};
+ghost use Rattle.runner_step.specs.Parts.{wordNumbered, called, acted, Writes, Makes};
 use answer_numbers::EMPTY;
 use answer_numbers::FINISHED;
 use answer_numbers::MOVED;
@@ -65,7 +65,7 @@ fn write(r: &mut [u32], t: u32, s: Instruction, v: u32, i: u32, x: u32)
 // Task t does instruction s, with what was found.
 fn done(r: &mut [u32], t: u32, s: Instruction, found: bool, v: u32) -> StepAnswer
     requires { ⌜ positionOf (now r) t < 2 ^ 31 ⌝ }
-    ensures { λ a. ⌜ Does t s (foundWith found v) v (now (r .entry)) a (now (r .exit)) ⌝ }
+    ensures { λ a. ⌜ Makes t s (foundWith found v) v (now (r .entry)) a (now (r .exit)) ⌝ }
 {
     let i = runner_words::position(r, t);
     let x = runner_words::register(r, t);

@@ -13,7 +13,7 @@ use Rattle.spec_job.specs.declared.Instruction.{Instruction}
 use Rattle.spec_job.specs.Fields.{procedures, count, rights, instructionAt}
 use Rattle.spec_runner.specs.Words.{procedureOf, positionOf, registerOf, put, instructionFor}
 use Rattle.spec_runner.specs.Rules.{taskHolds, zeros, recordHolds}
-use Rattle.walks.proofs.Glue.{both-so}
+use Rattle.walks.proofs.Tour.{both-so}
 
 -- three stores in a row
 pub three : (m m1 m2 m3 : List ℕ) (t x y z : ℕ) → m1 ≡ store m (t * 3) x → m2 ≡ store m1 (t * 3 + 1) y → m3 ≡ store m2 (t * 3 + 2) z → m3 ≡ put m t x y z

@@ -8,7 +8,7 @@ ghost use Rattle.spec_lists.specs.Distinct.{fresh};
 ghost use Rattle.spec_lists.specs.Marks.{marking};
 ghost use Rattle.spec_rules.specs.Contents.{decode};
 ghost use Rattle.spec_rules.specs.Test.{segmentTest};
-ghost use Rattle.spec_view_events.specs.Does.{Ready};
+ghost use Rattle.spec_view_events.specs.Sees.{Ready};
 use layout::COUNT_AT;
 use layout::FIRST_AT;
 use layout::FREE_SEGMENTS_AT;

@@ -23,7 +23,7 @@ use Rattle.spec_serial.specs.declared.End.{End}
 use Rattle.spec_serial.specs.declared.End.the-variants.{Ended, Spent, Refused}
 use Rattle.spec_serial.proofs.End.{the-type}
 use Rattle.job_effect.specs.declared.Made.{Made}
-use Rattle.serial_steps.specs.Steps.{Inner, Does}
+use Rattle.serial_steps.specs.Steps.{Inner, Gives}
 use Rattle.serial_runner.specs.declared.Ran.{Ran}
 use Rattle.serial_runner.specs.Onward.{onward}
 use Rattle.serial_runner.specs.Turns.{task, spent, too-many, inner-turn, return-turn}
@@ -99,7 +99,7 @@ module _ (j : List ℕ) (m p d r n c : ℕ) (qs : List (List ℕ)) (a : List ℕ
           ∙ ap₂ (λ (y : ℕ) (x : List ℕ). onward j (n' - 1) c' ms (state us ts y) x) (one-made n' some n-few) (sym eb))
 
       pub goes-inner : {b' : List ℕ} (e : Made) (vs : List (List ℕ)) → Inner (s .operation) → full s (length (queue us (s .which))) ≡ false
-          → Does (s .operation) (s .which) (s .operand) i r' us e vs → b' ≡ storeAll b ((STEPS - n') * 3) (m ∷ e .answer ∷ e .value ∷ [])
+          → Gives (s .operation) (s .which) (s .operand) i r' us e vs → b' ≡ storeAll b ((STEPS - n') * 3) (m ∷ e .answer ∷ e .value ∷ [])
           → Goes (n' - 1) c' (e .next) (e .register) vs b'
       goes-inner e vs h f does eb =
           record {

@@ -28,7 +28,7 @@ use Rattle.spec_serial.specs.declared.End.{End}
 use Rattle.spec_serial.specs.declared.End.the-variants.{Spent, Refused}
 use Rattle.job_effect.specs.declared.Made.{Made}
 use Rattle.job_effect.specs.Made.{coded}
-use Rattle.serial_steps.specs.Steps.{Inner, Does}
+use Rattle.serial_steps.specs.Steps.{Inner, Gives}
 use Rattle.serial_runner.specs.Onward.{onward, onward-stops, onward-goes}
 
 -- a task of the stack: its name, procedure, instruction, register, and the children that it has made
@@ -153,7 +153,7 @@ module _ (j : List ℕ) (name : Name) (p i r ch : ℕ) (ts : List Task) (k c m :
 
   -- a step that leaves the task on the stack
   pub inner-turn : (n : ℕ) (e : Made) (us : List (List ℕ)) → Inner (s .operation) → full s (length (queue qs (s .which))) ≡ false
-      → Does (s .operation) (s .which) (s .operand) i r qs e us
+      → Gives (s .operation) (s .which) (s .operand) i r qs e us
       → onward j (suc n) c (m ∷ ms) here a ≡ onward j n c (m ∷ ms) (state us (task name p (e .next) (e .register) ch ∷ ts) (k + 1))
       (storeAll a (k * 3) (m ∷ e .answer ∷ e .value ∷ []))
   unfolding coded

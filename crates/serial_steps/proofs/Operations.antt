@@ -21,7 +21,7 @@ use Rattle.serial_queues.specs.declared.Front.{Front}
 use Rattle.serial_queues.specs.declared.Front.the-variants.{Value, Nothing}
 use Rattle.serial_queues.proofs.Front.{the-type}
 use Rattle.serial_queues.specs.Front.{frontOf}
-use Rattle.serial_steps.specs.Steps.{Inner, Does}
+use Rattle.serial_steps.specs.Steps.{Inner, Gives}
 
 module _ (q x i r : ℕ) (qs : List (List ℕ)) (f : Option ℕ) (e : Made) where
   -- operation k gives the same, whatever was found, and leaves the lists us
@@ -29,7 +29,7 @@ module _ (q x i r : ℕ) (qs : List (List ℕ)) (f : Option ℕ) (e : Made) wher
   Blind k us =
       (effect (operationAt k) i r x f ≡ effect (operationAt k) i r x (front (queue qs q))) × (us ≡ queuesAfter (operationAt k) q (e .value) qs)
 
-  blind-does : (k : ℕ) (us : List (List ℕ)) → Blind k us → e ≡ coded (effect (operationAt k) i r x f) → Does k q x i r qs e us
+  blind-does : (k : ℕ) (us : List (List ℕ)) → Blind k us → e ≡ coded (effect (operationAt k) i r x f) → Gives k q x i r qs e us
   blind-does k us b g = record { made = g ∙ ap coded (b .0); lists = b .1 }
 
   -- a push
@@ -41,7 +41,7 @@ module _ (q x i r : ℕ) (qs : List (List ℕ)) (f : Option ℕ) (e : Made) wher
   push-blind = from (λ (k : ℕ). k ≤ 2 → Blind k pushed) 1 (λ l. (refl, refl)) (from (λ (k : ℕ). k ≤ 2 → Blind k pushed) 2 (λ l. (refl, refl))
       (λ k h l. absurd (omega (arith, h, l))))
 
-  pub push-does : (us : List (List ℕ)) {k : ℕ} → 1 ≤ k → k ≤ 2 → e ≡ coded (effect (operationAt k) i r x f) → us ≡ pushed → Does k q x i r qs e us
+  pub push-does : (us : List (List ℕ)) {k : ℕ} → 1 ≤ k → k ≤ 2 → e ≡ coded (effect (operationAt k) i r x f) → us ≡ pushed → Gives k q x i r qs e us
   push-does us {k} a b g h = blind-does k us (push-blind k a b .0, h ∙ push-blind k a b .1) g
 
   -- an operation without a queue
@@ -55,7 +55,7 @@ module _ (q x i r : ℕ) (qs : List (List ℕ)) (f : Option ℕ) (e : Made) wher
       (λ k h. subst (λ (o : Operation). (effect o i r x f ≡ effect o i r x (front (queue qs q))) × (qs ≡ queuesAfter o q (e .value) qs))
       (sym (returns-at k (inr h))) (refl, refl))))))
 
-  pub plain-does : {k : ℕ} → 5 ≤ k → e ≡ coded (effect (operationAt k) i r x f) → Does k q x i r qs e qs
+  pub plain-does : {k : ℕ} → 5 ≤ k → e ≡ coded (effect (operationAt k) i r x f) → Gives k q x i r qs e qs
   plain-does {k} a g = blind-does k qs (plain k a) g
 
 -- what is left of the numbers of such operations once 1 to 4 are told apart
@@ -63,20 +63,20 @@ pub past-four : (k : ℕ) → Inner k → (((Unit {0} × (k ≡ 1 → ⊥)) × (
 past-four k h n = above 4 k (above 3 k (above 2 k (above 1 k (h .some) (n .0 .0 .0 .1)) (n .0 .0 .1)) (n .0 .1)) (n .1)
 
 module _ (q x i r : ℕ) (qs : List (List ℕ)) (e : Made) where
-  pub keyed : (us : List (List ℕ)) {k n : ℕ} → k ≡ n → Does n q x i r qs e us → Does k q x i r qs e us
-  keyed us p d = subst (λ (k : ℕ). Does k q x i r qs e us) (sym p) d
+  pub keyed : (us : List (List ℕ)) {k n : ℕ} → k ≡ n → Gives n q x i r qs e us → Gives k q x i r qs e us
+  keyed us p d = subst (λ (k : ℕ). Gives k q x i r qs e us) (sym p) d
 
   -- a pop
   module _ (us : List (List ℕ)) (f : Front) (ef : frontOf f ≡ front (queue qs q)) (eu : us ≡ set qs q (drop 1 (queue qs q))) where
-    took : (o : Option ℕ) → o ≡ frontOf f → e ≡ coded (effect (operationAt 3) i r x o) → Does 3 q x i r qs e us
+    took : (o : Option ℕ) → o ≡ frontOf f → e ≡ coded (effect (operationAt 3) i r x o) → Gives 3 q x i r qs e us
     unfolding operationAt operationOf rowOf queuesAfter
     took o h g = record { made = g ∙ ap (λ (o : Option ℕ). coded (effect (operationAt 3) i r x o)) (h ∙ ef); lists = eu }
 
-    pub pop-takes : {v : ℕ} → f ≡ Value v → e ≡ coded (effect (operationAt 3) i r x (foundWith true v)) → Does 3 q x i r qs e us
+    pub pop-takes : {v : ℕ} → f ≡ Value v → e ≡ coded (effect (operationAt 3) i r x (foundWith true v)) → Gives 3 q x i r qs e us
     unfolding foundWith frontOf
     pop-takes {v} h g = took (foundWith true v) (ap frontOf (sym h)) g
 
-    pub pop-none : OneOf (1 ∷ []) (tagOf the-type f) → e ≡ coded (effect (operationAt 3) i r x (foundWith false 0)) → Does 3 q x i r qs e us
+    pub pop-none : OneOf (1 ∷ []) (tagOf the-type f) → e ≡ coded (effect (operationAt 3) i r x (foundWith false 0)) → Gives 3 q x i r qs e us
     pop-none h g = took (foundWith false 0) (nothing f h) g
       where
         nothing : (f : Front) → OneOf (1 ∷ []) (tagOf the-type f) → foundWith false 0 ≡ frontOf f
@@ -89,7 +89,7 @@ module _ (q x i r : ℕ) (qs : List (List ℕ)) (e : Made) where
   looks [] = refl
   looks (v ∷ vs) = ap (λ (b : Bool). effect (operationAt 4) i r x (foundWith (not b) 0)) (ne-eqb (length (v ∷ vs)) 0 (λ z. omega (arith, z)))
 
-  pub test-does : {n : ℕ} → n ≡ length (queue qs q) → e ≡ coded (effect (operationAt 4) i r x (foundWith (not (eqb n 0)) 0)) → Does 4 q x i r qs e qs
+  pub test-does : {n : ℕ} → n ≡ length (queue qs q) → e ≡ coded (effect (operationAt 4) i r x (foundWith (not (eqb n 0)) 0)) → Gives 4 q x i r qs e qs
   unfolding operationAt operationOf rowOf queuesAfter
   test-does h g =
       record {

@@ -16,6 +16,6 @@ pub record Inner (k : ℕ) : Type 0 where
 
 -- Operation number k with fields q and x, by a task at instruction i with register r, where the lists were qs, gives e and
 -- the lists us.
-pub record Does (k q x i r : ℕ) (qs : List (List ℕ)) (e : Made) (us : List (List ℕ)) : Type 0 where
+pub record Gives (k q x i r : ℕ) (qs : List (List ℕ)) (e : Made) (us : List (List ℕ)) : Type 0 where
   pub made : e ≡ coded (effect (operationAt k) i r x (front (queue qs q)))
   pub lists : us ≡ queuesAfter (operationAt k) q (e .value) qs

@@ -10,7 +10,7 @@ ghost use Rattle.spec_words.specs.Blocks.{storeAll};
 ghost use Rattle.spec_plain.specs.Machine.{queue};
 ghost use Rattle.spec_serial.specs.Serial.{VALUES, full};
 ghost use Rattle.spec_serial.specs.Working.{WORKING, lists};
-ghost use Rattle.serial_steps.specs.Steps.{Inner, Does};
+ghost use Rattle.serial_steps.specs.Steps.{Inner, Gives};
 use job_effect::Made;
 use serial_queues::Front;
 use serial_queues::VALUES;
@@ -40,7 +40,7 @@ pub fn is_full(w: &[u32], s: Instruction) -> bool
 // Pushes what operation k says to queue q.
 fn push_step(w: &mut [u32], k: u32, q: u32, x: u32, i: u32, r: u32) -> Made
     requires { ⌜ (size (now w) ≡ WORKING) × (length (queue (lists (now w)) q) < VALUES) × (1 ≤ k) × (k ≤ 2) × (i < 2 ^ 31) ⌝ }
-    ensures { λ e. ⌜ Does k q x i r (lists (now (w .entry))) e (lists (now (w .exit))) ⌝ }
+    ensures { λ e. ⌜ Gives k q x i r (lists (now (w .entry))) e (lists (now (w .exit))) ⌝ }
 {
     let e = job_effect::effect(k, x, i, r, false, 0);
     serial_queues::push(w, q, e.value);
@@ -50,7 +50,7 @@ fn push_step(w: &mut [u32], k: u32, q: u32, x: u32, i: u32, r: u32) -> Made
 // Pops from queue q into the register.
 fn pop_step(w: &mut [u32], q: u32, x: u32, i: u32, r: u32) -> Made
     requires { ⌜ (size (now w) ≡ WORKING) × (i < 2 ^ 31) ⌝ }
-    ensures { λ e. ⌜ Does 3 q x i r (lists (now (w .entry))) e (lists (now (w .exit))) ⌝ }
+    ensures { λ e. ⌜ Gives 3 q x i r (lists (now (w .entry))) e (lists (now (w .exit))) ⌝ }
 {
     let f = serial_queues::first(w, q);
     serial_queues::pop(w, q);
@@ -63,7 +63,7 @@ fn pop_step(w: &mut [u32], q: u32, x: u32, i: u32, r: u32) -> Made
 // Goes to instruction x where queue q is empty.
 fn test_step(w: &[u32], q: u32, x: u32, i: u32, r: u32) -> Made
     requires { ⌜ i < 2 ^ 31 ⌝ }
-    ensures { λ e. ⌜ Does 4 q x i r (lists (now (w .entry))) e (lists (now (w .entry))) ⌝ }
+    ensures { λ e. ⌜ Gives 4 q x i r (lists (now (w .entry))) e (lists (now (w .entry))) ⌝ }
 {
     let n = serial_queues::count(w, q);
     job_effect::effect(4, x, i, r, n != 0, 0)
@@ -72,7 +72,7 @@ fn test_step(w: &[u32], q: u32, x: u32, i: u32, r: u32) -> Made
 // A step of a task at instruction i, which is s, with register r.
 pub fn step(w: &mut [u32], s: Instruction, i: u32, r: u32) -> Made
     requires { ⌜ (size (now w) ≡ WORKING) × Inner (s .operation) × (full s (length (queue (lists (now w)) (s .which))) ≡ false) × (i < 2 ^ 31) ⌝ }
-    ensures { λ e. ⌜ Does (s .operation) (s .which) (s .operand) i r (lists (now (w .entry))) e (lists (now (w .exit))) ⌝ }
+    ensures { λ e. ⌜ Gives (s .operation) (s .which) (s .operand) i r (lists (now (w .entry))) e (lists (now (w .exit))) ⌝ }
 {
     let k = s.operation;
     let q = s.which;

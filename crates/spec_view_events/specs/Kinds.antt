@@ -10,7 +10,7 @@ use Rattle.spec_words.specs.Words.{both-on, both-off}
 use Rattle.spec_rules.specs.Contents.{Contents, decode}
 use Rattle.spec_view_events.specs.Events.{Event, viewOf, viewAt, kindAt, viewsFrom}
 use Rattle.spec_view_events.specs.Run.{run}
-use Rattle.spec_view_events.specs.Does.{Does}
+use Rattle.spec_view_events.specs.Sees.{Sees}
 use Rattle.spec_view_events.specs.Groups.{view-at}
 
 -- From the state d₀ f₀ w₀ the views of the queues before q were seen: the test of what is left says what it says of all.
@@ -34,7 +34,7 @@ module _ (m : List ℕ) (t k : ℕ) where
   left-start = record { same = λ es. refl }
 
   module _ (q r : ℕ) {b : Bool} {d₀ f₀ w₀ d f w d1 f1 w1 : List ℕ} (l : q < 4) (rights : r ≡ getD m (1473 + t * 48) 0 / 4 ^ q)
-      (s : Does m (viewOf (not (eqb (r % 4) 0)) q (getD m (1492 + t * 48 + k * 4 + q) 0) (getD m (1492 + t * 48 + k * 4 + q + 12) 0)) b d f w d1 f1 w1)
+      (s : Sees m (viewOf (not (eqb (r % 4) 0)) q (getD m (1492 + t * 48 + k * 4 + q) 0) (getD m (1492 + t * 48 + k * 4 + q + 12) 0)) b d f w d1 f1 w1)
       (h : Left m t k q d₀ f₀ w₀ d f w) where
     whole : (es : List Event) → run c (viewAt c t k q (viewsFrom c t k (4 - (q + 1)) (q + 1) es)) d f w ≡ run c (kindAt c t k es) d₀ f₀ w₀
     unfolding viewsFrom
@@ -51,11 +51,11 @@ module _ (m : List ℕ) (t k : ℕ) where
     pub left-more : b ≡ true → Left m t k (q + 1) d₀ f₀ w₀ d1 f1 w1
     left-more e = record { same = λ es. sym (both-on e) ∙ s .same (viewsFrom c t k (4 - (q + 1)) (q + 1) es) ∙ step es }
 
-    pub left-stop : b ≡ false → Does m (kindAt c t k) false d₀ f₀ w₀ d1 f1 w1
+    pub left-stop : b ≡ false → Sees m (kindAt c t k) false d₀ f₀ w₀ d1 f1 w1
     left-stop e =
         record { same = λ es. both-off _ refl ∙ sym (both-off _ e) ∙ s .same (viewsFrom c t k (4 - (q + 1)) (q + 1) es) ∙ step es }
 
-  pub left-done : (q : ℕ) {d₀ f₀ w₀ d f w : List ℕ} → 4 ≤ q → Left m t k q d₀ f₀ w₀ d f w → Does m (kindAt c t k) true d₀ f₀ w₀ d f w
+  pub left-done : (q : ℕ) {d₀ f₀ w₀ d f w : List ℕ} → 4 ≤ q → Left m t k q d₀ f₀ w₀ d f w → Sees m (kindAt c t k) true d₀ f₀ w₀ d f w
   unfolding viewsFrom
   left-done q {d = d} {f = f} {w = w} l h =
       record {

@@ -2,7 +2,7 @@ pub mod Both
 pub mod Events
 pub mod Run
 pub mod Place
-pub mod Does
+pub mod Sees
 pub mod Parts
 pub mod Placing
 pub mod Steps

@@ -10,7 +10,7 @@ use Rattle.spec_words.specs.Words.{both-on, both-off}
 use Rattle.spec_rules.specs.Contents.{Contents, decode}
 use Rattle.spec_view_events.specs.Events.{eventsAt, events}
 use Rattle.spec_view_events.specs.Run.{whole, run}
-use Rattle.spec_view_events.specs.Does.{Does}
+use Rattle.spec_view_events.specs.Sees.{Sees}
 
 -- all marks are places of the tour
 abbrev pub Marks : List ℕ → Type 0
@@ -27,7 +27,7 @@ module _ (m xs : List ℕ) (i : ℕ) where
       sym (ap (λ (l : List ℕ). run c (events c l) d f w)
       (drop-cons xs i 0 h ∙ ap (λ (j : ℕ). getD xs i 0 ∷ drop j xs) (sym (add-one i))))
 
-  module _ {b : Bool} {d f w d1 f1 w1 : List ℕ} (h : i < length xs) (s : Does m (eventsAt c (getD xs i 0)) b d f w d1 f1 w1) where
+  module _ {b : Bool} {d f w d1 f1 w1 : List ℕ} (h : i < length xs) (s : Sees m (eventsAt c (getD xs i 0)) b d f w d1 f1 w1) where
     pub walk-stop : b ≡ false → false ≡ run c (events c (drop i xs)) d f w
     walk-stop e = sym (both-off _ e) ∙ s .same (events c (drop (i + 1) xs)) ∙ next-mark d f w h
 

@@ -34,6 +34,7 @@ use layout::VALUE_WORDS;
 use layout::YOUNGER;
 use layout::YOUNGEST;
 
+// The number of tasks, to be compared with an index.
 const RECORDS: usize = TASKS as usize;
 
 // "L is 1 to 64, segments 4 to 256, and L times segments is at most 8,192"

@@ -10,7 +10,7 @@ ghost use Rattle.spec_rules.specs.Test.{marked, passed};
 ghost use Rattle.spec_view_events.specs.Events.{queueOf, viewOf};
 ghost use Rattle.spec_view_events.specs.Events.Event.{tail, head};
 ghost use Rattle.spec_view_events.specs.Place.{placing, answered};
-ghost use Rattle.spec_view_events.specs.Does.{Ready, Does, DoesHeads, DoesTails};
+ghost use Rattle.spec_view_events.specs.Sees.{Ready, Sees, SeesHeads, SeesTails};
 use layout::COUNT_AT;
 use layout::NEXT_AT;
 use layout::NL;
@@ -79,7 +79,7 @@ fn place(d: &mut [u8; 256], m: &[u32], h: u32) -> u32
 // The head of a view: where it is local, its chain is placed.
 fn head(d: &mut [u8; 256], w: &mut [u32; 12], m: &[u32], h: u32) -> bool
     requires { ⌜ Ready (now m) ⌝ }
-    ensures { λ r. ⌜ DoesHeads (now (m .entry)) (λ es. head h ∷ es) r
+    ensures { λ r. ⌜ SeesHeads (now (m .entry)) (λ es. head h ∷ es) r
         (now (d .entry)) (now (w .entry)) (now (d .exit)) (now (w .exit)) ⌝ }
 {
     if h >= NL {
@@ -97,7 +97,7 @@ fn head(d: &mut [u8; 256], w: &mut [u32; 12], m: &[u32], h: u32) -> bool
 // The tail of a view: where it is local, it is the end of a chain that no other tail names.
 fn tail(f: &mut [u8; 256], w: &mut [u32; 12], m: &[u32], e: u32) -> bool
     requires { ⌜ Ready (now m) ⌝ }
-    ensures { λ r. ⌜ DoesTails (now (m .entry)) (λ es. tail e ∷ es) r
+    ensures { λ r. ⌜ SeesTails (now (m .entry)) (λ es. tail e ∷ es) r
         (now (f .entry)) (now (w .entry)) (now (f .exit)) (now (w .exit)) ⌝ }
 {
     if e >= NL {
@@ -154,7 +154,7 @@ pub fn view(
     q: usize,
 ) -> bool
     requires { ⌜ Ready (now m) × (a < 16000) × (q < 4) ⌝ }
-    ensures { λ b. ⌜ Does (now (m .entry)) (viewOf (not (eqb (r % 4) 0)) q
+    ensures { λ b. ⌜ Sees (now (m .entry)) (viewOf (not (eqb (r % 4) 0)) q
         (getD (now (m .entry)) a 0) (getD (now (m .entry)) (a + 12) 0)) b
         (now (d .entry)) (now (f .entry)) (now (w .entry)) (now (d .exit)) (now (f .exit)) (now (w .exit)) ⌝ }
 {
@@ -176,7 +176,7 @@ pub fn view(
 // The queue view of queue q whose head stands at address a.
 pub fn queue(d: &mut [u8; 256], w: &mut [u32; 12], m: &[u32], a: usize, r: u32, q: usize) -> bool
     requires { ⌜ Ready (now m) × (a < 16000) × (q < 4) ⌝ }
-    ensures { λ b. ⌜ DoesHeads (now (m .entry)) (queueOf (not (eqb (r % 4) 0)) q (getD (now (m .entry)) a 0)) b
+    ensures { λ b. ⌜ SeesHeads (now (m .entry)) (queueOf (not (eqb (r % 4) 0)) q (getD (now (m .entry)) a 0)) b
         (now (d .entry)) (now (w .entry)) (now (d .exit)) (now (w .exit)) ⌝ }
 {
     let h = m[a];

@@ -10,7 +10,7 @@ ghost use Rattle.spec_view_events.specs.Events.{queuesAt, kindAt, eventsAt, eve
 ghost use Rattle.spec_view_events.specs.Run.{fourOnes, whole, run};
 ghost use Rattle.spec_view_events.specs.Walk.{Marks};
 ghost use Rattle.spec_view_events.specs.Groups.{Blank};
-ghost use Rattle.spec_view_events.specs.Does.{Ready, Does, DoesHeads};
+ghost use Rattle.spec_view_events.specs.Sees.{Ready, Sees, SeesHeads};
 ghost use Rattle.law_view_events.specs.Begun.{Begun};
 use layout::FREE_SEGMENTS_AT;
 use layout::HEADS_AT;
@@ -61,7 +61,7 @@ fn four(
     k: usize,
 ) -> bool
     requires { ⌜ Ready (now m) × (t < 128) × (k < 3) ⌝ }
-    ensures { λ b. ⌜ Does (now (m .entry)) (kindAt (decode (now (m .entry))) t k) b
+    ensures { λ b. ⌜ Sees (now (m .entry)) (kindAt (decode (now (m .entry))) t k) b
         (now (d .entry)) (now (f .entry)) (now (w .entry)) (now (d .exit)) (now (f .exit)) (now (w .exit)) ⌝ }
 {
     let a = HEADS_AT + t * TASK_WORDS + k * 4;
@@ -80,7 +80,7 @@ fn four(
 // The four queue views of task t.
 fn queues(d: &mut [u8; 256], w: &mut [u32; 12], m: &[u32], t: usize) -> bool
     requires { ⌜ Ready (now m) × (t < 128) ⌝ }
-    ensures { λ b. ⌜ DoesHeads (now (m .entry)) (queuesAt (decode (now (m .entry))) t) b
+    ensures { λ b. ⌜ SeesHeads (now (m .entry)) (queuesAt (decode (now (m .entry))) t) b
         (now (d .entry)) (now (w .entry)) (now (d .exit)) (now (w .exit)) ⌝ }
 {
     let r = m[RIGHTS_AT + t * TASK_WORDS];
@@ -100,7 +100,7 @@ fn queues(d: &mut [u8; 256], w: &mut [u32; 12], m: &[u32], t: usize) -> bool
 // The user views of task t.
 fn user(d: &mut [u8; 256], f: &mut [u8; 256], w: &mut [u32; 12], m: &[u32], t: usize) -> bool
     requires { ⌜ Ready (now m) × (t < 128) ⌝ }
-    ensures { λ b. ⌜ Does (now (m .entry)) (kindAt (decode (now (m .entry))) t USER) b
+    ensures { λ b. ⌜ Sees (now (m .entry)) (kindAt (decode (now (m .entry))) t USER) b
         (now (d .entry)) (now (f .entry)) (now (w .entry)) (now (d .exit)) (now (f .exit)) (now (w .exit)) ⌝ }
 {
     if empty(m, t, USER) {
@@ -112,7 +112,7 @@ fn user(d: &mut [u8; 256], f: &mut [u8; 256], w: &mut [u32; 12], m: &[u32], t: u
 // The right views of task t and, in front of them, its user views.
 fn right(d: &mut [u8; 256], f: &mut [u8; 256], w: &mut [u32; 12], m: &[u32], t: usize) -> bool
     requires { ⌜ Ready (now m) × (t < 128) ⌝ }
-    ensures { λ b. ⌜ Does (now (m .entry)) (λ es. kindAt (decode (now (m .entry))) t RIGHT (kindAt (decode (now (m .entry))) t USER es)) b
+    ensures { λ b. ⌜ Sees (now (m .entry)) (λ es. kindAt (decode (now (m .entry))) t RIGHT (kindAt (decode (now (m .entry))) t USER es)) b
         (now (d .entry)) (now (f .entry)) (now (w .entry)) (now (d .exit)) (now (f .exit)) (now (w .exit)) ⌝ }
 {
     if empty(m, t, RIGHT) {
@@ -127,7 +127,7 @@ fn right(d: &mut [u8; 256], f: &mut [u8; 256], w: &mut [u32; 12], m: &[u32], t: 
 // Task t where it is entered.
 fn entered(d: &mut [u8; 256], f: &mut [u8; 256], w: &mut [u32; 12], m: &[u32], t: usize) -> bool
     requires { ⌜ Ready (now m) × (t < 128) ⌝ }
-    ensures { λ b. ⌜ Does (now (m .entry)) (λ es. queuesAt (decode (now (m .entry))) t
+    ensures { λ b. ⌜ Sees (now (m .entry)) (λ es. queuesAt (decode (now (m .entry))) t
         (kindAt (decode (now (m .entry))) t RIGHT (kindAt (decode (now (m .entry))) t USER es))) b
         (now (d .entry)) (now (f .entry)) (now (w .entry)) (now (d .exit)) (now (f .exit)) (now (w .exit)) ⌝ }
 {
@@ -143,7 +143,7 @@ fn entered(d: &mut [u8; 256], f: &mut [u8; 256], w: &mut [u32; 12], m: &[u32], t
 // Task t where it is exited.
 fn exited(d: &mut [u8; 256], f: &mut [u8; 256], w: &mut [u32; 12], m: &[u32], t: usize) -> bool
     requires { ⌜ Ready (now m) × (t < 128) ⌝ }
-    ensures { λ b. ⌜ Does (now (m .entry)) (kindAt (decode (now (m .entry))) t CHILDREN) b
+    ensures { λ b. ⌜ Sees (now (m .entry)) (kindAt (decode (now (m .entry))) t CHILDREN) b
         (now (d .entry)) (now (f .entry)) (now (w .entry)) (now (d .exit)) (now (f .exit)) (now (w .exit)) ⌝ }
 {
     if empty(m, t, CHILDREN) {
@@ -155,7 +155,7 @@ fn exited(d: &mut [u8; 256], f: &mut [u8; 256], w: &mut [u32; 12], m: &[u32], t:
 // A mark of the tour.
 fn mark(d: &mut [u8; 256], f: &mut [u8; 256], w: &mut [u32; 12], m: &[u32], x: u32) -> bool
     requires { ⌜ Ready (now m) × (x < 256) ⌝ }
-    ensures { λ b. ⌜ Does (now (m .entry)) (eventsAt (decode (now (m .entry))) x) b
+    ensures { λ b. ⌜ Sees (now (m .entry)) (eventsAt (decode (now (m .entry))) x) b
         (now (d .entry)) (now (f .entry)) (now (w .entry)) (now (d .exit)) (now (f .exit)) (now (w .exit)) ⌝ }
 {
     if x < TASKS {

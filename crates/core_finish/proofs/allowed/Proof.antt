@@ -1,6 +1,6 @@
 use Rattle.core_finish.specs.Calls.{allowed}
 use Rattle.core_finish.specs.declared.Call.the-variants.{Sync, FinishTop, Finish}
-use Rattle.core_finish.proofs.Ladder.{allowed-same}
+use Rattle.core_finish.proofs.Answers.{allowed-same}
 use borrow.Author.Needs.{needs}
 use Rattle.core_finish.proofs.allowed.Statement.{statement}
 use Rattle.core_finish.proofs.allowed.Tie as tie

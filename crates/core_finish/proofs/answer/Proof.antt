@@ -1,4 +1,4 @@
-use Rattle.core_finish.proofs.Ladder.{not-unfinished, waiting, left-out, moved, below}
+use Rattle.core_finish.proofs.Answers.{not-unfinished, waiting, left-out, moved, below}
 use mathlib.Core.Path.{ap}
 use Rattle.spec_answers.specs.Answers.{outcome}
 use Rattle.spec_answers.specs.declared.Answer.the-variants.{Moved}

@@ -1,6 +1,6 @@
 use Rattle.core_finish.specs.Calls.{changed}
 use Rattle.core_finish.specs.declared.Call.the-variants.{Sync, FinishTop, Finish}
-use Rattle.core_finish.proofs.Ladder.{changed-same}
+use Rattle.core_finish.proofs.Answers.{changed-same}
 use borrow.Author.Needs.{needs}
 use Rattle.core_finish.proofs.change.Statement.{statement}
 use Rattle.core_finish.proofs.change.Tie as tie

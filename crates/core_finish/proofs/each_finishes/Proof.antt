@@ -1,4 +1,4 @@
-use Rattle.core_finish.proofs.Ladder.{not-first, not-second, not-third, last-decides}
+use Rattle.core_finish.proofs.Answers.{not-first, not-second, not-third, last-decides}
 use borrow.Author.Needs.{needs}
 use Rattle.core_finish.proofs.each_finishes.Statement.{statement}
 use Rattle.core_finish.proofs.each_finishes.Tie as tie

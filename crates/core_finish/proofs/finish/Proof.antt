@@ -1,5 +1,6 @@
+-- The top and the other tasks go through one list of tests with different reductions.
 use Rattle.core_finish.specs.Calls.{allowed, changed}
-use Rattle.core_finish.proofs.Ladder.{top-other, top-finishes, task-finishes}
+use Rattle.core_finish.proofs.Answers.{top-other, top-finishes, task-finishes}
 use borrow.Author.Needs.{needs}
 use Rattle.core_finish.proofs.finish.Statement.{statement}
 use Rattle.core_finish.proofs.finish.Tie as tie

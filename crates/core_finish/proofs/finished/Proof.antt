@@ -1,4 +1,4 @@
-use Rattle.core_finish.proofs.Ladder.{all-finished}
+use Rattle.core_finish.proofs.Answers.{all-finished}
 use borrow.Author.Needs.{needs}
 use Rattle.core_finish.proofs.finished.Statement.{statement}
 use Rattle.core_finish.proofs.finished.Tie as tie

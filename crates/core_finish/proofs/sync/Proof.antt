@@ -1,6 +1,6 @@
 use Rattle.spec_outcomes.specs.Sync.{syncTested}
 use Rattle.core_finish.specs.Calls.{allowed, changed}
-use Rattle.core_finish.proofs.Ladder.{sync-other}
+use Rattle.core_finish.proofs.Answers.{sync-other}
 use borrow.Author.Needs.{needs}
 use Rattle.core_finish.proofs.sync.Statement.{statement}
 use Rattle.core_finish.proofs.sync.Tie as tie

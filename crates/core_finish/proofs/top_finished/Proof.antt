@@ -1,4 +1,4 @@
-use Rattle.core_finish.proofs.Ladder.{top-done}
+use Rattle.core_finish.proofs.Answers.{top-done}
 use borrow.Author.Needs.{needs}
 use Rattle.core_finish.proofs.top_finished.Statement.{statement}
 use Rattle.core_finish.proofs.top_finished.Tie as tie

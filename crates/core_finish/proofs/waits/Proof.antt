@@ -1,4 +1,4 @@
-use Rattle.core_finish.proofs.Ladder.{child-waits, sibling-waits}
+use Rattle.core_finish.proofs.Answers.{child-waits, sibling-waits}
 use borrow.Author.Needs.{needs}
 use Rattle.core_finish.proofs.waits.Statement.{statement}
 use Rattle.core_finish.proofs.waits.Tie as tie

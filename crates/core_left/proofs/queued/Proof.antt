@@ -1,9 +1,10 @@
+-- What the chain gives from segment s with index i is what it gives from the first: each segment passed takes its values off the index.
 use mathlib.Core.Path.{_≡_, refl, _∙_}
 use Prim.Native.Nat.{_≤_, _<_, _^_}
 use native.Mathlib.Omega.{arith}
 use borrow.Author.Needs.{needs}
 use Rattle.spec_outcomes.specs.Left.{queued}
-use Rattle.core_left.proofs.Glue.{chain-end, chain-here, chain-on, chain-none}
+use Rattle.core_left.proofs.Queued.{chain-end, chain-here, chain-on, chain-none}
 use Rattle.core_left.proofs.queued.Statement.{statement}
 use Rattle.core_left.proofs.queued.Tie as tie
 

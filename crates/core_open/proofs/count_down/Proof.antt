@@ -1,3 +1,4 @@
+-- The places before i have their numbers; the rest of the stack is still to be written.
 use mathlib.Core.Path.{_≡_, refl, sym, _∙_}
 use Prim.Native.Nat.{_≤_, _-_, _+_}
 use lib.ListN.{length}

@@ -1,4 +1,4 @@
-use Rattle.core_open.proofs.Glue.{other-length, out-of-range, opens, number-fits}
+use Rattle.core_open.proofs.Answers.{other-length, out-of-range, opens, number-fits}
 use Rattle.spec_words.specs.Words.{size}
 use borrow.Author.Needs.{needs}
 use Rattle.core_open.proofs.open.Statement.{statement}

@@ -1,4 +1,4 @@
-use Rattle.core_pop.proofs.Glue.{sibling-waits, child-waits, value-found, pusher-waits, found-empty}
+use Rattle.core_pop.proofs.Findings.{sibling-waits, child-waits, value-found, pusher-waits, found-empty}
 use borrow.Author.Needs.{needs}
 use Rattle.core_pop.proofs.find.Statement.{statement}
 use Rattle.core_pop.proofs.find.Tie as tie

@@ -1,4 +1,4 @@
-use Rattle.core_pop.proofs.Glue.{no-head, by-count}
+use Rattle.core_pop.proofs.Findings.{no-head, by-count}
 use borrow.Author.Needs.{needs}
 use Rattle.core_pop.proofs.has_value.Statement.{statement}
 use Rattle.core_pop.proofs.has_value.Tie as tie

@@ -1,6 +1,7 @@
+-- The finding is taken apart: a value is dropped from the first segment, which the rules promise to hold it; else nothing is written.
 use Rattle.spec_answers.specs.declared.Answer.the-variants.{Waits}
 use Rattle.spec_answers.specs.Answers.{outcome}
-use Rattle.core_pop.proofs.Glue.{pop-refused, pop-given, none-popped, value-popped, value-there, may-pop}
+use Rattle.core_pop.proofs.Findings.{pop-refused, pop-given, none-popped, value-popped, value-there, may-pop}
 use mathlib.Core.Path.{_∙_}
 use mathlib.Core.List.{[]}
 use borrow.Author.Needs.{needs}

@@ -1,4 +1,4 @@
-use Rattle.core_pop.proofs.Glue.{refusal-4, refusal-5, refusal-6, refusal-0}
+use Rattle.core_pop.proofs.Findings.{refusal-4, refusal-5, refusal-6, refusal-0}
 use borrow.Author.Needs.{needs}
 use Rattle.core_pop.proofs.refusal.Statement.{statement}
 use Rattle.core_pop.proofs.refusal.Tie as tie

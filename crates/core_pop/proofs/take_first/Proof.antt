@@ -1,4 +1,4 @@
-use Rattle.core_pop.proofs.Glue.{last-segment, some-left, segment-freed, head-count}
+use Rattle.core_pop.proofs.Findings.{last-segment, some-left, segment-freed, head-count}
 use borrow.Author.Needs.{needs}
 use Rattle.core_pop.proofs.take_first.Statement.{statement}
 use Rattle.core_pop.proofs.take_first.Tie as tie

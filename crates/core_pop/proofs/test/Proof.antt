@@ -1,6 +1,6 @@
 use Rattle.spec_answers.specs.declared.Answer.the-variants.{Waits}
 use Rattle.spec_answers.specs.Answers.{outcome}
-use Rattle.core_pop.proofs.Glue.{test-refused, test-given, none-tested, some-tested, may-pop}
+use Rattle.core_pop.proofs.Findings.{test-refused, test-given, none-tested, some-tested, may-pop}
 use mathlib.Core.Path.{_∙_}
 use mathlib.Core.List.{[]}
 use borrow.Author.Needs.{needs}

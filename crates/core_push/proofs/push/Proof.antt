@@ -1,4 +1,5 @@
-use Rattle.core_push.proofs.Glue.{refused-4, refused-5, refused-6, waits, goes-on}
+-- The tests are those of the definition, in its order; past them the rules promise what a store needs.
+use Rattle.core_push.proofs.Ways.{refused-4, refused-5, refused-6, waits, goes-on}
 use borrow.Author.Tests.{not-false}
 use mathlib.Core.Path.{sym, _∙_}
 use borrow.Author.Needs.{needs}

@@ -1,4 +1,5 @@
-use Rattle.core_push.proofs.Glue.{left-out, apart}
+-- The reduction is decided on the words as found, then the segment is taken and its head reduced into the view just before.
+use Rattle.core_push.proofs.Ways.{left-out, apart}
 use borrow.Author.Needs.{needs}
 use Rattle.core_push.proofs.push_apart.Statement.{statement}
 use Rattle.core_push.proofs.push_apart.Tie as tie

@@ -1,4 +1,4 @@
-use Rattle.core_push.proofs.Glue.{behind}
+use Rattle.core_push.proofs.Ways.{behind}
 use borrow.Author.Needs.{needs}
 use Rattle.core_push.proofs.push_behind.Statement.{statement}
 use Rattle.core_push.proofs.push_behind.Tie as tie

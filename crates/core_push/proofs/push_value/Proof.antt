@@ -1,4 +1,5 @@
-use Rattle.core_push.proofs.Glue.{can-take, can-store, none-apart, goes-apart, ends-away, is-stored, none-behind, goes-behind}
+-- The four branches of the definition, chosen by the same tests: apart, a non-local tail, room, behind a full tail.
+use Rattle.core_push.proofs.Ways.{can-take, can-store, none-apart, goes-apart, ends-away, is-stored, none-behind, goes-behind}
 use Rattle.spec_words.specs.Words.{size}
 use borrow.Author.Needs.{needs}
 use Rattle.core_push.proofs.push_value.Statement.{statement}

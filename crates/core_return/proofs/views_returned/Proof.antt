@@ -1,3 +1,4 @@
+-- Both marks are sought before a word changes; the head that the reductions give chooses between them.
 use Rattle.core_return.proofs.Views.{nothing-returned, views-go}
 use borrow.Author.Needs.{needs}
 use Rattle.core_return.proofs.views_returned.Statement.{statement}

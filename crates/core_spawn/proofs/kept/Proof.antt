@@ -1,4 +1,4 @@
-use Rattle.core_spawn.proofs.Glue.{chosen-not}
+use Rattle.core_spawn.proofs.Queues.{chosen-not}
 use Rattle.spec_outcomes.specs.Spawn.{keptUser}
 use borrow.Author.Needs.{needs}
 use Rattle.core_spawn.proofs.kept.Statement.{statement}

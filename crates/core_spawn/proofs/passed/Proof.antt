@@ -1,4 +1,4 @@
-use Rattle.core_spawn.proofs.Glue.{chosen}
+use Rattle.core_spawn.proofs.Queues.{chosen}
 use Rattle.spec_outcomes.specs.Spawn.{passedUser}
 use borrow.Author.Needs.{needs}
 use Rattle.core_spawn.proofs.passed.Statement.{statement}

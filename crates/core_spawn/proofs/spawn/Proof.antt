@@ -1,4 +1,5 @@
-use Rattle.core_spawn.proofs.Ladder.{not-unfinished, more-rights, waits, no-record, moved}
+-- The tests are those of the definition, in its order; the rules promise that caller and child are task numbers.
+use Rattle.core_spawn.proofs.Answers.{not-unfinished, more-rights, waits, no-record, moved}
 use borrow.Author.Needs.{needs}
 use Rattle.core_spawn.proofs.spawn.Statement.{statement}
 use Rattle.core_spawn.proofs.spawn.Tie as tie

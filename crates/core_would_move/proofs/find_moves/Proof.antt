@@ -1,7 +1,7 @@
 use mathlib.Core.Path.{_∙_, ap}
 use Rattle.spec_runner.specs.Moves.{decided, findMoves}
 use Rattle.spec_tree.specs.Rights.{pops}
-use Rattle.core_would_move.proofs.Glue.{no-queue, not-held, is-held}
+use Rattle.core_would_move.proofs.Moves.{no-queue, not-held, is-held}
 use borrow.Author.Needs.{needs}
 use Rattle.core_would_move.proofs.find_moves.Statement.{statement}
 use Rattle.core_would_move.proofs.find_moves.Tie as tie

@@ -1,4 +1,4 @@
-use Rattle.core_would_move.proofs.Glue.{finish-waits, top-reduces, task-reduces}
+use Rattle.core_would_move.proofs.Moves.{finish-waits, top-reduces, task-reduces}
 use borrow.Author.Needs.{needs}
 use Rattle.core_would_move.proofs.finish_moves.Statement.{statement}
 use Rattle.core_would_move.proofs.finish_moves.Tie as tie

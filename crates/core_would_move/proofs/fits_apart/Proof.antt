@@ -1,4 +1,4 @@
-use Rattle.core_would_move.proofs.Glue.{apart-fits}
+use Rattle.core_would_move.proofs.Moves.{apart-fits}
 use borrow.Author.Needs.{needs}
 use Rattle.core_would_move.proofs.fits_apart.Statement.{statement}
 use Rattle.core_would_move.proofs.fits_apart.Tie as tie

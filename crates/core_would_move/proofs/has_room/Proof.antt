@@ -1,4 +1,4 @@
-use Rattle.core_would_move.proofs.Glue.{tail-room, free-room}
+use Rattle.core_would_move.proofs.Moves.{tail-room, free-room}
 use borrow.Author.Needs.{needs}
 use Rattle.core_would_move.proofs.has_room.Statement.{statement}
 use Rattle.core_would_move.proofs.has_room.Tie as tie

@@ -1,6 +1,6 @@
 use Rattle.spec_runner.specs.Moves.{pushMoves}
 use Rattle.spec_tree.specs.Rights.{pushes}
-use Rattle.core_would_move.proofs.Glue.{no-queue, not-held, is-held}
+use Rattle.core_would_move.proofs.Moves.{no-queue, not-held, is-held}
 use borrow.Author.Needs.{needs}
 use Rattle.core_would_move.proofs.push_moves.Statement.{statement}
 use Rattle.core_would_move.proofs.push_moves.Tie as tie

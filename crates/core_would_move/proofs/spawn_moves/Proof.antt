@@ -1,4 +1,4 @@
-use Rattle.core_would_move.proofs.Glue.{given-more, record-free}
+use Rattle.core_would_move.proofs.Moves.{given-more, record-free}
 use borrow.Author.Needs.{needs}
 use Rattle.core_would_move.proofs.spawn_moves.Statement.{statement}
 use Rattle.core_would_move.proofs.spawn_moves.Tie as tie

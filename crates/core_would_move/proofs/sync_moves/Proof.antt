@@ -1,4 +1,4 @@
-use Rattle.core_would_move.proofs.Glue.{sync-waits, sync-reduces}
+use Rattle.core_would_move.proofs.Moves.{sync-waits, sync-reduces}
 use borrow.Author.Needs.{needs}
 use Rattle.core_would_move.proofs.sync_moves.Statement.{statement}
 use Rattle.core_would_move.proofs.sync_moves.Tie as tie

@@ -1,4 +1,4 @@
-use Rattle.core_would_move.proofs.Glue.{some-free, none-left, goes-apart, ends-away, goes-behind}
+use Rattle.core_would_move.proofs.Moves.{some-free, none-left, goes-apart, ends-away, goes-behind}
 use borrow.Author.Needs.{needs}
 use Rattle.core_would_move.proofs.value_fits.Statement.{statement}
 use Rattle.core_would_move.proofs.value_fits.Tie as tie

@@ -1,3 +1,4 @@
+-- The words before i are 0, the others as found.
 use lib.ListN.{length-set}
 use mathlib.Core.Path.{_≡_, refl, _∙_}
 use Prim.Native.Nat.{_≤_, _-_}
@@ -5,7 +6,7 @@ use mathlib.Core.List.{_++_}
 use lib.ListN.{length, drop, replicate}
 use native.Mathlib.Omega.{arith}
 use borrow.Author.Needs.{needs}
-use Rattle.memory.proofs.Glue.{clear-more, clear-done}
+use Rattle.memory.proofs.Clearing.{clear-more, clear-done}
 use Rattle.memory.proofs.clear.Statement.{statement}
 use Rattle.memory.proofs.clear.Tie as tie
 

@@ -1,3 +1,4 @@
+-- The stages are the tests of the definition in another order; `Stages` says that the order does not matter.
 use Prim.Native.Nat.{_-_, _*_}
 use Rattle.memory_test.specs.Stages.{in-range-at, from-zero, out-of-range, number-small, too-many, top-wrong, idle-wrong, tree-wrong, begun, passed}
 use Rattle.memory_test.specs.Stages.{marks-number}

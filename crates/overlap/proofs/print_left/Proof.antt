@@ -1,3 +1,4 @@
+-- Nothing is promised of what is printed; each queue number is below 4.
 use borrow.Author.Needs.{needs}
 use native.Mathlib.Omega.{arith}
 use Prim.Native.Nat.{_-_, _≤_}

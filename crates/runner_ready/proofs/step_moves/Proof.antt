@@ -1,4 +1,4 @@
-use Rattle.core_finish.proofs.Ladder.{below}
+use Rattle.core_finish.proofs.Answers.{below}
 use Rattle.runner_ready.proofs.Steps.{not-unfinished, is-blocked, goes-by}
 use borrow.Author.Needs.{needs}
 use Rattle.runner_ready.proofs.step_moves.Statement.{statement}

@@ -1,3 +1,4 @@
+-- Marking from place i on gives the marks, and the verdict, that marking the whole stack gives.
 use Rattle.segment_test.specs.Stack.{rest-all, free-far, free-again, free-more, marking-more, free-done, marking-done}
 use Rattle.spec_rules.specs.Contents.{decode}
 use Rattle.spec_lists.specs.Distinct.{fresh}

@@ -1,3 +1,4 @@
+-- Testing from segment s on says what testing all says.
 use Rattle.segment_test.specs.Records.{upto-more, upto-done, upto-start}
 use Rattle.spec_rules.specs.Test.{segmentTest}
 use Rattle.spec_rules.specs.Contents.{decode}

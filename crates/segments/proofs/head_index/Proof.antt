@@ -1,3 +1,4 @@
+-- None of the heads before i is s, so seeking from i gives what seeking all gives.
 use mathlib.Core.Path.{_≡_, _∙_}
 use Prim.Native.Nat.{_≤_, _-_}
 use native.Mathlib.Omega.{arith}

@@ -1,3 +1,4 @@
+-- No mark before x has s as a head, so seeking from x gives what seeking from the start gives.
 use mathlib.Core.Path.{_≡_, refl, sym, _∙_}
 use Prim.Native.Nat.{_<_, _^_}
 use native.Mathlib.Omega.{arith}

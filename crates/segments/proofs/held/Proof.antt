@@ -1,3 +1,4 @@
+-- y is none of the entries before i; past the end of the words there are no more.
 use mathlib.Core.Path.{_≡_, _∙_}
 use Prim.Native.Nat.{_≤_, _<_, _-_, _^_}
 use native.Mathlib.Omega.{arith}

@@ -1,3 +1,4 @@
+-- No segment before y is held with s as its next, so seeking from y gives what seeking all gives.
 use mathlib.Core.Path.{_≡_, refl, sym, _∙_}
 use Prim.Native.Nat.{_≤_, _<_, _-_, _^_}
 use native.Mathlib.Omega.{arith}

@@ -1,3 +1,4 @@
+-- The entries before i are marked; marking the rest gives the marks of all.
 use mathlib.Core.Path.{_≡_, refl, _∙_}
 use Prim.Native.Nat.{_≤_, _<_, _-_, _^_}
 use native.Mathlib.Omega.{arith}

@@ -1,3 +1,4 @@
+-- The lines of the steps before i stand at the start; each has at most 52 bytes, so the block has room.
 use Rattle.serial_text.specs.Written.{step-rows}
 use borrow.Author.Needs.{needs}
 use Rattle.serial_text.proofs.step_lines.Statement.{statement}

@@ -1,3 +1,4 @@
+-- Every mark written is the next of the tour; it goes up while there is no older sibling, and ends at one or at the top.
 use Rattle.tree_test.specs.Led.{Same, same-here, same-on, same-step, led-here, led-wrong, walk-none, walk-wrong}
 use Rattle.tree_test.specs.Walk.{next-up}
 use Rattle.spec_rules.specs.Contents.{decode}

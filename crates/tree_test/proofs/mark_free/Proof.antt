@@ -1,3 +1,4 @@
+-- The faults and marks from entry i on, with those so far, are those of the whole stack.
 use Rattle.tree_test.proofs.Turns.{faults-more, near-more, faults-done, near-done, faults-first}
 use Rattle.tree_test.specs.Counted.{faultsFrom, nearFrom}
 use Rattle.spec_words.specs.Words.{load, store}

@@ -1,3 +1,4 @@
+-- n is the sum of the marks before i.
 use Rattle.tree_test.proofs.Turns.{sum-more}
 use Rattle.spec_lists.specs.Counting.{total}
 use Rattle.tree_test.specs.Counted.{marks}

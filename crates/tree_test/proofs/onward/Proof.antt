@@ -1,3 +1,4 @@
+-- From an entered task the tour goes down to its youngest child, or exits it and climbs: in both ways the next marks of the tour are written.
 use Rattle.tree_test.specs.Led.{same-step, led-on, led-here, led-wrong, walk-wrong}
 use Rattle.tree_test.specs.Walk.{next-entered}
 use Rattle.spec_rules.specs.Contents.{decode}

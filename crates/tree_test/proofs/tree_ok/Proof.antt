@@ -1,3 +1,4 @@
+-- The marks written so far are the tour's, and the links followed are right; what is left of the test is the test from x on.
 use Rattle.tree_test.specs.Led.{Same, same-here, same-on, walk-none, walk-fails, walk-ends}
 use Rattle.spec_rules.specs.Contents.{decode}
 use lib.ListN.{length, length-set}

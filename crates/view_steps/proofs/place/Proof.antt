@@ -1,3 +1,4 @@
+-- Placing the chain from s with k segments done gives what placing it from its head gives.
 use Rattle.spec_view_events.specs.Placing.{place-start}
 use Rattle.spec_view_events.specs.Placing.{place-far, place-again, place-last, place-empty, place-more, place-out}
 use Rattle.spec_view_events.specs.Place.{placing}

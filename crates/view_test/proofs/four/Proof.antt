@@ -1,3 +1,4 @@
+-- The views of the queues before q are seen; r is the rights shifted by q queues.
 use Rattle.spec_view_events.specs.Kinds.{Left, next-rights, left-start, left-more, left-stop, left-done}
 use lib.ListN.{getD}
 use Prim.Native.Nat.{_+_, _-_, _*_, _/_, _^_, _<_, _≤_}

@@ -1,3 +1,4 @@
+-- Running the events of the marks from i on, from the state so far, says what running all from the start says.
 use Rattle.spec_view_events.specs.Walk.{walk-stop, walk-more, walk-done}
 use Rattle.spec_view_events.specs.Run.{run}
 use Rattle.spec_view_events.specs.Events.{events}

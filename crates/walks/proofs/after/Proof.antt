@@ -1,4 +1,4 @@
-use Rattle.walks.proofs.Glue.{after-entered, after-exited}
+use Rattle.walks.proofs.Tour.{after-entered, after-exited}
 use Rattle.walks.proofs.after.Statement.{statement}
 use Rattle.walks.proofs.after.Tie as tie
 

@@ -1,4 +1,4 @@
-use Rattle.walks.proofs.Glue.{blocked-by}
+use Rattle.walks.proofs.Waits.{blocked-by}
 use Rattle.walks.proofs.blocked.Statement.{statement}
 use Rattle.walks.proofs.blocked.Tie as tie
 

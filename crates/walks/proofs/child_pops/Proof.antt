@@ -1,4 +1,4 @@
-use Rattle.walks.proofs.Glue.{child-pops}
+use Rattle.walks.proofs.Waits.{child-pops}
 use Rattle.walks.proofs.child_pops.Statement.{statement}
 use Rattle.walks.proofs.child_pops.Tie as tie
 

@@ -1,4 +1,4 @@
-use Rattle.walks.proofs.Glue.{entered-counts, head-counts, tail-counts}
+use Rattle.walks.proofs.Tour.{entered-counts, head-counts, tail-counts}
 use borrow.Author.Needs.{needs}
 use Rattle.walks.proofs.counts.Statement.{statement}
 use Rattle.walks.proofs.counts.Tie as tie

@@ -1,4 +1,4 @@
-use Rattle.walks.proofs.Glue.{heir-from}
+use Rattle.walks.proofs.Heirs.{heir-from}
 use Rattle.walks.proofs.heir.Statement.{statement}
 use Rattle.walks.proofs.heir.Tie as tie
 

@@ -1,4 +1,4 @@
-use Rattle.walks.proofs.Glue.{heir-self, heir-pops, heir-not}
+use Rattle.walks.proofs.Heirs.{heir-self, heir-pops, heir-not}
 use Rattle.walks.proofs.heir_or.Statement.{statement}
 use Rattle.walks.proofs.heir_or.Tie as tie
 

@@ -1,6 +1,6 @@
 use Rattle.walks.specs.Asked.{asked}
 use Rattle.walks.specs.declared.Asks.the-variants.{Pushes, TakesPart, Stands}
-use Rattle.walks.proofs.Glue.{asks-same}
+use Rattle.walks.proofs.Tour.{asks-same}
 use borrow.Author.Needs.{needs}
 use Rattle.walks.proofs.holds.Statement.{statement}
 use Rattle.walks.proofs.holds.Tie as tie

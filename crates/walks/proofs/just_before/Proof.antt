@@ -1,4 +1,4 @@
-use Rattle.walks.proofs.Glue.{just-before}
+use Rattle.walks.proofs.Tour.{just-before}
 use Rattle.walks.proofs.just_before.Statement.{statement}
 use Rattle.walks.proofs.just_before.Tie as tie
 

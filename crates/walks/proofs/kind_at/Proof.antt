@@ -1,4 +1,4 @@
-use Rattle.walks.proofs.Glue.{at-entered, at-exited}
+use Rattle.walks.proofs.Tour.{at-entered, at-exited}
 use Rattle.walks.proofs.kind_at.Statement.{statement}
 use Rattle.walks.proofs.kind_at.Tie as tie
 

@@ -3,7 +3,7 @@ use mathlib.Core.Path.{ap, _∙_, sym}
 use borrow.Author.Tests.{lt-ltb, le-ltb}
 use Rattle.spec_words.specs.Words.{both-off}
 use Rattle.spec_tree.specs.Rights.{pushes}
-use Rattle.walks.proofs.Glue.{both-so}
+use Rattle.walks.proofs.Tour.{both-so}
 use Rattle.walks.proofs.meets_pusher.Statement.{statement}
 use Rattle.walks.proofs.meets_pusher.Tie as tie
 

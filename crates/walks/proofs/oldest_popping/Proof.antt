@@ -1,3 +1,4 @@
+-- d is the oldest so far; going on from c gives what going through all siblings gives.
 use mathlib.Core.Path.{_≡_, refl, _∙_}
 use mathlib.Core.Bool.{not}
 use lib.Dec.{eqb}

@@ -1,4 +1,4 @@
-use Rattle.walks.proofs.Glue.{pusher-before}
+use Rattle.walks.proofs.Waits.{pusher-before}
 use Rattle.walks.proofs.pusher_before.Statement.{statement}
 use Rattle.walks.proofs.pusher_before.Tie as tie
 

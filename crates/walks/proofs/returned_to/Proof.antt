@@ -1,4 +1,4 @@
-use Rattle.walks.proofs.Glue.{returned-part, returned-stands}
+use Rattle.walks.proofs.Tour.{returned-part, returned-stands}
 use borrow.Author.Needs.{needs}
 use Rattle.walks.proofs.returned_to.Statement.{statement}
 use Rattle.walks.proofs.returned_to.Tie as tie

@@ -1,3 +1,4 @@
+-- No mark before x answers the question, so seeking from x gives what seeking from the start gives.
 use mathlib.Core.Path.{_≡_, refl, sym, _∙_}
 use native.Mathlib.Omega.{arith}
 use Rattle.spec_layout.specs.Layout.{rightsOf, recordOf}

@@ -1,3 +1,4 @@
+-- No sibling before c shares a right, so seeking from c gives what seeking from the first gives.
 use Prim.Native.Nat.{ℕ}
 use mathlib.Core.Path.{_≡_, refl, sym, _∙_, ap}
 use native.Mathlib.Omega.{arith}

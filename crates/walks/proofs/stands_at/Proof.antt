@@ -1,4 +1,4 @@
-use Rattle.walks.proofs.Glue.{stands-not, stands-so}
+use Rattle.walks.proofs.Tour.{stands-not, stands-so}
 use Rattle.walks.proofs.stands_at.Statement.{statement}
 use Rattle.walks.proofs.stands_at.Tie as tie
 

@@ -1,4 +1,4 @@
-use Rattle.walks.proofs.Glue.{takes-part}
+use Rattle.walks.proofs.Tour.{takes-part}
 use Rattle.walks.proofs.takes_part.Statement.{statement}
 use Rattle.walks.proofs.takes_part.Tie as tie
 

@@ -4,7 +4,7 @@ use mathlib.Core.Path.{ap, sym}
 use borrow.Author.Tests.{lt-ltb, le-ltb}
 use Rattle.spec_words.specs.Words.{both-off}
 use Rattle.spec_outcomes.specs.Waits.{unfinished}
-use Rattle.walks.proofs.Glue.{both-so}
+use Rattle.walks.proofs.Tour.{both-so}
 use Rattle.walks.proofs.unfinished.Statement.{statement}
 use Rattle.walks.proofs.unfinished.Tie as tie
 

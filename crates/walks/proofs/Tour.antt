@@ -1,22 +1,20 @@
--- What the pieces of a function come to, over plain variables.
-use mathlib.Core.Path.{_≡_, refl, ap, ap₂, sym, _∙_, fun-ext}
+-- The marks of the tour, and the views that stand at them.
+use mathlib.Core.Path.{_≡_, refl, ap, ap₂, sym, _∙_}
 use mathlib.Core.Bool.{Bool, true, false, not}
 use mathlib.Core.List.{List}
 use Prim.Native.Nat.{ℕ, _+_, _-_, _<_, _≤_}
 use native.Mathlib.Omega.{arith}
-use lib.Dec.{ltb, eqb}
+use lib.Dec.{eqb}
 use borrow.Author.Tests.{lt-ltb, le-ltb, eq-eqb, ne-eqb, not-true, not-false}
-use Rattle.spec_words.specs.Words.{pick, both, either, pass, halt, true-left, true-right, both-on, both-off, both-right-on, both-right-off}
+use Rattle.spec_words.specs.Words.{both, either, pass, halt, true-left, true-right, both-on, both-off, both-right-on, both-right-off}
 use Rattle.spec_layout.specs.Layout.{NONE, NL, CHILDREN, RIGHT, PARENT, OLDER, YOUNGEST, task, rightsOf, head, tail, read, recordOf}
 use Rattle.spec_layout.specs.Frame.{record-word}
-use Rattle.spec_tree.specs.Rights.{pushes, pops, uses, sharesPop}
-use Rattle.spec_tree.specs.Tour.{END, MARKS, entering, after, seek, sibling, oldest}
+use Rattle.spec_tree.specs.Rights.{uses}
+use Rattle.spec_tree.specs.Tour.{MARKS, entering, after, seek}
 use Rattle.spec_rules.specs.Views.{view}
-use Rattle.spec_outcomes.specs.Waits.{blocked, childPops, pusherBefore}
 use Rattle.spec_outcomes.specs.Views.{viewOf, isEmpty, headOf, taskAt, kindAt, takesPart, standsAt, justBefore, returnedTo}
-use Rattle.spec_outcomes.specs.Finish.{heir}
 use Rattle.walks.specs.declared.Asks.{Asks}
-use Rattle.walks.specs.declared.Asks.the-variants.{Pushes, TakesPart, Stands}
+use Rattle.walks.specs.declared.Asks.the-variants.{TakesPart, Stands}
 use Rattle.walks.specs.Asked.{counts, asked}
 
 -- the first of two tests decides, or the second does
@@ -35,28 +33,7 @@ after-exited m x h e g d =
     d ∙ ap₂ entering (e ∙ sym (record-word m (x - 128) PARENT)) (g ∙ sym (record-word m (x - 128) OLDER))
     ∙ sym (pass _ (le-ltb x 128 h) refl)
 
--- WAITS
-pub blocked-by : {a o r : ℕ} (m : List ℕ) (t : ℕ) → a ≡ rightsOf m t → o ≡ read m (task t OLDER)
-    → r ≡ sibling 128 (λ c. sharesPop (rightsOf m c) a) (recordOf m) o → not (eqb r NONE) ≡ blocked m t
-unfolding blocked
-blocked-by m t e f g =
-    ap (λ (c : ℕ). not (eqb c NONE))
-    (g ∙ ap₂ (λ (a o : ℕ). sibling 128 (λ c. sharesPop (rightsOf m c) a) (recordOf m) o) e f)
-
-pub child-pops : {c r : ℕ} (m : List ℕ) (t q a : ℕ) → ((x : ℕ) → sharesPop x a ≡ pops x q) → c ≡ read m (task t YOUNGEST)
-    → r ≡ sibling 128 (λ c. sharesPop (rightsOf m c) a) (recordOf m) c → not (eqb r NONE) ≡ childPops m t q
-unfolding childPops
-child-pops m t q a only e g =
-    ap (λ (c : ℕ). not (eqb c NONE))
-    (g ∙ ap₂ (λ (f : ℕ → Bool) (c : ℕ). sibling 128 f (recordOf m) c) (fun-ext (λ c. only (rightsOf m c))) e)
-
-pub pusher-before : {x r : ℕ} (m : List ℕ) (t q : ℕ) → x ≡ after (recordOf m) t
-    → r ≡ seek MARKS (asked Pushes m q) (recordOf m) x → not (eqb r END) ≡ pusherBefore m t q
-unfolding pusherBefore asked
-pusher-before m t q e g =
-    ap (λ (x : ℕ). not (eqb x END)) (g ∙ ap (seek MARKS (asked Pushes m q) (recordOf m)) e)
-
--- VIEWS ON THE TOUR
+-- the views on the tour
 either-on : {a x b : Bool} → a ≡ false → x ≡ b → x ≡ either a b
 unfolding either
 either-on {a} {x} {b} e f = f ∙ sym (pass true e refl)
@@ -116,22 +93,3 @@ module _ {x r : ℕ} (m : List ℕ) (q t h e : ℕ) (from : x ≡ after (recordO
   pub returned-stands : (h ≡ NL → ⊥) → r ≡ seek MARKS (asked Stands m q) (recordOf m) x → r ≡ returnedTo m q t (view h e)
   unfolding returnedTo headOf asked
   returned-stands n g = g ∙ ap (seek MARKS (asked Stands m q) (recordOf m)) from ∙ sym (pass _ (ne-eqb h NL n) refl)
-
--- HEIRS
-module _ (m : List ℕ) (t q c d : ℕ) where
-  pub heir-self : c ≡ t → d ≡ pick (both (not (eqb c t)) (pops (rightsOf m c) q)) c d
-  heir-self e = sym (pass _ (both-off _ (ap not (eq-eqb c t e))) refl)
-
-  pub heir-pops : {w : ℕ} {b : Bool} → (c ≡ t → ⊥) → w ≡ rightsOf m c → b ≡ pops w q → b ≡ true
-      → c ≡ pick (both (not (eqb c t)) (pops (rightsOf m c) q)) c d
-  heir-pops n e f g = sym (halt _ _ (sym (both-so (ap not (ne-eqb c t n)) (sym g ∙ f ∙ ap (λ (w : ℕ). pops w q) e))))
-
-  pub heir-not : {w : ℕ} {b : Bool} → (c ≡ t → ⊥) → w ≡ rightsOf m c → b ≡ pops w q → b ≡ false
-      → d ≡ pick (both (not (eqb c t)) (pops (rightsOf m c) q)) c d
-  heir-not n e f g = sym (pass _ (sym (both-so (ap not (ne-eqb c t n)) (sym g ∙ f ∙ ap (λ (w : ℕ). pops w q) e))) refl)
-
-pub heir-from : {p c r : ℕ} (m : List ℕ) (t q : ℕ) → p ≡ read m (task t PARENT) → c ≡ read m (task p YOUNGEST)
-    → r ≡ oldest 128 (λ c. both (not (eqb c t)) (pops (rightsOf m c) q)) (recordOf m) c p → r ≡ heir m t q
-unfolding heir
-heir-from m t q e f g =
-    g ∙ ap₂ (oldest 128 (λ c. both (not (eqb c t)) (pops (rightsOf m c) q)) (recordOf m)) (f ∙ ap (λ (p : ℕ). read m (task p YOUNGEST)) e) e

@@ -22,29 +22,29 @@ use Rattle.law_order_waits.specs.Played.{played-reached}
 use Rattle.law_links.specs.Waits.{same-unfinished, same-rights, same-blocked}
 use Rattle.law_invariant.specs.Represents.{Represents}
 use Rattle.law_invariant.specs.At.{mine-spot}
-use Rattle.law_in_order.specs.Does.{Does, refuses, chooses, chooses-not}
+use Rattle.law_in_order.specs.Yields.{Yields, refuses, chooses, chooses-not}
 
 module _ (P : List ℕ → List Item → Type 0) (runs : (m : List ℕ) (xs : List Item) → Represents m xs → P m xs) where
   -- 4, and where it is not refused the caller has a spot
   pub for-task : (c : ℕ → Call) (o : ℕ → Outcome) (a : ℕ → List Item → Answer) (m : List ℕ)
       → ((ys zs : List Item) (s : Task) → Represents m (ys ++ spot s ∷ zs)
-      → Does P (ys ++ spot s ∷ zs) (c (numberOf s)) (o (numberOf s)) (a (numberOf s) (ys ++ spot s ∷ zs)))
-      → (xs : List Item) (t : ℕ) → Represents m xs → Does P xs (c t) (pick (not (unfinishedIn m t)) (outcome (Refused 4) m) (o t)) (forTask t xs (a t xs))
+      → Yields P (ys ++ spot s ∷ zs) (c (numberOf s)) (o (numberOf s)) (a (numberOf s) (ys ++ spot s ∷ zs)))
+      → (xs : List Item) (t : ℕ) → Represents m xs → Yields P xs (c t) (pick (not (unfinishedIn m t)) (outcome (Refused 4) m) (o t)) (forTask t xs (a t xs))
   unfolding forTask
   for-task c o a m f xs t r =
       chooses-not P (unfinishedIn m t) (unfinished t xs) (same-unfinished m (r .tour) xs (r .played) (r .linked) t)
       (λ e.
       let w = unfinished-says xs (played-reached (r .played)) t e in
       let v = in-split (spot (w .0)) xs (w .1) in
-      subst (λ (l : List Item). Does P l (c t) (o t) (a t l)) (sym (v .2))
-      (subst (λ (n : ℕ). Does P (v .0 ++ spot (w .0) ∷ v .1) (c n) (o n) (a n (v .0 ++ spot (w .0) ∷ v .1))) (w .2)
+      subst (λ (l : List Item). Yields P l (c t) (o t) (a t l)) (sym (v .2))
+      (subst (λ (n : ℕ). Yields P (v .0 ++ spot (w .0) ∷ v .1) (c n) (o n) (a n (v .0 ++ spot (w .0) ∷ v .1))) (w .2)
       (f (v .0) (v .1) (w .0) (subst (Represents m) (v .2) r))))
       (λ e. refuses P m xs (c t) 4 (runs m xs r))
 
   -- 5 and 6
   pub for-queue : {xs : List Item} {c : Call} {o : Outcome} {a : Answer} (m : List ℕ) (q : ℕ) (x y : Bool) → x ≡ y → P m xs
-      → (q < 4 → y ≡ true → Does P xs c o a)
-      → Does P xs c (pick (leb 4 q) (outcome (Refused 5) m) (pick (not x) (outcome (Refused 6) m) o)) (forQueue q y a)
+      → (q < 4 → y ≡ true → Yields P xs c o a)
+      → Yields P xs c (pick (leb 4 q) (outcome (Refused 5) m) (pick (not x) (outcome (Refused 6) m) o)) (forQueue q y a)
   unfolding forQueue
   for-queue {xs} {c} m q x y e h f =
       chooses P (leb 4 q) (leb 4 q) refl (λ d. refuses P m xs c 5 h)
