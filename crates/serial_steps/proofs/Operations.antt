@@ -24,29 +24,29 @@ use Rattle.serial_queues.specs.Front.{frontOf}
 use Rattle.serial_steps.specs.Steps.{Inner, Gives}
 
 module _ (q x i r : ℕ) (qs : List (List ℕ)) (f : Option ℕ) (e : Made) where
-  -- operation k gives the same, whatever was found, and leaves the lists us
-  abbrev Blind : ℕ → List (List ℕ) → Type 0
-  Blind k us =
+  -- operation k ignores what was found, and leaves the lists us
+  abbrev Ignores : ℕ → List (List ℕ) → Type 0
+  Ignores k us =
       (effect (operationAt k) i r x f ≡ effect (operationAt k) i r x (front (queue qs q))) × (us ≡ queuesAfter (operationAt k) q (e .value) qs)
 
-  blind-does : (k : ℕ) (us : List (List ℕ)) → Blind k us → e ≡ coded (effect (operationAt k) i r x f) → Gives k q x i r qs e us
-  blind-does k us b g = record { made = g ∙ ap coded (b .0); lists = b .1 }
+  ignoring-does : (k : ℕ) (us : List (List ℕ)) → Ignores k us → e ≡ coded (effect (operationAt k) i r x f) → Gives k q x i r qs e us
+  ignoring-does k us b g = record { made = g ∙ ap coded (b .0); lists = b .1 }
 
   -- a push
   abbrev pushed : List (List ℕ)
   pushed = set qs q (queue qs q ++ (e .value ∷ []))
 
-  push-blind : (k : ℕ) → 1 ≤ k → k ≤ 2 → Blind k pushed
+  push-ignores : (k : ℕ) → 1 ≤ k → k ≤ 2 → Ignores k pushed
   unfolding operationAt operationOf rowOf effect queuesAfter
-  push-blind = from (λ (k : ℕ). k ≤ 2 → Blind k pushed) 1 (λ l. (refl, refl)) (from (λ (k : ℕ). k ≤ 2 → Blind k pushed) 2 (λ l. (refl, refl))
+  push-ignores = from (λ (k : ℕ). k ≤ 2 → Ignores k pushed) 1 (λ l. (refl, refl)) (from (λ (k : ℕ). k ≤ 2 → Ignores k pushed) 2 (λ l. (refl, refl))
       (λ k h l. absurd (omega (arith, h, l))))
 
   pub push-does : (us : List (List ℕ)) {k : ℕ} → 1 ≤ k → k ≤ 2 → e ≡ coded (effect (operationAt k) i r x f) → us ≡ pushed → Gives k q x i r qs e us
-  push-does us {k} a b g h = blind-does k us (push-blind k a b .0, h ∙ push-blind k a b .1) g
+  push-does us {k} a b g h = ignoring-does k us (push-ignores k a b .0, h ∙ push-ignores k a b .1) g
 
   -- an operation without a queue
   abbrev Plain : ℕ → Type 0
-  Plain k = Blind k qs
+  Plain k = Ignores k qs
 
   plain : (k : ℕ) → 5 ≤ k → Plain k
   unfolding operationAt operationOf rowOf effect queuesAfter
@@ -56,7 +56,7 @@ module _ (q x i r : ℕ) (qs : List (List ℕ)) (f : Option ℕ) (e : Made) wher
       (sym (returns-at k (inr h))) (refl, refl))))))
 
   pub plain-does : {k : ℕ} → 5 ≤ k → e ≡ coded (effect (operationAt k) i r x f) → Gives k q x i r qs e qs
-  plain-does {k} a g = blind-does k qs (plain k a) g
+  plain-does {k} a g = ignoring-does k qs (plain k a) g
 
 -- what is left of the numbers of such operations once 1 to 4 are told apart
 pub past-four : (k : ℕ) → Inner k → (((Unit {0} × (k ≡ 1 → ⊥)) × (k ≡ 2 → ⊥)) × (k ≡ 3 → ⊥)) × (k ≡ 4 → ⊥) → 5 ≤ k
