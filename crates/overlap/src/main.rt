@@ -3,11 +3,11 @@
 // standard error and prints nothing.
 ghost use Prim.Native.Nat.{_+_, _^_, _<_, _≤_};
 ghost use lib.ListN.{length};
+use layout::WORDS;
 use libc::STDIN_FILENO;
 use libc::STDOUT_FILENO;
 use read_file::Bytes;
 use read_file::JOB_BYTES;
-use runner_words::CORE_WORDS;
 use runner_words::RUNNER_WORDS;
 use spec_runner::StepAnswer;
 use spec_serial::End;
@@ -113,7 +113,7 @@ fn run_open(job: &[u8], m: &mut [u32], r: &mut [u32]) {
 
 // Opens a job and runs it.
 fn run(job: &[u8]) {
-    let mut m = [0u32; CORE_WORDS];
+    let mut m = [0u32; WORDS];
     let mut r = [0u32; RUNNER_WORDS];
     let a = runner_open::open(job, &mut m, &mut r);
     let StepAnswer::Refused(k) = a else {

@@ -11,7 +11,11 @@ ghost use Rattle.block_text.specs.Lines.{linesFrom};
 ghost use Rattle.block_text.specs.Blocks.{Block};
 ghost use Rattle.overlap_text.specs.Whole.{leftAt, isValue, leftIn, valueLine, unfinishedIn};
 ghost use Rattle.overlap_text.specs.Blocks.{Called};
+use layout::TASKS;
 use spec_answers::Answer;
+
+// The most lines of values of one queue: as many as the memory has words, so none is cut off.
+const MOST_VALUES: u32 = 16384;
 
 // Makes the calls of the tasks, where `before` calls were made before, and writes their lines.
 pub fn call_lines(
@@ -50,7 +54,7 @@ pub fn left_count(m: &[u32], q: u32) -> u32
     ensures { λ n. ⌜ n ≡ leftIn (now (m .entry)) q ⌝ }
 {
     let mut i: u32 = 0;
-    while i < 16384 {
+    while i < MOST_VALUES {
         if !is_left(m, q, i) {
             return i;
         }
@@ -108,7 +112,7 @@ fn unfinished_count(m: &[u32]) -> u32
 {
     let mut n: u32 = 0;
     let mut t: u32 = 0;
-    while t < 128 {
+    while t < TASKS {
         n += one(walks::unfinished(m, t));
         t += 1;
     }

@@ -2,13 +2,15 @@
 ghost use mathlib.Core.Path.{_≡_};
 ghost use Rattle.spec_runner.specs.Answers.{outcome};
 ghost use Rattle.spec_runner.specs.Open.{segmentsFor, openOutcome};
+use layout::SEGMENTS;
+use layout::VALUE_WORDS;
 use spec_runner::StepAnswer;
 
 // "The runner opens with segments the smaller of 256 and 8,192 divided by L, rounded down."
 fn segments_for(l: u32) -> u32
     ensures { λ n. ⌜ n ≡ segmentsFor l ⌝ }
 {
-    if l <= 32 { 256 } else { 8192 / l }
+    if l <= 32 { SEGMENTS } else { VALUE_WORDS / l }
 }
 
 // Opens a job, on any words.

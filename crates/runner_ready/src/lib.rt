@@ -12,10 +12,9 @@ ghost use Rattle.spec_runner.specs.Ready.{bitsFrom, wordsFor, lowestFrom, mapOf
 ghost use Rattle.spec_runner.specs.Ready.Mapped.{mapped};
 ghost use Rattle.spec_runner.specs.Moves.{instructionMoves, stepMoves};
 ghost use Rattle.runner_ready.specs.Refusals.{mapRefusal};
+use layout::NONE;
 use spec_job::Instruction;
 use spec_runner::StepAnswer;
-
-const NONE: u32 = 4294967295;
 
 // Instruction s of task t, which is unfinished and not blocked, would move.
 fn instruction_moves(job: &[u8], m: &[u32], t: u32, s: Instruction) -> bool

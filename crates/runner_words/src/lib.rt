@@ -4,18 +4,16 @@ ghost use mathlib.Core.Path.{_≡_};
 ghost use Rattle.spec_runner.specs.Words.{procedureOf, positionOf, registerOf, put, instructionFor};
 ghost use Rattle.spec_runner.specs.Rules.{taskHolds, zeros, recordHolds, runnerHolds};
 ghost use Rattle.runner_words.specs.Refusals.{refusalIn, jobRefusal};
+use layout::TASKS;
+use layout::WORDS;
 use spec_answers::Answer;
 use spec_job::Instruction;
 
-// Words that the core and the runner are lent.
-pub const CORE_WORDS: usize = 16384;
-
+// Words that the runner is lent beside the core's.
 pub const RUNNER_WORDS: usize = 384;
 
-// The words of a task, and the number of tasks.
+// The words of a task.
 const RECORD: usize = 3;
-
-const TASKS: u32 = 128;
 
 // The procedure of task t.
 pub fn procedure(r: &[u32], t: u32) -> u32
@@ -122,7 +120,7 @@ fn refusal_in(a: Answer) -> u32
 pub fn refusal(job: &[u8], m: &[u32], r: &[u32]) -> u32
     ensures { λ k. ⌜ k ≡ jobRefusal (now (job .entry)) (now (m .entry)) (now (r .entry)) ⌝ }
 {
-    if m.len() != CORE_WORDS {
+    if m.len() != WORDS {
         return 1;
     }
     if r.len() != RUNNER_WORDS {

@@ -1,4 +1,4 @@
-use Rattle.core_left.proofs.Queued.{no-queue, not-yet, found}
+use Rattle.core_left.proofs.Chain.{no-queue, not-yet, found}
 use borrow.Author.Needs.{needs}
 use Rattle.core_left.proofs.left_at.Statement.{statement}
 use Rattle.core_left.proofs.left_at.Tie as tie

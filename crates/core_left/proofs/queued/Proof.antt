@@ -4,7 +4,7 @@ use Prim.Native.Nat.{_≤_, _<_, _^_}
 use native.Mathlib.Omega.{arith}
 use borrow.Author.Needs.{needs}
 use Rattle.spec_outcomes.specs.Left.{queued}
-use Rattle.core_left.proofs.Queued.{chain-end, chain-here, chain-on, chain-none}
+use Rattle.core_left.proofs.Chain.{chain-end, chain-here, chain-on, chain-none}
 use Rattle.core_left.proofs.queued.Statement.{statement}
 use Rattle.core_left.proofs.queued.Tie as tie
 
