@@ -6,7 +6,7 @@ use Prim.Native.Nat.{ℕ, _+_, _*_, _<_, _≤_}
 use native.Mathlib.Omega.{arith}
 use borrow.Author.Tests.{lt-ltb, le-ltb, le-leb, lt-leb}
 use Rattle.spec_words.specs.Words.{size, halt, pass}
-use Rattle.spec_layout.specs.Layout.{NL, USER, count, segment, task, lengthOf, Opened, ValuesFit, freeHeight, rightsOf, head, tail, read, write}
+use Rattle.spec_layout.specs.Layout.{NL, TAILS, USER, count, segment, task, lengthOf, Opened, ValuesFit, freeHeight, rightsOf, head, tail, read, write}
 use Rattle.spec_answers.specs.declared.Answer.the-variants.{Moved, Waits, Refused}
 use Rattle.spec_answers.specs.Answers.{Outcome, outcome}
 use Rattle.spec_tree.specs.Rights.{pushes}
