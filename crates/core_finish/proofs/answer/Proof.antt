@@ -1,3 +1,4 @@
+-- The tests are those of the definition, in its order; what is asked and what is left hang on the call, and are chosen once each.
 use Rattle.core_finish.proofs.Answers.{not-unfinished, waiting, left-out, moved, below}
 use mathlib.Core.Path.{ap}
 use Rattle.spec_answers.specs.Answers.{outcome}

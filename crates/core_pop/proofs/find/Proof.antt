@@ -1,3 +1,4 @@
+-- The tests are those of the definition, in its order.
 use Rattle.core_pop.proofs.Findings.{sibling-waits, child-waits, value-found, pusher-waits, found-empty}
 use borrow.Author.Needs.{needs}
 use Rattle.core_pop.proofs.find.Statement.{statement}

@@ -1,3 +1,4 @@
+-- The value is dropped; the segment is freed where it is empty then and has a next, as the definition says.
 use Rattle.core_pop.proofs.Findings.{last-segment, some-left, segment-freed, head-count}
 use borrow.Author.Needs.{needs}
 use Rattle.core_pop.proofs.take_first.Statement.{statement}

@@ -1,3 +1,4 @@
+-- The ways of a push, decided without writing: apart, a non-local tail, room, or a free segment.
 use Rattle.core_would_move.proofs.Moves.{some-free, none-left, goes-apart, ends-away, goes-behind}
 use borrow.Author.Needs.{needs}
 use Rattle.core_would_move.proofs.value_fits.Statement.{statement}

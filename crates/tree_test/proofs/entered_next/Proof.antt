@@ -1,3 +1,4 @@
+-- The cases of the definition: there is no child, or there is one that fits or not.
 use Rattle.tree_test.specs.Walk.{entered-leaf, entered-down, entered-wrong}
 use Rattle.tree_test.specs.Links.{fitting}
 use Rattle.tree_test.specs.Records.{word-at}

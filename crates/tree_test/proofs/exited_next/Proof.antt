@@ -1,3 +1,4 @@
+-- The cases of the definition: the parent is no task, there is no older sibling, or there is one that fits or not.
 use Rattle.tree_test.specs.Walk.{left-out, exited-up, exited-over, exited-wrong}
 use Rattle.tree_test.specs.Links.{fitting}
 use Rattle.tree_test.specs.Records.{word-at}

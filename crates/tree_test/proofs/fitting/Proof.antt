@@ -1,3 +1,4 @@
+-- A ladder: each test of the definition in turn, and the first that fails answers.
 use Rattle.tree_test.specs.Links.{fit-top, fit-far, fit-free, fit-parent, fit-younger, fit-rights}
 use Rattle.tree_test.specs.Records.{word-at}
 use Rattle.spec_tree.specs.Rights.{subset}

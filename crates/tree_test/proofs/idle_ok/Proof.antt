@@ -1,3 +1,4 @@
+-- The faults of all entries sum to 0 exactly where each entry is a free record, and as many marks as entries means that none stands twice.
 use Rattle.tree_test.specs.Idle.{idle-many}
 use Rattle.tree_test.specs.Counted.{idle-wrong, idle-top, idle-count}
 use Rattle.spec_words.specs.Words.{load, size}

@@ -1,3 +1,4 @@
+-- A ladder: each test of the definition in turn, and the first that fails answers.
 use Rattle.tree_test.specs.Top.{topAlone}
 use Rattle.spec_words.specs.Words.{both-on, both-off}
 use Rattle.spec_layout.specs.Layout.{NONE}

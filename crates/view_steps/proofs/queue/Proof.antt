@@ -1,3 +1,4 @@
+-- The cases of one event: no queue view, one without a right, non-local or seen before, or one whose head is seen.
 use Rattle.spec_view_events.specs.Open.{queue-none, queue-refused, queue-far, queue-twice, queue-open}
 use borrow.Author.Tests.{eq-eqb, ne-eqb}
 use mathlib.Core.Bool.{not}

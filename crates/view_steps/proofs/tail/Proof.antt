@@ -1,3 +1,4 @@
+-- The cases of one event: a mark, a number that is no segment, a tail seen before or with a next, or one seen now.
 use Rattle.spec_view_events.specs.Steps.{tail-far, tail-out, tail-again, tail-inner, tail-right}
 use mathlib.Core.Path.{sym, _∙_}
 use borrow.Author.Needs.{needs}

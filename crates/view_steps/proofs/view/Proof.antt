@@ -1,3 +1,4 @@
+-- The cases of one event: an empty view, a view without a right, or one whose head and tail are seen in turn.
 use Prim.Native.Nat.{_+_}
 use Rattle.spec_view_events.specs.Open.{stops, goes, and-none, and-some, view-none, view-refused, view-open}
 use borrow.Author.Tests.{eq-eqb, ne-eqb, not-true, not-false}

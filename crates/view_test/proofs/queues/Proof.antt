@@ -1,3 +1,4 @@
+-- Each queue's head is seen from the state that the one before left, so the four together are the four events.
 use Rattle.spec_view_events.specs.Events.{queuesAt}
 use Rattle.spec_view_events.specs.Chain.{follow, end, queue-first, queue-later}
 use borrow.Author.Tests.{not-true, not-false}

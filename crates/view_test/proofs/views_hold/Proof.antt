@@ -1,3 +1,4 @@
+-- The stages in turn: free segments marked, records tested, the marks of the tour run, and the end; each hands its state on.
 use Rattle.law_view_events.specs.Begun.{ready, height, below, no-segments, no-free, all-views}
 use borrow.Author.Tests.{not-true, not-false}
 use mathlib.Core.Path.{_∙_}

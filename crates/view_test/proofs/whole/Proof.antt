@@ -1,3 +1,4 @@
+-- A ladder: each test of the end in turn, and the first that fails answers.
 use Rattle.spec_view_events.specs.Run.{whole}
 use Rattle.spec_layout.specs.Layout.{read, address}
 use Rattle.spec_words.specs.Words.{load, both-on, both-off}

@@ -1,3 +1,4 @@
+-- The four cases of the definition: nothing to join, nothing there, both ends local and linked, or non-local.
 use mathlib.Core.Path.{sym, _∙_}
 use Rattle.views.proofs.Memory.{join-nothing, join-first, join-local, join-apart}
 use borrow.Author.Needs.{needs}
