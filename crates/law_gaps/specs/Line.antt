@@ -23,7 +23,7 @@ pub data Extent : Type 0 where
 pub data Mark : Type 0 where
   -- at the bottom: the queue view, with the chain of the first gap
   base : List ℕ → Mark
-  -- task t is left: its children view
+  -- task t is exited: its children view
   exited : ℕ → Mark
   -- task t is entered: its right view, the chain of the gap that the right view begins, its spot, its user view
   entered : ℕ → List ℕ → Mark

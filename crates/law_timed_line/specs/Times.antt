@@ -1,4 +1,4 @@
--- THE TIMED LINE: the line of crate `line`, each item with a time: when the step that put it there was done. A move reads
+-- THE TIMED LINE: the line of crate `spec_line`, each item with a time: when the step that put it there was done. A move reads
 -- from it for what its step had to wait.
 use mathlib.Core.Path.{_≡_, refl}
 use mathlib.Core.Bool.{Bool, true, false}

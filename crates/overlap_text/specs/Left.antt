@@ -157,7 +157,7 @@ module _ (m xs : List ℕ) (q : ℕ) (says : (i : ℕ) → answerOf (leftOutcome
   left-lines = ap (linesFrom (valueLine m q) 0) left-counted ∙ lines-same (valueLine m q) _ (length xs) 0 (λ k a b. line-same k (omega (arith, b)))
 
 -- THE END OF THE TEXT: once the top has finished, and left gives the lists qs, its lines are those of the serial run that leaves qs.
--- Demand 3 gives the premise with the plain machine's lists (`left` of `Agreed`, crates/any_order/specs/Statement.antt).
+-- Demand 3 gives the premise with the plain machine's lists (`left` of `Agreed`, crates/law_any_order/specs/Statement.antt).
 pub left-whole : (m : List ℕ) (qs : List (List ℕ)) → unfinished m 0 ≡ false
     → ((q i : ℕ) → q < 4 → answerOf (leftOutcome m q i) ≡ leftAnswer (getElem? (queue qs q) i)) → endText m ≡ lastLines Ended qs
 unfolding endText lastLines linesOf lineOf

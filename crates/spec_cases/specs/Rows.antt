@@ -1,5 +1,5 @@
 -- A case is a list of calls, each with the answer that it must get. Each case is tried twice: on program order alone
--- (crate order), and on the outcomes of the calls on memory (crate calls).
+-- (crate spec_order), and on the outcomes of the calls on memory (crate spec_outcomes).
 use mathlib.Core.List.{List}
 use Rattle.spec_answers.specs.declared.Answer.{Answer}
 use Rattle.spec_answers.specs.Calls.{Call}

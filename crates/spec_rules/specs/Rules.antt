@@ -1,5 +1,5 @@
 -- THE MEMORY RULES of document 01, sentence by sentence. Test.antt has a test that the code makes and the checker can
--- compute; crate rules_same proves that it says true exactly where all of these hold.
+-- compute; crate law_rules_same proves that it says true exactly where all of these hold.
 use mathlib.Core.Path.{_≡_}
 use mathlib.Core.Bool.{true, false}
 use mathlib.Core.List.{List}

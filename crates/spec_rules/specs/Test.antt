@@ -44,7 +44,7 @@ unfoldable pub linkTest : Contents → ℕ → Bool
 linkTest c x =
     pick (ltb x 128) (kin c (word c x YOUNGEST) x NONE) (kin c (word c (x - 128) OLDER) (word c (x - 128) PARENT) (x - 128))
 
--- THE TREE: from mark x on there are k marks, the last of them where the top is left; each link followed is right
+-- THE TREE: from mark x on there are k marks, the last of them where the top is exited; each link followed is right
 unfoldable pub treeTest : Contents → ℕ → ℕ → Bool
 treeTest c zero x = false
 treeTest c (suc k) x = let rest = treeTest c k (after (c .recs) x) in pick (eqb x 128) (eqb k 0) (both (linkTest c x) rest)

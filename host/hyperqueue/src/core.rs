@@ -1,7 +1,7 @@
 //! The eight calls of the core.
 
 use crate::declared::*;
-use crate::Answer;
+use crate::{lent, Answer};
 use std::mem::MaybeUninit;
 
 /// The words that a core needs.
@@ -17,7 +17,7 @@ pub const fn may_pop(queue: u32) -> u32 {
 }
 
 pub fn open(words: &mut [u32], length: u32, segments: u32) -> Answer {
-    Answer::of(unsafe { hq_open(words.as_mut_ptr(), words.len(), length, segments) })
+    open_unset(lent(words), length, segments)
 }
 
 /// The same on words that nobody has written yet.

@@ -1,7 +1,7 @@
 //! The job test, and a job's run without overlap.
 
 use crate::declared::*;
-use crate::Answer;
+use crate::{lent, Answer};
 use std::mem::MaybeUninit;
 
 /// Words for working and for answers; any other numbers are refused with 1.
@@ -16,16 +16,7 @@ pub fn test(job: &[u8]) -> Answer {
 
 /// The value of the answer is the number of steps made.
 pub fn run_serially(job: &[u8], working: &mut [u32], answers: &mut [u32]) -> Answer {
-    Answer::of(unsafe {
-        hq_run_serially(
-            job.as_ptr(),
-            job.len(),
-            working.as_mut_ptr(),
-            working.len(),
-            answers.as_mut_ptr(),
-            answers.len(),
-        )
-    })
+    run_serially_unset(job, lent(working), lent(answers))
 }
 
 /// The same on words that nobody has written yet.

@@ -8,6 +8,14 @@ mod declared;
 pub mod jobs;
 pub mod runner;
 
+use std::mem::MaybeUninit;
+
+/// Words that are written already, lent as words that need not be.
+fn lent(words: &mut [u32]) -> &mut [MaybeUninit<u32>] {
+    // The library writes whole words and nothing else.
+    unsafe { &mut *(words as *mut [u32] as *mut [MaybeUninit<u32>]) }
+}
+
 /// What a call answers: a status, and a value that is 0 unless the call moved.
 #[must_use]
 #[derive(Clone, Copy, Debug, PartialEq, Eq)]

@@ -1,7 +1,7 @@
 //! A job's run with overlap: opening it, a step of a task, the ready map.
 
 use crate::declared::*;
-use crate::Answer;
+use crate::{lent, Answer};
 use std::mem::MaybeUninit;
 
 /// The words that the runner needs beside the core's.
@@ -15,16 +15,7 @@ pub const FINISHED: u32 = 43;
 pub const MOVED: u32 = 44;
 
 pub fn open(job: &[u8], core: &mut [u32], runner: &mut [u32]) -> Answer {
-    Answer::of(unsafe {
-        hq_job_open(
-            job.as_ptr(),
-            job.len(),
-            core.as_mut_ptr(),
-            core.len(),
-            runner.as_mut_ptr(),
-            runner.len(),
-        )
-    })
+    open_unset(job, lent(core), lent(runner))
 }
 
 /// The same on words that nobody has written yet.
