@@ -1,10 +1,46 @@
-// Two words as one number of 64 bits, for hosts in other languages.
+// Answers as one number of 64 bits, for hosts in other languages.
 ghost use mathlib.Core.Path.{_≡_};
 ghost use Prim.Native.Nat.{_+_, _*_};
+ghost use Rattle.spec_runner.specs.Packed.{Packs};
+use spec_runner::StepAnswer;
+
+// The statuses of a step that was not refused.
+const WAITS: u32 = 32;
+
+const EMPTY: u32 = 33;
+
+const NOT_EMPTY: u32 = 34;
+
+const SPAWNED: u32 = 40;
+
+const PUSHED: u32 = 41;
+
+const TOOK: u32 = 42;
+
+const FINISHED: u32 = 43;
+
+const MOVED: u32 = 44;
 
 // The status in the high half, the value in the low half.
 pub fn pack(status: u32, value: u32) -> u64
     ensures { λ r. ⌜ r ≡ status * 4294967296 + value ⌝ }
 {
     status as u64 * 4294967296 + value as u64
+}
+
+// The answer of a step.
+pub fn pack_step(a: StepAnswer) -> u64
+    ensures { λ r. ⌜ Packs a r ⌝ }
+{
+    match a {
+        StepAnswer::Spawned(v) => pack(SPAWNED, v),
+        StepAnswer::Pushed(v) => pack(PUSHED, v),
+        StepAnswer::Took(v) => pack(TOOK, v),
+        StepAnswer::Finished => pack(FINISHED, 0),
+        StepAnswer::Moved => pack(MOVED, 0),
+        StepAnswer::Empty => pack(EMPTY, 0),
+        StepAnswer::NotEmpty => pack(NOT_EMPTY, 0),
+        StepAnswer::Waits => pack(WAITS, 0),
+        StepAnswer::Refused(k) => pack(k, 0),
+    }
 }

@@ -1,10 +1,9 @@
 // Opening a job: the core for its segment length, and the top at its first instruction.
 ghost use mathlib.Core.Path.{_≡_};
-ghost use Rattle.spec_runner.specs.Answers.{outcome};
-ghost use Rattle.spec_runner.specs.Open.{segmentsFor, openOutcome};
+ghost use Rattle.spec_runner.specs.Open.{segmentsFor};
+ghost use Rattle.runner_open.specs.Opens.{Opens};
 use layout::SEGMENTS;
 use layout::VALUE_WORDS;
-use spec_runner::StepAnswer;
 
 // "The runner opens with segments the smaller of 256 and 8,192 divided by L, rounded down."
 fn segments_for(l: u32) -> u32
@@ -13,16 +12,16 @@ fn segments_for(l: u32) -> u32
     if l <= 32 { SEGMENTS } else { VALUE_WORDS / l }
 }
 
-// Opens a job, on any words.
-pub fn open(job: &[u8], m: &mut [u32], r: &mut [u32]) -> StepAnswer
-    ensures { λ a. ⌜ outcome a (now (m .exit)) (now (r .exit)) ≡ openOutcome (now (job .entry)) (now (m .entry)) (now (r .entry)) ⌝ }
+// Opens a job, on any words. 0, or the number of the refusal.
+pub fn open(job: &[u8], m: &mut [u32], r: &mut [u32]) -> u32
+    ensures { λ k. ⌜ Opens (now (job .entry)) (now (m .entry)) (now (r .entry)) k (now (m .exit)) (now (r .exit)) ⌝ }
 {
     let k = runner_words::refusal(job, m, r);
     if k != 0 {
-        return StepAnswer::Refused(k);
+        return k;
     }
     let l = job_fields::segment_length(job);
     core_open::open(m, l, segments_for(l));
     memory::clear(r);
-    StepAnswer::Moved
+    0
 }

@@ -1,63 +1,57 @@
--- What making a list of steps leaves: both memories, and the words for answers with a row a step.
-use mathlib.Core.Path.{_≡_, refl, ap, ap₂, sym, _∙_}
-use mathlib.Core.Bool.{Bool, true, false}
-use mathlib.Core.List.{List, [], _∷_, _++_}
-use Prim.Native.Nat.{ℕ, _+_, _*_, _/_, _<_, _≤_}
-use native.Mathlib.Nat.{le-antisymm}
+-- What making a list of steps leaves: both memories, and each answer in its place.
+use mathlib.Core.Path.{_≡_, refl, ap, ap₂, sym, _∙_, subst₂}
+use mathlib.Core.Bool.{not}
+use mathlib.Core.List.{List, [], _∷_, _++_, map}
+use Prim.Native.Nat.{ℕ, _+_, _<_, _≤_}
 use native.Mathlib.Numerals.{add-one}
 use native.Mathlib.Omega.{arith}
-use lib.Dec.{ltb}
-use lib.ListN.{length, take, getD}
-use lib.Seq.{take-suc, length-take-le}
-use borrow.Author.Tests.{ltb-true, ltb-false}
-use Rattle.spec_words.specs.Words.{pick}
-use Rattle.spec_words.specs.Blocks.{storeAll, store-none, store-append}
+use lib.ListN.{length, take, getD, set}
+use lib.Seq.{take-suc, take-all}
+use borrow.Author.Tests.{eq-eqb, ne-eqb}
+use Rattle.spec_words.specs.Words.{size, pick, halt, pass}
+use Rattle.spec_lists.specs.Maps.{All, all-append}
 use Rattle.spec_runner.specs.declared.StepAnswer.{StepAnswer}
-use Rattle.spec_runner.specs.Answers.{Outcome, outcome, answerOf, coreOf, runnerOf}
-use Rattle.spec_runner.specs.Step.{stepOutcome}
-use Rattle.spec_runner.specs.Run.{Steps, behind, stepsFrom, steps-append, as-many}
-use Rattle.runner_run.specs.Rows.{row, rowsOf, rows-append, rows-length}
+use Rattle.spec_runner.specs.declared.StepAnswer.the-variants.{Moved, Refused}
+use Rattle.spec_runner.specs.Answers.{valueOf, Outcome, outcome, answerOf, coreOf, runnerOf, hasMoved}
+use Rattle.spec_runner.specs.Packed.{packedStep, Packs}
+use Rattle.spec_runner.specs.Open.{openOutcome}
+use Rattle.spec_runner.specs.Step.{stepTested, stepOutcome}
+use Rattle.spec_runner.specs.Run.{Steps, behind, stepsFrom, steps-append, Listed, listed, runFrom, runOutcome}
+use Rattle.law_any_two.specs.Reached.{Reached, reached-open, reached-tested, reached-step}
+use Rattle.runner_open.specs.Opens.{Opens}
+use Rattle.runner_words.specs.Refusals.{fits}
+use Rattle.runner_run.specs.Filled.{filled}
 
--- how many of n steps have three words each among k
-unfoldable pub fitting : ℕ → ℕ → ℕ
-fitting n k = pick (ltb n (k / 3)) n (k / 3)
+-- an answer whose value fits its half of the packed number
+abbrev pub Fits : StepAnswer → Type 0
+Fits x = valueOf x < 4294967296
 
-fits : (n k : ℕ) → (fitting n k ≤ n) × (fitting n k * 3 ≤ k)
-unfolding fitting
-fits n k = go (ltb n (k / 3)) refl
-  where
-    go : (b : Bool) → ltb n (k / 3) ≡ b → (pick b n (k / 3) ≤ n) × (pick b n (k / 3) * 3 ≤ k)
-    go true e = let h = ltb-true n (k / 3) e in unfold pick in (omega arith, omega (arith, h))
-    go false e = let h = ltb-false n (k / 3) e in unfold pick in (omega (arith, h), omega arith)
-
--- each of them has its task and its row
-module _ {n i : ℕ} (l k : ℕ) (e : n ≡ fitting l k) (h : i < n) where
-  pub task-there : i < l
-  task-there = let f = fits l k .0 in omega (arith, f, e, h)
-
-  pub row-there : i * 3 + 2 < k
-  row-there = let f = fits l k .1 in omega (arith, f, e, h)
-
--- the steps of tasks ts on the words m, r and a have left m', r' and a'
-pub record Made (j ts m r a m' r' a' : List ℕ) : Type 0 where
-  pub core : m' ≡ stepsFrom j ts m r .core
-  pub runner : r' ≡ stepsFrom j ts m r .runner
-  pub answers : a' ≡ storeAll a 0 (rowsOf ts (stepsFrom j ts m r .answers))
-
--- WHAT A RUN OF n STEPS GIVES: as many of the tasks ts as the words for answers have rows
-pub record Ran (j ts m r a : List ℕ) (n : ℕ) (m' r' a' : List ℕ) : Type 0 where
-  pub steps : n ≡ fitting (length ts) (length a)
-  pub made : Made j (take n ts) m r a m' r' a'
-
--- a step of task t is answered x, which stands in row i
+-- a step of task t is answered x, which stands packed in place i
 pub record Step (j : List ℕ) (t i : ℕ) (m r a m' r' a' : List ℕ) : Type 0 where
   pub answer : StepAnswer
   pub stepped : outcome answer m' r' ≡ stepOutcome j m r t
-  pub written : a' ≡ storeAll a (i * 3) (row t answer)
+  pub written : a' ≡ set a i (packedStep answer)
+  pub value : Fits answer
+  pub reached : Reached j m' r'
 
-pub none-made : (j m r a : List ℕ) → Made j [] m r a m r a
-unfolding stepsFrom rowsOf
-none-made j m r a = record { core = refl; runner = refl; answers = sym (store-none a 0) }
+-- the tests of a step pass where a run has come, so what is left of it is the step
+pub step-made : (j m r a : List ℕ) (t i : ℕ) {x : StepAnswer} {p : ℕ} {m' r' a' : List ℕ} → Reached j m r → outcome x m' r' ≡ stepTested j m r t
+    → Packs x p → a' ≡ set a i p → Step j t i m r a m' r' a'
+step-made j m r a t i {x} {p} {m'} {r'} h e w f =
+    let o = e ∙ sym (reached-tested h t) in
+    record { answer = x; stepped = o; written = f ∙ ap (set a i) (w .whole); value = w .value; reached = reached-step h t x m' r' o }
+
+-- THE STEPS of tasks ts on the words m and r have left m' and r', with their answers a
+pub record Made (j ts m r m' r' a : List ℕ) : Type 0 where
+  pub core : m' ≡ stepsFrom j ts m r .core
+  pub runner : r' ≡ stepsFrom j ts m r .runner
+  pub answers : a ≡ map packedStep (stepsFrom j ts m r .answers)
+  pub values : All Fits (stepsFrom j ts m r .answers)
+  pub reached : Reached j m' r'
+
+pub none-made : (j m r : List ℕ) → Reached j m r → Made j [] m r m r []
+unfolding stepsFrom
+none-made j m r h = record { core = refl; runner = refl; answers = refl; values = tt; reached = h }
 
 -- one step more
 one-step : (j m r : List ℕ) (t : ℕ) (x : StepAnswer) {m2 r2 : List ℕ} → stepOutcome j m r t ≡ outcome x m2 r2
@@ -65,51 +59,69 @@ one-step : (j m r : List ℕ) (t : ℕ) (x : StepAnswer) {m2 r2 : List ℕ} → 
 unfolding stepsFrom answerOf coreOf runnerOf
 one-step j m r t x e = ap (λ (o : Outcome). behind (answerOf o ∷ []) (record { answers = []; core = coreOf o; runner = runnerOf o })) e
 
-module _ (j ts m r a : List ℕ) (t : ℕ) (x : StepAnswer) {m1 r1 a1 m2 r2 a2 : List ℕ} where
-  module _ (p : Made j ts m r a m1 r1 a1) (e : outcome x m2 r2 ≡ stepOutcome j m1 r1 t) (w : a2 ≡ storeAll a1 (length ts * 3) (row t x)) where
-    before : Steps
-    before = stepsFrom j ts m r
+map-append : (xs ys : List StepAnswer) → map packedStep (xs ++ ys) ≡ map packedStep xs ++ map packedStep ys
+map-append [] ys = refl
+map-append (x ∷ xs) ys = ap (λ (l : List ℕ). packedStep x ∷ l) (map-append xs ys)
 
-    whole : stepsFrom j (ts ++ t ∷ []) m r ≡ record { answers = before .answers ++ x ∷ []; core = m2; runner = r2 }
-    unfolding before
-    whole =
-        steps-append j ts (t ∷ []) m r
-        ∙ ap
-        (behind (before .answers))
-        (one-step j (before .core) (before .runner) t x (ap₂ (λ (u v : List ℕ). stepOutcome j u v t) (sym (p .core)) (sym (p .runner)) ∙ sym e))
+module _ (j ts m r : List ℕ) (t : ℕ) {i : ℕ} {m1 r1 a1 a m2 r2 a2 : List ℕ} (p : Made j ts m r m1 r1 a1) (s : Step j t i m1 r1 a m2 r2 a2) where
+  before : Steps
+  before = stepsFrom j ts m r
 
-    rows : rowsOf (ts ++ t ∷ []) (stepsFrom j (ts ++ t ∷ []) m r .answers) ≡ rowsOf ts (before .answers) ++ row t x
-    unfolding before rowsOf
-    rows =
-        ap (λ (s : Steps). rowsOf (ts ++ t ∷ []) (s .answers)) whole
-        ∙ rows-append ts (t ∷ []) (before .answers) (x ∷ []) (as-many j ts m r)
+  whole : stepsFrom j (ts ++ t ∷ []) m r ≡ record { answers = before .answers ++ s .answer ∷ []; core = m2; runner = r2 }
+  unfolding before
+  whole =
+      steps-append j ts (t ∷ []) m r
+      ∙ ap
+      (behind (before .answers))
+      (one-step j (before .core) (before .runner) t (s .answer) (ap₂ (λ (u v : List ℕ). stepOutcome j u v t) (sym (p .core)) (sym (p .runner)) ∙ sym (s .stepped)))
 
-    pub one-more : Made j (ts ++ t ∷ []) m r a m2 r2 a2
-    unfolding before
-    one-more =
-        let l = rows-length ts (before .answers) (as-many j ts m r) in
-        record {
-          core = sym (ap (λ (s : Steps). s .core) whole);
-          runner = sym (ap (λ (s : Steps). s .runner) whole);
-          answers =
-              w
-              ∙ ap₂
-              (λ (l : List ℕ) (k : ℕ). storeAll l k (row t x))
-              (p .answers)
-              (let z : length ts * 3 ≡ 0 + length (rowsOf ts (before .answers)) = omega (arith, l) in z)
-              ∙ sym (store-append (rowsOf ts (before .answers)) a 0 (row t x))
-              ∙ ap (storeAll a 0) (sym rows);
-        }
+  one-more : Made j (ts ++ t ∷ []) m r m2 r2 (a1 ++ packedStep (s .answer) ∷ [])
+  unfolding before
+  one-more =
+      record {
+        core = sym (ap (λ (s : Steps). s .core) whole);
+        runner = sym (ap (λ (s : Steps). s .runner) whole);
+        answers =
+            ap (λ (l : List ℕ). l ++ packedStep (s .answer) ∷ []) (p .answers)
+            ∙ sym (map-append (before .answers) (s .answer ∷ []))
+            ∙ ap (λ (s : Steps). map packedStep (s .answers)) (sym whole);
+        values = rw (whole) (all-append Fits (before .answers) (s .answer ∷ []) (p .values) (s .value, tt));
+        reached = s .reached;
+      }
 
 -- the same for the first i tasks of a list
-pub next-made : (j ts m r a : List ℕ) (i t : ℕ) {m1 r1 a1 m2 r2 a2 : List ℕ} → i < length ts → t ≡ getD ts i 0 → Made j (take i ts) m r a m1 r1 a1
-    → Step j t i m1 r1 a1 m2 r2 a2 → Made j (take (i + 1) ts) m r a m2 r2 a2
-next-made j ts m r a i t {m1} {r1} {a1} {m2} {r2} {a2} h g p s =
-    rw
-    (add-one i, take-suc ts i 0 h, ← g)
-    (one-more j (take i ts) m r a t (s .answer) p (s .stepped) (rw (length-take-le i ts (omega (arith, h))) (s .written)))
+pub next-made : (j ts m r : List ℕ) (i t : ℕ) {m1 r1 a1 m2 r2 a2 : List ℕ} → i < length ts → i < length a1 → t ≡ getD ts i 0
+    → Made j (take i ts) m r m1 r1 (take i a1) → Step j t i m1 r1 a1 m2 r2 a2 → Made j (take (i + 1) ts) m r m2 r2 (take (i + 1) a2)
+next-made j ts m r i t {m1} {r1} {a1} h l g p s =
+    rw (s .written, filled a1 i (packedStep (s .answer)) l, add-one i, take-suc ts i 0 h, ← g) (one-more j (take i ts) m r t p s)
 
--- all steps that fit are made
-pub all-made : (j ts m r a : List ℕ) {i n : ℕ} {m1 r1 a1 : List ℕ} → n ≡ fitting (length ts) (length a) → i ≤ n → n ≤ i → Made j (take i ts) m r a m1 r1 a1
-    → Ran j ts m r a n m1 r1 a1
-all-made j ts m r a e h g p = record { steps = e; made = rw (← le-antisymm h g) p }
+-- all steps are made
+pub all-made : (j ts m r : List ℕ) {i : ℕ} {m1 r1 a : List ℕ} → length ts ≤ i → length a ≡ length ts → Made j (take i ts) m r m1 r1 (take i a)
+    → Made j ts m r m1 r1 a
+all-made j ts m r {i} {m1} {r1} {a} h e p = rw (← take-all i ts h, ← take-all i a (omega (arith, e, h))) p
+
+-- a run begins at the words that an opening leaves
+pub opened-reached : (j m r : List ℕ) {k : ℕ} {m1 r1 : List ℕ} → Opens j m r k m1 r1 → k ≡ 0 → Reached j m1 r1
+unfolding coreOf runnerOf
+opened-reached j m r o z =
+    let f = fits j m r (o .number) z in
+    subst₂ (Reached j) (ap coreOf (sym (o .moved z))) (ap runnerOf (sym (o .moved z))) (reached-open j m r (f .job) (f .core) (f .runner))
+
+-- A CALL: wrong lengths, an opening that is refused, all steps
+module _ (j m r ts a : List ℕ) where
+  pub other-length : (length a ≡ length ts → ⊥) → listed (Refused 1) m r a ≡ runOutcome j m r ts a
+  unfolding runOutcome size
+  other-length n = sym (halt _ _ (ap not (ne-eqb _ _ n)))
+
+  module _ (e : length a ≡ length ts) {k : ℕ} {m1 r1 : List ℕ} (o : Opens j m r k m1 r1) where
+    goes-on : {x : Listed} → x ≡ runFrom j ts a (openOutcome j m r) → x ≡ runOutcome j m r ts a
+    unfolding runOutcome size
+    goes-on f = f ∙ sym (pass _ (ap not (eq-eqb _ _ e)) refl)
+
+    pub stays-shut : (k ≡ 0 → ⊥) → listed (Refused k) m1 r1 a ≡ runOutcome j m r ts a
+    unfolding runFrom answerOf coreOf runnerOf hasMoved pick
+    stays-shut n = goes-on (ap (runFrom j ts a) (o .refused n))
+
+    pub runs : k ≡ 0 → {m2 r2 a2 : List ℕ} → Made j ts m1 r1 m2 r2 a2 → listed Moved m2 r2 a2 ≡ runOutcome j m r ts a
+    unfolding runFrom answerOf coreOf runnerOf hasMoved pick
+    runs z p = goes-on (rw (p .core, p .runner, p .answers) (ap (runFrom j ts a) (o .moved z)))

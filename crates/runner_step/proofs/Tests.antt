@@ -57,28 +57,30 @@ module _ (j m r : List ℕ) (t : ℕ) {k : ℕ} (e : k ≡ jobRefusal j m r) whe
           ∙ goes-on j m r e _ z
 
       module _ (g : not b ≡ false) where
-        rules-pass : stepTested j m r t ≡ stepOutcome j m r t
+        pub passes : {o : Outcome} → o ≡ stepTested j m r t → o ≡ stepOutcome j m r t
         unfolding stepOutcome tested
-        rules-pass =
-            sym (pass _ (ap not (true-both (sym ea ∙ not-false _ h) (sym eb ∙ not-false _ g))) refl)
+        passes d =
+            d
+            ∙ sym (pass _ (ap not (true-both (sym ea ∙ not-false _ h) (sym eb ∙ not-false _ g))) refl)
             ∙ goes-on j m r e _ z
 
-        module _ {u : Bool} (eu : u ≡ unfinished m t) where
-          pub no-task : not u ≡ true → outcome (Refused 4) m r ≡ stepOutcome j m r t
-          unfolding stepTested
-          no-task n = sym (halt _ _ (ap not (sym eu) ∙ n)) ∙ rules-pass
+        -- what is left of the step asks this
+        pub ready : (size m ≡ 16384) × (rulesHold m ≡ true) × (unfinished m t ≡ true → positionOf r t < 2147483648)
+        ready =
+            let f = fits j m r e z in
+            (f .core, sym ea ∙ not-false _ h, position-small j m r t f (sym eb ∙ not-false _ g))
 
-          module _ (y : not u ≡ false) {w : Bool} (ew : w ≡ blocked m t) where
-            pub waits : w ≡ true → outcome Waits m r ≡ stepOutcome j m r t
-            unfolding stepTested
-            waits n = sym (pass _ (ap not (sym eu) ∙ y) (halt _ _ (sym ew ∙ n))) ∙ rules-pass
+-- Behind the tests.
+module _ (j m r : List ℕ) (t : ℕ) {u : Bool} (eu : u ≡ unfinished m t) where
+  pub no-task : not u ≡ true → outcome (Refused 4) m r ≡ stepTested j m r t
+  unfolding stepTested
+  no-task n = sym (halt _ _ (ap not (sym eu) ∙ n))
 
-            pub acts : w ≡ false → {o : Outcome} → o ≡ acted j m r t → o ≡ stepOutcome j m r t
-            unfolding stepTested acted
-            acts n d = d ∙ sym (pass _ (ap not (sym eu) ∙ y) (pass _ (sym ew ∙ n) refl)) ∙ rules-pass
+  module _ (y : not u ≡ false) {w : Bool} (ew : w ≡ blocked m t) where
+    pub waits : w ≡ true → outcome Waits m r ≡ stepTested j m r t
+    unfolding stepTested
+    waits n = sym (pass _ (ap not (sym eu) ∙ y) (halt _ _ (sym ew ∙ n)))
 
-          -- what the instruction finds
-          pub ready : not u ≡ false → (size m ≡ 16384) × (rulesHold m ≡ true) × (positionOf r t < 2147483648)
-          ready y =
-              let f = fits j m r e z in
-              (f .core, sym ea ∙ not-false _ h, position-small j m r t f (sym eb ∙ not-false _ g) (sym eu ∙ not-false _ y))
+    pub acts : w ≡ false → {o : Outcome} → o ≡ acted j m r t → o ≡ stepTested j m r t
+    unfolding stepTested acted
+    acts n d = d ∙ sym (pass _ (ap not (sym eu) ∙ y) (pass _ (sym ew ∙ n) refl))

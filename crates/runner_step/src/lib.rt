@@ -6,10 +6,11 @@ ghost use Prim.Native.Nat.{_^_, _<_, _≤_};
 ghost use lib.ListN.{length};
 ghost use Rattle.spec_rules.specs.Test.{rulesHold};
 ghost use Rattle.spec_answers.specs.Answers.{outcome as answered};
+ghost use Rattle.spec_outcomes.specs.Waits.{unfinished};
 ghost use Rattle.spec_job.specs.Operations.{operationAt};
 ghost use Rattle.spec_runner.specs.Words.{positionOf};
 ghost use Rattle.spec_runner.specs.Answers.{answerWith, outcome};
-ghost use Rattle.spec_runner.specs.Step.{callOf, stepOutcome};
+ghost use Rattle.spec_runner.specs.Step.{callOf, stepTested, stepOutcome};
 ghost use Rattle.job_effect.specs.Made.{foundWith};
 ghost use Rattle.runner_step.specs.Parts.{wordNumbered, called, acted, Writes, Makes};
 use answer_numbers::EMPTY;
@@ -125,6 +126,20 @@ fn act(job: &[u8], m: &mut [u32], r: &mut [u32], t: u32) -> StepAnswer
     }
 }
 
+// A step of task t on words that pass the tests.
+pub fn step_tested(job: &[u8], m: &mut [u32], r: &mut [u32], t: u32) -> StepAnswer
+    requires { ⌜ (length (now m) ≡ 16384) × (rulesHold (now m) ≡ true) × (unfinished (now m) t ≡ true → positionOf (now r) t < 2 ^ 31) ⌝ }
+    ensures { λ a. ⌜ outcome a (now (m .exit)) (now (r .exit)) ≡ stepTested (now (job .entry)) (now (m .entry)) (now (r .entry)) t ⌝ }
+{
+    if !walks::unfinished(m, t) {
+        return StepAnswer::Refused(4);
+    }
+    if walks::blocked(m, t) {
+        return StepAnswer::Waits;
+    }
+    act(job, m, r, t)
+}
+
 // A step of task t, on any words. A step that is refused or waits changes none.
 pub fn step(job: &[u8], m: &mut [u32], r: &mut [u32], t: u32) -> StepAnswer
     ensures { λ a. ⌜ outcome a (now (m .exit)) (now (r .exit)) ≡ stepOutcome (now (job .entry)) (now (m .entry)) (now (r .entry)) t ⌝ }
@@ -139,11 +154,5 @@ pub fn step(job: &[u8], m: &mut [u32], r: &mut [u32], t: u32) -> StepAnswer
     if !runner_words::holds(job, m, r) {
         return StepAnswer::Refused(2);
     }
-    if !walks::unfinished(m, t) {
-        return StepAnswer::Refused(4);
-    }
-    if walks::blocked(m, t) {
-        return StepAnswer::Waits;
-    }
-    act(job, m, r, t)
+    step_tested(job, m, r, t)
 }

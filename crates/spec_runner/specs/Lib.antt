@@ -1,4 +1,5 @@
 pub mod Answers
+pub mod Packed
 pub mod Words
 pub mod Rules
 pub mod Open

@@ -1,10 +1,16 @@
 -- A LIST OF STEPS, one after the other, each given by the number of its task.
 use mathlib.Core.Path.{_≡_, refl, ap}
-use mathlib.Core.List.{List, [], _∷_, _++_}
+use mathlib.Core.Bool.{not}
+use mathlib.Core.List.{List, [], _∷_, _++_, map}
 use Prim.Native.Nat.{ℕ, suc}
+use lib.Dec.{eqb}
 use lib.ListN.{length}
+use Rattle.spec_words.specs.Words.{size, pick}
 use Rattle.spec_runner.specs.declared.StepAnswer.{StepAnswer}
-use Rattle.spec_runner.specs.Answers.{answerOf, coreOf, runnerOf}
+use Rattle.spec_runner.specs.declared.StepAnswer.the-variants.{Moved, Refused}
+use Rattle.spec_runner.specs.Answers.{Outcome, hasMoved, answerOf, coreOf, runnerOf}
+use Rattle.spec_runner.specs.Packed.{packedStep}
+use Rattle.spec_runner.specs.Open.{openOutcome}
 use Rattle.spec_runner.specs.Step.{stepOutcome}
 
 -- the answers in order, and both memories as the last step leaves them
@@ -37,3 +43,17 @@ module _ (j : List ℕ) where
   unfolding stepsFrom
   as-many [] m r = refl
   as-many (t ∷ ts) m r = let o = stepOutcome j m r t in ap suc (as-many ts (coreOf o) (runnerOf o))
+
+-- A LIST OF STEPS IN ONE CALL. What it gives: the call's own answer, both memories, and the numbers lent for the steps' answers.
+pub data Listed : Type 0 where
+  listed : StepAnswer → List ℕ → List ℕ → List ℕ → Listed
+
+-- behind an opening with outcome o: each step's answer in its place, those that wait or are refused too
+unfoldable pub runFrom : List ℕ → List ℕ → List ℕ → Outcome → Listed
+runFrom j ts a o =
+    let s = stepsFrom j ts (coreOf o) (runnerOf o) in
+    pick (hasMoved (answerOf o)) (listed Moved (s .core) (s .runner) (map packedStep (s .answers))) (listed (answerOf o) (coreOf o) (runnerOf o) a)
+
+-- 1 also where another number of places is lent for the answers than there are tasks
+unfoldable pub runOutcome : List ℕ → List ℕ → List ℕ → List ℕ → List ℕ → Listed
+runOutcome j m r ts a = pick (not (eqb (size a) (size ts))) (listed (Refused 1) m r a) (runFrom j ts a (openOutcome j m r))

@@ -1,55 +1,23 @@
--- The invariant: the first i tasks have made their steps, and their rows are written.
-use Rattle.runner_run.specs.Made.{fitting, task-there, row-there, all-made, Made, none-made, next-made}
-use lib.ListN.{length, take}
-use Prim.Native.Nat.{_-_, _≤_}
-use mathlib.Core.Path.{_≡_, refl, _∙_}
-use native.Mathlib.Omega.{arith}
+-- The lengths, then the opening, are decided in the order of `runOutcome`; the words that the opening leaves are where a run begins.
+use Rattle.runner_run.specs.Made.{other-length, stays-shut, opened-reached, runs}
 use borrow.Author.Needs.{needs}
 use Rattle.runner_run.proofs.run.Statement.{statement}
 use Rattle.runner_run.proofs.run.Tie as tie
 
-abbrev Inv-loop : tie.InvT-loop
-Inv-loop job tasks m₀ r₀ answers₀ n i₀ m r answers i =
-    (i ≤ n) × (n ≡ fitting (length tasks) (length answers₀)) × (length m ≡ length m₀) × (length r ≡ length r₀) × (length answers ≡ length answers₀)
-    × Made job (take i tasks) m₀ r₀ answers₀ m r answers
+returns : tie.Need-returns
+returns c = other-length _ _ _ _ _ (c .if1 .taken)
 
-abbrev μ-loop : tie.MeasureT-loop
-μ-loop job tasks m₀ r₀ answers₀ n i₀ m r answers i = n - i
+returns-2 : tie.Need-returns-2
+returns-2 c = stays-shut _ _ _ _ _ (c .before .before .before .before .before .before .before .before .if1 .left) (c .before .before .before .before .before .«open» .ensures) (c .if2 .taken)
 
-loop-holds : tie.Need-loop-holds Inv-loop μ-loop
-loop-holds c = (omega arith, c .fit .ensures, refl, refl, refl, none-made _ _ _ _)
+steps-requires : tie.Need-steps-requires
+steps-requires c κs = (opened-reached _ _ _ (c .before .before .before .before .before .before .before .before .«open» .ensures) (c .before .before .before .if2 .left), c .before .before .before .before .before .before .before .before .before .before .before .if1 .left)
 
-shared-slice-read-wide : tie.Need-shared-slice-read-wide Inv-loop μ-loop
-shared-slice-read-wide c = task-there _ _ (c .before .before .loop .inv .1) (c .before .loop-test .taken)
-
-make-requires : tie.Need-make-requires Inv-loop μ-loop
-make-requires c κs =
-    let h = row-there _ _ (c .before .before .before .before .before .before .loop .inv .1) (c .before .before .before .before .before .loop-test .taken) in
-    omega (arith, h)
-
-loop-again : tie.Need-loop-again Inv-loop μ-loop
-loop-again c = (
-  omega arith,
-  c .before .before .before .before .before .before .before .before .before .before .before .before .before .loop .inv .1,
-  c .before .before .before .before .before .before .make .kept .1 .1 .0
-      ∙ c .before .before .before .before .before .before .before .before .before .before .before .before .before .loop .inv .2,
-  c .before .before .before .before .before .before .make .kept .1 .1 .1 .0
-      ∙ c .before .before .before .before .before .before .before .before .before .before .before .before .before .loop .inv .3,
-  c .before .before .before .before .before .before .make .kept .1 .1 .1 .1 .0
-      ∙ c .before .before .before .before .before .before .before .before .before .before .before .before .before .loop .inv .4,
-  next-made _ _ _ _ _ _ _ (task-there _ _
-      (c .before .before .before .before .before .before .before .before .before .before .before .before .before .loop .inv .1)
-      (c .before .before .before .before .before .before .before .before .before .before .before .before .loop-test .taken))
-      (c .before .before .before .before .before .before .before .before .before .before .wide .ensures)
-      (c .before .before .before .before .before .before .before .before .before .before .before .before .before .loop .inv .5)
-      (c .before .before .before .before .before .before .make .ensures),
-)
-
-returns : tie.Need-returns Inv-loop μ-loop
-returns c = all-made _ _ _ _ _ (c .before .loop .inv .1) (c .before .loop .inv .0) (c .loop-test .left) (c .before .loop .inv .5)
+returns-3 : tie.Need-returns-3
+returns-3 c = runs _ _ _ _ _ (c .before .before .before .before .before .before .before .before .before .before .before .before .before .before .before .before .before .before .if1 .left) (c .before .before .before .before .before .before .before .before .before .before .before .before .before .before .before .«open» .ensures) (c .before .before .before .before .before .before .before .before .before .before .if2 .left) (c .before .before .before .before .before .before .steps .ensures)
 
 pub run-spec : {M : Type 1} → statement M
 run-spec =
     tie.close
-    (tie.spec Inv-loop μ-loop (λ c κs. search needs) loop-holds shared-slice-read-wide (λ c κs. search needs) make-requires (λ c. omega arith)
-    (λ c. omega arith) loop-again (λ c. c .before .loop .inv .2) (λ c. c .before .loop .inv .3) (λ c. c .before .loop .inv .4) returns)
+    (tie.spec returns (λ c κs. search needs) (λ c. search needs) (λ c. search needs) returns-2 steps-requires (λ c. search needs) (λ c. search needs)
+    (λ c. search needs) returns-3)
