@@ -1,5 +1,5 @@
-//! The runner of written jobs over the core: opening a job, a step of a task,
-//! and the ready map; on any bytes, any words and any task number.
+//! The runner of written jobs over the core: opening a job, a step of a task, a
+//! list of steps, and the ready map; on any bytes, any words and any task number.
 
 use crate::answer::{self, Answer};
 use crate::calls::{self, either};
@@ -100,6 +100,27 @@ pub fn open(job: &[u8], m: &mut [u32], r: &mut [u32]) -> Stepped {
             Stepped::Moved(Reply::Moved)
         }
     }
+}
+
+/// Opens the job afresh and makes a step of each task in the list, with its
+/// answer in the same place; as many places as tasks are needed.
+pub fn run(
+    job: &[u8],
+    m: &mut [u32],
+    r: &mut [u32],
+    tasks: &[u32],
+    answers: &mut [Stepped],
+) -> Stepped {
+    if answers.len() != tasks.len() {
+        return Stepped::Refused(1);
+    }
+    let opened = open(job, m, r);
+    if opened.moved() {
+        for (answer, t) in answers.iter_mut().zip(tasks) {
+            *answer = step(job, m, r, *t);
+        }
+    }
+    opened
 }
 
 /// One step of task `t`.

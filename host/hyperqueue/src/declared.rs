@@ -28,6 +28,18 @@ extern "C" {
         runner_len: usize,
         task: u32,
     ) -> u64;
+    pub fn hq_job_run(
+        job: *const u8,
+        job_len: usize,
+        words: *mut u32,
+        len: usize,
+        runner: *mut u32,
+        runner_len: usize,
+        tasks: *const u32,
+        count: usize,
+        answers: *mut u64,
+        answers_len: usize,
+    ) -> u64;
     pub fn hq_job_ready(
         job: *const u8,
         job_len: usize,

@@ -1,4 +1,5 @@
-//! A job's run with overlap: opening it, a step of a task, the ready map.
+//! A job's run with overlap: opening it, a step of a task, a list of steps, the
+//! ready map.
 
 use crate::declared::*;
 use crate::{lent, Answer};
@@ -46,6 +47,31 @@ pub fn step(job: &[u8], core: &mut [u32], runner: &mut [u32], task: u32) -> Answ
             runner.as_mut_ptr(),
             runner.len(),
             task,
+        )
+    })
+}
+
+/// Opens the job afresh and makes a step of each task in the list. Each step's
+/// answer stands packed in its place, `Answer::of` takes it apart.
+pub fn run(
+    job: &[u8],
+    core: &mut [u32],
+    runner: &mut [u32],
+    tasks: &[u32],
+    answers: &mut [u64],
+) -> Answer {
+    Answer::of(unsafe {
+        hq_job_run(
+            job.as_ptr(),
+            job.len(),
+            core.as_mut_ptr(),
+            core.len(),
+            runner.as_mut_ptr(),
+            runner.len(),
+            tasks.as_ptr(),
+            tasks.len(),
+            answers.as_mut_ptr(),
+            answers.len(),
         )
     })
 }

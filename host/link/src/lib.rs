@@ -6,6 +6,7 @@ mod faults;
 pub mod fuzzing;
 pub mod ground;
 pub mod guarded;
+pub mod instructions;
 #[cfg(test)]
 mod job_outcomes;
 pub mod linked;

@@ -13,6 +13,16 @@ pub fn step(job: &[u8], core: &mut [u32], words: &mut [u32], task: u32) -> u64 {
     runner::step(job, core, words, task).packed()
 }
 
+pub fn run(
+    job: &[u8],
+    core: &mut [u32],
+    words: &mut [u32],
+    tasks: &[u32],
+    answers: &mut [u64],
+) -> u64 {
+    runner::run(job, core, words, tasks, answers).packed()
+}
+
 pub fn ready(job: &[u8], core: &[u32], words: &[u32], out: &mut Map) -> u64 {
     runner::ready(job, core, words, out).packed()
 }

@@ -28,7 +28,7 @@ impl Default for Pair {
     fn default() -> Pair {
         let mut pair = Pair {
             library: linked::make,
-            linked: Guarded::default(),
+            linked: Guarded::new(&[]),
             model: Vec::new(),
             counts: Counts::default(),
         };

@@ -5,11 +5,13 @@ use crate::guarded::Guarded;
 use crate::linked_runner::{self, map_words, packed, Map};
 use host::runner::{self, Stepped};
 
-/// How the library opens a job, makes a step and gives the ready map.
+/// How the library opens a job, makes a step or a list of them and gives the
+/// ready map.
 #[derive(Clone, Copy)]
 pub struct RunnerLibrary {
     pub open: fn(&[u8], &mut [u32], &mut [u32]) -> u64,
     pub step: fn(&[u8], &mut [u32], &mut [u32], u32) -> u64,
+    pub run: fn(&[u8], &mut [u32], &mut [u32], &[u32], &mut [u64]) -> u64,
     pub ready: fn(&[u8], &[u32], &[u32], &mut Map) -> u64,
 }
 
@@ -17,8 +19,12 @@ pub struct RunnerLibrary {
 pub const LINKED: RunnerLibrary = RunnerLibrary {
     open: linked_runner::open,
     step: linked_runner::step,
+    run: linked_runner::run,
     ready: linked_runner::ready,
 };
+
+/// What stands in a place for an answer before the call.
+const UNSET: u64 = 0x0123_4567_89AB_CDEF;
 
 pub struct RunnerPair {
     /// The linked library; a test puts one that errs in its place.
@@ -61,6 +67,36 @@ impl RunnerPair {
         let due = runner::step(&self.job, &mut self.model_core, &mut self.model_runner, t);
         let given = (self.library.step)(&self.job, self.core.lend(), self.runner.lend(), t);
         self.same(&format!("step {t}"), given, due)
+    }
+
+    /// A list of steps in one call, with so many places for their answers; and
+    /// the answers.
+    pub fn run(&mut self, tasks: &[u32], places: usize) -> Result<(Stepped, Vec<Stepped>), String> {
+        let (mut answers, unset) = (Guarded::new(&vec![UNSET; places]), Stepped::Refused(0));
+        let mut due_answers = vec![unset; places];
+        let due = runner::run(
+            &self.job,
+            &mut self.model_core,
+            &mut self.model_runner,
+            tasks,
+            &mut due_answers,
+        );
+        let (core, runner) = (self.core.lend(), self.runner.lend());
+        let given = (self.library.run)(&self.job, core, runner, tasks, answers.lend());
+        let pairs = answers.words().iter().zip(&due_answers);
+        let place = |answer: Stepped| match answer == unset {
+            true => UNSET,
+            false => packed(answer),
+        };
+        let other = |(given, due): (&u64, &Stepped)| *given != place(*due);
+        if let Some(at) = pairs.map(other).position(|other| other) {
+            let (given, due) = (answers.words()[at], due_answers[at]);
+            return Err(format!("run: answer {at} is {given:#x}, model {due:?}"));
+        }
+        if answers.overrun() {
+            return Err("run: an answer outside the places lent".to_string());
+        }
+        Ok((self.same("run", given, due)?, due_answers))
     }
 
     /// The ready map of both.

@@ -3,7 +3,8 @@
 //! `bench` makes the same calls on the linked core and on the model, in turn.
 //! `bench growth` makes calls on the linked core alone, on memories of growing
 //! size. `bench serial` runs a job of 60,000 steps without overlap on both,
-//! `bench overlap` the same job under a random order of its tasks.
+//! `bench overlap` the same job under a random order of its tasks. `bench counts`
+//! counts instructions instead, with valgrind.
 
 use host::asm::assemble;
 use host::call::Call;
@@ -13,6 +14,7 @@ use host::overlap::Log;
 use host::random::Random;
 use host::runner::{self, RUNNER};
 use host::serial::{self, End};
+use link::instructions;
 use link::linked;
 use link::linked_jobs::{packed, run_serially, ANSWERS, WORKING};
 use link::linked_runner;
@@ -175,26 +177,56 @@ fn run_order((open, step): Steps, job: &[u8], tasks: &[u32]) -> (f64, u64) {
     (time / tasks.len() as f64, sum)
 }
 
-/// The long job with overlap, on the library and on the model; and the library
-/// with a call between any two that does nothing but the tests.
+/// Nanoseconds a call of the same run as one list, and the same sum.
+fn run_list(job: &[u8], tasks: &[u32]) -> (f64, u64) {
+    let (mut core, mut words) = (vec![0; WORDS], vec![0; RUNNER]);
+    let mut answers = vec![0; tasks.len()];
+    let (time, _) = timed(|| linked_runner::run(job, &mut core, &mut words, tasks, &mut answers));
+    let sum = answers
+        .iter()
+        .fold(0u64, |sum, answer| sum.rotate_left(1) ^ answer);
+    (time / tasks.len() as f64, sum)
+}
+
+/// The long job with overlap, on the library and on the model; and on the
+/// library as one list of steps.
 fn with_overlap() {
     let job = assemble(long_job::TEXT).expect("the long job assembles");
     let tasks = order(&job);
-    let tests: Vec<u32> = tasks.iter().flat_map(|t| [*t, 128]).collect();
-    let (mut linked, mut model, mut twice) = (f64::INFINITY, f64::INFINITY, f64::INFINITY);
+    let (mut linked, mut model, mut list) = (f64::INFINITY, f64::INFINITY, f64::INFINITY);
     for _ in 0..RUNS {
         let (time, sum) = run_order(LINKED, &job, &tasks);
         linked = linked.min(time);
         let (time, due) = run_order(MODEL, &job, &tasks);
         model = model.min(time);
         assert_eq!(sum, due, "answers");
-        twice = twice.min(2.0 * run_order(LINKED, &job, &tests).0);
+        let (time, sum) = run_list(&job, &tasks);
+        list = list.min(time);
+        assert_eq!(sum, due, "answers of the list");
     }
     println!("{} calls, {} of them moved", tasks.len(), long_job::STEPS);
     println!("{:10}{:>10}{:>10}{:>8}", "", "linked", "model", "ratio");
-    let (ratio, share) = (linked / model, 100.0 * (twice - linked) / linked);
+    let (ratio, list_ratio) = (linked / model, list / model);
     println!("{:10}{linked:>10.0}{model:>10.0}{ratio:>8.2}", "a call");
-    println!("share of the tests: {share:.0} per cent");
+    println!(
+        "{:10}{list:>10.1}{model:>10.0}{list_ratio:>8.3}",
+        "of a list"
+    );
+}
+
+/// The instructions of each scene.
+fn counts() -> ExitCode {
+    println!("{:40}{:>14}", "", "instructions");
+    for (at, scene) in instructions::scenes().iter().enumerate() {
+        match instructions::count(at, scene) {
+            Ok(count) => println!("{:40}{count:>14.1} {}", scene.name, scene.unit),
+            Err(fault) => {
+                eprintln!("bench: {fault}");
+                return ExitCode::FAILURE;
+            }
+        }
+    }
+    ExitCode::SUCCESS
 }
 
 fn main() -> ExitCode {
@@ -205,8 +237,14 @@ fn main() -> ExitCode {
         ["growth"] => (growth, ROUNDS),
         ["serial"] => (without_overlap, ROUNDS),
         ["overlap"] => (with_overlap, RUNS),
+        ["counts"] => return counts(),
+        ["scene", scene, part] => {
+            let number = |word: &str| word.parse().expect("a number");
+            instructions::run(number(scene), number(part));
+            return ExitCode::SUCCESS;
+        }
         _ => {
-            eprintln!("bench [growth | serial | overlap]");
+            eprintln!("bench [growth | serial | overlap | counts]");
             return ExitCode::FAILURE;
         }
     };

@@ -1,5 +1,5 @@
-//! The linked runner against the model's: random jobs under random orders, and
-//! steps on damaged memories.
+//! The linked runner against the model's: random jobs under random orders, step
+//! by step and as one list, and steps on damaged memories.
 //!
 //! `orders SEED` runs all parts. `orders SEED PART ROUND` makes one round of
 //! one part again, as the line of a difference names it.
@@ -76,12 +76,13 @@ const PARTS: [Part; 4] = [
 ];
 
 /// The answers that have to come at least once, call by call.
-const DUE: [(&str, &[u32]); 3] = [
+const DUE: [(&str, &[u32]); 4] = [
     ("open", &[1, 10, 11, 12, 44]),
     (
         "step",
         &[1, 2, 4, 8, 9, 10, 11, 12, 32, 33, 34, 40, 41, 42, 43, 44],
     ),
+    ("run", &[1, 10, 11, 12, 44]),
     ("ready", &[1, 2, 10, 11, 12, 44]),
 ];
 
@@ -111,6 +112,17 @@ impl State {
         Ok(answer)
     }
 
+    fn run(
+        &mut self,
+        pair: &mut RunnerPair,
+        tasks: &[u32],
+        places: usize,
+    ) -> Result<Vec<Stepped>, String> {
+        let (answer, answers) = pair.run(tasks, places)?;
+        self.count("run", answer);
+        Ok(answers)
+    }
+
     fn ready(&mut self, pair: &mut RunnerPair) -> Outcome {
         self.count("ready", pair.ready()?);
         Ok(())
@@ -126,18 +138,38 @@ fn somebody(r: &mut Random, log: &Log) -> u32 {
     r.pick(&unfinished)
 }
 
-/// A job under a random order, and now and then the ready map.
+/// The steps that were made one by one, as one list on other words: the same
+/// answers.
+fn as_a_list(
+    state: &mut State,
+    r: &mut Random,
+    pair: &mut RunnerPair,
+    made: &[(u32, Stepped)],
+) -> Outcome {
+    let (tasks, due): (Vec<u32>, Vec<Stepped>) = made.iter().copied().unzip();
+    pair.model_core = noise(r, WORDS as u32);
+    pair.model_runner = noise(r, RUNNER as u32);
+    pair.changed();
+    match state.run(pair, &tasks, tasks.len())? == due {
+        true => Ok(()),
+        false => Err("a list of steps is answered otherwise than its steps".to_string()),
+    }
+}
+
+/// A job under a random order, now and then the ready map; and the same calls
+/// in one.
 fn orders(state: &mut State, r: &mut Random) -> Outcome {
     let job = accepted(r);
     let plain = Plain::run(&Job::read(&job).expect("a job"), MOST_STEPS);
     let steps = plain.as_ref().map_or(MOST_STEPS, |plain| plain.steps);
     let mut pair = RunnerPair::new(job, &noise(r, WORDS as u32), &noise(r, RUNNER as u32));
     state.open(&mut pair)?;
-    let mut log = Log::default();
+    let (mut log, mut made) = (Log::default(), Vec::new());
     for _ in 0..MOST_CALLS.min(CALLS_A_STEP * steps) {
         let t = somebody(r, &log);
         let answer = state.step(&mut pair, t)?;
         log.note(t, answer);
+        made.push((t, answer));
         if r.chance(4) {
             state.ready(&mut pair)?;
         }
@@ -147,6 +179,9 @@ fn orders(state: &mut State, r: &mut Random) -> Outcome {
     }
     if log.unfinished().is_empty() {
         state.ended += 1;
+    }
+    if r.chance(30) {
+        as_a_list(state, r, &mut pair, &made)?;
     }
     match plain.and_then(|plain| plain.differs(&log)) {
         Some(what) => Err(what),
@@ -216,7 +251,17 @@ fn lengths(state: &mut State, r: &mut Random) -> Outcome {
     let mut pair = RunnerPair::new(accepted(r), &noise(r, core), &noise(r, runner));
     state.open(&mut pair)?;
     state.step(&mut pair, any_word(r))?;
-    state.ready(&mut pair)
+    state.ready(&mut pair)?;
+    let tasks: Vec<u32> = (0..r.below(4)).map(|_| r.below(3)).collect();
+    let places = if r.chance(50) {
+        tasks.len()
+    } else {
+        r.below(5) as usize
+    };
+    state.run(&mut pair, &tasks, places)?;
+    pair.job = damaged(r, &pair.job);
+    state.run(&mut pair, &tasks, places)?;
+    Ok(())
 }
 
 fn make_round(state: &mut State, seed: u64, at: usize, round: u32) -> Outcome {
