@@ -4,18 +4,15 @@ ghost use Rattle.spec_runner.specs.Open.{openOutcome};
 ghost use Rattle.spec_runner.specs.Step.{stepOutcome};
 ghost use Rattle.spec_runner.specs.Ready.{readyOutcome};
 ghost use Rattle.hyperqueue.specs.Steps.{packedStep, StepHanded, MapHanded};
+use answer_numbers::EMPTY;
+use answer_numbers::FINISHED;
+use answer_numbers::MOVED;
+use answer_numbers::NOT_EMPTY;
+use answer_numbers::PUSHED;
+use answer_numbers::SPAWNED;
+use answer_numbers::TOOK;
+use answer_numbers::WAITS;
 use spec_runner::StepAnswer;
-
-// The statuses of steps that moved; those of a test and of a wait are the core's.
-const SPAWNED: u32 = 40;
-
-const PUSHED: u32 = 41;
-
-const TOOK: u32 = 42;
-
-const FINISHED: u32 = 43;
-
-const MOVED: u32 = 44;
 
 // The status in the high half, the value in the low half.
 fn pack_step(a: StepAnswer) -> u64
@@ -27,9 +24,9 @@ fn pack_step(a: StepAnswer) -> u64
         StepAnswer::Took(v) => packing::pack(TOOK, v),
         StepAnswer::Finished => packing::pack(FINISHED, 0),
         StepAnswer::Moved => packing::pack(MOVED, 0),
-        StepAnswer::Empty => packing::pack(crate::EMPTY, 0),
-        StepAnswer::NotEmpty => packing::pack(crate::NOT_EMPTY, 0),
-        StepAnswer::Waits => packing::pack(crate::WAITS, 0),
+        StepAnswer::Empty => packing::pack(EMPTY, 0),
+        StepAnswer::NotEmpty => packing::pack(NOT_EMPTY, 0),
+        StepAnswer::Waits => packing::pack(WAITS, 0),
         StepAnswer::Refused(k) => packing::pack(k, 0),
     }
 }

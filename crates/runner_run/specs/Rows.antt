@@ -7,7 +7,7 @@ use lib.ListN.{length}
 use Rattle.spec_runner.specs.declared.StepAnswer.{StepAnswer}
 use Rattle.spec_runner.specs.declared.StepAnswer.the-variants.{Spawned, Pushed, Took, Finished, Moved, Empty, NotEmpty, Waits, Refused}
 use Rattle.spec_runner.specs.Answers.{wordOf}
-use Rattle.spec_serial.specs.Answers.{numberOf}
+use Rattle.spec_job.specs.Numbers.{numberOf}
 
 -- "value or "-"", "refused" with its number; 0 where "-" is printed
 unfoldable pub printed : StepAnswer → ℕ

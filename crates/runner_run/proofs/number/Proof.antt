@@ -1,6 +1,6 @@
 -- Each arm is one case of `numberOf`, by the word of the answer.
 use Rattle.runner_run.specs.Rows.{numbered}
-use Rattle.spec_serial.specs.Answers.{numberOf}
+use Rattle.spec_job.specs.Numbers.{numberOf}
 use Rattle.spec_runner.specs.Answers.{wordOf}
 use mathlib.Core.Path.{ap, sym}
 use borrow.Author.Needs.{needs}
