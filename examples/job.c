@@ -47,8 +47,6 @@ static void with_overlap(void) {
 }
 
 int main(void) {
-    static const char *const words[] = {"spawned", "pushed", "took", "moved",
-                                        "finished", "empty", "not"};
     uint64_t run;
     uint32_t step, index;
 
@@ -59,7 +57,8 @@ int main(void) {
     printf("status %u after %u steps\n", HQ_STATUS(run), HQ_VALUE(run));
     for (step = 0; step < HQ_VALUE(run); step++) {
         const uint32_t *answer = answers + 3 * step;
-        printf("task %u %s %u\n", answer[0], words[answer[1]], answer[2]);
+        printf("task %u %s %u\n", answer[0], hq_status_text(answer[1]),
+               answer[2]);
     }
     for (index = 0; index < HQ_QUEUED(working, 0); index++)
         printf("left in queue 0: %u\n", HQ_QUEUED_VALUE(working, 0, index));

@@ -67,7 +67,8 @@ enum {
     HQ_EMPTY = 33,     /* test: a pop would find no value */
     HQ_NOT_EMPTY = 34, /* test: a pop would find a value */
     HQ_SPENT = 35,     /* a run without overlap made 65,535 steps */
-    /* A step of a job's task that moved, with its value if it has one: */
+    /* A step of a job's task that moved, in a run with overlap or without,
+     * with its value if it has one: */
     HQ_TASK_SPAWNED = 40, /* the number of the new task */
     HQ_TASK_PUSHED = 41,  /* the value */
     HQ_TASK_TOOK = 42,    /* the value */
@@ -188,17 +189,9 @@ HQ_ANSWER hq_job_ready(const uint8_t *job, size_t job_len, const uint32_t *words
  * no job are refused as by hq_job_test, and nothing is run.
  *
  * Step number n, from 0, has the three words from answers[3 * n] on: the task,
- * numbered in the order of spawns with the top 0; the answer, one of those
- * below; the value, the child's number for a spawn, 0 where there is none. */
-enum {
-    HQ_STEP_SPAWNED = 0,
-    HQ_STEP_PUSHED = 1,
-    HQ_STEP_TOOK = 2,
-    HQ_STEP_MOVED = 3,
-    HQ_STEP_FINISHED = 4,
-    HQ_STEP_EMPTY = 5,
-    HQ_STEP_NOT_EMPTY = 6
-};
+ * numbered in the order of spawns with the top 0; the status, one of
+ * HQ_TASK_SPAWNED to HQ_TASK_MOVED, HQ_EMPTY or HQ_NOT_EMPTY, as hq_job_step
+ * answers; the value, the child's number for a spawn, 0 where there is none. */
 HQ_ANSWER hq_run_serially(const uint8_t *job, size_t len, uint32_t *working,
                          size_t working_len, uint32_t *answers,
                          size_t answers_len);

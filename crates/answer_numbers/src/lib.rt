@@ -1,18 +1,19 @@
-// The numbers that stand for the answers of a step: `numberOf` in crate `spec_serial`.
-pub const SPAWNED: u32 = 0;
+// The numbers of the answers of a step, as in `numberOf` of crate `spec_job`.
+pub const WAITS: u32 = 32;
 
-pub const PUSHED: u32 = 1;
+pub const EMPTY: u32 = 33;
 
-pub const TOOK: u32 = 2;
+pub const NOT_EMPTY: u32 = 34;
 
-pub const MOVED: u32 = 3;
+pub const SPAWNED: u32 = 40;
 
-pub const FINISHED: u32 = 4;
+pub const PUSHED: u32 = 41;
 
-pub const EMPTY: u32 = 5;
+pub const TOOK: u32 = 42;
 
-pub const NOT_EMPTY: u32 = 6;
+pub const FINISHED: u32 = 43;
 
-pub const WAITS: u32 = 7;
+pub const MOVED: u32 = 44;
 
-pub const REFUSED: u32 = 8;
+// In rows of words, where the number of the refusal is the value.
+pub const REFUSED: u32 = 45;

@@ -13,6 +13,9 @@ ghost use Rattle.spec_outcomes.specs.Sync.{syncOutcome};
 ghost use Rattle.spec_outcomes.specs.Finish.{finishOutcome};
 ghost use Rattle.spec_outcomes.specs.Left.{leftOutcome};
 ghost use Rattle.hyperqueue.specs.Packed.{memoryRefusal, packed, Handed};
+use answer_numbers::EMPTY;
+use answer_numbers::NOT_EMPTY;
+use answer_numbers::WAITS;
 use spec_answers::Answer;
 
 // 1 "a lent memory has another length", 2 "the memory rules fail"; 0 where a call may be made.
@@ -106,14 +109,8 @@ pub fn left(m: &mut [u32], q: u32, i: u32) -> Answer
 
 // FOR HOSTS IN OTHER LANGUAGES: a slice is a pointer and a length, an answer one number (include/hyperqueue.h).
 
-// The statuses of answers that are no refusals.
+// The status of a core call that moved.
 const MOVED: u32 = 0;
-
-const WAITS: u32 = 32;
-
-const EMPTY: u32 = 33;
-
-const NOT_EMPTY: u32 = 34;
 
 // An answer as one number: the status in the high half, the value in the low half.
 fn pack(a: Answer) -> u64

@@ -8,8 +8,8 @@ use lib.Dec.{eqb}
 use Rattle.spec_words.specs.Words.{pick}
 use Rattle.spec_job.specs.Operations.{Operation, rowOf, operationOf, operationAt}
 use Rattle.spec_job.specs.Effects.{sum, effect}
+use Rattle.spec_job.specs.Numbers.{EMPTY, NOT-EMPTY, SPAWNED, PUSHED, TOOK, FINISHED, MOVED, numberOf}
 use Rattle.spec_job.specs.Rows.{above, returns-at}
-use Rattle.spec_serial.specs.Answers.{numberOf}
 use Rattle.job_effect.specs.declared.Made.{Made}
 use Rattle.job_effect.specs.Made.{gives, foundWith, coded}
 
@@ -20,49 +20,49 @@ module _ (x i r v : ℕ) (b : Bool) (e : Made) where
   pub keyed : {k n : ℕ} → k ≡ n → Does n → Does k
   keyed h g = g ∙ ap (λ (k : ℕ). coded (effect (operationAt k) i r x (foundWith b v))) (sym h)
 
-  pub pushes : e ≡ gives 1 x r (i + 1) → Does 1
+  pub pushes : e ≡ gives PUSHED x r (i + 1) → Does 1
   unfolding operationAt operationOf rowOf effect coded numberOf
   pushes g = g
 
-  pub pushes-sum : {y : ℕ} → y ≡ (r + x) % 4294967296 → e ≡ gives 1 y r (i + 1) → Does 2
+  pub pushes-sum : {y : ℕ} → y ≡ (r + x) % 4294967296 → e ≡ gives PUSHED y r (i + 1) → Does 2
   unfolding operationAt operationOf rowOf effect coded numberOf sum
-  pushes-sum h g = g ∙ ap (λ (y : ℕ). gives 1 y r (i + 1)) h
+  pushes-sum h g = g ∙ ap (λ (y : ℕ). gives PUSHED y r (i + 1)) h
 
-  pub pops : e ≡ pick b (gives 2 v v (i + 1)) (gives 5 0 r (i + 1)) → Does 3
+  pub pops : e ≡ pick b (gives TOOK v v (i + 1)) (gives EMPTY 0 r (i + 1)) → Does 3
   pops g = g ∙ same b
     where
-      same : (b : Bool) → pick b (gives 2 v v (i + 1)) (gives 5 0 r (i + 1)) ≡ coded (effect (operationAt 3) i r x (foundWith b v))
+      same : (b : Bool) → pick b (gives TOOK v v (i + 1)) (gives EMPTY 0 r (i + 1)) ≡ coded (effect (operationAt 3) i r x (foundWith b v))
       same true = unfold pick operationAt operationOf rowOf effect coded numberOf foundWith in refl
       same false = unfold pick operationAt operationOf rowOf effect coded numberOf foundWith in refl
 
-  pub tests : e ≡ pick b (gives 6 0 r (i + 1)) (gives 5 0 r x) → Does 4
+  pub tests : e ≡ pick b (gives NOT-EMPTY 0 r (i + 1)) (gives EMPTY 0 r x) → Does 4
   tests g = g ∙ same b
     where
-      same : (b : Bool) → pick b (gives 6 0 r (i + 1)) (gives 5 0 r x) ≡ coded (effect (operationAt 4) i r x (foundWith b v))
+      same : (b : Bool) → pick b (gives NOT-EMPTY 0 r (i + 1)) (gives EMPTY 0 r x) ≡ coded (effect (operationAt 4) i r x (foundWith b v))
       same true = unfold pick operationAt operationOf rowOf effect coded numberOf foundWith in refl
       same false = unfold pick operationAt operationOf rowOf effect coded numberOf foundWith in refl
 
-  pub goes : e ≡ gives 3 0 r x → Does 5
+  pub goes : e ≡ gives MOVED 0 r x → Does 5
   unfolding operationAt operationOf rowOf effect coded numberOf
   goes g = g
 
-  pub goes-zero : e ≡ gives 3 0 r (pick (eqb r 0) x (i + 1)) → Does 6
+  pub goes-zero : e ≡ gives MOVED 0 r (pick (eqb r 0) x (i + 1)) → Does 6
   unfolding operationAt operationOf rowOf effect coded numberOf
   goes-zero g = g
 
-  pub adds : {y : ℕ} → y ≡ (r + x) % 4294967296 → e ≡ gives 3 0 y (i + 1) → Does 7
+  pub adds : {y : ℕ} → y ≡ (r + x) % 4294967296 → e ≡ gives MOVED 0 y (i + 1) → Does 7
   unfolding operationAt operationOf rowOf effect coded numberOf sum
-  adds h g = g ∙ ap (λ (y : ℕ). gives 3 0 y (i + 1)) h
+  adds h g = g ∙ ap (λ (y : ℕ). gives MOVED 0 y (i + 1)) h
 
-  pub spawns : e ≡ gives 0 0 r (i + 1) → Does 8
+  pub spawns : e ≡ gives SPAWNED 0 r (i + 1) → Does 8
   unfolding operationAt operationOf rowOf effect coded numberOf
   spawns g = g
 
-  pub syncs : e ≡ gives 3 0 r (i + 1) → Does 9
+  pub syncs : e ≡ gives MOVED 0 r (i + 1) → Does 9
   unfolding operationAt operationOf rowOf effect coded numberOf
   syncs g = g
 
-  pub returns-done : {k : ℕ} → (k ≡ 0) ⊎ (10 ≤ k) → e ≡ gives 4 0 r i → Does k
+  pub returns-done : {k : ℕ} → (k ≡ 0) ⊎ (10 ≤ k) → e ≡ gives FINISHED 0 r i → Does k
   unfolding effect coded numberOf
   returns-done {k} h g = g ∙ ap (λ (o : Operation). coded (effect o i r x (foundWith b v))) (sym (returns-at k h))
 

@@ -3,7 +3,7 @@ use mathlib.Core.Bool.{Bool, true, false}
 use mathlib.Core.Option.{Option, none, some}
 use Prim.Native.Nat.{ℕ}
 use Rattle.spec_job.specs.Effects.{Effect}
-use Rattle.spec_serial.specs.Answers.{numberOf}
+use Rattle.spec_job.specs.Numbers.{numberOf}
 use Rattle.job_effect.specs.declared.Made.{Made}
 
 abbrev pub gives : ℕ → ℕ → ℕ → ℕ → Made

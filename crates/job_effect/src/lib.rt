@@ -6,6 +6,7 @@ ghost use lib.Dec.{eqb};
 ghost use Rattle.spec_words.specs.Words.{pick};
 ghost use Rattle.spec_job.specs.Operations.{operationAt};
 ghost use Rattle.spec_job.specs.Effects.{effect};
+ghost use Rattle.spec_job.specs.Numbers.{EMPTY, NOT-EMPTY, TOOK, MOVED};
 ghost use Rattle.job_effect.specs.Made.{gives, foundWith, coded};
 use answer_numbers::EMPTY;
 use answer_numbers::FINISHED;
@@ -36,7 +37,7 @@ fn gives(answer: u32, value: u32, register: u32, next: u32) -> Made
 
 // A pop that found value v, or nothing.
 fn pop_effect(r: u32, next: u32, found: bool, v: u32) -> Made
-    ensures { λ e. ⌜ e ≡ pick found (gives 2 v v next) (gives 5 0 r next) ⌝ }
+    ensures { λ e. ⌜ e ≡ pick found (gives TOOK v v next) (gives EMPTY 0 r next) ⌝ }
 {
     if found {
         gives(TOOK, v, v, next)
@@ -47,7 +48,7 @@ fn pop_effect(r: u32, next: u32, found: bool, v: u32) -> Made
 
 // Goes to instruction x where nothing was found.
 fn test_effect(x: u32, r: u32, next: u32, found: bool) -> Made
-    ensures { λ e. ⌜ e ≡ pick found (gives 6 0 r next) (gives 5 0 r x) ⌝ }
+    ensures { λ e. ⌜ e ≡ pick found (gives NOT-EMPTY 0 r next) (gives EMPTY 0 r x) ⌝ }
 {
     if found {
         gives(NOT_EMPTY, 0, r, next)
@@ -58,7 +59,7 @@ fn test_effect(x: u32, r: u32, next: u32, found: bool) -> Made
 
 // Goes to instruction x where the register is zero.
 fn zero_effect(x: u32, r: u32, next: u32) -> Made
-    ensures { λ e. ⌜ e ≡ gives 3 0 r (pick (eqb r 0) x next) ⌝ }
+    ensures { λ e. ⌜ e ≡ gives MOVED 0 r (pick (eqb r 0) x next) ⌝ }
 {
     if r == 0 {
         gives(MOVED, 0, r, x)

@@ -29,6 +29,7 @@ use Rattle.spec_outcomes.specs.Left.{queued, leftTested}
 use Rattle.spec_job.specs.Fields.{bytes2, bytes4, procedures, segmentLength, offset, count, rights, reserved, instructionFrom, instructionAt}
 use Rattle.spec_job.specs.Operations.{rowOf, operationOf, operationAt}
 use Rattle.spec_job.specs.Effects.{sum, effect}
+use Rattle.spec_job.specs.Numbers.{numberOf, wordNumbered}
 use Rattle.spec_job.specs.Test.{between, headHolds, refusal10, entryHolds, entriesHold, contentsHold, refusal11, whichHolds, operandHolds, fitting}
 use Rattle.spec_job.specs.Test.{instructionHolds, lastHolds, bodyHolds, refusal12}
 use Rattle.spec_runner.specs.Words.{procedureOf, positionOf, registerOf, put, instructionFor}
@@ -38,9 +39,8 @@ use Rattle.spec_runner.specs.Open.{segmentsFor, jobOpened, openOutcome}
 use Rattle.spec_runner.specs.Step.{callOf, replyOf, runnerAfter, done, replied, coreOutcome, repliedTo, makes, stepTested, stepOutcome}
 use Rattle.spec_runner.specs.Run.{stepsFrom}
 use Rattle.spec_job.specs.Examples.{fullRun}
-use Rattle.spec_serial.specs.Answers.{numberOf}
 use Rattle.text.specs.Text.{ascii, digits, decimal}
-use Rattle.run_text.specs.Lines.{answerText, hasValue as printsValue, valueText, spaced, ended, line, leftLine, openLine, endLine}
+use Rattle.run_text.specs.Lines.{answerText, spaced, ended, line, leftLine, openLine, endLine}
 use Rattle.block_text.specs.Lines.{linesFrom}
 use Rattle.runner_run.specs.Rows.{numbered, printed}
 use Rattle.overlap_text.specs.Whole.{callLines, leftAt, isValue, leftFrom, leftIn, valueLine, queueLines, unfinishedIn, endText, textFrom, overlapText}
@@ -68,7 +68,7 @@ unfolding load store size pick both either storeAll rows one occurrences total e
     segmentLength offset count rights reserved instructionFrom instructionAt rowOf operationOf operationAt sum effect between headHolds refusal10 entryHolds
     entriesHold contentsHold refusal11 whichHolds operandHolds fitting instructionHolds lastHolds bodyHolds refusal12 procedureOf positionOf registerOf put
     instructionFor answerWith valueOf statusOf taskHolds zeros recordHolds runnerHolds refused jobTested tested segmentsFor jobOpened openOutcome callOf
-    replyOf runnerAfter done replied coreOutcome repliedTo makes stepTested stepOutcome hasMoved answerOf coreOf runnerOf wordOf stepsFrom numberOf ascii
-    digits decimal answerText printsValue valueText spaced ended line leftLine openLine endLine linesFrom numbered printed callLines leftAt isValue leftFrom
+    replyOf runnerAfter done replied coreOutcome repliedTo makes stepTested stepOutcome hasMoved answerOf coreOf runnerOf wordOf stepsFrom numberOf wordNumbered ascii
+    digits decimal answerText spaced ended line leftLine openLine endLine linesFrom numbered printed callLines leftAt isValue leftFrom
     leftIn valueLine queueLines unfinishedIn endText textFrom overlapText
 in-full = refl

@@ -2,24 +2,15 @@
 ghost use mathlib.Core.Path.{_≡_};
 ghost use Prim.Native.Nat.{_+_, _*_};
 ghost use Rattle.spec_runner.specs.Packed.{Packs};
+use answer_numbers::EMPTY;
+use answer_numbers::FINISHED;
+use answer_numbers::MOVED;
+use answer_numbers::NOT_EMPTY;
+use answer_numbers::PUSHED;
+use answer_numbers::SPAWNED;
+use answer_numbers::TOOK;
+use answer_numbers::WAITS;
 use spec_runner::StepAnswer;
-
-// The statuses of a step that was not refused.
-const WAITS: u32 = 32;
-
-const EMPTY: u32 = 33;
-
-const NOT_EMPTY: u32 = 34;
-
-const SPAWNED: u32 = 40;
-
-const PUSHED: u32 = 41;
-
-const TOOK: u32 = 42;
-
-const FINISHED: u32 = 43;
-
-const MOVED: u32 = 44;
 
 // The status in the high half, the value in the low half.
 pub fn pack(status: u32, value: u32) -> u64

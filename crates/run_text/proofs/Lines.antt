@@ -4,32 +4,23 @@ use mathlib.Core.List.{List}
 use Prim.Native.Nat.{ℕ, _<_, _≤_}
 use borrow.Author.Tests.{lt-ltb, le-ltb}
 use Rattle.spec_words.specs.Words.{halt, pass}
+use Rattle.spec_job.specs.Numbers.{wordNumbered}
 use Rattle.text.specs.Text.{ascii, decimal}
 use Rattle.text.specs.Puts.{Puts, puts-then, puts-first}
 use Rattle.run_text.proofs.Parts.{named}
-use Rattle.run_text.specs.Lines.{answerText, valueText, spaced, ended, line, leftLine, openLine, refusedLine, endLine}
+use Rattle.run_text.specs.Lines.{answerText, spaced, ended, line, leftLine, refusedLine, endLine}
 use Rattle.spec_serial.specs.declared.End.{End}
 use Rattle.spec_serial.specs.declared.End.the-variants.{Ended, Spent, Refused}
 
-pub whole-line : {m m1 m2 m3 m4 : List ℕ} {p0 p1 p2 p3 p4 : ℕ} (n t k v : ℕ) → Puts m p0 (spaced (decimal n)) m1 p1 → Puts m1 p1 (spaced (decimal t)) m2 p2
-    → Puts m2 p2 (spaced (answerText k)) m3 p3 → Puts m3 p3 (ended (valueText k v)) m4 p4 → Puts m p0 (line n t k v) m4 p4
+pub whole-line : {m m1 m2 m3 : List ℕ} {p0 p1 p2 p3 : ℕ} (n t k v : ℕ) → Puts m p0 (spaced (decimal n)) m1 p1 → Puts m1 p1 (spaced (decimal t)) m2 p2
+    → Puts m2 p2 (answerText (wordNumbered k) v) m3 p3 → Puts m p0 (line n t k v) m3 p3
 unfolding line
-whole-line n t k v a b c d = puts-then (puts-then (puts-then a b) c) d
+whole-line n t k v a b c = puts-then (puts-then a b) c
 
 pub whole-left : {m ws m1 m2 m3 : List ℕ} {p0 p1 p2 p3 : ℕ} (q v : ℕ) → ws ≡ ascii "left " → Puts m p0 ws m1 p1 → Puts m1 p1 (spaced (decimal q)) m2 p2
     → Puts m2 p2 (ended (decimal v)) m3 p3 → Puts m p0 (leftLine q v) m3 p3
 unfolding leftLine
 whole-left q v e a b c = puts-then (puts-then (named e a) b) c
-
-pub whole-open : {m ws m1 m2 : List ℕ} {p0 p1 p2 : ℕ} (n : ℕ) → ws ≡ ascii "open " → Puts m p0 ws m1 p1 → Puts m1 p1 (ended (decimal n)) m2 p2
-    → Puts m p0 (openLine n) m2 p2
-unfolding openLine
-whole-open n e a b = puts-then (named e a) b
-
-pub whole-refused : {m ws m1 m2 : List ℕ} {p0 p1 p2 : ℕ} (k : ℕ) → ws ≡ ascii "refused " → Puts m p0 ws m1 p1 → Puts m1 p1 (ended (decimal k)) m2 p2
-    → Puts m p0 (refusedLine k) m2 p2
-unfolding refusedLine
-whole-refused k e a b = puts-then (named e a) b
 
 module _ {m m1 : List ℕ} {p1 : ℕ} (e : End) where
   pub end-spent : {ws : List ℕ} → e ≡ Spent → ws ≡ ascii "spent\n" → Puts m 0 ws m1 p1 → Puts m 0 (endLine e) m1 p1

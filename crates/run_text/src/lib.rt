@@ -1,10 +1,13 @@
 // The lines of a run, put into lent bytes from position `at` on. Each function gives the position behind what it wrote, and
 // says how far behind that is at most.
 ghost use mathlib.Core.Path.{_≡_};
+ghost use mathlib.Core.List.{_++_};
 ghost use Prim.Native.Nat.{_+_, _^_, _<_, _≤_};
+ghost use lib.ListN.{length};
+ghost use Rattle.spec_job.specs.Numbers.{wordNumbered};
 ghost use Rattle.text.specs.Text.{decimal};
 ghost use Rattle.text.specs.Puts.{Puts};
-ghost use Rattle.run_text.specs.Lines.{answerText, valueText, spaced, ended, line, leftLine, openLine, refusedLine, endLine};
+ghost use Rattle.run_text.specs.Lines.{answerText, spaced, ended, line, leftLine, openLine, refusedLine, endLine};
 use answer_numbers::EMPTY;
 use answer_numbers::FINISHED;
 use answer_numbers::MOVED;
@@ -42,45 +45,49 @@ fn ended_number(out: &mut [u8], at: usize, n: u32) -> usize
     text::put(out, b, b"\n")
 }
 
-// The word of an answer, by the number that stands for it, and a space.
-fn answer(out: &mut [u8], at: usize, k: u32) -> usize
-    requires { ⌜ at < 2 ^ 39 ⌝ }
-    ensures { λ r. ⌜ Puts (now (out .entry)) at (spaced (answerText k)) (now (out .exit)) r ⌝ }
+// A name and a number that ends the line.
+fn named_number(out: &mut [u8], at: usize, name: &[u8], n: u32) -> usize
+    requires { ⌜ (at + 8 < 2 ^ 39) × (length (now name) ≤ 8) ⌝ }
+    ensures { λ r. ⌜ Puts (now (out .entry)) at (now (name .entry) ++ ended (decimal n)) (now (out .exit)) r × (r ≤ at + 19) ⌝ }
+{
+    let b = text::put(out, at, name);
+    ended_number(out, b, n)
+}
+
+// "refused" and the number k.
+fn refused_line(out: &mut [u8], at: usize, k: u32) -> usize
+    requires { ⌜ at + 8 < 2 ^ 39 ⌝ }
+    ensures { λ r. ⌜ Puts (now (out .entry)) at (refusedLine k) (now (out .exit)) r × (r ≤ at + 19) ⌝ }
+{
+    named_number(out, at, b"refused ", k)
+}
+
+// The answer that has number k, and its value v or "-".
+fn answer(out: &mut [u8], at: usize, k: u32, v: u32) -> usize
+    requires { ⌜ at + 8 < 2 ^ 39 ⌝ }
+    ensures { λ r. ⌜ Puts (now (out .entry)) at (answerText (wordNumbered k) v) (now (out .exit)) r × (r ≤ at + 19) ⌝ }
 {
     match k {
-        SPAWNED => text::put(out, at, b"spawned "),
-        PUSHED => text::put(out, at, b"pushed "),
-        TOOK => text::put(out, at, b"took "),
-        MOVED => text::put(out, at, b"moved "),
-        FINISHED => text::put(out, at, b"finished "),
-        EMPTY => text::put(out, at, b"empty "),
-        NOT_EMPTY => text::put(out, at, b"not "),
-        WAITS => text::put(out, at, b"waits "),
-        _ => text::put(out, at, b"refused "),
+        SPAWNED => named_number(out, at, b"spawned ", v),
+        PUSHED => named_number(out, at, b"pushed ", v),
+        TOOK => named_number(out, at, b"took ", v),
+        FINISHED => text::put(out, at, b"finished -\n"),
+        MOVED => text::put(out, at, b"moved -\n"),
+        EMPTY => text::put(out, at, b"empty -\n"),
+        NOT_EMPTY => text::put(out, at, b"not -\n"),
+        WAITS => text::put(out, at, b"waits -\n"),
+        _ => refused_line(out, at, v),
     }
 }
 
-// The value of an answer, or "-" where it has none, at the end of the line.
-fn value(out: &mut [u8], at: usize, k: u32, v: u32) -> usize
-    requires { ⌜ at < 2 ^ 39 ⌝ }
-    ensures { λ r. ⌜ Puts (now (out .entry)) at (ended (valueText k v)) (now (out .exit)) r × (r ≤ at + 11) ⌝ }
-{
-    match k {
-        SPAWNED..=TOOK => ended_number(out, at, v),
-        MOVED..=WAITS => text::put(out, at, b"-\n"),
-        _ => ended_number(out, at, v),
-    }
-}
-
-// The line of call n, counted from 1: task t was answered k with value v.
+// The line of call n, counted from 1: task t was answered with number k and value v.
 pub fn line(out: &mut [u8], at: usize, n: u64, t: u32, k: u32, v: u32) -> usize
     requires { ⌜ at < 2 ^ 38 ⌝ }
     ensures { λ r. ⌜ Puts (now (out .entry)) at (line n t k v) (now (out .exit)) r × (r ≤ at + 52) ⌝ }
 {
     let a = spaced_long(out, at, n);
     let b = spaced_number(out, a, t);
-    let c = answer(out, b, k);
-    value(out, c, k, v)
+    answer(out, b, k, v)
 }
 
 // The line of a value v left in queue q.
@@ -95,19 +102,9 @@ pub fn left_line(out: &mut [u8], at: usize, q: u32, v: u32) -> usize
 
 // The line of a run with n tasks unfinished.
 pub fn open_line(out: &mut [u8], n: u32) -> usize
-    ensures { λ r. ⌜ Puts (now (out .entry)) 0 (openLine n) (now (out .exit)) r × (r ≤ 16) ⌝ }
+    ensures { λ r. ⌜ Puts (now (out .entry)) 0 (openLine n) (now (out .exit)) r × (r ≤ 19) ⌝ }
 {
-    let a = text::put(out, 0, b"open ");
-    ended_number(out, a, n)
-}
-
-// "refused" and the number k.
-fn refused_line(out: &mut [u8], at: usize, k: u32) -> usize
-    requires { ⌜ at < 2 ^ 38 ⌝ }
-    ensures { λ r. ⌜ Puts (now (out .entry)) at (refusedLine k) (now (out .exit)) r × (r ≤ at + 19) ⌝ }
-{
-    let a = text::put(out, at, b"refused ");
-    ended_number(out, a, k)
+    named_number(out, 0, b"open ", n)
 }
 
 // The line of a run that a bound stopped or that was turned down.

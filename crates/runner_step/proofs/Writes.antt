@@ -7,6 +7,7 @@ use Prim.Native.Nat.{ℕ, _+_, _%_, _<_, _≤_}
 use Rattle.spec_job.specs.declared.Instruction.{Instruction}
 use Rattle.spec_job.specs.Operations.{Operation, rowOf, operationOf, operationAt}
 use Rattle.spec_job.specs.Effects.{Word, Effect, sum, effect}
+use Rattle.spec_job.specs.Numbers.{wordNumbered, word-numbered}
 use Rattle.spec_runner.specs.declared.StepAnswer.{StepAnswer}
 use Rattle.spec_runner.specs.Words.{procedureOf, positionOf, registerOf, put}
 use Rattle.spec_runner.specs.Answers.{answerWith, outcome}
@@ -14,7 +15,7 @@ use Rattle.spec_runner.specs.Step.{runnerAfter, done}
 use Rattle.spec_job.specs.Rows.{returns-at}
 use Rattle.job_effect.specs.declared.Made.{Made}
 use Rattle.job_effect.specs.Made.{coded}
-use Rattle.runner_step.specs.Parts.{wordNumbered, word-numbered, Writes, Makes}
+use Rattle.runner_step.specs.Parts.{Writes, Makes}
 use Rattle.runner_step.proofs.Numbers.{goes-at}
 
 module _ (t : ℕ) (s : Instruction) (c i x : ℕ) (r : List ℕ) {p : ℕ} (ep : p ≡ procedureOf r t) where

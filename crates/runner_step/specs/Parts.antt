@@ -1,39 +1,18 @@
 -- What each part of a step has to give.
-use mathlib.Core.Path.{_≡_, refl}
-use mathlib.Core.List.{List, [], _∷_}
+use mathlib.Core.Path.{_≡_}
+use mathlib.Core.List.{List}
 use mathlib.Core.Option.{Option, none, some}
 use Prim.Native.Nat.{ℕ}
-use lib.ListN.{getD}
 use Rattle.spec_answers.specs.declared.Answer.the-variants.{Empty}
 use Rattle.spec_answers.specs.Answers.{Outcome as CoreOutcome, outcome as answered}
 use Rattle.spec_answers.specs.Calls.{Call}
 use Rattle.spec_job.specs.declared.Instruction.{Instruction}
 use Rattle.spec_job.specs.Operations.{operationAt}
-use Rattle.spec_job.specs.Effects.{Word, spawned, pushed, took, moved, finished, empty, notEmpty, waits, refused, Effect}
-use Rattle.spec_serial.specs.Answers.{numberOf}
+use Rattle.spec_job.specs.Effects.{Effect}
 use Rattle.spec_runner.specs.declared.StepAnswer.{StepAnswer}
 use Rattle.spec_runner.specs.Words.{registerOf, instructionFor}
 use Rattle.spec_runner.specs.Answers.{Outcome, outcome}
 use Rattle.spec_runner.specs.Step.{callOf, runnerAfter, done, coreOutcome, makes}
-
--- the words by their numbers, `numberOf` in crate `spec_serial`
-abbrev pub words : List Word
-words = spawned ∷ pushed ∷ took ∷ moved ∷ finished ∷ empty ∷ notEmpty ∷ waits ∷ []
-
-unfoldable pub wordNumbered : ℕ → Word
-wordNumbered n = getD words n refused
-
-pub word-numbered : (w : Word) → wordNumbered (numberOf w) ≡ w
-unfolding wordNumbered numberOf
-word-numbered spawned = refl
-word-numbered pushed = refl
-word-numbered took = refl
-word-numbered moved = refl
-word-numbered finished = refl
-word-numbered empty = refl
-word-numbered notEmpty = refl
-word-numbered waits = refl
-word-numbered refused = refl
 
 -- What the core gives. A step without a call goes on as one that found nothing.
 unfoldable pub called : Option Call → List ℕ → CoreOutcome

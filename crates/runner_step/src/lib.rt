@@ -8,11 +8,12 @@ ghost use Rattle.spec_rules.specs.Test.{rulesHold};
 ghost use Rattle.spec_answers.specs.Answers.{outcome as answered};
 ghost use Rattle.spec_outcomes.specs.Waits.{unfinished};
 ghost use Rattle.spec_job.specs.Operations.{operationAt};
+ghost use Rattle.spec_job.specs.Numbers.{wordNumbered};
 ghost use Rattle.spec_runner.specs.Words.{positionOf};
 ghost use Rattle.spec_runner.specs.Answers.{answerWith, outcome};
 ghost use Rattle.spec_runner.specs.Step.{callOf, stepTested, stepOutcome};
 ghost use Rattle.job_effect.specs.Made.{foundWith};
-ghost use Rattle.runner_step.specs.Parts.{wordNumbered, called, acted, Writes, Makes};
+ghost use Rattle.runner_step.specs.Parts.{called, acted, Writes, Makes};
 use answer_numbers::EMPTY;
 use answer_numbers::FINISHED;
 use answer_numbers::MOVED;
@@ -33,8 +34,8 @@ fn answer(n: u32, x: u32, v: u32) -> StepAnswer
         SPAWNED => StepAnswer::Spawned(v),
         PUSHED => StepAnswer::Pushed(x),
         TOOK => StepAnswer::Took(x),
-        MOVED => StepAnswer::Moved,
         FINISHED => StepAnswer::Finished,
+        MOVED => StepAnswer::Moved,
         EMPTY => StepAnswer::Empty,
         NOT_EMPTY => StepAnswer::NotEmpty,
         WAITS => StepAnswer::Waits,

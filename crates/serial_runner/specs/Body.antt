@@ -17,7 +17,7 @@ use Rattle.spec_job.specs.Fields.{offset, instructionFrom, instructionAt}
 use Rattle.spec_job.specs.Effects.{sum}
 use Rattle.spec_plain.specs.Machine.{Task, state, queue}
 use Rattle.spec_serial.specs.Serial.{STEPS, full}
-use Rattle.spec_serial.specs.Answers.{FINISHED}
+use Rattle.spec_job.specs.Numbers.{FINISHED}
 use Rattle.spec_serial.specs.Outcome.{Outcome}
 use Rattle.spec_serial.specs.declared.End.{End}
 use Rattle.spec_serial.specs.declared.End.the-variants.{Ended, Spent, Refused}

@@ -11,7 +11,7 @@ use Rattle.spec_job.specs.Fields.{instructionAt}
 use Rattle.spec_job.specs.Effects.{sum}
 use Rattle.spec_plain.specs.Machine.{Task, State, state}
 use Rattle.spec_serial.specs.Serial.{STEPS}
-use Rattle.spec_serial.specs.Answers.{SPAWNED}
+use Rattle.spec_job.specs.Numbers.{SPAWNED}
 use Rattle.spec_serial.specs.declared.End.the-variants.{Ended, Refused}
 use Rattle.serial_runner.specs.declared.Ran.{Ran}
 use Rattle.serial_runner.specs.Onward.{onward}

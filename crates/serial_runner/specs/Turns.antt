@@ -22,7 +22,8 @@ use Rattle.spec_job.specs.Test.{between}
 use Rattle.spec_plain.specs.Machine.{Task, State, state, made, queue, front, queuesAfter, advanced, parent, child, stackAfter, effectOn, eventOf, does, step}
 use Rattle.spec_plain.specs.Run.{queuesOf, stepsOf}
 use Rattle.spec_serial.specs.Serial.{tooDeep, full, boundOn, stopOf}
-use Rattle.spec_serial.specs.Answers.{SPAWNED, FINISHED, numberOf, numbersAfter, madeAfter, row}
+use Rattle.spec_job.specs.Numbers.{SPAWNED, FINISHED, numberOf}
+use Rattle.spec_serial.specs.Answers.{numbersAfter, madeAfter, row}
 use Rattle.spec_serial.specs.Outcome.{Outcome, outcome}
 use Rattle.spec_serial.specs.declared.End.{End}
 use Rattle.spec_serial.specs.declared.End.the-variants.{Spent, Refused}

@@ -8,16 +8,17 @@ use Rattle.spec_tree.specs.Rights.{bits, pushes, pops, eachQueue, subset}
 use Rattle.spec_job.specs.Fields.{bytes2, bytes4, procedures, segmentLength, offset, count, rights, reserved, instructionFrom, instructionAt}
 use Rattle.spec_job.specs.Operations.{rowOf, operationOf, operationAt}
 use Rattle.spec_job.specs.Effects.{sum, effect}
+use Rattle.spec_job.specs.Numbers.{numberOf, wordNumbered}
 use Rattle.spec_job.specs.Test.{between, headHolds, refusal10, entryHolds, entriesHold, contentsHold, refusal11, whichHolds, operandHolds, fitting, instructionHolds}
 use Rattle.spec_job.specs.Test.{lastHolds, bodyHolds, refusal12}
 use Rattle.spec_job.specs.Examples.{fullRun}
 use Rattle.spec_plain.specs.Machine.{begin, queue, front, queuesAfter, advanced, parent, child, stackAfter, effectOn, eventOf, does, step}
 use Rattle.spec_plain.specs.Run.{after, eventIn, next}
 use Rattle.spec_serial.specs.Serial.{tooDeep, full, boundOn, stopOf, stopped, goesOn, serialFrom, serial}
-use Rattle.spec_serial.specs.Answers.{numberOf, numbersAfter, madeAfter, row, written}
+use Rattle.spec_serial.specs.Answers.{numbersAfter, madeAfter, row, written}
 use Rattle.spec_serial.specs.Outcome.{shown, turnedDown, serialOutcome}
 use Rattle.text.specs.Text.{ascii, digits, decimal}
-use Rattle.run_text.specs.Lines.{answerText, hasValue, valueText, spaced, ended, line, leftLine}
+use Rattle.run_text.specs.Lines.{answerText, spaced, ended, line, leftLine}
 use Rattle.block_text.specs.Lines.{linesFrom}
 use Rattle.serial_text.specs.Whole.{stepLine, valueLine, queueLines, endText, textOf, serialText}
 
@@ -27,7 +28,7 @@ pub full-run-text : serialText fullRun
 unfolding load pick both either size storeAll upto bits pushes pops eachQueue subset bytes2 bytes4 procedures segmentLength offset count rights reserved
     instructionFrom instructionAt rowOf operationOf operationAt sum effect between headHolds refusal10 entryHolds entriesHold contentsHold refusal11
     whichHolds operandHolds fitting instructionHolds lastHolds bodyHolds refusal12 begin queue front queuesAfter advanced parent child stackAfter effectOn
-    eventOf does step after eventIn next tooDeep full boundOn stopOf stopped goesOn serialFrom serial numberOf numbersAfter madeAfter row written shown
-    turnedDown serialOutcome ascii digits decimal answerText hasValue valueText spaced ended line leftLine linesFrom stepLine valueLine queueLines endText
+    eventOf does step after eventIn next tooDeep full boundOn stopOf stopped goesOn serialFrom serial numberOf wordNumbered numbersAfter madeAfter row written shown
+    turnedDown serialOutcome ascii digits decimal answerText spaced ended line leftLine linesFrom stepLine valueLine queueLines endText
     textOf serialText
 full-run-text = refl

@@ -2,6 +2,7 @@ pub mod Fields
 pub mod Operations
 pub mod Rows
 pub mod Effects
+pub mod Numbers
 pub mod Test
 pub mod Examples
 pub mod Cases

@@ -3,6 +3,7 @@ use mathlib.Core.Bool.{Bool, true, false}
 use mathlib.Core.List.{List}
 use Prim.Native.Nat.{ℕ}
 use Rattle.spec_job.specs.Effects.{Word, spawned, pushed, took, moved, finished, empty, notEmpty, waits, refused}
+use Rattle.spec_job.specs.Numbers.{WAITS, EMPTY, NOT-EMPTY, SPAWNED, PUSHED, TOOK, FINISHED, MOVED}
 use Rattle.spec_runner.specs.declared.StepAnswer.{StepAnswer}
 use Rattle.spec_runner.specs.declared.StepAnswer.the-variants.{Spawned, Pushed, Took, Finished, Moved, Empty, NotEmpty, Waits, Refused}
 
@@ -43,14 +44,14 @@ valueOf (Refused k) = 0
 
 -- The status of an answer: "a refusal .. returns its number"; the others are numbers that no refusal has.
 unfoldable pub statusOf : StepAnswer → ℕ
-statusOf (Spawned v) = 40
-statusOf (Pushed v) = 41
-statusOf (Took v) = 42
-statusOf Finished = 43
-statusOf Moved = 44
-statusOf Empty = 33
-statusOf NotEmpty = 34
-statusOf Waits = 32
+statusOf (Spawned v) = SPAWNED
+statusOf (Pushed v) = PUSHED
+statusOf (Took v) = TOOK
+statusOf Finished = FINISHED
+statusOf Moved = MOVED
+statusOf Empty = EMPTY
+statusOf NotEmpty = NOT-EMPTY
+statusOf Waits = WAITS
 statusOf (Refused k) = k
 
 -- "calls that moved (neither refused nor waiting)"

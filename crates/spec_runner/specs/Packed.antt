@@ -1,19 +1,20 @@
 -- AN ANSWER AS ONE NUMBER of 64 bits, for hosts: the status in the high half, the value in the low half.
 use mathlib.Core.Path.{_≡_, refl}
 use Prim.Native.Nat.{ℕ, _+_, _*_, _<_}
+use Rattle.spec_job.specs.Numbers.{WAITS, EMPTY, NOT-EMPTY, SPAWNED, PUSHED, TOOK, FINISHED, MOVED}
 use Rattle.spec_runner.specs.declared.StepAnswer.{StepAnswer}
 use Rattle.spec_runner.specs.declared.StepAnswer.the-variants.{Spawned, Pushed, Took, Finished, Moved, Empty, NotEmpty, Waits, Refused}
 use Rattle.spec_runner.specs.Answers.{statusOf, valueOf}
 
 abbrev pub packedStep : StepAnswer → ℕ
-packedStep (Spawned v) = 40 * 4294967296 + v
-packedStep (Pushed v) = 41 * 4294967296 + v
-packedStep (Took v) = 42 * 4294967296 + v
-packedStep Finished = 43 * 4294967296 + 0
-packedStep Moved = 44 * 4294967296 + 0
-packedStep Empty = 33 * 4294967296 + 0
-packedStep NotEmpty = 34 * 4294967296 + 0
-packedStep Waits = 32 * 4294967296 + 0
+packedStep (Spawned v) = SPAWNED * 4294967296 + v
+packedStep (Pushed v) = PUSHED * 4294967296 + v
+packedStep (Took v) = TOOK * 4294967296 + v
+packedStep Finished = FINISHED * 4294967296 + 0
+packedStep Moved = MOVED * 4294967296 + 0
+packedStep Empty = EMPTY * 4294967296 + 0
+packedStep NotEmpty = NOT-EMPTY * 4294967296 + 0
+packedStep Waits = WAITS * 4294967296 + 0
 packedStep (Refused k) = k * 4294967296 + 0
 
 pub step-halves : (a : StepAnswer) → packedStep a ≡ statusOf a * 4294967296 + valueOf a

@@ -1,31 +1,14 @@
--- THE ANSWERS OF A RUN AS WORDS: three for each step, in the order made: the task's number, the answer, its value, 0 where
+-- THE ANSWERS OF A RUN AS WORDS: three for each step, in the order made: the task's number, the answer's, its value, 0 where
 -- "-" is printed. Tasks are numbered in the order of their spawns, the top is 0; "Spawn returns the child's number".
 use mathlib.Core.List.{List, [], _∷_, _++_}
 use Prim.Native.Nat.{ℕ, _+_}
 use lib.Dec.{eqb}
 use Rattle.spec_words.specs.Words.{pick}
-use Rattle.spec_job.specs.Effects.{Word, spawned, pushed, took, moved, finished, empty, notEmpty, waits, refused}
+use Rattle.spec_job.specs.Effects.{Word}
+use Rattle.spec_job.specs.Numbers.{SPAWNED, FINISHED, numberOf}
 use Rattle.spec_plain.specs.Machine.{Event}
 use Rattle.spec_serial.specs.declared.End.{End}
 use Rattle.spec_serial.specs.declared.End.the-variants.{Ended, Spent, Refused}
-
--- The number that stands for an answer. A run without overlap is never answered "waits" or "refused".
-abbrev pub SPAWNED : ℕ
-SPAWNED = 0
-
-abbrev pub FINISHED : ℕ
-FINISHED = 4
-
-unfoldable pub numberOf : Word → ℕ
-numberOf spawned = SPAWNED
-numberOf pushed = 1
-numberOf took = 2
-numberOf moved = 3
-numberOf finished = FINISHED
-numberOf empty = 5
-numberOf notEmpty = 6
-numberOf waits = 7
-numberOf refused = 8
 
 -- The numbers of the stack's tasks after a step of task m that is answered w, with ms under it and c tasks made before.
 unfoldable pub numbersAfter : Word → ℕ → ℕ → List ℕ → List ℕ

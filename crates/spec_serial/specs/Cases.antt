@@ -7,13 +7,14 @@ use Rattle.spec_words.specs.Words.{load, pick, both}
 use Rattle.spec_job.specs.Fields.{bytes2, bytes4, offset, instructionFrom, instructionAt}
 use Rattle.spec_job.specs.Operations.{return, push, pop, spawn, sync, rowOf, operationOf, operationAt}
 use Rattle.spec_job.specs.Effects.{spawned, pushed, took, moved, finished, sum, effect}
+use Rattle.spec_job.specs.Numbers.{numberOf}
 use Rattle.spec_job.specs.Test.{between}
 use Rattle.spec_job.specs.Examples.{fullRun, wrapping, alone, ins}
 use Rattle.spec_plain.specs.Machine.{Task, State, state, Event, begin, queue, front, queuesAfter, advanced, parent, child, stackAfter, effectOn, eventOf, does, step}
 use Rattle.spec_plain.specs.Run.{after, eventIn, next}
 use Rattle.spec_plain.specs.Cases.{did}
 use Rattle.spec_serial.specs.Serial.{tooDeep, full, boundOn, stopOf, Run, stopped, goesOn, serialFrom, serial}
-use Rattle.spec_serial.specs.Answers.{numberOf, numbersAfter, madeAfter, row, written}
+use Rattle.spec_serial.specs.Answers.{numbersAfter, madeAfter, row, written}
 use Rattle.spec_serial.specs.declared.End.{End}
 use Rattle.spec_serial.specs.declared.End.the-variants.{Ended, Spent, Refused}
 
@@ -48,8 +49,8 @@ pub record Cases : Type 0 where
       ∷ did [] spawn 3 spawned 0 ∷ did (2 ∷ []) push 0 pushed 20 ∷ did (2 ∷ []) return 0 finished 0
       ∷ did [] sync 0 moved 0 ∷ did [] return 0 finished 0 ∷ [])
   pub fullRunWords : written 1 (0 ∷ []) (serial fullRun .events) ≡
-      0 ∷ 0 ∷ 1 ∷ 1 ∷ 1 ∷ 10 ∷ 1 ∷ 4 ∷ 0 ∷ 0 ∷ 0 ∷ 2 ∷ 2 ∷ 2 ∷ 10 ∷ 2 ∷ 4 ∷ 0
-      ∷ 0 ∷ 0 ∷ 3 ∷ 3 ∷ 1 ∷ 20 ∷ 3 ∷ 4 ∷ 0 ∷ 0 ∷ 3 ∷ 0 ∷ 0 ∷ 4 ∷ 0 ∷ []
+      0 ∷ 40 ∷ 1 ∷ 1 ∷ 41 ∷ 10 ∷ 1 ∷ 43 ∷ 0 ∷ 0 ∷ 40 ∷ 2 ∷ 2 ∷ 42 ∷ 10 ∷ 2 ∷ 43 ∷ 0
+      ∷ 0 ∷ 40 ∷ 3 ∷ 3 ∷ 41 ∷ 20 ∷ 3 ∷ 43 ∷ 0 ∷ 0 ∷ 44 ∷ 0 ∷ 0 ∷ 43 ∷ 0 ∷ []
   -- "Register 4,294,967,295 plus 1 is 0."
   pub wraps : serial wrapping .queues ≡ (0 ∷ 7 ∷ []) ∷ [] ∷ [] ∷ [] ∷ []
   -- STEPS: the last return may be the last step; with one step less the run is spent

@@ -8,7 +8,7 @@ use std::mem::MaybeUninit;
 /// The words that the runner needs beside the core's.
 pub const WORDS: usize = 384;
 
-/// The statuses of a step that moved.
+/// The statuses of a step that moved, in runs with overlap and without.
 pub const SPAWNED: u32 = 40;
 pub const PUSHED: u32 = 41;
 pub const TOOK: u32 = 42;

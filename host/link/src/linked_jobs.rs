@@ -2,6 +2,7 @@
 //! and the model's answers in that form.
 
 use host::plain::Reply;
+use host::runner::Stepped;
 use host::serial::End;
 pub use hyperqueue::jobs::{queues, ANSWERS, WORKING};
 use hyperqueue::{jobs, Answer};
@@ -26,14 +27,6 @@ pub fn packed(end: End, steps: usize) -> u64 {
 
 /// The three words of a step's answer.
 pub fn answer_words(task: u32, reply: Reply) -> [u32; 3] {
-    let number = match reply {
-        Reply::Spawned(_) => 0,
-        Reply::Pushed(_) => 1,
-        Reply::Took(_) => 2,
-        Reply::Moved => 3,
-        Reply::Finished => 4,
-        Reply::Empty => 5,
-        Reply::Not => 6,
-    };
-    [task, number, reply.value().unwrap_or(0)]
+    let step = Stepped::Moved(reply);
+    [task, step.status(), step.value()]
 }

@@ -1,12 +1,13 @@
 //! Overlap on against overlap off: the serial run of a job beside runs of it
 //! under random orders, all through the proved library.
 
-use crate::proved_run::ProvedRun;
+use crate::proved_run::{stepped, ProvedRun};
 use host::overlap::{Path, Replies};
 use host::plain::Reply;
 use host::random::Random;
 use host::runner::Stepped;
 use hyperqueue::jobs::{self, ANSWERS, WORKING};
+use hyperqueue::runner::SPAWNED;
 use hyperqueue::Answer;
 use std::collections::BTreeMap;
 
@@ -19,16 +20,11 @@ pub struct Off {
     pub stopped: Option<String>,
 }
 
-/// The reply that a number of the serial runner stands for.
-pub fn reply(number: u32, value: u32) -> Reply {
-    match number {
-        0 => Reply::Spawned(value),
-        1 => Reply::Pushed(value),
-        2 => Reply::Took(value),
-        3 => Reply::Moved,
-        4 => Reply::Finished,
-        5 => Reply::Empty,
-        _ => Reply::Not,
+/// The reply to a step of the serial runner, which neither waits nor refuses.
+pub fn reply(status: u32, value: u32) -> Reply {
+    match stepped(Answer { status, value }) {
+        Stepped::Moved(reply) => reply,
+        answer => panic!("{answer:?} without overlap"),
     }
 }
 
@@ -37,15 +33,15 @@ fn by_path(words: &[u32]) -> Replies {
     let mut paths: BTreeMap<u32, (Path, u32)> = BTreeMap::from([(0, (Path::default(), 0))]);
     let mut replies = Replies::new();
     for step in words.chunks_exact(3) {
-        let (task, number, value) = (step[0], step[1], step[2]);
+        let (task, status, value) = (step[0], step[1], step[2]);
         let (path, children) = paths[&task].clone();
-        if number == 0 {
+        if status == SPAWNED {
             let new = path.iter().copied().chain([children]).collect();
             paths.insert(value, (new, 0));
             paths.insert(task, (path.clone(), children + 1));
         }
-        let aside = if number == 0 { 0 } else { value };
-        replies.entry(path).or_default().push(reply(number, aside));
+        let aside = if status == SPAWNED { 0 } else { value };
+        replies.entry(path).or_default().push(reply(status, aside));
     }
     replies
 }

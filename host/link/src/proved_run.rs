@@ -15,7 +15,7 @@ pub struct ProvedRun<'a> {
 }
 
 /// The answer of the library as the model says it.
-fn stepped(Answer { status, value }: Answer) -> Stepped {
+pub fn stepped(Answer { status, value }: Answer) -> Stepped {
     Stepped::Moved(match status {
         Answer::WAITS => return Stepped::Waits,
         Answer::EMPTY => Reply::Empty,

@@ -8,7 +8,7 @@ use host::random::Random;
 use host::random_jobs::accepted;
 use host::sample::noise;
 use host::serial::End;
-use link::linked_jobs::{answer_words, ANSWERS, WORKING};
+use link::linked_jobs::{ANSWERS, WORKING};
 use link::rounds::{asked, random_of, status, usage, Asked};
 use link::serial_pair::{test, Due, SerialPair};
 use std::collections::BTreeMap;
@@ -55,7 +55,7 @@ const PARTS: [Part; 3] = [
 struct State {
     pair: SerialPair,
     counts: BTreeMap<String, u64>,
-    replies: [u64; 7],
+    replies: BTreeMap<&'static str, u64>,
     /// Jobs handed to the test, and to the runner.
     jobs: u64,
 }
@@ -76,8 +76,7 @@ impl State {
         let due = self.pair.run(job)?;
         if let Ok(run) = &due {
             for event in &run.events {
-                let [_, number, _] = answer_words(event.task, event.reply);
-                self.replies[number as usize] += 1;
+                *self.replies.entry(event.reply.word()).or_default() += 1;
             }
         }
         self.count(name(&due));
@@ -165,8 +164,11 @@ fn run_all(state: &mut State, seed: u64) -> Outcome {
             return Err(format!("seed {seed}: no job of {} gave {what}", part.name));
         }
     }
-    match state.replies.iter().position(|times| *times == 0) {
-        Some(at) => Err(format!("seed {seed}: no step was answered {}", REPLIES[at])),
+    match REPLIES
+        .iter()
+        .find(|word| !state.replies.contains_key(**word))
+    {
+        Some(word) => Err(format!("seed {seed}: no step was answered {word}")),
         None => Ok(()),
     }
 }
@@ -178,13 +180,13 @@ fn report(state: &State) {
         .map(|(what, times)| format!("{what}: {times}"))
         .collect();
     println!("{}", counts.join(", "));
-    let replies: Vec<String> = REPLIES
+    let replies: Vec<String> = state
+        .replies
         .iter()
-        .zip(state.replies)
         .map(|(word, times)| format!("{word}: {times}"))
         .collect();
     println!("{}", replies.join(", "));
-    let steps: u64 = state.replies.iter().sum();
+    let steps: u64 = state.replies.values().sum();
     println!("{} jobs and {steps} steps, agree", state.jobs);
 }
 
@@ -198,7 +200,7 @@ fn main() -> ExitCode {
     let mut state = State {
         pair: SerialPair::new(&noise(r, WORKING as u32), &noise(r, ANSWERS as u32)),
         counts: BTreeMap::new(),
-        replies: [0; 7],
+        replies: BTreeMap::new(),
         jobs: 0,
     };
     let outcome = match wanted {
