@@ -14,6 +14,3 @@ pub const TOOK: u32 = 42;
 pub const FINISHED: u32 = 43;
 
 pub const MOVED: u32 = 44;
-
-// In rows of words, where the number of the refusal is the value.
-pub const REFUSED: u32 = 45;

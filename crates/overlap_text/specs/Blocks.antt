@@ -18,19 +18,21 @@ use Rattle.spec_answers.specs.Answers.{outcome, answerOf, valueOf}
 use Rattle.spec_outcomes.specs.Waits.{unfinished}
 use Rattle.spec_outcomes.specs.Left.{leftTested}
 use Rattle.spec_runner.specs.Run.{stepsFrom, as-many}
-use Rattle.runner_run.specs.Made.{fitting, Made, Ran}
+use Rattle.law_any_two.specs.Reached.{Reached}
+use Rattle.runner_run.specs.Made.{Made}
 use Rattle.text.specs.Puts.{Puts}
 use Rattle.run_text.specs.Lines.{leftLine, openLine}
 use Rattle.block_text.specs.Lines.{linesFrom}
-use Rattle.block_text.specs.Blocks.{Block, rowLine}
+use Rattle.block_text.specs.Blocks.{Block}
 use Rattle.overlap_text.specs.Whole.{callLines, leftAt, isValue, leftFrom, leftIn, valueLine, unfinishedIn}
-use Rattle.overlap_text.specs.Laws.{block-lines}
+use Rattle.overlap_text.specs.Laws.{packedLine, packed-lines}
 
 -- A BLOCK OF CALLS of tasks ts, where c calls were made before: its text, and the words that the steps leave
 pub record Called (j ts m r : List ℕ) (c : ℕ) (out : List ℕ) (n : ℕ) (m' r' : List ℕ) : Type 0 where
   pub lines : Block out n (callLines c ts (stepsFrom j ts m r .answers))
   pub core : m' ≡ stepsFrom j ts m r .core
   pub runner : r' ≡ stepsFrom j ts m r .runner
+  pub reached : Reached j m' r'
 
 -- what left answers
 pub left-says : {a : Answer} {w : List ℕ} (m : List ℕ) (q i : ℕ) → outcome a w ≡ leftTested m q i → a ≡ leftAt m q i
@@ -42,32 +44,15 @@ pub value-line : {m m1 : List ℕ} {p r v : ℕ} (w : List ℕ) (q i : ℕ) → 
 unfolding valueLine
 value-line w q i e p = rw (← e) p
 
--- all of at most 1,024 steps have rows in 3,072 words
-all-fit : (n k : ℕ) → n ≤ 1024 → k ≡ 3072 → fitting n k ≡ n
-unfolding fitting
-all-fit n k h e = go (ltb n (k / 3)) refl
-  where
-    go : (b : Bool) → ltb n (k / 3) ≡ b → pick b n (k / 3) ≡ n
-    go true f = unfold pick in refl
-    go false f = unfold pick in let g = ltb-false n (k / 3) f in omega (arith, g, e, h)
-
-pub ran-few : {n l k : ℕ} → l ≤ 1024 → k ≡ 3072 → n ≡ fitting l k → n ≤ 1024
-ran-few {n} {l} {k} h e f = let g = all-fit l k h e in omega (arith, f, g, h)
-
-pub called : (j ts m r a : List ℕ) (c : ℕ) {out m1 r1 a1 : List ℕ} {n k : ℕ} → length ts ≤ 1024 → length a ≡ 3072 → Ran j ts m r a n m1 r1 a1
-    → Block out k (linesFrom (rowLine a1 c) 0 n) → Called j ts m r c out k m1 r1
-called j ts m r a c {out} {m1} {r1} {a1} {n} {k} h l p b = go (ran-all n (p .steps ∙ all-fit (length ts) (length a) h l) (p .made)) b
-  where
-    ran-all : (n : ℕ) → n ≡ length ts → Made j (take n ts) m r a m1 r1 a1 → Made j ts m r a m1 r1 a1 × (n ≡ length ts)
-    ran-all n e q = (rw (← take-all n ts (omega (arith, e))) q, e)
-
-    go : Made j ts m r a m1 r1 a1 × (n ≡ length ts) → Block out k (linesFrom (rowLine a1 c) 0 n) → Called j ts m r c out k m1 r1
-    go (q, e) b =
-        record {
-          lines = rw (← block-lines a c ts (stepsFrom j ts m r .answers) (as-many j ts m r) (unfold size in omega (arith, h, l)), ← q .answers, ← e) b;
-          core = q .core;
-          runner = q .runner;
-        }
+pub called : (j ts m r : List ℕ) (c : ℕ) {out m1 r1 ps : List ℕ} {k : ℕ} → Made j ts m r m1 r1 ps
+    → Block out k (linesFrom (packedLine ts ps c) 0 (length ts)) → Called j ts m r c out k m1 r1
+called j ts m r c p b =
+    record {
+      lines = rw (← packed-lines ts (stepsFrom j ts m r .answers) c (as-many j ts m r) (p .values), ← p .answers) b;
+      core = p .core;
+      runner = p .runner;
+      reached = p .reached;
+    }
 
 -- THE COUNT OF VALUES LEFT, one after the other
 module _ (m : List ℕ) (q : ℕ) where

@@ -1,18 +1,19 @@
 -- Lines of calls in blocks: a block behind another goes on with the calls' numbers.
 use mathlib.Core.Path.{_≡_, refl, ap, ap₂, sym, _∙_}
-use mathlib.Core.List.{List, [], _∷_, _++_, append-assoc}
-use Prim.Native.Nat.{ℕ, suc, _+_, _*_, _<_, _≤_}
-use native.Mathlib.Nat.{add-zero}
+use mathlib.Core.List.{List, [], _∷_, _++_, append-assoc, map}
+use Prim.Native.Nat.{ℕ, suc, _+_, _/_, _%_}
+use native.Mathlib.Nat.{add-zero, zero-add}
 use native.Mathlib.Omega.{arith}
-use lib.ListN.{length}
-use Rattle.spec_words.specs.Words.{load, size}
-use Rattle.spec_words.specs.Blocks.{storeAll, block-same}
+use lib.ListN.{length, getD}
+use Rattle.spec_lists.specs.Maps.{All}
 use Rattle.spec_runner.specs.declared.StepAnswer.{StepAnswer}
+use Rattle.spec_runner.specs.Answers.{statusOf, valueOf}
+use Rattle.spec_runner.specs.Packed.{packedStep, step-halves}
 use Rattle.spec_runner.specs.Run.{Steps, stepsFrom, steps-append, as-many}
+use Rattle.text.specs.Puts.{Puts}
 use Rattle.run_text.specs.Lines.{line}
 use Rattle.block_text.specs.Lines.{linesFrom}
-use Rattle.block_text.specs.Blocks.{rowLine}
-use Rattle.runner_run.specs.Rows.{numbered, printed, rowsOf, rows-length}
+use Rattle.runner_run.specs.Made.{Fits}
 use Rattle.overlap_text.specs.Whole.{callLines}
 
 -- calls behind calls
@@ -23,7 +24,7 @@ lines-append c [] us [] ys e = ap (λ (k : ℕ). callLines k us ys) (sym (add-ze
 lines-append c [] us (x ∷ xs) ys e = let z : ⊥ = omega (arith, e) in absurd z
 lines-append c (t ∷ ts) us [] ys e = let z : ⊥ = omega (arith, e) in absurd z
 lines-append c (t ∷ ts) us (x ∷ xs) ys e =
-    let first = line (c + 1) t (numbered x) (printed x) in
+    let first = line (c + 1) t (statusOf x) (valueOf x) in
     ap
     (λ (l : List ℕ). first ++ l)
     (lines-append (c + 1) ts us xs ys (omega (arith, e))
@@ -38,54 +39,51 @@ calls-append j ts us m r c =
     ap (λ (s : Steps). callLines c (ts ++ us) (s .answers)) (steps-append j ts us m r)
     ∙ lines-append c ts us _ _ (as-many j ts m r)
 
-past-row : (u v w d : ℕ) (ws : List ℕ) → load (u ∷ v ∷ w ∷ ws) (suc (suc (suc d))) ≡ load ws d
-unfolding load
-past-row u v w d ws = refl
+-- THE LINES OF PACKED ANSWERS: task ts number i has the answer packed in ps number i.
+unfoldable pub packedLine : List ℕ → List ℕ → ℕ → ℕ → List ℕ
+packedLine ts ps c i = line (c + i + 1) (getD ts i 0) (getD ps i 0 / 4294967296) (getD ps i 0 % 4294967296)
 
--- what row k of the words a says is the line of the call
-row-says : (a : List ℕ) (c k t : ℕ) (x : StepAnswer) (ws : List ℕ)
-    → ((d : ℕ) → d < suc (suc (suc (length ws))) → load a (k * 3 + d) ≡ load (t ∷ numbered x ∷ printed x ∷ ws) d)
-    → rowLine a c k ≡ line (c + k + 1) t (numbered x) (printed x)
-unfolding rowLine load
-row-says a c k t x ws f =
-    let e0 = ap (load a) (let z : k * 3 ≡ k * 3 + 0 = omega arith in z) ∙ f 0 (omega arith) in
-    let e1 = f 1 (omega arith) in
-    let e2 = f 2 (omega arith) in
-    rw (e0, e1, e2) refl
+-- the line by the halves read
+pub packed-line : {m m1 : List ℕ} {p r k v : ℕ} (ts ps : List ℕ) (c i : ℕ) → k ≡ getD ps i 0 / 4294967296 → v ≡ getD ps i 0 % 4294967296
+    → Puts m p (line (c + i + 1) (getD ts i 0) k v) m1 r → Puts m p (packedLine ts ps c i) m1 r
+unfolding packedLine
+packed-line ts ps c i ek ev q = rw (← ek, ← ev) q
 
-module _ (a : List ℕ) (c : ℕ) where
-  -- the rows of calls are their lines
-  rows-lines : (ts : List ℕ) (xs : List StepAnswer) (k : ℕ) → length xs ≡ length ts
-      → ((d : ℕ) → d < length (rowsOf ts xs) → load a (k * 3 + d) ≡ load (rowsOf ts xs) d) → linesFrom (rowLine a c) k (length ts) ≡ callLines (c + k) ts xs
-  unfolding linesFrom callLines rowsOf
-  rows-lines [] xs k e f = refl
-  rows-lines (t ∷ ts) [] k e f = let z : ⊥ = omega (arith, e) in absurd z
-  rows-lines (t ∷ ts) (x ∷ xs) k e f =
+-- a packed answer taken apart
+status-half : (x : StepAnswer) → Fits x → packedStep x / 4294967296 ≡ statusOf x
+status-half x h = let e = step-halves x in omega (arith, e, h)
+
+value-half : (x : StepAnswer) → Fits x → packedStep x % 4294967296 ≡ valueOf x
+value-half x h = let e = step-halves x in omega (arith, e, h)
+
+module _ (ts ps : List ℕ) (c : ℕ) where
+  line-says : (k t : ℕ) (x : StepAnswer) → Fits x → getD ts k 0 ≡ t → getD ps k 0 ≡ packedStep x → packedLine ts ps c k ≡ line (c + k + 1) t (statusOf x) (valueOf x)
+  unfolding packedLine
+  line-says k t x h e f = rw (e, f, status-half x h, value-half x h) refl
+
+  lines-say : (us : List ℕ) (xs : List StepAnswer) (k : ℕ) → length xs ≡ length us → All Fits xs
+      → ((d : ℕ) → getD ts (k + d) 0 ≡ getD us d 0) → ((d : ℕ) → getD ps (k + d) 0 ≡ getD (map packedStep xs) d 0)
+      → linesFrom (packedLine ts ps c) k (length us) ≡ callLines (c + k) us xs
+  unfolding linesFrom callLines
+  lines-say [] xs k e h f g = refl
+  lines-say (u ∷ us) [] k e h f g = let z : ⊥ = omega (arith, e) in absurd z
+  lines-say (u ∷ us) (x ∷ xs) k e h f g =
       ap₂
-      (λ (u v : List ℕ). u ++ v)
-      (row-says a c k t x (rowsOf ts xs) f)
-      (rows-lines
-      ts
+      (λ (a b : List ℕ). a ++ b)
+      (line-says k u x (h .0) (ap (λ (n : ℕ). getD ts n 0) (sym (add-zero k)) ∙ f 0) (ap (λ (n : ℕ). getD ps n 0) (sym (add-zero k)) ∙ g 0))
+      (lines-say
+      us
       xs
       (k + 1)
       (omega (arith, e))
-      (λ d h.
-      ap (load a) (let z : (k + 1) * 3 + d ≡ k * 3 + suc (suc (suc d)) = omega arith in z)
-      ∙ f (suc (suc (suc d))) (omega (arith, h))
-      ∙ past-row t (numbered x) (printed x) d (rowsOf ts xs))
-      ∙ ap (λ (n : ℕ). callLines n ts xs) (let z : c + (k + 1) ≡ c + k + 1 = omega arith in z))
+      (h .1)
+      (λ d. ap (λ (n : ℕ). getD ts n 0) (let z : k + 1 + d ≡ k + suc d = omega arith in z) ∙ f (suc d))
+      (λ d. ap (λ (n : ℕ). getD ps n 0) (let z : k + 1 + d ≡ k + suc d = omega arith in z) ∙ g (suc d))
+      ∙ ap (λ (n : ℕ). callLines n us xs) (let z : c + (k + 1) ≡ c + k + 1 = omega arith in z))
 
--- all rows of a block
-pub block-lines : (a : List ℕ) (c : ℕ) (ts : List ℕ) (xs : List StepAnswer) → length xs ≡ length ts → length ts * 3 ≤ size a
-    → linesFrom (rowLine (storeAll a 0 (rowsOf ts xs)) c) 0 (length ts) ≡ callLines c ts xs
-block-lines a c ts xs e h =
-    let l = rows-length ts xs e in
-    rows-lines
-    (storeAll a 0 (rowsOf ts xs))
-    c
-    ts
-    xs
-    0
-    e
-    (λ d g. ap (load (storeAll a 0 (rowsOf ts xs))) (let z : 0 * 3 + d ≡ 0 + d = omega arith in z) ∙ block-same (rowsOf ts xs) a 0 d g (omega (arith, l, h)))
+-- all lines of a block
+pub packed-lines : (ts : List ℕ) (xs : List StepAnswer) (c : ℕ) → length xs ≡ length ts → All Fits xs
+    → linesFrom (packedLine ts (map packedStep xs) c) 0 (length ts) ≡ callLines c ts xs
+packed-lines ts xs c e h =
+    lines-say ts (map packedStep xs) c ts xs 0 e h (λ d. ap (λ (n : ℕ). getD ts n 0) (zero-add d)) (λ d. ap (λ (n : ℕ). getD (map packedStep xs) n 0) (zero-add d))
     ∙ ap (λ (n : ℕ). callLines n ts xs) (add-zero c)

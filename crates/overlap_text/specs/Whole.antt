@@ -9,24 +9,23 @@ use Rattle.spec_lists.specs.Counting.{one, total}
 use Rattle.spec_layout.specs.Layout.{WORDS}
 use Rattle.spec_answers.specs.declared.Answer.{Answer}
 use Rattle.spec_answers.specs.declared.Answer.the-variants.{Moved, Empty, NotEmpty, Waits, Refused}
-use Rattle.spec_answers.specs.Answers.{answerOf as coreAnswer, valueOf}
+use Rattle.spec_answers.specs.Answers.{answerOf as coreAnswer, valueOf as coreValue}
 use Rattle.spec_outcomes.specs.Waits.{unfinished}
 use Rattle.spec_outcomes.specs.Left.{leftTested}
 use Rattle.spec_runner.specs.declared.StepAnswer.{StepAnswer}
 use Rattle.spec_runner.specs.Words.{RUNNER}
-use Rattle.spec_runner.specs.Answers.{hasMoved, statusOf, Outcome, answerOf, coreOf, runnerOf}
+use Rattle.spec_runner.specs.Answers.{hasMoved, statusOf, valueOf, Outcome, answerOf, coreOf, runnerOf}
 use Rattle.spec_runner.specs.Open.{openOutcome}
 use Rattle.spec_runner.specs.Run.{stepsFrom}
 use Rattle.spec_serial.specs.declared.End.the-variants as End
 use Rattle.run_text.specs.Lines.{line, leftLine, openLine, endLine}
 use Rattle.block_text.specs.Lines.{linesFrom}
-use Rattle.runner_run.specs.Rows.{numbered, printed}
 
 -- "the call's number from 1, task, answer, value or "-"": the calls of tasks ts, where c calls were made before
 unfoldable pub callLines : ℕ → List ℕ → List StepAnswer → List ℕ
 callLines c [] xs = []
 callLines c (t ∷ ts) [] = []
-callLines c (t ∷ ts) (x ∷ xs) = line (c + 1) t (numbered x) (printed x) ++ callLines (c + 1) ts xs
+callLines c (t ∷ ts) (x ∷ xs) = line (c + 1) t (statusOf x) (valueOf x) ++ callLines (c + 1) ts xs
 
 -- what left answers for value number i of queue q
 unfoldable pub leftAt : List ℕ → ℕ → ℕ → Answer
@@ -50,7 +49,7 @@ leftIn m q = leftFrom WORDS m q 0
 
 -- the line of value number i of queue q
 unfoldable pub valueLine : List ℕ → ℕ → ℕ → List ℕ
-valueLine m q i = leftLine q (valueOf (leftAt m q i))
+valueLine m q i = leftLine q (coreValue (leftAt m q i))
 
 -- "queues and values in order"
 unfoldable pub queueLines : List ℕ → ℕ → List ℕ

@@ -5,11 +5,13 @@ ghost use Prim.Native.Nat.{_+_, _^_, _<_, _≤_};
 ghost use lib.ListN.{length};
 ghost use Rattle.spec_lists.specs.Counting.{one};
 ghost use Rattle.spec_answers.specs.Answers.{valueOf};
+ghost use Rattle.law_any_two.specs.Reached.{Reached};
 ghost use Rattle.text.specs.Puts.{Puts};
 ghost use Rattle.run_text.specs.Lines.{openLine};
 ghost use Rattle.block_text.specs.Lines.{linesFrom};
 ghost use Rattle.block_text.specs.Blocks.{Block};
 ghost use Rattle.overlap_text.specs.Whole.{leftAt, isValue, leftIn, valueLine, unfinishedIn};
+ghost use Rattle.overlap_text.specs.Laws.{packedLine};
 ghost use Rattle.overlap_text.specs.Blocks.{Called};
 use layout::TASKS;
 use spec_answers::Answer;
@@ -17,22 +19,63 @@ use spec_answers::Answer;
 // The most lines of values of one queue: as many as the memory has words, so none is cut off.
 const MOST_VALUES: u32 = 16384;
 
+fn wide(t: u8) -> u32
+    ensures { λ r. ⌜ r ≡ t ⌝ }
+{
+    t as u32
+}
+
+// The numbers of tasks as words.
+pub fn widen(bytes: &[u8], words: &mut [u32])
+    requires { ⌜ length (now words) ≡ length (now bytes) ⌝ }
+    ensures { λ _. ⌜ now (words .exit) ≡ now (bytes .entry) ⌝ }
+{
+    let mut i: usize = 0;
+    while i < bytes.len() {
+        words[i] = wide(bytes[i]);
+        i += 1;
+    }
+}
+
+// The line of call number i of a block, where `before` calls were made before the block.
+fn call_line(out: &mut [u8], at: usize, tasks: &[u32], answers: &[u64], before: u64, i: usize) -> usize
+    requires { ⌜ (at < 2 ^ 38) × (i < length (now tasks)) × (i < length (now answers)) × (before + i + 1 < 2 ^ 64) ⌝ }
+    ensures { λ r. ⌜ Puts (now (out .entry)) at (packedLine (now (tasks .entry)) (now (answers .entry)) before i) (now (out .exit)) r × (r ≤ at + 52) ⌝ }
+{
+    let a = answers[i];
+    run_text::line(out, at, before + i as u64 + 1, tasks[i], packing::status(a), packing::value(a))
+}
+
+fn packed_lines(out: &mut [u8], tasks: &[u32], answers: &[u64], before: u64) -> usize
+    requires { ⌜ (65536 ≤ length (now out)) × (length (now tasks) ≤ 1024) × (length (now answers) ≡ length (now tasks)) × (before + 1024 < 2 ^ 64) ⌝ }
+    ensures { λ r. ⌜ Block (now (out .exit)) r (linesFrom (packedLine (now (tasks .entry)) (now (answers .entry)) before) 0 (length (now (tasks .entry)))) ⌝ }
+{
+    let mut at: usize = 0;
+    let mut i: usize = 0;
+    while i < tasks.len() {
+        at = call_line(out, at, tasks, answers, before, i);
+        i += 1;
+    }
+    at
+}
+
 // Makes the calls of the tasks, where `before` calls were made before, and writes their lines.
 pub fn call_lines(
     out: &mut [u8],
     job: &[u8],
-    tasks: &[u8],
     m: &mut [u32],
     r: &mut [u32],
+    tasks: &[u32],
+    answers: &mut [u64],
     before: u64,
 ) -> usize
-    requires { ⌜ (65536 ≤ length (now out)) × (length (now tasks) ≤ 1024) × (before + 1024 < 2 ^ 64) ⌝ }
+    requires { ⌜ Reached (now job) (now m) (now r) × (65536 ≤ length (now out)) × (length (now tasks) ≤ 1024)
+        × (length (now answers) ≡ length (now tasks)) × (before + 1024 < 2 ^ 64) ⌝ }
     ensures { λ n. ⌜ Called (now (job .entry)) (now (tasks .entry)) (now (m .entry)) (now (r .entry)) before
         (now (out .exit)) n (now (m .exit)) (now (r .exit)) ⌝ }
 {
-    let mut a = [0u32; 3072];
-    let n = runner_run::run(job, tasks, m, r, &mut a);
-    block_text::row_lines(out, &a, before, 0, n)
+    runner_run::steps(job, m, r, tasks, answers);
+    packed_lines(out, tasks, answers, before)
 }
 
 // Whether value number i of queue q is left.

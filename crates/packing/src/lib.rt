@@ -1,6 +1,6 @@
 // Answers as one number of 64 bits, for hosts in other languages.
 ghost use mathlib.Core.Path.{_≡_};
-ghost use Prim.Native.Nat.{_+_, _*_};
+ghost use Prim.Native.Nat.{_+_, _*_, _/_, _%_};
 ghost use Rattle.spec_runner.specs.Packed.{Packs};
 use answer_numbers::EMPTY;
 use answer_numbers::FINISHED;
@@ -17,6 +17,19 @@ pub fn pack(status: u32, value: u32) -> u64
     ensures { λ r. ⌜ r ≡ status * 4294967296 + value ⌝ }
 {
     status as u64 * 4294967296 + value as u64
+}
+
+// The halves of an answer.
+pub fn status(answer: u64) -> u32
+    ensures { λ r. ⌜ r ≡ answer / 4294967296 ⌝ }
+{
+    (answer / 4294967296) as u32
+}
+
+pub fn value(answer: u64) -> u32
+    ensures { λ r. ⌜ r ≡ answer % 4294967296 ⌝ }
+{
+    (answer % 4294967296) as u32
 }
 
 // The answer of a step.

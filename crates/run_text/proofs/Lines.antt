@@ -13,7 +13,7 @@ use Rattle.spec_serial.specs.declared.End.{End}
 use Rattle.spec_serial.specs.declared.End.the-variants.{Ended, Spent, Refused}
 
 pub whole-line : {m m1 m2 m3 : List ℕ} {p0 p1 p2 p3 : ℕ} (n t k v : ℕ) → Puts m p0 (spaced (decimal n)) m1 p1 → Puts m1 p1 (spaced (decimal t)) m2 p2
-    → Puts m2 p2 (answerText (wordNumbered k) v) m3 p3 → Puts m p0 (line n t k v) m3 p3
+    → Puts m2 p2 (answerText (wordNumbered k) k v) m3 p3 → Puts m p0 (line n t k v) m3 p3
 unfolding line
 whole-line n t k v a b c = puts-then (puts-then a b) c
 

@@ -1,7 +1,7 @@
 -- Lines of document 01's run in full, and of each way to stop, established by computation.
 use mathlib.Core.Path.{_≡_, refl}
 use Rattle.spec_words.specs.Words.{pick}
-use Rattle.spec_job.specs.Numbers.{WAITS, EMPTY, NOT-EMPTY, SPAWNED, PUSHED, TOOK, FINISHED, MOVED, REFUSED, wordNumbered}
+use Rattle.spec_job.specs.Numbers.{WAITS, EMPTY, NOT-EMPTY, SPAWNED, PUSHED, TOOK, FINISHED, MOVED, wordNumbered}
 use Rattle.spec_serial.specs.declared.End.the-variants.{Spent, Refused}
 use Rattle.text.specs.Text.{ascii, digits, decimal}
 use Rattle.run_text.specs.Lines.{answerText, spaced, ended, line, leftLine, openLine, refusedLine, endLine}
@@ -15,7 +15,7 @@ pub record Cases : Type 0 where
   pub finishes : line 12 0 FINISHED 0 ≡ ascii "12 0 finished -\n"
   pub emptied : line 1 1 EMPTY 0 ≡ ascii "1 1 empty -\n"
   pub filled : line 1 1 NOT-EMPTY 0 ≡ ascii "1 1 not -\n"
-  pub turned : line 1 0 REFUSED 9 ≡ ascii "1 0 refused 9\n"
+  pub turned : line 1 0 9 0 ≡ ascii "1 0 refused 9\n"
   pub left : leftLine 0 20 ≡ ascii "left 0 20\n"
   pub unfinished : openLine 3 ≡ ascii "open 3\n"
   pub spent : endLine Spent ≡ ascii "spent\n"

@@ -20,21 +20,21 @@ ended t = t ++ ascii "\n"
 unfoldable pub refusedLine : ℕ → List ℕ
 refusedLine k = ascii "refused " ++ ended (decimal k)
 
--- an answer and its value v, at the end of a line
-unfoldable pub answerText : Word → ℕ → List ℕ
-answerText spawned v = ascii "spawned " ++ ended (decimal v)
-answerText pushed v = ascii "pushed " ++ ended (decimal v)
-answerText took v = ascii "took " ++ ended (decimal v)
-answerText finished v = ascii "finished -\n"
-answerText moved v = ascii "moved -\n"
-answerText empty v = ascii "empty -\n"
-answerText notEmpty v = ascii "not -\n"
-answerText waits v = ascii "waits -\n"
-answerText refused v = refusedLine v
+-- an answer that has number k, and its value v, at the end of a line; "refused" goes with its number
+unfoldable pub answerText : Word → ℕ → ℕ → List ℕ
+answerText spawned k v = ascii "spawned " ++ ended (decimal v)
+answerText pushed k v = ascii "pushed " ++ ended (decimal v)
+answerText took k v = ascii "took " ++ ended (decimal v)
+answerText finished k v = ascii "finished -\n"
+answerText moved k v = ascii "moved -\n"
+answerText empty k v = ascii "empty -\n"
+answerText notEmpty k v = ascii "not -\n"
+answerText waits k v = ascii "waits -\n"
+answerText refused k v = refusedLine k
 
 -- THE LINE of call n, counted from 1: task t was answered with number k and value v
 unfoldable pub line : ℕ → ℕ → ℕ → ℕ → List ℕ
-line n t k v = spaced (decimal n) ++ spaced (decimal t) ++ answerText (wordNumbered k) v
+line n t k v = spaced (decimal n) ++ spaced (decimal t) ++ answerText (wordNumbered k) k v
 
 -- the line of a value v left in queue q
 unfoldable pub leftLine : ℕ → ℕ → List ℕ

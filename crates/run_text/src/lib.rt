@@ -62,10 +62,10 @@ fn refused_line(out: &mut [u8], at: usize, k: u32) -> usize
     named_number(out, at, b"refused ", k)
 }
 
-// The answer that has number k, and its value v or "-".
+// The answer that has number k, and its value v or "-"; a refusal goes with its number.
 fn answer(out: &mut [u8], at: usize, k: u32, v: u32) -> usize
     requires { ⌜ at + 8 < 2 ^ 39 ⌝ }
-    ensures { λ r. ⌜ Puts (now (out .entry)) at (answerText (wordNumbered k) v) (now (out .exit)) r × (r ≤ at + 19) ⌝ }
+    ensures { λ r. ⌜ Puts (now (out .entry)) at (answerText (wordNumbered k) k v) (now (out .exit)) r × (r ≤ at + 19) ⌝ }
 {
     match k {
         SPAWNED => named_number(out, at, b"spawned ", v),
@@ -76,7 +76,7 @@ fn answer(out: &mut [u8], at: usize, k: u32, v: u32) -> usize
         EMPTY => text::put(out, at, b"empty -\n"),
         NOT_EMPTY => text::put(out, at, b"not -\n"),
         WAITS => text::put(out, at, b"waits -\n"),
-        _ => refused_line(out, at, v),
+        _ => refused_line(out, at, k),
     }
 }
 

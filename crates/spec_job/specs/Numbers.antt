@@ -1,5 +1,5 @@
 -- THE NUMBERS OF THE ANSWERS of a step, one set for the runs with overlap and without. "a refusal .. returns its number", and
--- none of these is one; REFUSED stands for the word where the number of the refusal is the value.
+-- none of these is one.
 use mathlib.Core.Path.{_≡_, refl}
 use Prim.Native.Nat.{ℕ}
 use lib.Dec.{eqb}
@@ -33,14 +33,12 @@ FINISHED = 43
 abbrev pub MOVED : ℕ
 MOVED = 44
 
-abbrev pub REFUSED : ℕ
-REFUSED = 45
-
 -- what the core answers too has the core's number
 pub core-numbers : (statusOf Waits ≡ WAITS) × (statusOf Empty ≡ EMPTY) × (statusOf NotEmpty ≡ NOT-EMPTY)
 unfolding statusOf
 core-numbers = (refl, refl, refl)
 
+-- "refused" has no number of its own
 unfoldable pub numberOf : Word → ℕ
 numberOf spawned = SPAWNED
 numberOf pushed = PUSHED
@@ -50,7 +48,7 @@ numberOf finished = FINISHED
 numberOf empty = EMPTY
 numberOf notEmpty = NOT-EMPTY
 numberOf waits = WAITS
-numberOf refused = REFUSED
+numberOf refused = 0
 
 -- the word that has a number; any other number is that of a refusal
 unfoldable pub wordNumbered : ℕ → Word
