@@ -27,7 +27,13 @@ pub extern "C" fn hq_job_step(job: &[u8], words: &mut [u32], runner: &mut [u32],
 
 // Opens the job afresh and makes a step of each task in the list, with the step's answer in its place.
 #[no_mangle]
-pub extern "C" fn hq_job_run(job: &[u8], words: &mut [u32], runner: &mut [u32], tasks: &[u32], answers: &mut [u64]) -> u64
+pub extern "C" fn hq_job_run(
+    job: &[u8],
+    words: &mut [u32],
+    runner: &mut [u32],
+    tasks: &[u32],
+    answers: &mut [u64],
+) -> u64
     ensures { λ r. ⌜ ListHanded r (now (words .exit)) (now (runner .exit)) (now (answers .exit))
         (runOutcome (now (job .entry)) (now (words .entry)) (now (runner .entry)) (now (tasks .entry)) (now (answers .entry))) ⌝ }
 {

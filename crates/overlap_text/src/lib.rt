@@ -38,12 +38,26 @@ pub fn widen(bytes: &[u8], words: &mut [u32])
 }
 
 // The line of call number i of a block, where `before` calls were made before the block.
-fn call_line(out: &mut [u8], at: usize, tasks: &[u32], answers: &[u64], before: u64, i: usize) -> usize
+fn call_line(
+    out: &mut [u8],
+    at: usize,
+    tasks: &[u32],
+    answers: &[u64],
+    before: u64,
+    i: usize,
+) -> usize
     requires { ⌜ (at < 2 ^ 38) × (i < length (now tasks)) × (i < length (now answers)) × (before + i + 1 < 2 ^ 64) ⌝ }
     ensures { λ r. ⌜ Puts (now (out .entry)) at (packedLine (now (tasks .entry)) (now (answers .entry)) before i) (now (out .exit)) r × (r ≤ at + 52) ⌝ }
 {
     let a = answers[i];
-    run_text::line(out, at, before + i as u64 + 1, tasks[i], packing::status(a), packing::value(a))
+    run_text::line(
+        out,
+        at,
+        before + i as u64 + 1,
+        tasks[i],
+        packing::status(a),
+        packing::value(a),
+    )
 }
 
 fn packed_lines(out: &mut [u8], tasks: &[u32], answers: &[u64], before: u64) -> usize

@@ -33,7 +33,13 @@ pub fn steps(job: &[u8], m: &mut [u32], r: &mut [u32], tasks: &[u32], answers: &
 
 // Opens the job afresh and makes the steps of the tasks. An answer that waits or refuses stands in its place too, and the
 // list goes on.
-pub fn run(job: &[u8], m: &mut [u32], r: &mut [u32], tasks: &[u32], answers: &mut [u64]) -> StepAnswer
+pub fn run(
+    job: &[u8],
+    m: &mut [u32],
+    r: &mut [u32],
+    tasks: &[u32],
+    answers: &mut [u64],
+) -> StepAnswer
     ensures { λ a. ⌜ listed a (now (m .exit)) (now (r .exit)) (now (answers .exit))
         ≡ runOutcome (now (job .entry)) (now (m .entry)) (now (r .entry)) (now (tasks .entry)) (now (answers .entry)) ⌝ }
 {

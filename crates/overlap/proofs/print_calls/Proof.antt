@@ -1,7 +1,8 @@
--- The invariant: the lent memories keep their lengths, and the number of a call stays within 64 bits. Each read gives at most 1,024 tasks.
+-- The invariant: the lent memories keep their lengths and are where a run of the job has come, and the number of a call stays within 64 bits. Each read gives at most 1,024 tasks.
 use Rattle.overlap.proofs.Reading.{read-few}
 use Rattle.read_file.specs.Inside.{read-counts}
 use Prim.Native.Nat.{_-_, _+_, _<_}
+use Rattle.law_any_two.specs.Reached.{Reached}
 use mathlib.Core.Path.{_≡_, refl, _∙_}
 use lib.ListN.{length}
 use native.Mathlib.Omega.{arith}
@@ -12,9 +13,13 @@ use Rattle.overlap.proofs.print_calls.Tie as tie
 abbrev Inv-loop : tie.InvT-loop
 Inv-loop job tasks₀ m₀ r₀ before₀ t8 t9 tasks m r before =
     (length tasks ≡ length tasks₀) × (length m ≡ length m₀) × (length r ≡ length r₀) × (before < 9223372036854775808 + 1024)
+    × Reached job m r
 
 abbrev μ-loop : tie.MeasureT-loop
 μ-loop job tasks₀ m₀ r₀ before₀ t8 t9 tasks m r before = 9223372036854775808 + 1024 - before
+
+loop-holds : tie.Need-loop-holds Inv-loop μ-loop
+loop-holds c = (refl, refl, refl, omega arith, c .before .before .before .before .pre .0)
 
 same-length : tie.Need-same-length Inv-loop μ-loop
 same-length c =
@@ -50,13 +55,14 @@ slice-aggregate-print-block c =
 
 print-block-requires : tie.Need-print-block-requires Inv-loop μ-loop
 print-block-requires c κs = (
+  c .before .before .before .before .before .before .before .before .before .before .before .before .loop .inv .4,
   (read-few _ (c .before .before .before .before .before .some .given .0 .0)
       (c .before .before .before .before .before .before .before .before .before .read-some .last .1 .0)
       (c .before .before .before .before .before .before .before .before .before .read-some .ensures)
       (c .before .before .before .before .before .some .given .1)
       (c .before .before .before .before .before .before .before .before .before .read-some .kept .1 .0)
       (c .before .before .before .before .before .before .before .before .before .before .before .before .loop .inv .0)
-      (c .before .before .before .before .before .before .before .before .before .before .before .before .before .before .before .before .before .pre)) .1,
+      (c .before .before .before .before .before .before .before .before .before .before .before .before .before .before .before .before .before .pre .1)) .1,
   omega arith,
 )
 
@@ -89,7 +95,7 @@ add-before c =
     (c .before .before .before .before .before .before .before .before .before .before .before .before .before .before .before .before .before .before .loop
     .inv .0)
     (c .before .before .before .before .before .before .before .before .before .before .before .before .before .before .before .before .before .before .before
-    .before .before .before .before .pre)) .0 in omega (arith, h)
+    .before .before .before .before .pre .1)) .0 in omega (arith, h)
 
 loop-less : tie.Need-loop-less Inv-loop μ-loop
 loop-less c =
@@ -101,7 +107,7 @@ loop-less c =
     (c .before .before .before .before .before .before .before .before .before .before .before .before .before .before .before .before .before .before .loop
     .inv .0)
     (c .before .before .before .before .before .before .before .before .before .before .before .before .before .before .before .before .before .before .before
-    .before .before .before .before .pre)) .0 in omega (arith, h)
+    .before .before .before .before .pre .1)) .0 in omega (arith, h)
 
 loop-again : tie.Need-loop-again Inv-loop μ-loop
 loop-again c =
@@ -113,7 +119,7 @@ loop-again c =
     (c .before .before .before .before .before .before .before .before .before .before .before .before .before .before .before .before .before .before .loop
     .inv .0)
     (c .before .before .before .before .before .before .before .before .before .before .before .before .before .before .before .before .before .before .before
-    .before .before .before .before .pre)) .0 in (
+    .before .before .before .before .pre .1)) .0 in (
       c .before .before .before .before .before .before .before .before .before .before .before .before .before .before .before .read-some .kept .1 .0
           ∙ c .before .before .before .before .before .before .before .before .before .before .before .before .before .before .before .before .before .before
           .loop .inv .0,
@@ -124,12 +130,13 @@ loop-again c =
           ∙ c .before .before .before .before .before .before .before .before .before .before .before .before .before .before .before .before .before .before
           .loop .inv .2,
       omega (arith, h),
+      c .before .before .before .before .before .print-block .ensures,
     )
 
 pub print-calls-spec : {M : Type 1} → statement M
 print-calls-spec =
     tie.close
-    (tie.spec Inv-loop μ-loop (λ c. (refl, refl, refl, omega arith)) (λ c κs. search needs) (λ c. c .match .keys1) (λ c. c .match .keys2)
+    (tie.spec Inv-loop μ-loop loop-holds (λ c κs. search needs) (λ c. c .match .keys1) (λ c. c .match .keys2)
     (λ c. search needs) (λ c κs. search needs) same-length same-length-2 same-length-3 (λ c. search needs) same-length-4 same-length-5 same-length-6
     (λ c. search needs) slice-reshare-prefix-print-block slice-aggregate-print-block print-block-requires (λ c. search needs) (λ c κs. search needs)
     same-length-7 same-length-8 same-length-9 (λ c. search needs) add-before loop-less loop-again (λ c. c .before .loop .inv .0)
