@@ -1,8 +1,10 @@
-/* A written job, tested, run without overlap and then with it: the top pushes 7
- * and 9, and a child takes the first of them. */
+/* A written job, tested, run without overlap, then with it step by step, then
+ * the same steps in one call: the top pushes 7 and 9, and a child takes the
+ * first of them. */
 #include "hyperqueue.h"
 
 #include <stdio.h>
+#include <string.h>
 
 /* Two procedures, segments of 4 values. */
 static const uint8_t job[] = {
@@ -20,6 +22,12 @@ static uint32_t answers[HQ_ANSWER_WORDS];
 static uint32_t core[HQ_WORDS];
 static uint32_t runner[HQ_RUNNER_WORDS];
 
+/* The steps that were made with overlap, and their answers. */
+#define MOST_STEPS 16
+static uint32_t tasks[MOST_STEPS];
+static uint64_t stepped[MOST_STEPS];
+static size_t steps;
+
 /* Moves the highest ready task until nobody is ready. */
 static void with_overlap(void) {
     uint32_t map[6];
@@ -28,7 +36,7 @@ static void with_overlap(void) {
                                   HQ_RUNNER_WORDS);
 
     /* Refusals are 1 to 20. */
-    while (HQ_STATUS(answer) >= HQ_WAITS) {
+    while (HQ_STATUS(answer) >= HQ_WAITS && steps < MOST_STEPS) {
         uint32_t task = 127;
 
         answer = hq_job_ready(job, sizeof job, core, HQ_WORDS, runner,
@@ -41,9 +49,22 @@ static void with_overlap(void) {
                              HQ_RUNNER_WORDS, task);
         printf("%u ready, task %u: %s %u\n", map[4], task,
                hq_status_text(HQ_STATUS(answer)), HQ_VALUE(answer));
+        tasks[steps] = task;
+        stepped[steps++] = answer;
     }
     printf("left in queue 0: %u\n",
            HQ_VALUE(hq_left(core, HQ_WORDS, 0, 0)));
+}
+
+/* The same steps again, with the tests made once. */
+static void in_one_call(void) {
+    uint64_t listed[MOST_STEPS];
+    uint64_t answer = hq_job_run(job, sizeof job, core, HQ_WORDS, runner,
+                                 HQ_RUNNER_WORDS, tasks, steps, listed, steps);
+
+    printf("%u steps in one call: %s, %s answers\n", (unsigned)steps,
+           hq_status_text(HQ_STATUS(answer)),
+           memcmp(listed, stepped, steps * sizeof *listed) ? "other" : "the same");
 }
 
 int main(void) {
@@ -63,5 +84,6 @@ int main(void) {
     for (index = 0; index < HQ_QUEUED(working, 0); index++)
         printf("left in queue 0: %u\n", HQ_QUEUED_VALUE(working, 0, index));
     with_overlap();
+    in_one_call();
     return 0;
 }

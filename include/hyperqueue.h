@@ -168,6 +168,18 @@ HQ_ANSWER hq_job_step(const uint8_t *job, size_t job_len, uint32_t *words,
                      size_t len, uint32_t *runner, size_t runner_len,
                      uint32_t task);
 
+/* A list of steps in one call: opens the job afresh and makes a step of each
+ * of the count tasks, tests being made once. answers_len has to be count; any
+ * other is refused with 1, then come the job's refusals, and then no word has
+ * changed. Else the answer is HQ_TASK_MOVED with value 0, and answers[i] is
+ * what hq_job_step gives for step i; one that waits or is refused stands in its
+ * place too, and the list goes on. The memories are as after the last step, so
+ * hq_job_step, hq_job_ready and hq_left can follow. */
+HQ_ANSWER hq_job_run(const uint8_t *job, size_t job_len, uint32_t *words,
+                    size_t len, uint32_t *runner, size_t runner_len,
+                    const uint32_t *tasks, size_t count, uint64_t *answers,
+                    size_t answers_len);
+
 /* Which tasks' next step would move: bit t mod 32 of out[t / 32], their number
  * in out[4], the lowest of them in out[5], HQ_NO_TASK if there is none. The
  * answer is HQ_TASK_MOVED, or a refusal, which leaves zeros and HQ_NO_TASK. */

@@ -13,3 +13,4 @@ pub mod Moves
 pub mod MovesLaws
 pub mod Held
 pub mod Run
+pub mod RunLaws

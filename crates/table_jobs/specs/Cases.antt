@@ -1,13 +1,14 @@
 -- Cases of the runner, each established by computation.
 use mathlib.Core.Path.{_≡_, refl}
 use mathlib.Core.Bool.{true}
-use mathlib.Core.List.{List, [], _∷_}
+use mathlib.Core.List.{List, [], _∷_, map}
 use Prim.Native.Nat.{ℕ}
 use Rattle.spec_answers.specs.declared.Answer.the-variants as Answer
 use Rattle.spec_job.specs.Examples.{head, entry, ins, alone, fullRun, wrapping, wrappedSpawn}
 use Rattle.spec_runner.specs.declared.StepAnswer.the-variants.{Spawned, Pushed, Took, Finished, Moved, Empty, Waits, Refused}
+use Rattle.spec_runner.specs.Packed.{packedStep}
 use Rattle.spec_runner.specs.Ready.{noMap}
-use Rattle.table_jobs.specs.Table.{Row, step, ready, left, lent, lentRunner, right}
+use Rattle.table_jobs.specs.Table.{Row, step, list, ready, left, lent, lentRunner, right}
 
 -- Four poppers of queue 0, each blocked by those before it: the first tests and pops an empty queue, the others begin with
 -- operations 7, 6 and 5.
@@ -72,23 +73,36 @@ pub no-more : right (alone 1 (ins 0 0 0 [])) (step 0 Finished ∷ ready six Move
 unfolding right
 no-more = refl
 
--- REFUSALS of a step and of a map: 1 for either memory, 10, 11, 12
-pub short-core : right fullRun (step 0 (Refused 1) ∷ ready six (Refused 1) noMap ∷ []) five lentRunner ≡ true
+-- A LIST OF STEPS: it opens afresh, an answer that waits or refuses stands in its place too, and the list goes on; not as many places
+-- as tasks, which stay as they are
+pub lists : right fullRun
+    (step 0 (Spawned 1)
+    ∷ list (0 ∷ 0 ∷ 2 ∷ 9 ∷ 1 ∷ []) five Moved (map packedStep (Spawned 1 ∷ Spawned 2 ∷ Waits ∷ Refused 4 ∷ Pushed 10 ∷ []))
+    ∷ list (0 ∷ []) five (Refused 1) five ∷ step 2 (Took 10) ∷ [])
+    lent lentRunner ≡ true
+unfolding right
+lists = refl
+
+-- REFUSALS of a step, a list of steps and a map: 1 for either memory, 10, 11, 12
+abbrev zeros : List ℕ
+zeros = 0 ∷ 0 ∷ 0 ∷ 0 ∷ 0 ∷ []
+
+pub short-core : right fullRun (step 0 (Refused 1) ∷ list zeros five (Refused 1) five ∷ ready six (Refused 1) noMap ∷ []) five lentRunner ≡ true
 unfolding right
 short-core = refl
 
-pub short-runner : right fullRun (step 0 (Refused 1) ∷ ready six (Refused 1) noMap ∷ []) lent five ≡ true
+pub short-runner : right fullRun (step 0 (Refused 1) ∷ list zeros five (Refused 1) five ∷ ready six (Refused 1) noMap ∷ []) lent five ≡ true
 unfolding right
 short-runner = refl
 
-pub tens : right five (step 0 (Refused 10) ∷ ready six (Refused 10) noMap ∷ []) lent lentRunner ≡ true
+pub tens : right five (step 0 (Refused 10) ∷ list zeros five (Refused 10) five ∷ ready six (Refused 10) noMap ∷ []) lent lentRunner ≡ true
 unfolding right
 tens = refl
 
-pub elevens : right (head 1 1 (entry 10 1 3 (ins 0 0 0 []))) (step 0 (Refused 11) ∷ ready six (Refused 11) noMap ∷ []) lent lentRunner ≡ true
+pub elevens : right (head 1 1 (entry 10 1 3 (ins 0 0 0 []))) (step 0 (Refused 11) ∷ list zeros five (Refused 11) five ∷ ready six (Refused 11) noMap ∷ []) lent lentRunner ≡ true
 unfolding right
 elevens = refl
 
-pub twelves : right (alone 1 (ins 10 0 0 [])) (step 0 (Refused 12) ∷ ready six (Refused 12) noMap ∷ []) lent lentRunner ≡ true
+pub twelves : right (alone 1 (ins 10 0 0 [])) (step 0 (Refused 12) ∷ list zeros five (Refused 12) five ∷ ready six (Refused 12) noMap ∷ []) lent lentRunner ≡ true
 unfolding right
 twelves = refl

@@ -37,16 +37,18 @@ use Rattle.spec_job.specs.Test.{between, headHolds, refusal10, entryHolds, entr
 use Rattle.spec_job.specs.Test.{lastHolds, bodyHolds, refusal12}
 use Rattle.spec_runner.specs.declared.StepAnswer.{StepAnswer}
 use Rattle.spec_runner.specs.Words.{RUNNER, procedureOf, positionOf, registerOf, put, instructionFor}
-use Rattle.spec_runner.specs.Answers.{answerWith, valueOf, statusOf, hasMoved, outcome, answerOf}
+use Rattle.spec_runner.specs.Answers.{answerWith, valueOf, statusOf, hasMoved, outcome, answerOf, coreOf, runnerOf}
 use Rattle.spec_runner.specs.Rules.{taskHolds, zeros, recordHolds, runnerHolds, refused, jobTested, tested}
 use Rattle.spec_runner.specs.Open.{segmentsFor, jobOpened, openOutcome}
 use Rattle.spec_runner.specs.Step.{callOf, replyOf, runnerAfter, done, replied, coreOutcome, repliedTo, makes, stepTested, stepOutcome}
+use Rattle.spec_runner.specs.Run.{stepsFrom, listed, runFrom, runOutcome}
 use Rattle.spec_runner.specs.Ready.{readyBit, bitsFrom, wordsFor, lowestFrom, mapOf, readyMap, testAnswer, mapped, readyOutcome}
 
--- a step of a task with its answer; the ready map, asked for with words lent, its answer and the words then; what left gives for
--- a queue and an index
+-- a step of a task with its answer; a list of steps in one call, the places lent for their answers, the call's answer and the
+-- places then; the ready map, asked for with words lent, its answer and the words then; what left gives for a queue and an index
 pub data Row : Type 0 where
   step : ℕ → StepAnswer → Row
+  list : List ℕ → List ℕ → StepAnswer → List ℕ → Row
   ready : List ℕ → StepAnswer → List ℕ → Row
   left : ℕ → ℕ → Answer → Row
 
@@ -64,6 +66,8 @@ sameWords (x ∷ xs) (y ∷ ys) = let rest = sameWords xs ys in both (eqb x y) r
 unfoldable pub ran : List ℕ → List Row → List ℕ → List ℕ → Bool
 ran j [] m r = true
 ran j (step t a ∷ rest) m r = elim (stepOutcome j m r t) [ outcome b n s ↦ let more = ran j rest n s in both (sameAnswer b a) more ]
+ran j (list ts o a p ∷ rest) m r =
+    elim (runOutcome j m r ts o) [ listed b n s q ↦ let more = ran j rest n s in both (both (sameAnswer b a) (sameWords q p)) more ]
 ran j (ready o a p ∷ rest) m r =
     let more = ran j rest m r in
     elim (readyOutcome j m r o) [ mapped b q ↦ both (both (sameAnswer b a) (sameWords q p)) more ]
@@ -94,6 +98,6 @@ unfolding load store size pick both either storeAll rows one occurrences each up
     procedures segmentLength offset count rights reserved instructionFrom instructionAt rowOf operationOf operationAt sum effect between headHolds
     refusal10 entryHolds entriesHold contentsHold refusal11 whichHolds operandHolds fitting instructionHolds lastHolds bodyHolds refusal12 procedureOf
     positionOf registerOf put instructionFor answerWith valueOf statusOf taskHolds zeros recordHolds runnerHolds refused jobTested tested segmentsFor
-    jobOpened openOutcome callOf replyOf runnerAfter done replied coreOutcome repliedTo makes stepTested stepOutcome hasMoved answerOf over total onesIn
+    jobOpened openOutcome callOf replyOf runnerAfter done replied coreOutcome repliedTo makes stepTested stepOutcome hasMoved answerOf coreOf runnerOf stepsFrom runFrom runOutcome over total onesIn
     ones trailingZeros readyBit bitsFrom wordsFor lowestFrom mapOf readyMap testAnswer readyOutcome sameAnswer sameWords ran ranFresh
 right j rows m r = ranFresh j rows m r

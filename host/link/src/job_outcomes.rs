@@ -51,6 +51,11 @@ fn map(pair: &mut RunnerPair) -> (Stepped, [u32; 6]) {
     (answer, pair.map())
 }
 
+/// The answer of a list of steps, and the answers of the steps.
+fn list(pair: &mut RunnerPair, tasks: &[u32], places: usize) -> (Stepped, Vec<Stepped>) {
+    pair.run(tasks, places).expect("the lists agree")
+}
+
 /// The step gets this answer, and the map says before whether it moves.
 fn step(pair: &mut RunnerPair, t: u32, due: Stepped) {
     let (answer, words) = map(pair);
@@ -152,6 +157,7 @@ fn refused_before_the_memories() {
         let mut pair = lent(job, core, runner);
         assert_eq!(pair.open(), Ok(Refused(number)));
         assert_eq!(pair.step(0), Ok(Refused(number)));
+        assert_eq!(list(&mut pair, &[0, 0], 2).0, Refused(number));
         assert_eq!(map(&mut pair), (Refused(number), NOBODY));
     }
 }
@@ -174,6 +180,42 @@ fn refused_memories_and_tasks() {
 }
 
 /// A task waits for its older sibling at every operation.
+/// Not as many places as tasks, of a job and of bytes that are none.
+#[test]
+fn lists_refused() {
+    for bytes in [job(IDLE), vec![0; 3]] {
+        for (tasks, places) in [(2, 1), (2, 3), (0, 1), (1, 0)] {
+            let mut pair = lent(bytes.clone(), WORDS, RUNNER);
+            let (answer, _) = list(&mut pair, &vec![0; tasks], places);
+            assert_eq!(answer, Refused(1), "{tasks} tasks, {places} places");
+        }
+    }
+}
+
+/// Opens afresh over any words, and goes on behind a wait and a refusal.
+#[test]
+fn lists() {
+    let text = "procedure top all\nspawn push 0\nspawn pop 0\nreturn
+                procedure push push 0\npush 0 5\nreturn
+                procedure pop pop 0\npop 0\nreturn";
+    let due = [
+        (0, Did(Spawned(1))),
+        (0, Did(Spawned(2))),
+        (2, Waits),
+        (9, Refused(4)),
+        (128, Refused(4)),
+        (1, Did(Pushed(5))),
+        (2, Did(Took(5))),
+    ];
+    let (tasks, answers): (Vec<u32>, Vec<Stepped>) = due.into_iter().unzip();
+    for mut pair in [lent(job(text), WORDS, RUNNER), opened(text)] {
+        assert_eq!(list(&mut pair, &tasks, 7), (DONE, answers.clone()));
+        steps(&mut pair, &[(2, Did(Finished)), (0, Waits)]);
+        assert_eq!(list(&mut pair, &[], 0), (DONE, vec![]));
+        steps(&mut pair, &[(0, Did(Spawned(1)))]);
+    }
+}
+
 #[test]
 fn blocked() {
     for (line, then) in [
