@@ -18,6 +18,10 @@ returns-2 c =
     core-fails _ _ _ _ (c .before .before .before .before .refusal .ensures) (c .before .before .before .if1 .left) (c .before .rules-hold .ensures)
     (c .if2 .taken)
 
+holds-requires : tie.Need-holds-requires
+unfolding size
+holds-requires c κs = let w = fits _ _ _ (c .before .before .before .before .before .before .refusal .ensures) (c .before .before .before .before .before .if1 .left) in (w .core, w .runner)
+
 returns-3 : tie.Need-returns-3
 returns-3 c =
     runner-fails _ _ _ _ (c .before .before .before .before .before .before .before .before .refusal .ensures)
@@ -74,5 +78,5 @@ pub step-spec : {M : Type 1} → statement M
 step-spec =
     tie.close
     (tie.spec (λ c κs. search needs) (λ c. search needs) (λ c. search needs) returns rules-hold-requires (λ c. search needs) (λ c. search needs)
-    returns-2 (λ c κs. search needs) (λ c. search needs) (λ c. search needs) returns-3 (λ c κs. search needs) (λ c. search needs) (λ c. search needs)
+    returns-2 holds-requires (λ c. search needs) (λ c. search needs) returns-3 (λ c κs. search needs) (λ c. search needs) (λ c. search needs)
     returns-4 (λ c κs. search needs) (λ c. search needs) (λ c. search needs) returns-5 act-requires (λ c. search needs) (λ c. search needs) returns-6)

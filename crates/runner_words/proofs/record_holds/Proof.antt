@@ -10,4 +10,6 @@ returns-2 : tie.Need-returns-2
 returns-2 c = not-in-use _ _ _ _ (c .before .before .unfinished .ensures) (c .before .if1 .left) (c .zeros .ensures)
 
 pub record-holds-spec : {M : Type 1} → statement M
-record-holds-spec = tie.close (tie.spec (λ c κs. search needs) (λ c κs. search needs) (λ c κs. search needs) returns returns-2)
+record-holds-spec =
+    tie.close
+    (tie.spec (λ c κs. search needs) (λ c. search needs) (λ c κs. search needs) (λ c κs. search needs) returns returns-2)
