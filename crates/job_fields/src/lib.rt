@@ -57,13 +57,6 @@ fn offset(job: &[u8], p: u32) -> u32
     bytes2(job, HEAD + p as usize * ENTRY) as u32
 }
 
-// The number of instructions of procedure p.
-pub fn count(job: &[u8], p: u32) -> u32
-    ensures { λ r. ⌜ r ≡ count (now (job .entry)) p ⌝ }
-{
-    bytes2(job, HEAD + p as usize * ENTRY + 2) as u32
-}
-
 pub fn rights(job: &[u8], p: u32) -> u32
     ensures { λ r. ⌜ r ≡ rights (now (job .entry)) p ⌝ }
 {

@@ -5,13 +5,18 @@ use mathlib.Core.List.{List}
 use Prim.Native.Nat.{ℕ, _+_, _-_, _*_, _<_, _≤_}
 use native.Mathlib.Omega.{arith}
 use lib.ListN.{length}
-use borrow.Author.Tests.{leb-true}
+use borrow.Author.Tests.{leb-true, not-false}
 use Rattle.spec_words.specs.Words.{size, both-true}
+use Rattle.spec_answers.specs.declared.Answer.the-variants.{Moved}
 use Rattle.spec_job.specs.Fields.{procedures, entryAt, offset, count}
-use Rattle.spec_job.specs.Test.{headHolds, contentsHold}
-use Rattle.spec_job.specs.Accepted.{contents-say}
+use Rattle.spec_job.specs.Test.{headHolds, refusal10, contentsHold, jobAnswer}
+use Rattle.spec_job.specs.Accepted.{contents-say, passed}
 
 module _ (j : List ℕ) where
+  pub accepted-head : jobAnswer j ≡ Moved 0 → headHolds j ≡ true
+  unfolding jobAnswer refusal10
+  accepted-head e = not-false _ (passed _ 10 _ e .0)
+
   -- the contents, where the head holds
   pub contents-inside : {n : ℕ} → headHolds j ≡ true → n ≡ procedures j → entryAt n ≤ length j
   unfolding headHolds size

@@ -1,5 +1,5 @@
 // The runner's words: reading and writing them, whether they keep their rules, and what every call of the runner tests first.
-// Reading and writing are total: past the end a read gives 0 and a write does nothing. The test of the rules asks for the lengths.
+// Reading and writing are total: past the end a read gives 0 and a write does nothing. The test of the rules asks for what the calls test before it.
 ghost use mathlib.Core.Path.{_≡_};
 ghost use mathlib.Core.Bool.{true};
 ghost use mathlib.Core.List.{List};
@@ -9,7 +9,8 @@ ghost use Rattle.spec_lists.specs.Tests.{upto};
 ghost use Rattle.spec_outcomes.specs.Waits.{unfinished};
 ghost use Rattle.spec_runner.specs.Words.{procedureOf, positionOf, registerOf, put, instructionFor};
 ghost use Rattle.spec_runner.specs.Rules.{taskHolds, zeros, recordHolds, runnerHolds};
-ghost use Rattle.runner_words.specs.Refusals.{refusalIn, jobRefusal};
+ghost use Rattle.runner_words.specs.Refusals.{refusalIn, jobRefusal, Fits};
+use layout::RIGHTS_AT;
 use layout::TASK_RECORDS;
 use layout::TASK_WORDS;
 use layout::TASKS;
@@ -65,17 +66,20 @@ pub fn instruction_for(job: &[u8], r: &[u32], t: u32) -> Instruction
 }
 
 // The words of an unfinished task: procedure and instruction exist, and the core's rights are the procedure's.
-fn task_holds(job: &[u8], m: &[u32], r: &[u32], t: u32) -> bool
+fn task_holds(job: &[u8], m: &[u32], r: &[u32], t: usize) -> bool
+    requires { ⌜ Fits (now job) (now m) (now r) × (t < 128) ⌝ }
     ensures { λ b. ⌜ b ≡ taskHolds (now (job .entry)) (now (m .entry)) (now (r .entry)) t ⌝ }
 {
-    let p = procedure(r, t);
+    let a = t * RECORD;
+    let p = r[a];
     if p >= job_fields::procedures(job) {
         return false;
     }
-    if position(r, t) >= job_fields::count(job, p) {
+    let e = job_fields::procedure_at(job, p);
+    if r[a + 1] >= e.count {
         return false;
     }
-    memory::task(m, t, 1) == job_fields::rights(job, p)
+    m[RIGHTS_AT + t * TASK_WORDS] == e.rights
 }
 
 fn unfinished(m: &[u32], t: usize) -> bool
@@ -95,11 +99,11 @@ fn zeros(r: &[u32], t: usize) -> bool
 }
 
 fn record_holds(job: &[u8], m: &[u32], r: &[u32], t: usize) -> bool
-    requires { ⌜ (length (now m) ≡ 16384) × (length (now r) ≡ 384) × (t < 128) ⌝ }
+    requires { ⌜ Fits (now job) (now m) (now r) × (t < 128) ⌝ }
     ensures { λ b. ⌜ b ≡ recordHolds (now (job .entry)) (now (m .entry)) (now (r .entry)) t ⌝ }
 {
     if unfinished(m, t) {
-        task_holds(job, m, r, t as u32)
+        task_holds(job, m, r, t)
     } else {
         zeros(r, t)
     }
@@ -107,7 +111,7 @@ fn record_holds(job: &[u8], m: &[u32], r: &[u32], t: usize) -> bool
 
 // The records from t on and below n.
 fn records_hold(job: &[u8], m: &[u32], r: &[u32], t: usize, n: usize) -> bool
-    requires { ⌜ (length (now m) ≡ 16384) × (length (now r) ≡ 384) × (n ≤ 128) × (t ≤ n) ⌝ }
+    requires { ⌜ Fits (now job) (now m) (now r) × (n ≤ 128) × (t ≤ n) ⌝ }
     ensures { λ b. ⌜ b ≡ upto (recordHolds (now (job .entry)) (now (m .entry)) (now (r .entry))) (n - t) t ⌝ }
 {
     let mut i = t;
@@ -142,7 +146,7 @@ fn four_free(m: &[u32], r: &[u32], t: usize) -> bool
 
 // The four records from t on. Most records are free, so four free ones are told by one test of their words.
 fn four_hold(job: &[u8], m: &[u32], r: &[u32], t: usize) -> bool
-    requires { ⌜ (length (now m) ≡ 16384) × (length (now r) ≡ 384) × (t + 4 ≤ 128) ⌝ }
+    requires { ⌜ Fits (now job) (now m) (now r) × (t + 4 ≤ 128) ⌝ }
     ensures { λ b. ⌜ b ≡ upto (recordHolds (now (job .entry)) (now (m .entry)) (now (r .entry))) 4 t ⌝ }
 {
     if four_free(m, r, t) {
@@ -153,7 +157,7 @@ fn four_hold(job: &[u8], m: &[u32], r: &[u32], t: usize) -> bool
 
 // The runner's part of the memory rules.
 pub fn holds(job: &[u8], m: &[u32], r: &[u32]) -> bool
-    requires { ⌜ (length (now m) ≡ 16384) × (length (now r) ≡ 384) ⌝ }
+    requires { ⌜ Fits (now job) (now m) (now r) ⌝ }
     ensures { λ b. ⌜ b ≡ runnerHolds (now (job .entry)) (now (m .entry)) (now (r .entry)) ⌝ }
 {
     let mut t: usize = 0;

@@ -5,7 +5,8 @@ use Rattle.job_fields.proofs.procedure_at.Tie as tie
 
 returns : tie.Need-returns
 unfolding offset count rights reserved
-returns c = (c .before .before .before .bytes2-inside .ensures, c .before .before .bytes2-inside2 .ensures, c .before .byte-inside .ensures, c .byte-inside2 .ensures)
+returns c =
+    (c .before .before .before .bytes2-inside .ensures, c .before .before .bytes2-inside2 .ensures, c .before .byte-inside .ensures, c .byte-inside2 .ensures)
 
 pub procedure-at-spec : {M : Type 1} → statement M
 procedure-at-spec =

@@ -20,7 +20,8 @@ loop-holds : tie.Need-loop-holds Inv-loop μ-loop
 loop-holds c = (omega arith, upto-start _ _)
 
 body-holds-requires : tie.Need-body-holds-requires Inv-loop μ-loop
-body-holds-requires c κs = (c .before .before .before .before .pre .0, c .before .before .before .before .pre .1, rw (c .before .before .procedures .ensures) at (c .loop-test .taken))
+body-holds-requires c κs =
+    (c .before .before .before .before .pre .0, c .before .before .before .before .pre .1, rw (c .before .before .procedures .ensures) at (c .loop-test .taken))
 
 returns : tie.Need-returns Inv-loop μ-loop
 returns c =

@@ -30,14 +30,21 @@ loop-holds : tie.Need-loop-holds Inv-loop μ-loop
 loop-holds c = (omega arith, upto-start _ _)
 
 instruction-holds-requires : tie.Need-instruction-holds-requires Inv-loop μ-loop
-instruction-holds-requires c κs =
-    (c .before .before .before .before .before .before .before .pre .0, instruction-inside _ _ (c .before .before .before .before .before .before .before .pre .1) (c .before .before .before .before .before .before .before .pre .2) (c .before .before .before .procedure-at .ensures .0) (c .before .before .before .procedure-at .ensures .1) _ (c .loop-test .taken))
+instruction-holds-requires c κs = (
+  c .before .before .before .before .before .before .before .pre .0,
+  instruction-inside _ _
+      (c .before .before .before .before .before .before .before .pre .1) (c .before .before .before .before .before .before .before .pre .2)
+      (c .before .before .before .procedure-at .ensures .0) (c .before .before .before .procedure-at .ensures .1) _ (c .loop-test .taken),
+)
 
 returns-2 : tie.Need-returns-2 Inv-loop μ-loop
 returns-2 c =
-    body-says _ _ (c .before .before .before .before .before .before .before .last-holds .ensures) (not-false _ (c .before .before .before .before .before .before .if1 .left)) (c .before .before .before .before .before .procedure-at .ensures .1)
+    body-says _ _ (c .before .before .before .before .before .before .before .last-holds .ensures)
+    (not-false _ (c .before .before .before .before .before .before .if1 .left)) (c .before .before .before .before .before .procedure-at .ensures .1)
     (upto-stop _ _ _ (c .before .before .loop-test .taken)
-    (instruction-says _ _ _ (c .before .before .before .before .before .procedure-at .ensures .0) (c .before .before .before .before .before .procedure-at .ensures .1) (c .before .before .before .before .before .procedure-at .ensures .2) (c .before .instruction-holds .ensures)
+    (instruction-says _ _ _ (c .before .before .before .before .before .procedure-at .ensures .0)
+    (c .before .before .before .before .before .procedure-at .ensures .1) (c .before .before .before .before .before .procedure-at .ensures .2)
+    (c .before .instruction-holds .ensures)
     ∙ not-true _ (c .if2 .taken))
     ∙ c .before .before .before .loop .inv .1)
 
@@ -45,14 +52,17 @@ loop-again : tie.Need-loop-again Inv-loop μ-loop
 loop-again c = (
   omega arith,
   upto-next _ _ _ (c .before .before .loop-test .taken)
-      (instruction-says _ _ _ (c .before .before .before .before .before .procedure-at .ensures .0) (c .before .before .before .before .before .procedure-at .ensures .1) (c .before .before .before .before .before .procedure-at .ensures .2) (c .before .instruction-holds .ensures)
+      (instruction-says _ _ _ (c .before .before .before .before .before .procedure-at .ensures .0)
+      (c .before .before .before .before .before .procedure-at .ensures .1) (c .before .before .before .before .before .procedure-at .ensures .2)
+      (c .before .instruction-holds .ensures)
       ∙ not-false _ (c .if2 .left))
       ∙ c .before .before .before .loop .inv .1,
 )
 
 returns-3 : tie.Need-returns-3 Inv-loop μ-loop
 returns-3 c =
-    body-says _ _ (c .before .before .before .before .before .last-holds .ensures) (not-false _ (c .before .before .before .before .if1 .left)) (c .before .before .before .procedure-at .ensures .1) (upto-end _ _ _ (c .loop-test .left) ∙ c .before .loop .inv .1)
+    body-says _ _ (c .before .before .before .before .before .last-holds .ensures) (not-false _ (c .before .before .before .before .if1 .left))
+    (c .before .before .before .procedure-at .ensures .1) (upto-end _ _ _ (c .loop-test .left) ∙ c .before .loop .inv .1)
 
 pub body-holds-spec : {M : Type 1} → statement M
 body-holds-spec =

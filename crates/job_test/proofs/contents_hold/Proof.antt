@@ -19,7 +19,8 @@ entries-hold-requires c κs = contents-inside _ (c .before .before .before .befo
 returns-2 : tie.Need-returns-2
 unfolding contentsHold
 returns-2 c =
-    c .entries-hold .ensures ∙ ap (λ (k : ℕ). entriesHold (c .before .before .before .before .before .args .job .now) k 0 (entryAt k)) (c .before .procedures .ensures)
+    c .entries-hold .ensures ∙ ap (λ (k : ℕ). entriesHold (c .before .before .before .before .before .args .job .now) k 0 (entryAt k))
+    (c .before .procedures .ensures)
     ∙ sym (both-on (eq-eqb _ _ (sym (c .before .before .before .rights .ensures) ∙ c .before .before .if1 .left)))
 
 pub contents-hold-spec : {M : Type 1} → statement M

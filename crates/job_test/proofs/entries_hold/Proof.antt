@@ -22,14 +22,25 @@ loop-holds : tie.Need-loop-holds Inv-loop μ-loop
 loop-holds c = (omega arith, omega arith, entries-start _ _ _)
 
 returns : tie.Need-returns Inv-loop μ-loop
-returns c = entries-stop _ _ _ _ (c .before .before .loop-test .taken) (sym (c .before .entry-holds .ensures) ∙ not-true _ (c .if1 .taken)) ∙ c .before .before .before .loop .inv .2
+returns c =
+    entries-stop _ _ _ _ (c .before .before .loop-test .taken) (sym (c .before .entry-holds .ensures) ∙ not-true _ (c .if1 .taken))
+    ∙ c .before .before .before .loop .inv .2
 
 loop-again : tie.Need-loop-again Inv-loop μ-loop
 loop-again c = (
   omega arith,
-  omega (arith, few _ _ _ (sym (c .before .before .before .entry-holds .ensures) ∙ not-false _ (c .before .before .if1 .left)) (c .before .procedure-at .ensures .1)),
-  ap (λ (k : ℕ). entriesHold (c .before .before .before .before .before .before .before .args .job .now) (c .before .before .before .before .before .before .before .args .n - (c .before .before .before .before .before .loop .p + 1)) (c .before .before .before .before .before .loop .p + 1) (c .before .before .before .before .before .loop .a + k * 6)) (c .before .procedure-at .ensures .1)
-      ∙ entries-next _ _ _ _ (c .before .before .before .before .loop-test .taken) (sym (c .before .before .before .entry-holds .ensures) ∙ not-false _ (c .before .before .if1 .left)) ∙ c .before .before .before .before .before .loop .inv .2,
+  omega (
+    arith,
+    few _ _ _ (sym (c .before .before .before .entry-holds .ensures) ∙ not-false _ (c .before .before .if1 .left))
+        (c .before .procedure-at .ensures .1),
+  ),
+  ap (λ (k : ℕ). entriesHold (c .before .before .before .before .before .before .before .args .job .now)
+      (c .before .before .before .before .before .before .before .args .n - (c .before .before .before .before .before .loop .p + 1))
+      (c .before .before .before .before .before .loop .p + 1) (c .before .before .before .before .before .loop .a + k * 6))
+      (c .before .procedure-at .ensures .1)
+      ∙ entries-next _ _ _ _ (c .before .before .before .before .loop-test .taken)
+      (sym (c .before .before .before .entry-holds .ensures) ∙ not-false _ (c .before .before .if1 .left))
+      ∙ c .before .before .before .before .before .loop .inv .2,
 )
 
 returns-2 : tie.Need-returns-2 Inv-loop μ-loop

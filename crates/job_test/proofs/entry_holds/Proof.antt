@@ -25,7 +25,8 @@ unfolding entryHolds
 returns-3 c =
     ap (λ (k : ℕ). eqb k 0) (c .before .before .before .before .before .procedure-at .ensures .3)
     ∙ sym (both-on (eq-eqb _ _ (sym (c .before .before .before .before .before .procedure-at .ensures .0) ∙ c .before .before .before .if1 .left))
-    ∙ both-on (in-range 1 128 (c .before .before .before .before .before .procedure-at .ensures .1) (c .before .before .between .ensures) ∙ not-false _ (c .before .if2 .left)))
+    ∙ both-on (in-range 1 128 (c .before .before .before .before .before .procedure-at .ensures .1) (c .before .before .between .ensures) ∙ not-false _
+    (c .before .if2 .left)))
 
 pub entry-holds-spec : {M : Type 1} → statement M
 entry-holds-spec =

@@ -22,7 +22,11 @@ returns-2 c =
     (halt _ _ (ap not (sym (c .before .contents-hold .ensures)) ∙ c .if2 .taken)))
 
 bodies-hold-requires : tie.Need-bodies-hold-requires
-bodies-hold-requires c κs = (sym (c .before .before .before .head-holds .ensures) ∙ not-false _ (c .before .before .if1 .left), sym (c .before .contents-hold .ensures) ∙ not-false _ (c .if2 .left))
+bodies-hold-requires c κs = (
+  sym (c .before .before .before .head-holds .ensures) ∙ not-false _ (c .before .before .if1 .left),
+  sym (c .before .contents-hold .ensures) ∙ not-false _
+      (c .if2 .left),
+)
 
 returns-3 : tie.Need-returns-3
 unfolding jobAnswer refusal10 refusal11 refusal12

@@ -9,10 +9,16 @@ use Rattle.runner_words.proofs.four_free.Tie as tie
 
 returns-5 : tie.Need-returns-5
 returns-5 c job e =
-    sym (four-at (recordHolds job (c .before .before .before .before .before .before .before .before .before .before .before .before .before .before .args .m .now) (c .before .before .before .before .before .before .before .before .before .before .before .before .before .before .args .r .now)) (c .before .before .before .before .before .before .before .before .before .before .before .before .before .before .args .t)
-    (not-in-use _ _ _ _ (c .before .before .before .before .before .before .before .before .before .before .before .unfinished .ensures) (c .before .before .before .before .before .before .before .before .before .before .if1 .left) (c .before .before .before .zeros .ensures))
-    (not-in-use _ _ _ _ (c .before .before .before .before .before .before .before .before .before .unfinished2 .ensures) (c .before .before .before .before .before .before .before .before .if2 .left) (c .before .before .zeros2 .ensures))
-    (not-in-use _ _ _ _ (c .before .before .before .before .before .before .before .unfinished3 .ensures) (c .before .before .before .before .before .before .if3 .left) (c .before .zeros3 .ensures))
+    sym
+    (four-at (recordHolds job (c .before .before .before .before .before .before .before .before .before .before .before .before .before .before .args .m .now)
+    (c .before .before .before .before .before .before .before .before .before .before .before .before .before .before .args .r .now))
+    (c .before .before .before .before .before .before .before .before .before .before .before .before .before .before .args .t)
+    (not-in-use _ _ _ _ (c .before .before .before .before .before .before .before .before .before .before .before .unfinished .ensures)
+    (c .before .before .before .before .before .before .before .before .before .before .if1 .left) (c .before .before .before .zeros .ensures))
+    (not-in-use _ _ _ _ (c .before .before .before .before .before .before .before .before .before .unfinished2 .ensures)
+    (c .before .before .before .before .before .before .before .before .if2 .left) (c .before .before .zeros2 .ensures))
+    (not-in-use _ _ _ _ (c .before .before .before .before .before .before .before .unfinished3 .ensures)
+    (c .before .before .before .before .before .before .if3 .left) (c .before .zeros3 .ensures))
     (not-in-use _ _ _ _ (c .before .before .before .before .before .unfinished4 .ensures) (c .before .before .before .before .if4 .left) (c .zeros4 .ensures)))
     ∙ e
 

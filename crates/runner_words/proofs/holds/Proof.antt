@@ -21,7 +21,7 @@ unfolding runnerHolds
 loop-holds c = (omega arith, refl, refl)
 
 four-hold-requires : tie.Need-four-hold-requires Inv-loop μ-loop
-four-hold-requires c κs = (c .before .before .before .before .before .pre .0, c .before .before .before .before .before .pre .1, omega arith)
+four-hold-requires c κs = (c .before .before .before .before .before .pre, omega arith)
 
 returns : tie.Need-returns Inv-loop μ-loop
 returns c = four-stop _ _ _ (omega arith) (sym (c .before .four-hold .ensures) ∙ not-true _ (c .if1 .taken)) ∙ c .before .before .before .loop .inv .2

@@ -19,15 +19,18 @@ loop-holds : tie.Need-loop-holds Inv-loop μ-loop
 loop-holds c = (omega arith, refl)
 
 record-holds-requires : tie.Need-record-holds-requires Inv-loop μ-loop
-record-holds-requires c κs = (c .before .before .before .before .before .pre .0, c .before .before .before .before .before .pre .1, omega arith)
+record-holds-requires c κs = (c .before .before .before .before .before .pre .0, omega arith)
 
 returns : tie.Need-returns Inv-loop μ-loop
-returns c = upto-stop _ _ _ (c .before .before .loop-test .taken) (sym (c .before .record-holds .ensures) ∙ not-true _ (c .if1 .taken)) ∙ c .before .before .before .loop .inv .1
+returns c =
+    upto-stop _ _ _ (c .before .before .loop-test .taken) (sym (c .before .record-holds .ensures) ∙ not-true _ (c .if1 .taken))
+    ∙ c .before .before .before .loop .inv .1
 
 loop-again : tie.Need-loop-again Inv-loop μ-loop
 loop-again c = (
   omega arith,
-  upto-next _ _ _ (c .before .before .loop-test .taken) (sym (c .before .record-holds .ensures) ∙ not-false _ (c .if1 .left)) ∙ c .before .before .before .loop .inv .1,
+  upto-next _ _ _ (c .before .before .loop-test .taken) (sym (c .before .record-holds .ensures) ∙ not-false _ (c .if1 .left))
+      ∙ c .before .before .before .loop .inv .1,
 )
 
 returns-2 : tie.Need-returns-2 Inv-loop μ-loop
