@@ -75,13 +75,6 @@ fn instruction_from(job: &[u8], a: usize) -> Instruction
     }
 }
 
-// Instruction i of procedure p.
-pub fn instruction_at(job: &[u8], p: u32, i: u32) -> Instruction
-    ensures { λ r. ⌜ r ≡ instructionAt (now (job .entry)) p i ⌝ }
-{
-    instruction_from(job, offset(job, p) as usize + i as usize * INSTRUCTION)
-}
-
 fn byte_inside(job: &[u8], a: usize) -> u8
     requires { ⌜ a < length (now job) ⌝ }
     ensures { λ r. ⌜ r ≡ load (now (job .entry)) a ⌝ }
@@ -136,4 +129,15 @@ pub fn instruction_inside(job: &[u8], a: usize) -> Instruction
         which: byte_inside(job, a + 1) as u32,
         operand: bytes4_inside(job, a + 2),
     }
+}
+
+// Instruction i of procedure p. One test tells whether it lies inside the job.
+pub fn instruction_at(job: &[u8], p: u32, i: u32) -> Instruction
+    ensures { λ r. ⌜ r ≡ instructionAt (now (job .entry)) p i ⌝ }
+{
+    let a = offset(job, p) as usize + i as usize * INSTRUCTION;
+    if a + INSTRUCTION <= job.len() {
+        return instruction_inside(job, a);
+    }
+    instruction_from(job, a)
 }
