@@ -1,8 +1,10 @@
-// Reading the fields of a job. A byte past the end is read as 0, so no function asks anything of the job.
+// Reading the fields of a job. A byte past the end is read as 0, so a function asks nothing of the job, except where its
+// name or its comment says that what it reads lies inside the job: it does not test for the end.
 ghost use mathlib.Core.Path.{_≡_};
-ghost use Prim.Native.Nat.{_^_, _<_};
+ghost use Prim.Native.Nat.{_+_, _^_, _<_, _≤_};
+ghost use lib.ListN.{length};
 ghost use Rattle.spec_words.specs.Words.{load};
-ghost use Rattle.spec_job.specs.Fields.{bytes2, bytes4, procedures, segmentLength, offset, count, rights, reserved, instructionFrom, instructionAt};
+ghost use Rattle.spec_job.specs.Fields.{bytes2, bytes4, procedures, segmentLength, entryAt, offset, count, rights, reserved, instructionFrom, instructionAt};
 use spec_job::Instruction;
 
 // The bytes of a job's head, of the entry of a procedure behind it, and of an instruction.
@@ -49,17 +51,10 @@ pub fn segment_length(job: &[u8]) -> u32
 }
 
 // Where the body of procedure p begins.
-pub fn offset(job: &[u8], p: u32) -> u32
+fn offset(job: &[u8], p: u32) -> u32
     ensures { λ r. ⌜ r ≡ offset (now (job .entry)) p ⌝ }
 {
     bytes2(job, HEAD + p as usize * ENTRY) as u32
-}
-
-// The number of instructions of procedure p.
-pub fn count(job: &[u8], p: u32) -> u32
-    ensures { λ r. ⌜ r ≡ count (now (job .entry)) p ⌝ }
-{
-    bytes2(job, HEAD + p as usize * ENTRY + 2) as u32
 }
 
 pub fn rights(job: &[u8], p: u32) -> u32
@@ -68,15 +63,8 @@ pub fn rights(job: &[u8], p: u32) -> u32
     byte(job, HEAD + p as usize * ENTRY + 4) as u32
 }
 
-// The last byte of the entry of procedure p.
-pub fn reserved(job: &[u8], p: u32) -> u32
-    ensures { λ r. ⌜ r ≡ reserved (now (job .entry)) p ⌝ }
-{
-    byte(job, HEAD + p as usize * ENTRY + 5) as u32
-}
-
 // The instruction that begins at address a.
-pub fn instruction_from(job: &[u8], a: usize) -> Instruction
+fn instruction_from(job: &[u8], a: usize) -> Instruction
     requires { ⌜ a < 2 ^ 36 ⌝ }
     ensures { λ r. ⌜ r ≡ instructionFrom (now (job .entry)) a ⌝ }
 {
@@ -87,9 +75,69 @@ pub fn instruction_from(job: &[u8], a: usize) -> Instruction
     }
 }
 
-// Instruction i of procedure p.
+fn byte_inside(job: &[u8], a: usize) -> u8
+    requires { ⌜ a < length (now job) ⌝ }
+    ensures { λ r. ⌜ r ≡ load (now (job .entry)) a ⌝ }
+{
+    job[a]
+}
+
+fn bytes2_inside(job: &[u8], a: usize) -> u16
+    requires { ⌜ a + 2 ≤ length (now job) ⌝ }
+    ensures { λ r. ⌜ r ≡ bytes2 (now (job .entry)) a ⌝ }
+{
+    byte_inside(job, a) as u16 + byte_inside(job, a + 1) as u16 * 256
+}
+
+fn bytes4_inside(job: &[u8], a: usize) -> u32
+    requires { ⌜ a + 4 ≤ length (now job) ⌝ }
+    ensures { λ r. ⌜ r ≡ bytes4 (now (job .entry)) a ⌝ }
+{
+    bytes2_inside(job, a) as u32 + bytes2_inside(job, a + 2) as u32 * 65536
+}
+
+// The entry of a procedure: where its body begins, the number of instructions, the rights, and the last byte.
+pub struct Procedure {
+    pub offset: u32,
+    pub count: u32,
+    pub rights: u32,
+    pub reserved: u32,
+}
+
+// The entry of procedure p, inside the job.
+pub fn procedure_at(job: &[u8], p: u32) -> Procedure
+    requires { ⌜ entryAt (p + 1) ≤ length (now job) ⌝ }
+    ensures { λ e. ⌜ (e .offset ≡ offset (now (job .entry)) p) × (e .count ≡ count (now (job .entry)) p)
+        × (e .rights ≡ rights (now (job .entry)) p) × (e .reserved ≡ reserved (now (job .entry)) p) ⌝ }
+{
+    let a = HEAD + p as usize * ENTRY;
+    Procedure {
+        offset: bytes2_inside(job, a) as u32,
+        count: bytes2_inside(job, a + 2) as u32,
+        rights: byte_inside(job, a + 4) as u32,
+        reserved: byte_inside(job, a + 5) as u32,
+    }
+}
+
+// The instruction that begins at address a, inside the job.
+pub fn instruction_inside(job: &[u8], a: usize) -> Instruction
+    requires { ⌜ a + 6 ≤ length (now job) ⌝ }
+    ensures { λ r. ⌜ r ≡ instructionFrom (now (job .entry)) a ⌝ }
+{
+    Instruction {
+        operation: byte_inside(job, a) as u32,
+        which: byte_inside(job, a + 1) as u32,
+        operand: bytes4_inside(job, a + 2),
+    }
+}
+
+// Instruction i of procedure p. One test tells whether it lies inside the job.
 pub fn instruction_at(job: &[u8], p: u32, i: u32) -> Instruction
     ensures { λ r. ⌜ r ≡ instructionAt (now (job .entry)) p i ⌝ }
 {
-    instruction_from(job, offset(job, p) as usize + i as usize * INSTRUCTION)
+    let a = offset(job, p) as usize + i as usize * INSTRUCTION;
+    if a + INSTRUCTION <= job.len() {
+        return instruction_inside(job, a);
+    }
+    instruction_from(job, a)
 }

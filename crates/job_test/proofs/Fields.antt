@@ -3,17 +3,16 @@ use mathlib.Core.Path.{_≡_, ap, ap₂, sym, _∙_}
 use mathlib.Core.Bool.{Bool, true, false}
 use mathlib.Core.List.{List}
 use mathlib.Core.Logic.{_⊎_, inl, inr, ⊎-elim}
-use Prim.Native.Nat.{ℕ, _+_, _-_, _*_, _<_, _≤_}
+use Prim.Native.Nat.{ℕ, _+_, _-_, _*_, _≤_}
 use native.Mathlib.Omega.{arith}
 use lib.Dec.{eqb}
 use borrow.Author.Tests.{eq-eqb, ne-eqb}
-use Rattle.spec_words.specs.Words.{either, true-left, true-right, pass, both-on, both-off}
+use Rattle.spec_words.specs.Words.{either, true-left, true-right, pass, both-on}
 use Rattle.spec_lists.specs.Tests.{upto}
 use Rattle.spec_job.specs.declared.Instruction.{Instruction}
-use Rattle.spec_job.specs.Fields.{procedures, offset, count, rights, instructionFrom, instructionAt}
-use Rattle.spec_job.specs.Operations.{rowOf}
-use Rattle.spec_job.specs.Test.{between, entryHolds, contentsHold, whichHolds, operandHolds, fitting, instructionHolds, lastHolds, bodyHolds}
-use Rattle.spec_job.specs.Accepted.{entry-says, contents-say}
+use Rattle.spec_job.specs.Fields.{offset, count, rights, instructionFrom, instructionAt}
+use Rattle.spec_job.specs.Test.{between, entryHolds, fitting, instructionHolds, lastHolds, bodyHolds}
+use Rattle.spec_job.specs.Accepted.{entry-says}
 
 -- a range test of a field that was read
 pub in-range : (a z : ℕ) {n x : ℕ} {b : Bool} → n ≡ x → b ≡ between a n z → between a x z ≡ b
@@ -22,20 +21,6 @@ in-range a z e q = ap (λ (k : ℕ). between a k z) (sym e) ∙ sym q
 -- an entry that holds has at most 128 instructions
 pub few : (j : List ℕ) (p a : ℕ) {m : ℕ} → entryHolds j p a ≡ true → m ≡ count j p → m ≤ 128
 few j p a {m} e q = let w = entry-says j p a e .2 in omega (arith, w)
-
--- and, where all hold, at least one
-pub some-instruction : (j : List ℕ) (p : ℕ) {n : ℕ} → contentsHold j ≡ true → n ≡ procedures j → p < n → 0 < count j p
-some-instruction j p {n} e q h = let w = contents-say j e p (rw q at h) .some in omega (arith, w)
-
--- the two fields of an instruction s that was read
-module _ (j : List ℕ) (r n : ℕ) {s t : Instruction} {b : Bool} (e : s ≡ t) (w : b ≡ whichHolds j r (rowOf (s .operation)) (s .which)) where
-  pub which-fails : b ≡ false → false ≡ fitting j r n t
-  unfolding fitting
-  which-fails f = sym (ap (fitting j r n) (sym e) ∙ both-off _ (sym w ∙ f))
-
-  pub operand-says : {a : Bool} → b ≡ true → a ≡ operandHolds n (rowOf (s .operation)) (s .operand) → a ≡ fitting j r n t
-  unfolding fitting
-  operand-says f q = q ∙ sym (both-on (sym w ∙ f)) ∙ ap (fitting j r n) e
 
 -- instruction i of procedure p, by what was read of the entry
 pub instruction-says : (j : List ℕ) (p i : ℕ) {o n r : ℕ} {b : Bool} → o ≡ offset j p → n ≡ count j p → r ≡ rights j p
@@ -52,9 +37,10 @@ unfolding bodyHolds
 body-says j p e t en q = q ∙ ap (λ (k : ℕ). upto (instructionHolds j p) k 0) en ∙ sym (both-on (sym e ∙ t))
 
 -- the last instruction
-module _ (j : List ℕ) (p : ℕ) {n : ℕ} {s : Instruction} (en : n ≡ count j p) (es : s ≡ instructionAt j p (n - 1)) where
+module _ (j : List ℕ) (p : ℕ) {o n : ℕ} {s : Instruction} (eo : o ≡ offset j p) (en : n ≡ count j p) (es : s ≡ instructionFrom j (o + (n - 1) * 6)) where
   read : instructionAt j p (count j p - 1) .operation ≡ s .operation
-  read = ap (λ (m : ℕ). instructionAt j p (m - 1) .operation) (sym en) ∙ ap (λ (t : Instruction). t .operation) (sym es)
+  unfolding instructionAt
+  read = ap₂ (λ (x m : ℕ). instructionFrom j (x + (m - 1) * 6) .operation) (sym eo) (sym en) ∙ ap (λ (t : Instruction). t .operation) (sym es)
 
   last-is : lastHolds j p ≡ either (eqb (s .operation) 0) (eqb (s .operation) 5)
   unfolding lastHolds

@@ -1,3 +1,4 @@
 pub mod Rows
 pub mod Loops
 pub mod Fields
+pub mod Inside

@@ -1,74 +1,73 @@
--- What the table of operations asks of the two fields, by ranges of operation numbers.
-use mathlib.Core.Path.{_≡_, refl}
-use mathlib.Core.Bool.{true, false}
+-- What the table of operations asks of the two fields, by operation number.
+use mathlib.Core.Path.{_≡_, refl, ap, sym, _∙_}
+use mathlib.Core.Bool.{Bool, true, false, _&&_}
 use mathlib.Core.List.{List}
 use mathlib.Core.Logic.{_⊎_, ⊎-elim}
 use Prim.Native.Nat.{ℕ, _+_, _<_, _≤_}
 use native.Mathlib.Omega.{arith}
 use lib.Dec.{ltb, eqb}
-use Rattle.spec_words.specs.Words.{both}
+use Rattle.spec_words.specs.Words.{pick, both, both-off, both-right-on}
 use Rattle.spec_tree.specs.Rights.{pushes, pops, subset}
+use Rattle.spec_job.specs.declared.Instruction.{Instruction}
 use Rattle.spec_job.specs.Fields.{procedures, rights}
 use Rattle.spec_job.specs.Operations.{rowOf}
 use Rattle.spec_job.specs.Rows.{from, row-past}
-use Rattle.spec_job.specs.Test.{whichHolds, operandHolds}
+use Rattle.spec_job.specs.Test.{whichHolds, operandHolds, fitting}
 
--- a fact of two numbers from a on, and of three
+-- a fact of two numbers from a on
 two : (P : ℕ → Type 0) (a : ℕ) → P a → P (a + 1) → (k : ℕ) → a ≤ k → k < a + 2 → P k
 two P a x y =
     from (λ k. k < a + 2 → P k) a (λ l. x)
     (from (λ k. k < a + 2 → P k) (a + 1) (λ l. y) (λ k h l. let z : ⊥ = omega arith in absurd z))
 
-three : (P : ℕ → Type 0) (a : ℕ) → P a → P (a + 1) → P (a + 2) → (k : ℕ) → a ≤ k → k < a + 3 → P k
-three P a x y z =
-    from (λ k. k < a + 3 → P k) a (λ l. x)
-    (λ k h l. two P (a + 1) y (rw sum z) k h (omega arith))
-  where
-    sum : a + 1 + 1 ≡ a + 2
-    sum = omega arith
+-- the code computes both sides; the first may be the result of a call
+pub and-both : (a b : Bool) → a && b ≡ both a b
+unfolding both pick
+and-both true b = refl
+and-both false b = refl
 
-module _ (j : List ℕ) (r w : ℕ) where
-  pub which-pushed : (k : ℕ) → 1 ≤ k → k < 3 → both (ltb w 4) (pushes r w) ≡ whichHolds j r (rowOf k) w
-  unfolding whichHolds rowOf
-  which-pushed = two (λ k. both (ltb w 4) (pushes r w) ≡ whichHolds j r (rowOf k) w) 1 refl refl
+pub call-and : {a x : Bool} (b : Bool) → a ≡ x → a && b ≡ both x b
+call-and {a} b e = and-both a b ∙ ap (λ (y : Bool). both y b) e
 
-  pub which-popped : (k : ℕ) → 3 ≤ k → k < 5 → both (ltb w 4) (pops r w) ≡ whichHolds j r (rowOf k) w
-  unfolding whichHolds rowOf
-  which-popped = two (λ k. both (ltb w 4) (pops r w) ≡ whichHolds j r (rowOf k) w) 3 refl refl
+module _ (j : List ℕ) (r n w v : ℕ) where
+  -- both fields of an instruction with operation k
+  abbrev pub fieldsHold : ℕ → Bool
+  fieldsHold k = both (whichHolds j r (rowOf k) w) (operandHolds n (rowOf k) v)
 
-  pub which-procedure : {k : ℕ} → k ≡ 8 → both (ltb w (procedures j)) (subset (rights j w) r) ≡ whichHolds j r (rowOf k) w
-  unfolding whichHolds rowOf
-  which-procedure e = rw e refl
+  pub nothing : {k : ℕ} → (k ≡ 0) ⊎ (k ≡ 9) → both (eqb w 0) (eqb v 0) ≡ fieldsHold k
+  unfolding whichHolds operandHolds rowOf
+  nothing e = ⊎-elim (λ q. rw q refl) (λ q. rw q refl) e
 
-  pub which-zero : {k : ℕ} → (k ≡ 0) ⊎ (k ≡ 9) → eqb w 0 ≡ whichHolds j r (rowOf k) w
-  unfolding whichHolds rowOf
-  which-zero e = ⊎-elim (λ q. rw q refl) (λ q. rw q refl) e
+  pub pushed : (k : ℕ) → 1 ≤ k → k < 3 → both (ltb w 4) (pushes r w) ≡ fieldsHold k
+  unfolding whichHolds operandHolds rowOf
+  pushed = two (λ k. both (ltb w 4) (pushes r w) ≡ fieldsHold k) 1 (sym (both-right-on _ refl)) (sym (both-right-on _ refl))
 
-  pub which-goes : (k : ℕ) → 5 ≤ k → k < 8 → eqb w 0 ≡ whichHolds j r (rowOf k) w
-  unfolding whichHolds rowOf
-  which-goes = three (λ k. eqb w 0 ≡ whichHolds j r (rowOf k) w) 5 refl refl refl
+  pub popped : {k : ℕ} → k ≡ 3 → both (both (ltb w 4) (pops r w)) (eqb v 0) ≡ fieldsHold k
+  unfolding whichHolds operandHolds rowOf
+  popped e = rw e refl
 
-  pub which-past : (k : ℕ) → 10 ≤ k → false ≡ whichHolds j r (rowOf k) w
+  pub tested : {k : ℕ} → k ≡ 4 → both (both (ltb w 4) (pops r w)) (ltb v n) ≡ fieldsHold k
+  unfolding whichHolds operandHolds rowOf
+  tested e = rw e refl
+
+  pub gone-to : (k : ℕ) → 5 ≤ k → k < 7 → both (eqb w 0) (ltb v n) ≡ fieldsHold k
+  unfolding whichHolds operandHolds rowOf
+  gone-to = two (λ k. both (eqb w 0) (ltb v n) ≡ fieldsHold k) 5 refl refl
+
+  pub added : {k : ℕ} → k ≡ 7 → eqb w 0 ≡ fieldsHold k
+  unfolding whichHolds operandHolds rowOf
+  added e = rw e (sym (both-right-on _ refl))
+
+  pub spawned : {k : ℕ} → k ≡ 8 → both (ltb w (procedures j)) (subset (rights j w) r) ≡ fieldsHold k
+  unfolding whichHolds operandHolds rowOf
+  spawned e = rw e (sym (both-right-on _ refl))
+
+  pub undefined : (k : ℕ) → 10 ≤ k → false ≡ fieldsHold k
   unfolding whichHolds
-  which-past k h = rw (row-past k h) refl
+  undefined k h = rw (row-past k h) (sym (both-off _ refl))
 
-module _ (n v : ℕ) where
-  pub operand-zero : {k : ℕ} → (k ≡ 0) ⊎ ((k ≡ 3) ⊎ (k ≡ 9)) → eqb v 0 ≡ operandHolds n (rowOf k) v
-  unfolding operandHolds rowOf
-  operand-zero e = ⊎-elim (λ q. rw q refl) (λ f. ⊎-elim (λ q. rw q refl) (λ q. rw q refl) f) e
-
-  pub operand-target : (k : ℕ) → 4 ≤ k → k < 7 → ltb v n ≡ operandHolds n (rowOf k) v
-  unfolding operandHolds rowOf
-  operand-target = three (λ k. ltb v n ≡ operandHolds n (rowOf k) v) 4 refl refl refl
-
-  pub operand-pushed : (k : ℕ) → 1 ≤ k → k < 3 → true ≡ operandHolds n (rowOf k) v
-  unfolding operandHolds rowOf
-  operand-pushed = two (λ k. true ≡ operandHolds n (rowOf k) v) 1 refl refl
-
-  pub operand-number : (k : ℕ) → 7 ≤ k → k < 9 → true ≡ operandHolds n (rowOf k) v
-  unfolding operandHolds rowOf
-  operand-number = two (λ k. true ≡ operandHolds n (rowOf k) v) 7 refl refl
-
-  pub operand-past : (k : ℕ) → 10 ≤ k → false ≡ operandHolds n (rowOf k) v
-  unfolding operandHolds
-  operand-past k h = rw (row-past k h) refl
+-- the instruction t, read as s
+pub fits : (j : List ℕ) (r n : ℕ) {s t : Instruction} {b : Bool} → s ≡ t
+    → b ≡ fieldsHold j r n (s .which) (s .operand) (s .operation) → b ≡ fitting j r n t
+unfolding fitting
+fits j r n e q = q ∙ ap (fitting j r n) e

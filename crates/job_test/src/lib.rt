@@ -1,14 +1,14 @@
 // The job test. Every byte is read a bounded number of times, so its time is linear in the bytes.
 ghost use mathlib.Core.Path.{_≡_};
 ghost use mathlib.Core.Bool.{true};
-ghost use Prim.Native.Nat.{_<_, _^_};
+ghost use Prim.Native.Nat.{_+_, _<_, _≤_};
 ghost use lib.Dec.{ltb};
+ghost use lib.ListN.{length};
 ghost use Rattle.spec_words.specs.Words.{both};
 ghost use Rattle.spec_lists.specs.Tests.{upto};
 ghost use Rattle.spec_tree.specs.Rights.{pushes, pops, subset};
-ghost use Rattle.spec_job.specs.Fields.{procedures, entryAt, count, rights, instructionFrom};
-ghost use Rattle.spec_job.specs.Operations.{rowOf};
-ghost use Rattle.spec_job.specs.Test.{between, headHolds, entryHolds, entriesHold, contentsHold, whichHolds, operandHolds, fitting, lastHolds, bodyHolds, jobAnswer};
+ghost use Rattle.spec_job.specs.Fields.{procedures, entryAt, rights, instructionFrom};
+ghost use Rattle.spec_job.specs.Test.{between, headHolds, entryHolds, entriesHold, contentsHold, fitting, lastHolds, bodyHolds, jobAnswer};
 use job_fields::ENTRY;
 use job_fields::HEAD;
 use job_fields::INSTRUCTION;
@@ -40,21 +40,22 @@ fn head_holds(job: &[u8]) -> bool
 
 // The entry of procedure p, whose body has to begin at address a.
 fn entry_holds(job: &[u8], p: u32, a: usize) -> bool
+    requires { ⌜ entryAt (p + 1) ≤ length (now job) ⌝ }
     ensures { λ b. ⌜ b ≡ entryHolds (now (job .entry)) p a ⌝ }
 {
-    let o = job_fields::offset(job, p) as usize;
-    let n = job_fields::count(job, p);
-    if o != a {
+    let e = job_fields::procedure_at(job, p);
+    if e.offset as usize != a {
         return false;
     }
-    if !between(1, n, 128) {
+    if !between(1, e.count, 128) {
         return false;
     }
-    job_fields::reserved(job, p) == 0
+    e.reserved == 0
 }
 
 // n entries, with a the address at which the next body has to begin.
 fn entries_hold(job: &[u8], n: u32) -> bool
+    requires { ⌜ entryAt n ≤ length (now job) ⌝ }
     ensures { λ b. ⌜ b ≡ entriesHold (now (job .entry)) n 0 (entryAt n) ⌝ }
 {
     let mut a = HEAD + n as usize * ENTRY;
@@ -63,13 +64,15 @@ fn entries_hold(job: &[u8], n: u32) -> bool
         if !entry_holds(job, p, a) {
             return false;
         }
-        a = a + job_fields::count(job, p) as usize * INSTRUCTION;
+        let e = job_fields::procedure_at(job, p);
+        a = a + e.count as usize * INSTRUCTION;
         p += 1;
     }
     a == job.len()
 }
 
 fn contents_hold(job: &[u8]) -> bool
+    requires { ⌜ headHolds (now job) ≡ true ⌝ }
     ensures { λ b. ⌜ b ≡ contentsHold (now (job .entry)) ⌝ }
 {
     if job_fields::rights(job, 0) != 255 {
@@ -101,63 +104,48 @@ fn popped_queue(r: u32, w: u32) -> bool
 
 // Procedure w of a spawn, by a procedure with rights r.
 fn spawned(job: &[u8], r: u32, w: u32) -> bool
+    requires { ⌜ headHolds (now job) ≡ true ⌝ }
     ensures { λ b. ⌜ b ≡ both (ltb w (procedures (now (job .entry)))) (subset (rights (now (job .entry)) w) r) ⌝ }
 {
     let n = job_fields::procedures(job);
     if n <= w {
         return false;
     }
-    let s = job_fields::rights(job, w);
+    let e = job_fields::procedure_at(job, w);
+    let s = e.rights;
     rights::subset(s, r)
 }
 
-// The byte "which" of operation k, in a procedure with rights r.
-fn which_holds(job: &[u8], r: u32, k: u32, w: u32) -> bool
-    ensures { λ b. ⌜ b ≡ whichHolds (now (job .entry)) r (rowOf k) w ⌝ }
-{
-    match k {
-        1..=2 => pushed_queue(r, w),
-        3..=4 => popped_queue(r, w),
-        8 => spawned(job, r, w),
-        0 | 5..=7 | 9 => w == 0,
-        _ => false,
-    }
-}
-
-// The operand of operation k, in a body of n instructions.
-fn operand_holds(n: u32, k: u32, v: u32) -> bool
-    ensures { λ b. ⌜ b ≡ operandHolds n (rowOf k) v ⌝ }
-{
-    match k {
-        4..=6 => v < n,
-        1..=2 | 7..=8 => true,
-        0 | 3 | 9 => v == 0,
-        _ => false,
-    }
-}
-
-// The instruction at address a, in a body of n instructions and a procedure with rights r.
+// The instruction at address a, in a body of n instructions and a procedure with rights r: an arm for each pair of what
+// the two fields have to be.
 fn instruction_holds(job: &[u8], r: u32, n: u32, a: usize) -> bool
-    requires { ⌜ a < 2 ^ 36 ⌝ }
+    requires { ⌜ (headHolds (now job) ≡ true) × (a + 6 ≤ length (now job)) ⌝ }
     ensures { λ b. ⌜ b ≡ fitting (now (job .entry)) r n (instructionFrom (now (job .entry)) a) ⌝ }
 {
-    let s = job_fields::instruction_from(job, a);
+    let s = job_fields::instruction_inside(job, a);
     let k = s.operation;
     let w = s.which;
     let v = s.operand;
-    if !which_holds(job, r, k, w) {
-        return false;
+    match k {
+        0 | 9 => (w == 0) & (v == 0),
+        1..=2 => pushed_queue(r, w),
+        3 => popped_queue(r, w) & (v == 0),
+        4 => popped_queue(r, w) & (v < n),
+        5..=6 => (w == 0) & (v < n),
+        7 => w == 0,
+        8 => spawned(job, r, w),
+        _ => false,
     }
-    operand_holds(n, k, v)
 }
 
 // "The last instruction of a body is 0 or 5."
 fn last_holds(job: &[u8], p: u32) -> bool
-    requires { ⌜ 0 < count (now job) p ⌝ }
+    requires { ⌜ (headHolds (now job) ≡ true) × (contentsHold (now job) ≡ true) × (p < procedures (now job)) ⌝ }
     ensures { λ b. ⌜ b ≡ lastHolds (now (job .entry)) p ⌝ }
 {
-    let n = job_fields::count(job, p);
-    let s = job_fields::instruction_at(job, p, n - 1);
+    let e = job_fields::procedure_at(job, p);
+    let i = e.count as usize - 1;
+    let s = job_fields::instruction_inside(job, e.offset as usize + i * INSTRUCTION);
     let k = s.operation;
     match k {
         0 | 5 => true,
@@ -167,15 +155,16 @@ fn last_holds(job: &[u8], p: u32) -> bool
 
 // The body of procedure p.
 fn body_holds(job: &[u8], p: u32) -> bool
-    requires { ⌜ 0 < count (now job) p ⌝ }
+    requires { ⌜ (headHolds (now job) ≡ true) × (contentsHold (now job) ≡ true) × (p < procedures (now job)) ⌝ }
     ensures { λ b. ⌜ b ≡ bodyHolds (now (job .entry)) p ⌝ }
 {
     if !last_holds(job, p) {
         return false;
     }
-    let o = job_fields::offset(job, p) as usize;
-    let n = job_fields::count(job, p);
-    let r = job_fields::rights(job, p);
+    let e = job_fields::procedure_at(job, p);
+    let o = e.offset as usize;
+    let n = e.count;
+    let r = e.rights;
     let mut i: u32 = 0;
     while i < n {
         if !instruction_holds(job, r, n, o + i as usize * INSTRUCTION) {
@@ -187,7 +176,7 @@ fn body_holds(job: &[u8], p: u32) -> bool
 }
 
 fn bodies_hold(job: &[u8]) -> bool
-    requires { ⌜ contentsHold (now job) ≡ true ⌝ }
+    requires { ⌜ (headHolds (now job) ≡ true) × (contentsHold (now job) ≡ true) ⌝ }
     ensures { λ b. ⌜ b ≡ upto (bodyHolds (now (job .entry))) (procedures (now (job .entry))) 0 ⌝ }
 {
     let n = job_fields::procedures(job);

@@ -1,19 +1,20 @@
 -- The words of a task: written, read, and whether they keep their rules.
 use mathlib.Core.Path.{_≡_, refl, ap, ap₂, sym, _∙_}
-use mathlib.Core.Bool.{Bool, true, false}
+use mathlib.Core.Bool.{Bool, true, false, _&&_}
 use mathlib.Core.List.{List}
 use Prim.Native.Nat.{ℕ, _+_, _*_, _<_, _≤_}
+use native.Mathlib.Omega.{arith}
 use lib.Dec.{ltb, eqb}
-use borrow.Author.Tests.{lt-ltb, le-ltb, eq-eqb, ne-eqb}
-use Rattle.spec_words.specs.Words.{store, halt, pass, both-off}
+use lib.ListN.{getD}
+use borrow.Author.Tests.{lt-ltb, le-ltb}
+use Rattle.spec_words.specs.Words.{load, store, pick, both, halt, pass, both-on, both-off}
 use Rattle.spec_words.specs.Blocks.{store-three}
-use Rattle.spec_layout.specs.Layout.{task, read}
+use Rattle.spec_layout.specs.Layout.{task, address, read}
 use Rattle.spec_outcomes.specs.Waits.{unfinished}
 use Rattle.spec_job.specs.declared.Instruction.{Instruction}
 use Rattle.spec_job.specs.Fields.{procedures, count, rights, instructionAt}
 use Rattle.spec_runner.specs.Words.{procedureOf, positionOf, registerOf, put, instructionFor}
 use Rattle.spec_runner.specs.Rules.{taskHolds, zeros, recordHolds}
-use Rattle.walks.proofs.Tour.{both-so}
 
 -- three stores in a row
 pub three : (m m1 m2 m3 : List ℕ) (t x y z : ℕ) → m1 ≡ store m (t * 3) x → m2 ≡ store m1 (t * 3 + 1) y → m3 ≡ store m2 (t * 3 + 2) z → m3 ≡ put m t x y z
@@ -40,27 +41,40 @@ module _ (j m r : List ℕ) (t : ℕ) {p n : ℕ} (ep : p ≡ procedureOf r t) (
 
     pub no-instruction : c ≤ i → false ≡ taskHolds j m r t
     unfolding taskHolds
-    no-instruction g = both-so (exists ∙ lt-ltb p n h) (sym (both-off _ (inside ∙ le-ltb i c g)))
+    no-instruction g = sym (both-on (exists ∙ lt-ltb p n h) ∙ both-off _ (inside ∙ le-ltb i c g))
 
     pub same-rights : i < c → {a b : ℕ} → a ≡ read m (task t 1) → b ≡ rights j p → eqb a b ≡ taskHolds j m r t
     unfolding taskHolds
-    same-rights g ea eb =
-        both-so (exists ∙ lt-ltb p n h) (both-so (inside ∙ lt-ltb i c g) (ap₂ eqb ea (eb ∙ ap (rights j) ep)))
+    same-rights g ea eb = ap₂ eqb ea (eb ∙ ap (rights j) ep) ∙ sym (both-on (exists ∙ lt-ltb p n h) ∙ both-on (inside ∙ lt-ltb i c g))
+
+-- its words, read by address
+pub procedure-at : (r : List ℕ) (t : ℕ) → getD r (t * 3) 0 ≡ procedureOf r t
+unfolding procedureOf load
+procedure-at r t = refl
+
+pub position-at : (r : List ℕ) (t : ℕ) → getD r (t * 3 + 1) 0 ≡ positionOf r t
+unfolding positionOf load
+position-at r t = refl
+
+pub rights-at : (m : List ℕ) (t : ℕ) → getD m (1473 + t * 48) 0 ≡ read m (task t 1)
+unfolding read address load
+rights-at m t = ap (λ (a : ℕ). getD m a 0) (let z : 1473 + t * 48 ≡ 1472 + t * 48 + 1 = omega arith in z)
 
 -- A RECORD THAT IS NOT IN USE
-module _ (r : List ℕ) (t : ℕ) {p : ℕ} (ep : p ≡ procedureOf r t) where
-  pub some-procedure : (p ≡ 0 → ⊥) → false ≡ zeros r t
-  unfolding zeros
-  some-procedure n = sym (both-off _ (ne-eqb _ _ (λ e. n (ep ∙ e))))
+three-zeros : (a b c : Bool) → (a && b) && c ≡ both a (both b c)
+unfolding both pick
+three-zeros true true c = refl
+three-zeros true false c = refl
+three-zeros false b c = refl
 
-  module _ (zp : p ≡ 0) {i : ℕ} (ei : i ≡ positionOf r t) where
-    pub some-position : (i ≡ 0 → ⊥) → false ≡ zeros r t
-    unfolding zeros
-    some-position n = both-so (eq-eqb _ _ (sym ep ∙ zp)) (sym (both-off _ (ne-eqb _ _ (λ e. n (ei ∙ e)))))
+pub zeros-at : (r : List ℕ) (t : ℕ) → (eqb (getD r (t * 3) 0) 0 && eqb (getD r (t * 3 + 1) 0) 0) && eqb (getD r (t * 3 + 2) 0) 0 ≡ zeros r t
+unfolding zeros procedureOf positionOf registerOf load
+zeros-at r t = three-zeros (eqb (getD r (t * 3) 0) 0) (eqb (getD r (t * 3 + 1) 0) 0) (eqb (getD r (t * 3 + 2) 0) 0)
 
-    pub all-zero : i ≡ 0 → {x : ℕ} → x ≡ registerOf r t → eqb x 0 ≡ zeros r t
-    unfolding zeros
-    all-zero z ex = both-so (eq-eqb _ _ (sym ep ∙ zp)) (both-so (eq-eqb _ _ (sym ei ∙ z)) (ap (λ (x : ℕ). eqb x 0) ex))
+pub unfinished-at : (m : List ℕ) (t : ℕ) → t < 128 → eqb (getD m (1472 + t * 48) 0) 1 ≡ unfinished m t
+unfolding unfinished read address load
+unfinished-at m t h =
+    ap (λ (a : ℕ). eqb (getD m a 0) 1) (let z : 1472 + t * 48 ≡ 1472 + t * 48 + 0 = omega arith in z) ∙ sym (both-on (lt-ltb _ _ h))
 
 module _ (j m r : List ℕ) (t : ℕ) {u x : Bool} (eu : u ≡ unfinished m t) where
   pub in-use : u ≡ true → x ≡ taskHolds j m r t → x ≡ recordHolds j m r t

@@ -1,10 +1,20 @@
 // The runner's words: reading and writing them, whether they keep their rules, and what every call of the runner tests first.
-// Every function is total: past the end a read gives 0 and a write does nothing.
+// Reading and writing are total: past the end a read gives 0 and a write does nothing. The test of the rules asks for what the calls test before it.
 ghost use mathlib.Core.Path.{_≡_};
+ghost use mathlib.Core.Bool.{true};
+ghost use mathlib.Core.List.{List};
+ghost use Prim.Native.Nat.{ℕ, _+_, _-_, _<_, _≤_};
+ghost use lib.ListN.{length};
+ghost use Rattle.spec_lists.specs.Tests.{upto};
+ghost use Rattle.spec_outcomes.specs.Waits.{unfinished};
 ghost use Rattle.spec_runner.specs.Words.{procedureOf, positionOf, registerOf, put, instructionFor};
 ghost use Rattle.spec_runner.specs.Rules.{taskHolds, zeros, recordHolds, runnerHolds};
-ghost use Rattle.runner_words.specs.Refusals.{refusalIn, jobRefusal};
+ghost use Rattle.runner_words.specs.Refusals.{refusalIn, jobRefusal, Fits};
+use layout::RIGHTS_AT;
+use layout::TASK_RECORDS;
+use layout::TASK_WORDS;
 use layout::TASKS;
+use layout::UNFINISHED;
 use layout::WORDS;
 use spec_answers::Answer;
 use spec_job::Instruction;
@@ -14,6 +24,9 @@ pub const RUNNER_WORDS: usize = 384;
 
 // The words of a task.
 const RECORD: usize = 3;
+
+// The number of tasks, to be compared with an index.
+const RECORDS: usize = TASKS as usize;
 
 // The procedure of task t.
 pub fn procedure(r: &[u32], t: u32) -> u32
@@ -53,52 +66,106 @@ pub fn instruction_for(job: &[u8], r: &[u32], t: u32) -> Instruction
 }
 
 // The words of an unfinished task: procedure and instruction exist, and the core's rights are the procedure's.
-fn task_holds(job: &[u8], m: &[u32], r: &[u32], t: u32) -> bool
+fn task_holds(job: &[u8], m: &[u32], r: &[u32], t: usize) -> bool
+    requires { ⌜ Fits (now job) (now m) (now r) × (t < 128) ⌝ }
     ensures { λ b. ⌜ b ≡ taskHolds (now (job .entry)) (now (m .entry)) (now (r .entry)) t ⌝ }
 {
-    let p = procedure(r, t);
+    let a = t * RECORD;
+    let p = r[a];
     if p >= job_fields::procedures(job) {
         return false;
     }
-    if position(r, t) >= job_fields::count(job, p) {
+    let e = job_fields::procedure_at(job, p);
+    if r[a + 1] >= e.count {
         return false;
     }
-    memory::task(m, t, 1) == job_fields::rights(job, p)
+    m[RIGHTS_AT + t * TASK_WORDS] == e.rights
 }
 
-// The words of a record that is not in use.
-fn zeros(r: &[u32], t: u32) -> bool
+fn unfinished(m: &[u32], t: usize) -> bool
+    requires { ⌜ (length (now m) ≡ 16384) × (t < 128) ⌝ }
+    ensures { λ b. ⌜ b ≡ unfinished (now (m .entry)) t ⌝ }
+{
+    m[TASK_RECORDS + t * TASK_WORDS] == UNFINISHED
+}
+
+// The words of a record that is not in use. There is no branch for a word, since that is faster.
+fn zeros(r: &[u32], t: usize) -> bool
+    requires { ⌜ (length (now r) ≡ 384) × (t < 128) ⌝ }
     ensures { λ b. ⌜ b ≡ zeros (now (r .entry)) t ⌝ }
 {
-    if procedure(r, t) != 0 {
-        return false;
-    }
-    if position(r, t) != 0 {
-        return false;
-    }
-    register(r, t) == 0
+    let a = t * RECORD;
+    (r[a] == 0) & (r[a + 1] == 0) & (r[a + 2] == 0)
 }
 
-fn record_holds(job: &[u8], m: &[u32], r: &[u32], t: u32) -> bool
+fn record_holds(job: &[u8], m: &[u32], r: &[u32], t: usize) -> bool
+    requires { ⌜ Fits (now job) (now m) (now r) × (t < 128) ⌝ }
     ensures { λ b. ⌜ b ≡ recordHolds (now (job .entry)) (now (m .entry)) (now (r .entry)) t ⌝ }
 {
-    if walks::unfinished(m, t) {
+    if unfinished(m, t) {
         task_holds(job, m, r, t)
     } else {
         zeros(r, t)
     }
 }
 
-// The runner's part of the memory rules.
-pub fn holds(job: &[u8], m: &[u32], r: &[u32]) -> bool
-    ensures { λ b. ⌜ b ≡ runnerHolds (now (job .entry)) (now (m .entry)) (now (r .entry)) ⌝ }
+// The records from t on and below n.
+fn records_hold(job: &[u8], m: &[u32], r: &[u32], t: usize, n: usize) -> bool
+    requires { ⌜ Fits (now job) (now m) (now r) × (n ≤ 128) × (t ≤ n) ⌝ }
+    ensures { λ b. ⌜ b ≡ upto (recordHolds (now (job .entry)) (now (m .entry)) (now (r .entry))) (n - t) t ⌝ }
 {
-    let mut t: u32 = 0;
-    while t < TASKS {
-        if !record_holds(job, m, r, t) {
+    let mut i = t;
+    while i < n {
+        if !record_holds(job, m, r, i) {
             return false;
         }
-        t += 1;
+        i += 1;
+    }
+    true
+}
+
+// True only where none of the four records from t on is in use and their words are 0.
+fn four_free(m: &[u32], r: &[u32], t: usize) -> bool
+    requires { ⌜ (length (now m) ≡ 16384) × (length (now r) ≡ 384) × (t + 4 ≤ 128) ⌝ }
+    ensures { λ b. ⌜ ((job : List ℕ) → b ≡ true → upto (recordHolds job (now (m .entry)) (now (r .entry))) 4 t ≡ true) ⌝ }
+{
+    if unfinished(m, t) {
+        return false;
+    }
+    if unfinished(m, t + 1) {
+        return false;
+    }
+    if unfinished(m, t + 2) {
+        return false;
+    }
+    if unfinished(m, t + 3) {
+        return false;
+    }
+    zeros(r, t) & zeros(r, t + 1) & zeros(r, t + 2) & zeros(r, t + 3)
+}
+
+// The four records from t on. Most records are free, so four free ones are told by one test of their words.
+fn four_hold(job: &[u8], m: &[u32], r: &[u32], t: usize) -> bool
+    requires { ⌜ Fits (now job) (now m) (now r) × (t + 4 ≤ 128) ⌝ }
+    ensures { λ b. ⌜ b ≡ upto (recordHolds (now (job .entry)) (now (m .entry)) (now (r .entry))) 4 t ⌝ }
+{
+    if four_free(m, r, t) {
+        return true;
+    }
+    records_hold(job, m, r, t, t + 4)
+}
+
+// The runner's part of the memory rules.
+pub fn holds(job: &[u8], m: &[u32], r: &[u32]) -> bool
+    requires { ⌜ Fits (now job) (now m) (now r) ⌝ }
+    ensures { λ b. ⌜ b ≡ runnerHolds (now (job .entry)) (now (m .entry)) (now (r .entry)) ⌝ }
+{
+    let mut t: usize = 0;
+    while t < RECORDS {
+        if !four_hold(job, m, r, t) {
+            return false;
+        }
+        t += 4;
     }
     true
 }

@@ -6,7 +6,6 @@ use borrow.Author.Tests.{not-true, not-false}
 use borrow.Author.Needs.{needs}
 use Rattle.spec_lists.specs.Tests.{upto}
 use Rattle.spec_job.specs.Test.{bodyHolds}
-use Rattle.job_test.proofs.Fields.{some-instruction}
 use Rattle.job_test.proofs.Loops.{upto-start, upto-next, upto-stop, upto-end}
 use Rattle.job_test.proofs.bodies_hold.Statement.{statement}
 use Rattle.job_test.proofs.bodies_hold.Tie as tie
@@ -21,7 +20,8 @@ loop-holds : tie.Need-loop-holds Inv-loop μ-loop
 loop-holds c = (omega arith, upto-start _ _)
 
 body-holds-requires : tie.Need-body-holds-requires Inv-loop μ-loop
-body-holds-requires c κs = some-instruction _ _ (c .before .before .before .before .pre) (c .before .before .procedures .ensures) (c .loop-test .taken)
+body-holds-requires c κs =
+    (c .before .before .before .before .pre .0, c .before .before .before .before .pre .1, rw (c .before .before .procedures .ensures) at (c .loop-test .taken))
 
 returns : tie.Need-returns Inv-loop μ-loop
 returns c =

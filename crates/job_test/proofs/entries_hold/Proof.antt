@@ -29,12 +29,18 @@ returns c =
 loop-again : tie.Need-loop-again Inv-loop μ-loop
 loop-again c = (
   omega arith,
-  omega (arith, few _ _ _ (sym (c .before .before .entry-holds .ensures) ∙ not-false _ (c .before .if1 .left)) (c .count .ensures)),
-  ap (λ (k : ℕ). entriesHold (c .before .before .before .before .before .before .args .job .now)
-      (c .before .before .before .before .before .before .args .n - (c .before .before .before .before .loop .p + 1))
-      (c .before .before .before .before .loop .p + 1) (c .before .before .before .before .loop .a + k * 6)) (c .count .ensures)
-      ∙ entries-next _ _ _ _ (c .before .before .before .loop-test .taken) (sym (c .before .before .entry-holds .ensures) ∙ not-false _ (c .before .if1 .left))
-      ∙ c .before .before .before .before .loop .inv .2,
+  omega (
+    arith,
+    few _ _ _ (sym (c .before .before .before .entry-holds .ensures) ∙ not-false _ (c .before .before .if1 .left))
+        (c .before .procedure-at .ensures .1),
+  ),
+  ap (λ (k : ℕ). entriesHold (c .before .before .before .before .before .before .before .args .job .now)
+      (c .before .before .before .before .before .before .before .args .n - (c .before .before .before .before .before .loop .p + 1))
+      (c .before .before .before .before .before .loop .p + 1) (c .before .before .before .before .before .loop .a + k * 6))
+      (c .before .procedure-at .ensures .1)
+      ∙ entries-next _ _ _ _ (c .before .before .before .before .loop-test .taken)
+      (sym (c .before .before .before .entry-holds .ensures) ∙ not-false _ (c .before .before .if1 .left))
+      ∙ c .before .before .before .before .before .loop .inv .2,
 )
 
 returns-2 : tie.Need-returns-2 Inv-loop μ-loop
@@ -44,5 +50,5 @@ returns-2 c = entries-end _ _ _ _ (c .loop-test .left) ∙ c .before .loop .inv 
 pub entries-hold-spec : {M : Type 1} → statement M
 entries-hold-spec =
     tie.close
-    (tie.spec Inv-loop μ-loop (λ c. search needs) (λ c. search needs) loop-holds (λ c κs. search needs) returns (λ c κs. search needs)
+    (tie.spec Inv-loop μ-loop (λ c. search needs) (λ c. search needs) loop-holds (λ c κs. omega arith) returns (λ c κs. omega arith)
     (λ c. search needs) (λ c. omega arith) (λ c. omega arith) (λ c. omega arith) (λ c. omega arith) loop-again returns-2)

@@ -12,6 +12,9 @@ returns : tie.Need-returns
 unfolding jobAnswer refusal10
 returns c = sym (halt _ _ (ap not (sym (c .before .head-holds .ensures)) ∙ c .if1 .taken))
 
+contents-hold-requires : tie.Need-contents-hold-requires
+contents-hold-requires c κs = sym (c .before .head-holds .ensures) ∙ not-false _ (c .if1 .left)
+
 returns-2 : tie.Need-returns-2
 unfolding jobAnswer refusal10 refusal11
 returns-2 c =
@@ -19,7 +22,11 @@ returns-2 c =
     (halt _ _ (ap not (sym (c .before .contents-hold .ensures)) ∙ c .if2 .taken)))
 
 bodies-hold-requires : tie.Need-bodies-hold-requires
-bodies-hold-requires c κs = sym (c .before .contents-hold .ensures) ∙ not-false _ (c .if2 .left)
+bodies-hold-requires c κs = (
+  sym (c .before .before .before .head-holds .ensures) ∙ not-false _ (c .before .before .if1 .left),
+  sym (c .before .contents-hold .ensures) ∙ not-false _
+      (c .if2 .left),
+)
 
 returns-3 : tie.Need-returns-3
 unfolding jobAnswer refusal10 refusal11 refusal12
@@ -36,4 +43,4 @@ returns-4 c =
     (pass _ (ap not (sym (c .before .bodies-hold .ensures)) ∙ c .if3 .left) refl)))
 
 pub job-test-spec : {M : Type 1} → statement M
-job-test-spec = tie.close (tie.spec (λ c κs. search needs) returns (λ c κs. search needs) returns-2 bodies-hold-requires returns-3 returns-4)
+job-test-spec = tie.close (tie.spec (λ c κs. search needs) returns contents-hold-requires returns-2 bodies-hold-requires returns-3 returns-4)

@@ -16,6 +16,9 @@ rules-hold-requires c κs = fits _ _ _ (c .before .refusal .ensures) (c .if1 .le
 returns-2 : tie.Need-returns-2
 returns-2 c = rules-refuse _ _ _ (c .before .before .before .refusal .ensures) (c .before .before .if1 .left) (c .before .rules-hold .ensures) (c .if2 .taken)
 
+holds-requires : tie.Need-holds-requires
+holds-requires c κs = fits _ _ _ (c .before .before .before .refusal .ensures) (c .before .before .if1 .left)
+
 returns-3 : tie.Need-returns-3
 returns-3 c =
     runner-refuses _ _ _ (c .before .before .before .before .before .refusal .ensures) (c .before .before .before .before .if1 .left)
@@ -27,4 +30,4 @@ returns-4 c =
     (c .before .before .before .rules-hold .ensures) (c .before .before .if2 .left) (c .before .holds .ensures) (c .if3 .left)
 
 pub refusal-spec : {M : Type 1} → statement M
-refusal-spec = tie.close (tie.spec (λ c κs. search needs) returns rules-hold-requires returns-2 (λ c κs. search needs) returns-3 returns-4)
+refusal-spec = tie.close (tie.spec (λ c κs. search needs) returns rules-hold-requires returns-2 holds-requires returns-3 returns-4)

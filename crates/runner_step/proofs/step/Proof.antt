@@ -17,6 +17,9 @@ returns-2 : tie.Need-returns-2
 returns-2 c =
     core-fails _ _ _ _ (c .before .before .before .before .refusal .ensures) (c .before .before .before .if1 .left) (c .before .rules-hold .ensures) (c .if2 .taken)
 
+holds-requires : tie.Need-holds-requires
+holds-requires c κs = fits _ _ _ (c .before .before .before .before .before .before .refusal .ensures) (c .before .before .before .before .before .if1 .left)
+
 returns-3 : tie.Need-returns-3
 returns-3 c =
     runner-fails _ _ _ _ (c .before .before .before .before .before .before .before .before .refusal .ensures) (c .before .before .before .before .before .before .before .if1 .left) (c .before .before .before .before .before .rules-hold .ensures) (c .before .before .before .before .if2 .left) (c .before .holds .ensures) (c .if3 .taken)
@@ -34,5 +37,5 @@ pub step-spec : {M : Type 1} → statement M
 step-spec =
     tie.close
     (tie.spec (λ c κs. search needs) (λ c. search needs) (λ c. search needs) returns rules-hold-requires (λ c. search needs) (λ c. search needs)
-    returns-2 (λ c κs. search needs) (λ c. search needs) (λ c. search needs) returns-3 step-tested-requires (λ c. search needs) (λ c. search needs)
+    returns-2 holds-requires (λ c. search needs) (λ c. search needs) returns-3 step-tested-requires (λ c. search needs) (λ c. search needs)
     returns-4)
