@@ -11,9 +11,9 @@ pub mod runner;
 use std::mem::MaybeUninit;
 
 /// Words that are written already, lent as words that need not be.
-fn lent(words: &mut [u32]) -> &mut [MaybeUninit<u32>] {
+fn lent<W: Copy>(words: &mut [W]) -> &mut [MaybeUninit<W>] {
     // The library writes whole words and nothing else.
-    unsafe { &mut *(words as *mut [u32] as *mut [MaybeUninit<u32>]) }
+    unsafe { &mut *(words as *mut [W] as *mut [MaybeUninit<W>]) }
 }
 
 /// What a call answers: a status, and a value that is 0 unless the call moved.
@@ -32,7 +32,8 @@ impl Answer {
     /// A run without overlap that made all its steps and has not ended.
     pub const SPENT: u32 = 35;
 
-    fn of(number: u64) -> Answer {
+    /// A packed answer taken apart.
+    pub fn of(number: u64) -> Answer {
         Answer {
             status: (number >> 32) as u32,
             value: number as u32,

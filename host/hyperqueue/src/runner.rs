@@ -60,17 +60,28 @@ pub fn run(
     tasks: &[u32],
     answers: &mut [u64],
 ) -> Answer {
+    run_unset(job, lent(core), lent(runner), tasks, lent(answers))
+}
+
+/// The same on words that nobody has written yet.
+pub fn run_unset(
+    job: &[u8],
+    core: &mut [MaybeUninit<u32>],
+    runner: &mut [MaybeUninit<u32>],
+    tasks: &[u32],
+    answers: &mut [MaybeUninit<u64>],
+) -> Answer {
     Answer::of(unsafe {
         hq_job_run(
             job.as_ptr(),
             job.len(),
-            core.as_mut_ptr(),
+            core.as_mut_ptr().cast(),
             core.len(),
-            runner.as_mut_ptr(),
+            runner.as_mut_ptr().cast(),
             runner.len(),
             tasks.as_ptr(),
             tasks.len(),
-            answers.as_mut_ptr(),
+            answers.as_mut_ptr().cast(),
             answers.len(),
         )
     })

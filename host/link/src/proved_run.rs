@@ -30,18 +30,40 @@ pub fn stepped(Answer { status, value }: Answer) -> Stepped {
 }
 
 impl<'a> ProvedRun<'a> {
-    /// The job opened, or the number of the refusal.
-    pub fn open(job: &'a [u8]) -> Result<ProvedRun<'a>, u32> {
-        let mut run = ProvedRun {
+    fn on(job: &'a [u8]) -> ProvedRun<'a> {
+        ProvedRun {
             job,
             core: vec![0; WORDS],
             runner: vec![0; RUNNER],
             log: Log::default(),
-        };
+        }
+    }
+
+    /// The job opened, or the number of the refusal.
+    pub fn open(job: &'a [u8]) -> Result<ProvedRun<'a>, u32> {
+        let mut run = ProvedRun::on(job);
         match stepped(runner::open(job, &mut run.core, &mut run.runner)) {
             Stepped::Refused(number) => Err(number),
             _ => Ok(run),
         }
+    }
+
+    /// The job opened and a list of steps made in one call, with their answers.
+    pub fn of_list(job: &'a [u8], tasks: &[u32]) -> Result<(ProvedRun<'a>, Vec<Stepped>), u32> {
+        let mut run = ProvedRun::on(job);
+        let mut answers = vec![0; tasks.len()];
+        let given = runner::run(job, &mut run.core, &mut run.runner, tasks, &mut answers);
+        if let Stepped::Refused(number) = stepped(given) {
+            return Err(number);
+        }
+        let answers: Vec<Stepped> = answers
+            .into_iter()
+            .map(|a| stepped(Answer::of(a)))
+            .collect();
+        for (t, answer) in tasks.iter().zip(&answers) {
+            run.log.note(*t, *answer);
+        }
+        Ok((run, answers))
     }
 
     pub fn step(&mut self, t: u32) -> Stepped {

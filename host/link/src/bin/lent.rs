@@ -11,6 +11,7 @@ use host::random::Random;
 use host::random_jobs::accepted;
 use host::runner::RUNNER;
 use hyperqueue::jobs::run_serially_unset;
+use hyperqueue::runner::run_unset;
 use link::fuzzing::{calls, Made};
 use link::ground::Ground;
 use link::linked_jobs::{job_test, ANSWERS, WORKING};
@@ -73,6 +74,20 @@ fn every_call(r: &mut Random, ground: &Ground, made: &mut [u64; 2]) {
     }
 }
 
+/// A list of steps, whose answers are all written; then one with a place too
+/// few, which is refused.
+fn list_of_steps(r: &mut Random, job: &[u8]) {
+    let mut core = Box::new_uninit_slice(WORDS);
+    let mut runner = Box::new_uninit_slice(RUNNER);
+    let tasks: Box<[u32]> = (0..r.within(1, 60)).map(|n| r.below(6.min(n + 1))).collect();
+    let mut answers = Box::new_uninit_slice(tasks.len());
+    let _ = run_unset(job, &mut core, &mut runner, &tasks, &mut answers);
+    let _ = run_unset(job, &mut core, &mut runner, &tasks, &mut answers[1..]);
+    let answers = unsafe { answers.assume_init() };
+    let moved = answers.iter().filter(|answer| **answer >> 32 > 32).count();
+    assert!(moved > 0, "the top of a job can make its first step");
+}
+
 /// What opens and what runs a job serially, on words that nobody has written:
 /// the checker sees a word that is read before it is written. The calls behind
 /// an opening find all words written.
@@ -90,6 +105,7 @@ fn on_unset_words(r: &mut Random) {
         job: job.to_vec(),
     };
     every_call(r, &ground, &mut [0; 2]);
+    list_of_steps(r, &job);
     let mut working = Box::new_uninit_slice(WORKING);
     let mut answers = Box::new_uninit_slice(ANSWERS);
     let _ = run_serially_unset(&job, &mut working, &mut answers);
