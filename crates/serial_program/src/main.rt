@@ -1,6 +1,7 @@
 // Runs the job in the file that the first argument names, without overlap, and prints the run in document 01's lines. Where
 // the file cannot be read it says why on standard error and prints nothing.
 ghost use Prim.Native.Nat.{_+_, _^_, _<_, _≤_};
+ghost use lib.ListN.{length};
 use libc::STDOUT_FILENO;
 use read_file::Bytes;
 use read_file::JOB_BYTES;
@@ -30,25 +31,26 @@ fn print_steps(a: &[u32], steps: u32) -> bool {
     true
 }
 
-// Prints the lines of n values of queue q from value `first` on.
-fn print_value_block(w: &[u32], q: u32, first: u32, n: u32) -> bool
-    requires { ⌜ (first + n < 2 ^ 32) × (n ≤ 1024) ⌝ }
+// Prints the lines of values left in queue q.
+fn print_values(q: u32, values: &[u32]) -> bool
+    requires { ⌜ length (now values) ≤ 1024 ⌝ }
 {
     let mut out = io::large_buffer();
-    let r = serial_text::value_lines(&mut out, w, q, first, n);
+    let r = block_text::value_lines(&mut out, q, values);
     io::write_all(STDOUT_FILENO, &out[..r])
 }
 
-// Prints a line for each value left in queue q.
+// Prints a line for each value left in queue q, 1,024 at a time.
 fn print_queue(w: &[u32], q: u32) -> bool {
-    let values = serial_queues::count(w, q);
-    let mut first: u32 = 0;
-    while first < values {
-        let n = block_text::part(values, first);
-        if !print_value_block(w, q, first, n) {
+    let count = serial_queues::count(w, q) as usize;
+    let mut values = [0u32; 1024];
+    let mut first: usize = 0;
+    while first < count {
+        let n = serial_text::left_values(w, q, first, &mut values);
+        if !print_values(q, &values[..n]) {
             return false;
         }
-        first += n;
+        first += 1024;
     }
     true
 }
