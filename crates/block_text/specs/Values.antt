@@ -1,13 +1,13 @@
--- THE VALUES LEFT IN A QUEUE: read one after the other until there is none, at most so many at a time, and their lines.
+-- THE VALUES LEFT IN A QUEUE: their lines, and the values as they are read one after the other until there is none.
 use mathlib.Core.Path.{_≡_, refl, ap, sym, _∙_, subst}
 use mathlib.Core.List.{List, [], _∷_, _++_, append-nil, append-assoc}
 use mathlib.Core.Option.{Option, none, some}
 use Prim.Native.Nat.{ℕ, zero, suc, _+_, _-_, _*_, _<_, _≤_}
-use native.Mathlib.Nat.{add-zero, zero-add, suc-add, sub-zero}
+use native.Mathlib.Nat.{add-zero, suc-add, sub-zero}
 use native.Mathlib.Numerals.{add-one}
 use native.Mathlib.Omega.{arith}
 use lib.ListN.{length, take, drop, getD, set, getElem?, length-set}
-use lib.Seq.{take-suc, take-all, take-nil, drop-nil, take-suc-set, append-snoc, length-take-le}
+use lib.Seq.{take-suc, take-all, drop-nil, take-suc-set, append-snoc, length-take-le}
 use Rattle.spec_lists.specs.Tests.{turn-left, turns-over}
 use Rattle.text.specs.Puts.{Puts, puts-then, puts-first}
 use Rattle.run_text.specs.Lines.{leftLine}
@@ -39,9 +39,9 @@ pub next-value : (q : ℕ) (vs : List ℕ) (i : ℕ) {m m1 m2 : List ℕ} {a b :
 next-value q vs i h p n =
     rw (add-one i, take-suc vs i 0 h, lines-behind q (take i vs) (getD vs i 0 ∷ []), one-value q (getD vs i 0)) (puts-then p n)
 
-pub all-values : (q : ℕ) (vs : List ℕ) (i : ℕ) {m m1 : List ℕ} {a : ℕ} → length m1 ≡ length m → 65536 ≤ length m → length vs ≤ 1024 → i ≤ length vs
+pub all-values : (q : ℕ) (vs : List ℕ) (i : ℕ) {m m1 : List ℕ} {a : ℕ} → length m1 ≡ length m → length vs * 27 ≤ length m → i ≤ length vs
     → length vs ≤ i → a ≤ i * 27 → Puts m 0 (valueLines q (take i vs)) m1 a → Block m1 a (valueLines q vs)
-all-values q vs i {m} {m1} {a} e h k l g b p =
+all-values q vs i {m} {m1} {a} e h l g b p =
     block e (omega arith) (subst (λ (us : List ℕ). Puts m 0 (valueLines q us) m1 a) (take-all i vs g) p)
 
 -- THE VALUES that f gives from number i on until it gives none, at most k
@@ -82,34 +82,6 @@ read-list xs zero i = refl
 read-list [] (suc k) i = sym (ap (take (suc k)) (drop-nil i))
 read-list (x ∷ xs) (suc k) zero = ap (λ (l : List ℕ). x ∷ l) (read-rest x xs k 0 ∙ read-list xs k 0)
 read-list (x ∷ xs) (suc k) (suc i) = read-rest x xs (suc k) i ∙ read-list xs (suc k) i
-
--- THE BLOCKS of what is read: behind k values come others, behind fewer none
-module _ (f : ℕ → Option ℕ) where
-  pub read-further : (k n i : ℕ) → length (readFrom f k i) ≡ k → readFrom f (k + n) i ≡ readFrom f k i ++ readFrom f n (i + k)
-  unfolding readFrom onto
-  read-further zero n i e = rw (zero-add n, add-zero i) refl
-  read-further (suc k) n i e = ap (λ (j : ℕ). readFrom f j i) (suc-add k n) ∙ go (f i) e (read-further k n (i + 1))
-    where
-      Rest : List ℕ
-      Rest = readFrom f k (i + 1)
-
-      go : (o : Option ℕ) → length (onto o Rest) ≡ suc k → (length Rest ≡ k → readFrom f (k + n) (i + 1) ≡ Rest ++ readFrom f n (i + 1 + k))
-          → onto o (readFrom f (k + n) (i + 1)) ≡ onto o Rest ++ readFrom f n (i + suc k)
-      go none e h = let z : ⊥ = omega (arith, e) in absurd z
-      go (some v) e h =
-          ap (λ (l : List ℕ). v ∷ l) (h (omega (arith, e)) ∙ ap (λ (j : ℕ). Rest ++ readFrom f n j) (let z : i + 1 + k ≡ i + suc k = omega arith in z))
-
-  pub read-stops : (k n i : ℕ) → length (readFrom f k i) < k → readFrom f (k + n) i ≡ readFrom f k i
-  unfolding readFrom onto
-  read-stops zero n i l = let z : ⊥ = omega (arith, l) in absurd z
-  read-stops (suc k) n i l = ap (λ (j : ℕ). readFrom f j i) (suc-add k n) ∙ go (f i) l (read-stops k n (i + 1))
-    where
-      Rest : List ℕ
-      Rest = readFrom f k (i + 1)
-
-      go : (o : Option ℕ) → length (onto o Rest) < suc k → (length Rest < k → readFrom f (k + n) (i + 1) ≡ Rest) → onto o (readFrom f (k + n) (i + 1)) ≡ onto o Rest
-      go none l h = refl
-      go (some v) l h = ap (λ (l : List ℕ). v ∷ l) (h (omega (arith, l)))
 
 -- READING into the k words vs, one value after the other from number a on: i values are there
 pub record Read (f : ℕ → Option ℕ) (k a i : ℕ) (vs : List ℕ) : Type 0 where

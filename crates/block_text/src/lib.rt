@@ -1,5 +1,5 @@
 // Lines of a run in blocks of at most 1,024, put at the start of lent bytes. A block gives the number of its bytes.
-ghost use Prim.Native.Nat.{_+_, _^_, _<_, _≤_};
+ghost use Prim.Native.Nat.{_+_, _*_, _^_, _<_, _≤_};
 ghost use lib.ListN.{length};
 ghost use Rattle.text.specs.Puts.{Puts};
 ghost use Rattle.run_text.specs.Lines.{endLine};
@@ -48,7 +48,7 @@ pub fn row_lines(out: &mut [u8], a: &[u32], before: u64, first: usize, n: usize)
 
 // The lines of the values left in queue q.
 pub fn value_lines(out: &mut [u8], q: u32, values: &[u32]) -> usize
-    requires { ⌜ (65536 ≤ length (now out)) × (length (now values) ≤ 1024) ⌝ }
+    requires { ⌜ (length (now values) * 27 ≤ length (now out)) × (length (now values) < 2 ^ 32) ⌝ }
     ensures { λ r. ⌜ Block (now (out .exit)) r (valueLines q (now (values .entry))) ⌝ }
 {
     let mut at: usize = 0;

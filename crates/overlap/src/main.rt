@@ -45,30 +45,13 @@ fn print_calls(job: &[u8], tasks: &mut [u8], m: &mut [u32], r: &mut [u32]) -> bo
     true
 }
 
-// Prints the lines of values left in queue q.
-fn print_values(q: u32, values: &[u32]) -> bool
-    requires { ⌜ length (now values) ≤ 1024 ⌝ }
-{
-    let mut out = io::large_buffer();
-    let n = block_text::value_lines(&mut out, q, values);
-    io::write_all(STDOUT_FILENO, &out[..n])
-}
-
-// Prints a line for each value left in queue q, 1,024 at a time. No queue holds more values than the core has words.
+// Prints a line for each value left in queue q, of at most 27 bytes. No queue holds more values than the core has words.
 fn print_queue(m: &[u32], q: u32) -> bool {
-    let mut values = [0u32; 1024];
-    let mut first: usize = 0;
-    while first < WORDS {
-        let n = overlap_text::left_values(m, q, first, &mut values);
-        if !print_values(q, &values[..n]) {
-            return false;
-        }
-        if n < 1024 {
-            return true;
-        }
-        first += 1024;
-    }
-    true
+    let mut values = [0u32; WORDS];
+    let n = overlap_text::left_values(m, q, &mut values);
+    let mut out = [0u8; WORDS * 27];
+    let r = block_text::value_lines(&mut out, q, &values[..n]);
+    io::write_all(STDOUT_FILENO, &out[..r])
 }
 
 // Prints a line for each value left, queues in order.

@@ -3,7 +3,8 @@ use mathlib.Core.Path.{_≡_, refl, ap, sym, _∙_}
 use mathlib.Core.List.{List, [], _∷_}
 use mathlib.Core.Logic.{⊎-elim}
 use mathlib.Core.Option.{none, some}
-use Prim.Native.Nat.{ℕ, suc}
+use Prim.Native.Nat.{ℕ, suc, _+_}
+use native.Mathlib.Nat.{zero-add}
 use native.Mathlib.Omega.{arith}
 use types.Run.{OneOf}
 use denote.Enum.Declared.{tagOf}
@@ -30,10 +31,10 @@ module _ (m : List ℕ) (q i : ℕ) {w : List ℕ} (a : Answer) (e : outcome a w
   unfolding leftAt answerOf
   says = ap answerOf (sym e)
 
-  pub value-given : {v : ℕ} → a ≡ Moved v → valueIn m q i ≡ some v
+  pub value-given : {v : ℕ} → a ≡ Moved v → valueIn m q (0 + i) ≡ some v
   unfolding valueIn given
-  value-given h = ap given (says ∙ h)
+  value-given h = ap (valueIn m q) (zero-add i) ∙ ap given (says ∙ h)
 
-  pub none-given : OneOf (1 ∷ 2 ∷ 3 ∷ 4 ∷ []) (tagOf the-type a) → valueIn m q i ≡ none
+  pub none-given : OneOf (1 ∷ 2 ∷ 3 ∷ 4 ∷ []) (tagOf the-type a) → valueIn m q (0 + i) ≡ none
   unfolding valueIn
-  none-given k = ap given says ∙ none-of a k
+  none-given k = ap (valueIn m q) (zero-add i) ∙ ap given says ∙ none-of a k

@@ -30,15 +30,14 @@ pub fn call_lines(
     block_text::row_lines(out, &a, before, 0, n)
 }
 
-// The values left in queue q from number `first` on, as many as there is room for, at the start of the lent words. It gives
-// their number.
-pub fn left_values(m: &[u32], q: u32, first: usize, values: &mut [u32]) -> usize
-    requires { ⌜ first + length (now values) < 2 ^ 32 ⌝ }
-    ensures { λ n. ⌜ Block (now (values .exit)) n (readFrom (valueIn (now (m .entry)) q) (length (now (values .entry))) first) ⌝ }
+// The values left in queue q, as many as there is room for, at the start of the lent words. It gives their number.
+pub fn left_values(m: &[u32], q: u32, values: &mut [u32]) -> usize
+    requires { ⌜ length (now values) < 2 ^ 32 ⌝ }
+    ensures { λ n. ⌜ Block (now (values .exit)) n (readFrom (valueIn (now (m .entry)) q) (length (now (values .entry))) 0) ⌝ }
 {
     let mut i: usize = 0;
     while i < values.len() {
-        let a = core_left::left_at(m, q, (first + i) as u32);
+        let a = core_left::left_at(m, q, i as u32);
         let Answer::Moved(v) = a else {
             return i;
         };

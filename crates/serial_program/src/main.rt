@@ -1,7 +1,6 @@
 // Runs the job in the file that the first argument names, without overlap, and prints the run in document 01's lines. Where
 // the file cannot be read it says why on standard error and prints nothing.
 ghost use Prim.Native.Nat.{_+_, _^_, _<_, _≤_};
-ghost use lib.ListN.{length};
 use libc::STDOUT_FILENO;
 use read_file::Bytes;
 use read_file::JOB_BYTES;
@@ -31,23 +30,23 @@ fn print_steps(a: &[u32], steps: u32) -> bool {
     true
 }
 
-// Prints the lines of values left in queue q.
-fn print_values(q: u32, values: &[u32]) -> bool
-    requires { ⌜ length (now values) ≤ 1024 ⌝ }
+// Prints the lines of the values left in queue q from value `first` on, at most 1,024.
+fn print_value_block(w: &[u32], q: u32, first: usize) -> bool
+    requires { ⌜ first < 2 ^ 32 ⌝ }
 {
+    let mut values = [0u32; 1024];
+    let n = serial_text::left_values(w, q, first, &mut values);
     let mut out = io::large_buffer();
-    let r = block_text::value_lines(&mut out, q, values);
+    let r = block_text::value_lines(&mut out, q, &values[..n]);
     io::write_all(STDOUT_FILENO, &out[..r])
 }
 
-// Prints a line for each value left in queue q, 1,024 at a time.
+// Prints a line for each value left in queue q.
 fn print_queue(w: &[u32], q: u32) -> bool {
     let count = serial_queues::count(w, q) as usize;
-    let mut values = [0u32; 1024];
     let mut first: usize = 0;
     while first < count {
-        let n = serial_text::left_values(w, q, first, &mut values);
-        if !print_values(q, &values[..n]) {
+        if !print_value_block(w, q, first) {
             return false;
         }
         first += 1024;

@@ -29,7 +29,7 @@ loop-again c = (
 
 returns : tie.Need-returns Inv-loop μ-loop
 returns c =
-    all-values _ _ _ (c .before .loop .inv .2) (c .before .before .before .before .pre .0) (c .before .before .before .before .pre .1) (c .before .loop .inv .0) (c .loop-test .left) (c .before .loop .inv .1) (c .before .loop .inv .3)
+    all-values _ _ _ (c .before .loop .inv .2) (c .before .before .before .before .pre .0) (c .before .loop .inv .0) (c .loop-test .left) (c .before .loop .inv .1) (c .before .loop .inv .3)
 
 pub value-lines-spec : {M : Type 1} → statement M
 value-lines-spec =

@@ -20,17 +20,8 @@ abbrev μ-loop : tie.MeasureT-loop
 loop-holds : tie.Need-loop-holds Inv-loop μ-loop
 loop-holds c = (c .count .ensures, omega arith, read-none _ _ _)
 
-add-k : tie.Need-add-k Inv-loop μ-loop
-add-k c = let e = c .before .loop .inv .2 .room in omega (arith, e, c .loop-test .taken, c .before .before .before .before .before .pre)
-
-same-length : tie.Need-same-length Inv-loop μ-loop
-same-length c = c .before .before .loop .inv .2 .room
-
 returns : tie.Need-returns Inv-loop μ-loop
 returns c = in-list _ _ _ _ (read-ends _ _ _ _ (c .before .before .loop .inv .2) (c .before .loop-test .taken) (no-value _ _ _ (c .before .before .loop .inv .0) (c .if1 .taken)))
-
-loop-less : tie.Need-loop-less Inv-loop μ-loop
-loop-less c = let e = c .before .before .before .loop .inv .2 .room in omega (arith, e, c .before .before .loop-test .taken)
 
 loop-again : tie.Need-loop-again Inv-loop μ-loop
 loop-again c = (
@@ -39,15 +30,9 @@ loop-again c = (
   read-one _ _ _ _ (c .before .before .before .loop .inv .2) (c .before .before .loop-test .taken) (some-value _ _ _ (c .before .before .before .loop .inv .0) (c .before .if1 .left) (c .value .ensures)),
 )
 
-same-length-2 : tie.Need-same-length-2 Inv-loop μ-loop
-same-length-2 c = c .before .loop .inv .2 .room
-
-returns-2 : tie.Need-returns-2 Inv-loop μ-loop
-returns-2 c = in-list _ _ _ _ (read-full _ _ _ _ (c .before .loop .inv .2) (c .loop-test .left))
-
 pub left-values-spec : {M : Type 1} → statement M
 left-values-spec =
     tie.close
-    (tie.spec Inv-loop μ-loop (λ c κs. search needs) (λ c. search needs) loop-holds add-k same-length returns
-    (λ c. omega arith) (λ c κs. search needs) (λ c. search needs) (λ c. search needs) (λ c. omega arith) loop-less loop-again
-    same-length-2 returns-2)
+    (tie.spec Inv-loop μ-loop (λ c κs. search needs) (λ c. search needs) loop-holds (λ c. let e = c .before .loop .inv .2 .room in omega (arith, e, c .loop-test .taken, c .before .before .before .before .before .pre)) (λ c. c .before .before .loop .inv .2 .room) returns
+    (λ c. omega arith) (λ c κs. search needs) (λ c. search needs) (λ c. search needs) (λ c. omega arith) (λ c. let e = c .before .before .before .loop .inv .2 .room in omega (arith, e, c .before .before .loop-test .taken)) loop-again
+    (λ c. c .before .loop .inv .2 .room) (λ c. in-list _ _ _ _ (read-full _ _ _ _ (c .before .loop .inv .2) (c .loop-test .left))))
