@@ -11,7 +11,7 @@ use Rattle.text.specs.Puts.{Puts, puts-then, puts-first, puts-whole}
 use Rattle.run_text.specs.Lines.{line}
 use Rattle.block_text.specs.Lines.{linesFrom, lines-more}
 
--- the first r bytes of m are the text ws
+-- the first r bytes of m, or words, are ws
 pub record Block (m : List ℕ) (r : ℕ) (ws : List ℕ) : Type 0 where
   pub inside : r ≤ length m
   pub counted : r ≡ length (take r m)

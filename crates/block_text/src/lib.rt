@@ -1,10 +1,11 @@
 // Lines of a run in blocks of at most 1,024, put at the start of lent bytes. A block gives the number of its bytes.
-ghost use Prim.Native.Nat.{_+_, _^_, _<_, _≤_};
+ghost use Prim.Native.Nat.{_+_, _*_, _^_, _<_, _≤_};
 ghost use lib.ListN.{length};
 ghost use Rattle.text.specs.Puts.{Puts};
 ghost use Rattle.run_text.specs.Lines.{endLine};
 ghost use Rattle.block_text.specs.Lines.{linesFrom};
 ghost use Rattle.block_text.specs.Blocks.{Block, rowLine};
+ghost use Rattle.block_text.specs.Values.{valueLines};
 use spec_serial::End;
 
 // The most lines of a block.
@@ -40,6 +41,20 @@ pub fn row_lines(out: &mut [u8], a: &[u32], before: u64, first: usize, n: usize)
     let mut i: usize = 0;
     while i < n {
         at = row_line(out, at, a, before, first + i);
+        i += 1;
+    }
+    at
+}
+
+// The lines of the values left in queue q.
+pub fn value_lines(out: &mut [u8], q: u32, values: &[u32]) -> usize
+    requires { ⌜ (length (now values) * 27 ≤ length (now out)) × (length (now values) < 2 ^ 32) ⌝ }
+    ensures { λ r. ⌜ Block (now (out .exit)) r (valueLines q (now (values .entry))) ⌝ }
+{
+    let mut at: usize = 0;
+    let mut i: usize = 0;
+    while i < values.len() {
+        at = run_text::left_line(out, at, q, values[i]);
         i += 1;
     }
     at

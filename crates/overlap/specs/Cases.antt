@@ -42,7 +42,8 @@ use Rattle.spec_job.specs.Examples.{fullRun}
 use Rattle.text.specs.Text.{ascii, digits, decimal}
 use Rattle.run_text.specs.Lines.{answerText, spaced, ended, line, leftLine, openLine, endLine}
 use Rattle.block_text.specs.Lines.{linesFrom}
-use Rattle.overlap_text.specs.Whole.{callLines, leftAt, isValue, leftFrom, leftIn, valueLine, queueLines, unfinishedIn, endText, textFrom, overlapText}
+use Rattle.block_text.specs.Values.{valueLines, onto, readFrom}
+use Rattle.overlap_text.specs.Whole.{callLines, leftAt, given, valueIn, queueLines, unfinishedIn, endText, textFrom, overlapText}
 
 -- "Bytes 0 0 0 3 2 1 2 1 2 3 0 0"
 abbrev pub tasks : List ℕ
@@ -68,6 +69,6 @@ unfolding load store size pick both either storeAll rows one occurrences total e
     entriesHold contentsHold refusal11 whichHolds operandHolds fitting instructionHolds lastHolds bodyHolds refusal12 procedureOf positionOf registerOf put
     instructionFor answerWith valueOf statusOf taskHolds zeros recordHolds runnerHolds refused jobTested tested segmentsFor jobOpened openOutcome callOf
     replyOf runnerAfter done replied coreOutcome repliedTo makes stepTested stepOutcome hasMoved answerOf coreOf runnerOf wordOf stepsFrom numberOf wordNumbered ascii
-    digits decimal answerText spaced ended line leftLine openLine endLine linesFrom callLines leftAt isValue leftFrom
-    leftIn valueLine queueLines unfinishedIn endText textFrom overlapText
+    digits decimal answerText spaced ended line leftLine openLine endLine linesFrom valueLines onto readFrom callLines leftAt given
+    valueIn queueLines unfinishedIn endText textFrom overlapText
 in-full = refl

@@ -68,27 +68,13 @@ fn print_calls(job: &[u8], tasks: &mut [u8], m: &mut [u32], r: &mut [u32]) -> bo
     true
 }
 
-// Prints the lines of n values of queue q from value `first` on.
-fn print_value_block(m: &[u32], q: u32, first: u32, n: u32) -> bool
-    requires { ⌜ (first + n < 2 ^ 32) × (n ≤ 1024) ⌝ }
-{
-    let mut out = io::large_buffer();
-    let k = overlap_text::value_lines(&mut out, m, q, first, n);
-    io::write_all(STDOUT_FILENO, &out[..k])
-}
-
-// Prints a line for each value left in queue q.
+// Prints a line for each value left in queue q, of at most 27 bytes. No queue holds more values than the core has words.
 fn print_queue(m: &[u32], q: u32) -> bool {
-    let values = overlap_text::left_count(m, q);
-    let mut first: u32 = 0;
-    while first < values {
-        let n = block_text::part(values, first);
-        if !print_value_block(m, q, first, n) {
-            return false;
-        }
-        first += n;
-    }
-    true
+    let mut values = [0u32; WORDS];
+    let n = overlap_text::left_values(m, q, &mut values);
+    let mut out = [0u8; WORDS * 27];
+    let r = block_text::value_lines(&mut out, q, &values[..n]);
+    io::write_all(STDOUT_FILENO, &out[..r])
 }
 
 // Prints a line for each value left, queues in order.

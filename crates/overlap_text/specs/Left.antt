@@ -2,20 +2,21 @@
 -- those of the list. The text asks for at most 16,384 values; on memory that passes the rules there are never more, since a queue has
 -- at most 256 segments of at most 64 values.
 use mathlib.Core.Path.{_≡_, refl, ap, ap₂, sym, _∙_}
-use mathlib.Core.Bool.{Bool, true, false, not, false≢true}
-use mathlib.Core.List.{List, [], _∷_, _++_}
+use mathlib.Core.Bool.{Bool, true, false, not}
+use mathlib.Core.List.{List, [], _++_}
 use mathlib.Core.Logic.{inl, ⊎-elim}
 use mathlib.Core.Option.{Option, none, some}
 use Prim.Native.Nat.{ℕ, zero, suc, _+_, _-_, _*_, _<_, _≤_}
 use native.Mathlib.Omega.{arith}
 use lib.Dec.{ltb, leb, eqb}
-use lib.ListN.{length, getD, getElem?}
+use lib.ListN.{length, getElem?}
+use lib.Seq.{take-all}
 use borrow.Author.Tests.{ltb-true, ltb-false, leb-false, eqb-true, le-ltb}
 use Rattle.spec_words.specs.Words.{size, pick, halt, pass}
 use Rattle.spec_layout.specs.Layout.{WORDS, NL, STATUS, FINISHED, task, count, next, Opened, queueHead, read}
 use Rattle.spec_answers.specs.declared.Answer.{Answer}
 use Rattle.spec_answers.specs.declared.Answer.the-variants.{Moved, Waits, Refused}
-use Rattle.spec_answers.specs.Answers.{outcome, answerOf, statusOf, valueOf}
+use Rattle.spec_answers.specs.Answers.{outcome, answerOf, statusOf}
 use Rattle.spec_order.specs.Ordered.{leftAnswer}
 use Rattle.spec_rules.specs.Test.{rulesHold}
 use Rattle.law_in_range.specs.Sound.{Sound, rules-sound}
@@ -23,22 +24,11 @@ use Rattle.spec_outcomes.specs.Segments.{valueAt}
 use Rattle.spec_outcomes.specs.Waits.{tested, unfinished}
 use Rattle.spec_outcomes.specs.Left.{queued, leftTested, leftOutcome}
 use Rattle.spec_plain.specs.Machine.{queue}
-use Rattle.run_text.specs.Lines.{leftLine}
 use Rattle.spec_serial.specs.declared.End.the-variants.{Ended}
 use Rattle.block_text.specs.Lines.{linesFrom}
-use Rattle.serial_text.specs.Whole.{valueLine as lineOf, queueLines as linesOf, endText as lastLines}
-use Rattle.overlap_text.specs.Whole.{leftAt, isValue, leftFrom, leftIn, valueLine, queueLines, endText}
-
--- LISTS BY INDEX
-elem-at : (xs : List ℕ) (i : ℕ) → i < length xs → getElem? xs i ≡ some (getD xs i 0)
-elem-at [] i h = let z : ⊥ = omega (arith, h) in absurd z
-elem-at (x ∷ xs) zero h = refl
-elem-at (x ∷ xs) (suc i) h = elem-at xs i (omega (arith, h))
-
-elem-past : (xs : List ℕ) (i : ℕ) → length xs ≤ i → getElem? xs i ≡ none
-elem-past [] i h = refl
-elem-past (x ∷ xs) zero h = let z : ⊥ = omega (arith, h) in absurd z
-elem-past (x ∷ xs) (suc i) h = elem-past xs i (omega (arith, h))
+use Rattle.block_text.specs.Values.{valueLines, elem-at, onto, read-same, read-list}
+use Rattle.serial_text.specs.Whole.{queueLines as linesOf, endText as lastLines}
+use Rattle.overlap_text.specs.Whole.{leftAt, given, valueIn, queueLines, endText}
 
 -- lines that are the same for the numbers asked for
 lines-same : (f g : ℕ → List ℕ) (n i : ℕ) → ((k : ℕ) → i ≤ k → k < i + n → f k ≡ g k) → linesFrom f i n ≡ linesFrom g i n
@@ -74,17 +64,17 @@ module _ (m : List ℕ) (w : Sound m) where
           pass _ e (pass _ past (f _ _ (next-opened s l) (omega (arith, c, d, h))))
 
   -- no value is left from number 16,384 on
-  pub none-past : (q i : ℕ) → 16384 ≤ i → isValue (leftAt m q i) ≡ false
-  unfolding leftAt leftTested answerOf isValue pick
+  pub none-past : (q i : ℕ) → 16384 ≤ i → valueIn m q i ≡ none
+  unfolding leftAt leftTested answerOf valueIn given pick
   none-past q i h = go (leb 4 q) refl (not (eqb (read m (task 0 STATUS)) FINISHED))
     where
       go : (b : Bool) → leb 4 q ≡ b → (c : Bool)
-          → isValue (answerOf (pick b (outcome (Refused 5) m) (pick c (outcome Waits m) (outcome (queued 256 m (read m (queueHead 0 q)) i) m)))) ≡ false
+          → given (answerOf (pick b (outcome (Refused 5) m) (pick c (outcome Waits m) (outcome (queued 256 m (read m (queueHead 0 q)) i) m)))) ≡ none
       go true e c = refl
       go false e true = refl
       go false e false =
           let s = leb-false 4 q e in
-          ap isValue (chain-ends 256 (read m (queueHead 0 q)) i (w .heads-open 0 q (inl refl) (omega (arith, s))) (omega (arith, h)))
+          ap given (chain-ends 256 (read m (queueHead 0 q)) i (w .heads-open 0 q (inl refl) (omega (arith, s))) (omega (arith, h)))
 
 -- WHAT LEFT SAYS of queue q is the list xs.
 module _ (m xs : List ℕ) (q : ℕ) (says : (i : ℕ) → answerOf (leftOutcome m q i) ≡ leftAnswer (getElem? xs i)) where
@@ -106,59 +96,34 @@ module _ (m xs : List ℕ) (q : ℕ) (says : (i : ℕ) → answerOf (leftOutcome
       go true e false f = absurd (late _ 2 (omega arith) (omega arith) (f 0))
       go false e c f = absurd (late _ 1 (omega arith) (omega arith) (f 0))
 
-  value-at : (i : ℕ) → i < length xs → leftAt m q i ≡ Moved (getD xs i 0)
-  unfolding leftAnswer
-  value-at i h = passes .2 i ∙ ap leftAnswer (elem-at xs i h)
+  value-is : (o : Option ℕ) → given (leftAnswer o) ≡ o
+  unfolding given leftAnswer
+  value-is (some v) = refl
+  value-is none = refl
 
-  none-at : (i : ℕ) → length xs ≤ i → leftAt m q i ≡ Refused 7
-  unfolding leftAnswer
-  none-at i h = passes .2 i ∙ ap leftAnswer (elem-past xs i h)
+  same-values : (i : ℕ) → valueIn m q i ≡ getElem? xs i
+  unfolding valueIn
+  same-values i = ap given (passes .2 i) ∙ value-is (getElem? xs i)
 
   few : length xs ≤ 16384
-  unfolding isValue
+  unfolding onto
   few = go (ltb 16384 (length xs)) refl
     where
       go : (b : Bool) → ltb 16384 (length xs) ≡ b → length xs ≤ 16384
       go false e = ltb-false _ _ e
       go true e =
           let p = none-past m (rules-sound m (passes .0) (passes .1)) q 16384 (omega arith) in
-          absurd (false≢true (sym p ∙ ap isValue (value-at 16384 (ltb-true _ _ e))))
+          let s = sym p ∙ same-values 16384 ∙ elem-at xs 16384 (ltb-true _ _ e) in
+          let z = ap (λ (o : Option ℕ). length (onto o [])) s in
+          absurd (omega (arith, z))
 
-  counted : (k i : ℕ) → i ≤ length xs → length xs ≤ i + k → i + leftFrom k m q i ≡ length xs
-  unfolding leftFrom isValue
-  counted zero i a b = omega (arith, a, b)
-  counted (suc k) i a b = go (ltb i (length xs)) refl (counted k (i + 1))
-    where
-      more : ℕ
-      more = leftFrom k m q (i + 1)
-
-      go : (c : Bool) → ltb i (length xs) ≡ c → (i + 1 ≤ length xs → length xs ≤ i + 1 + k → i + 1 + more ≡ length xs)
-          → i + pick (isValue (leftAt m q i)) (suc more) 0 ≡ length xs
-      go true e f =
-          let l = ltb-true _ _ e in
-          let t = halt (suc more) 0 (ap isValue (value-at i l)) in
-          let c = f (omega (arith, l)) (omega (arith, b)) in
-          omega (arith, t, c)
-      go false e f =
-          let l = ltb-false _ _ e in
-          let t : pick (isValue (leftAt m q i)) (suc more) 0 ≡ 0 = pass (suc more) (ap isValue (none-at i l)) refl in
-          omega (arith, t, l, a)
-
-  pub left-counted : leftIn m q ≡ length xs
-  unfolding leftIn
-  left-counted = let f = few in let c = counted 16384 0 (omega arith) (omega (arith, f)) in omega (arith, c)
-
-  line-same : (i : ℕ) → i < length xs → valueLine m q i ≡ leftLine q (getD xs i 0)
-  unfolding valueLine valueOf
-  line-same i h = ap (λ (a : Answer). leftLine q (valueOf a)) (value-at i h)
-
-  pub left-lines : queueLines m q ≡ linesFrom (λ i. leftLine q (getD xs i 0)) 0 (length xs)
+  pub left-lines : queueLines m q ≡ valueLines q xs
   unfolding queueLines
-  left-lines = ap (linesFrom (valueLine m q) 0) left-counted ∙ lines-same (valueLine m q) _ (length xs) 0 (λ k a b. line-same k (omega (arith, b)))
+  left-lines = ap (valueLines q) (read-same same-values 16384 0 ∙ read-list xs 16384 0 ∙ take-all 16384 xs few)
 
 -- THE END OF THE TEXT: once the top has finished, and left gives the lists qs, its lines are those of the serial run that leaves qs.
 -- Demand 3 gives the premise with the plain machine's lists (`left` of `Agreed`, crates/law_any_order/specs/Statement.antt).
 pub left-whole : (m : List ℕ) (qs : List (List ℕ)) → unfinished m 0 ≡ false
     → ((q i : ℕ) → q < 4 → answerOf (leftOutcome m q i) ≡ leftAnswer (getElem? (queue qs q) i)) → endText m ≡ lastLines Ended qs
-unfolding endText lastLines linesOf lineOf
+unfolding endText lastLines linesOf
 left-whole m qs e f = pass _ e (lines-same _ _ 4 0 (λ q a b. left-lines m (queue qs q) q (λ i. f q i (omega (arith, b)))))

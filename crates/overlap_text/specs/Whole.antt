@@ -1,15 +1,15 @@
 -- THE TEXT OF A JOB'S RUN WITH OVERLAP: a line for each call, then a line for each value left, or how many tasks are
 -- unfinished; of a refused job only its refusal.
-use mathlib.Core.Bool.{Bool, true, false}
 use mathlib.Core.List.{List, [], _∷_, _++_}
-use Prim.Native.Nat.{ℕ, zero, suc, _+_}
+use mathlib.Core.Option.{Option, none, some}
+use Prim.Native.Nat.{ℕ, _+_}
 use lib.ListN.{replicate}
 use Rattle.spec_words.specs.Words.{pick}
 use Rattle.spec_lists.specs.Counting.{one, total}
 use Rattle.spec_layout.specs.Layout.{WORDS}
 use Rattle.spec_answers.specs.declared.Answer.{Answer}
 use Rattle.spec_answers.specs.declared.Answer.the-variants.{Moved, Empty, NotEmpty, Waits, Refused}
-use Rattle.spec_answers.specs.Answers.{answerOf as coreAnswer, valueOf as coreValue}
+use Rattle.spec_answers.specs.Answers.{answerOf as coreAnswer}
 use Rattle.spec_outcomes.specs.Waits.{unfinished}
 use Rattle.spec_outcomes.specs.Left.{leftTested}
 use Rattle.spec_runner.specs.declared.StepAnswer.{StepAnswer}
@@ -18,8 +18,9 @@ use Rattle.spec_runner.specs.Answers.{hasMoved, statusOf, valueOf, Outcome, ans
 use Rattle.spec_runner.specs.Open.{openOutcome}
 use Rattle.spec_runner.specs.Run.{stepsFrom}
 use Rattle.spec_serial.specs.declared.End.the-variants as End
-use Rattle.run_text.specs.Lines.{line, leftLine, openLine, endLine}
+use Rattle.run_text.specs.Lines.{line, openLine, endLine}
 use Rattle.block_text.specs.Lines.{linesFrom}
+use Rattle.block_text.specs.Values.{valueLines, readFrom}
 
 -- "the call's number from 1, task, answer, value or "-"": the calls of tasks ts, where c calls were made before
 unfoldable pub callLines : ℕ → List ℕ → List StepAnswer → List ℕ
@@ -27,33 +28,23 @@ callLines c [] xs = []
 callLines c (t ∷ ts) [] = []
 callLines c (t ∷ ts) (x ∷ xs) = line (c + 1) t (statusOf x) (valueOf x) ++ callLines (c + 1) ts xs
 
--- what left answers for value number i of queue q
+-- what left answers for value number i of queue q, and the value where it is one
 unfoldable pub leftAt : List ℕ → ℕ → ℕ → Answer
 leftAt m q i = coreAnswer (leftTested m q i)
 
-unfoldable pub isValue : Answer → Bool
-isValue (Moved v) = true
-isValue Empty = false
-isValue NotEmpty = false
-isValue Waits = false
-isValue (Refused k) = false
+unfoldable pub given : Answer → Option ℕ
+given (Moved v) = some v
+given Empty = none
+given NotEmpty = none
+given Waits = none
+given (Refused k) = none
 
--- how many values left gives of queue q from number i on until it gives none, at most k
-unfoldable pub leftFrom : ℕ → List ℕ → ℕ → ℕ → ℕ
-leftFrom zero m q i = 0
-leftFrom (suc k) m q i = let more = suc (leftFrom k m q (i + 1)) in pick (isValue (leftAt m q i)) more 0
+unfoldable pub valueIn : List ℕ → ℕ → ℕ → Option ℕ
+valueIn m q i = given (leftAt m q i)
 
--- a queue holds no more values than the core has words
-unfoldable pub leftIn : List ℕ → ℕ → ℕ
-leftIn m q = leftFrom WORDS m q 0
-
--- the line of value number i of queue q
-unfoldable pub valueLine : List ℕ → ℕ → ℕ → List ℕ
-valueLine m q i = leftLine q (coreValue (leftAt m q i))
-
--- "queues and values in order"
+-- "queues and values in order"; a queue holds no more values than the core has words
 unfoldable pub queueLines : List ℕ → ℕ → List ℕ
-queueLines m q = linesFrom (valueLine m q) 0 (leftIn m q)
+queueLines m q = valueLines q (readFrom (valueIn m q) WORDS 0)
 
 -- how many tasks are unfinished
 unfoldable pub unfinishedIn : List ℕ → ℕ

@@ -1,23 +1,20 @@
-// The text of a job's run with overlap in blocks of at most 1,024 lines, put at the start of lent bytes. A block gives the
-// number of its bytes.
+// The lines of a job's run with overlap in blocks of at most 1,024, put at the start of lent bytes, and the values that it
+// left. A block gives the number of its bytes.
 ghost use mathlib.Core.Path.{_≡_};
 ghost use Prim.Native.Nat.{_+_, _^_, _<_, _≤_};
 ghost use lib.ListN.{length};
 ghost use Rattle.spec_lists.specs.Counting.{one};
-ghost use Rattle.spec_answers.specs.Answers.{valueOf};
 ghost use Rattle.law_any_two.specs.Reached.{Reached};
 ghost use Rattle.text.specs.Puts.{Puts};
 ghost use Rattle.run_text.specs.Lines.{openLine};
 ghost use Rattle.block_text.specs.Lines.{linesFrom};
 ghost use Rattle.block_text.specs.Blocks.{Block};
-ghost use Rattle.overlap_text.specs.Whole.{leftAt, isValue, leftIn, valueLine, unfinishedIn};
+ghost use Rattle.block_text.specs.Values.{readFrom};
+ghost use Rattle.overlap_text.specs.Whole.{valueIn, unfinishedIn};
 ghost use Rattle.overlap_text.specs.Laws.{packedLine};
 ghost use Rattle.overlap_text.specs.Blocks.{Called};
 use layout::TASKS;
 use spec_answers::Answer;
-
-// The most lines of values of one queue: as many as the memory has words, so none is cut off.
-const MOST_VALUES: u32 = 16384;
 
 fn wide(t: u8) -> u32
     ensures { λ r. ⌜ r ≡ t ⌝ }
@@ -92,69 +89,21 @@ pub fn call_lines(
     packed_lines(out, tasks, answers, before)
 }
 
-// Whether value number i of queue q is left.
-fn is_left(m: &[u32], q: u32, i: u32) -> bool
-    ensures { λ b. ⌜ b ≡ isValue (leftAt (now (m .entry)) q i) ⌝ }
+// The values left in queue q, as many as there is room for, at the start of the lent words. It gives their number.
+pub fn left_values(m: &[u32], q: u32, values: &mut [u32]) -> usize
+    requires { ⌜ length (now values) < 2 ^ 32 ⌝ }
+    ensures { λ n. ⌜ Block (now (values .exit)) n (readFrom (valueIn (now (m .entry)) q) (length (now (values .entry))) 0) ⌝ }
 {
-    let a = core_left::left_at(m, q, i);
-    match a {
-        Answer::Moved(_) => true,
-        Answer::Empty => false,
-        Answer::NotEmpty => false,
-        Answer::Waits => false,
-        Answer::Refused(_) => false,
-    }
-}
-
-// How many values are left in queue q.
-pub fn left_count(m: &[u32], q: u32) -> u32
-    ensures { λ n. ⌜ n ≡ leftIn (now (m .entry)) q ⌝ }
-{
-    let mut i: u32 = 0;
-    while i < MOST_VALUES {
-        if !is_left(m, q, i) {
+    let mut i: usize = 0;
+    while i < values.len() {
+        let a = core_left::left_at(m, q, i as u32);
+        let Answer::Moved(v) = a else {
             return i;
-        }
+        };
+        values[i] = v;
         i += 1;
     }
     i
-}
-
-// Value number i of queue q.
-fn left_value(m: &[u32], q: u32, i: u32) -> u32
-    ensures { λ v. ⌜ v ≡ valueOf (leftAt (now (m .entry)) q i) ⌝ }
-{
-    let a = core_left::left_at(m, q, i);
-    match a {
-        Answer::Moved(v) => v,
-        Answer::Empty => 0,
-        Answer::NotEmpty => 0,
-        Answer::Waits => 0,
-        Answer::Refused(_) => 0,
-    }
-}
-
-// The line of value number i of queue q.
-fn value_line(out: &mut [u8], at: usize, m: &[u32], q: u32, i: u32) -> usize
-    requires { ⌜ at < 2 ^ 38 ⌝ }
-    ensures { λ r. ⌜ Puts (now (out .entry)) at (valueLine (now (m .entry)) q i) (now (out .exit)) r × (r ≤ at + 27) ⌝ }
-{
-    let v = left_value(m, q, i);
-    run_text::left_line(out, at, q, v)
-}
-
-// The lines of n values of queue q from value `first` on.
-pub fn value_lines(out: &mut [u8], m: &[u32], q: u32, first: u32, n: u32) -> usize
-    requires { ⌜ (65536 ≤ length (now out)) × (first + n < 2 ^ 32) × (n ≤ 1024) ⌝ }
-    ensures { λ r. ⌜ Block (now (out .exit)) r (linesFrom (valueLine (now (m .entry)) q) first n) ⌝ }
-{
-    let mut at: usize = 0;
-    let mut i: u32 = 0;
-    while i < n {
-        at = value_line(out, at, m, q, first + i);
-        i += 1;
-    }
-    at
 }
 
 fn one(b: bool) -> u32

@@ -6,8 +6,7 @@ use borrow.Author.Tests.{lt-ltb, le-ltb}
 use Rattle.spec_words.specs.Words.{halt, pass}
 use Rattle.spec_job.specs.Numbers.{wordNumbered}
 use Rattle.text.specs.Text.{ascii, decimal}
-use Rattle.text.specs.Puts.{Puts, puts-then, puts-first}
-use Rattle.run_text.proofs.Parts.{named}
+use Rattle.text.specs.Puts.{Puts, named, puts-then, puts-first}
 use Rattle.run_text.specs.Lines.{answerText, spaced, ended, line, leftLine, refusedLine, endLine}
 use Rattle.spec_serial.specs.declared.End.{End}
 use Rattle.spec_serial.specs.declared.End.the-variants.{Ended, Spent, Refused}

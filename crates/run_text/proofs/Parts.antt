@@ -1,5 +1,5 @@
 -- The parts of a line: numbers, and an answer with its value.
-use mathlib.Core.Path.{_≡_, refl, ap, sym, _∙_}
+use mathlib.Core.Path.{_≡_, ap, sym, _∙_}
 use mathlib.Core.List.{List}
 use Prim.Native.Nat.{ℕ, _+_, _^_, _<_, _≤_}
 use native.Mathlib.Omega.{arith}
@@ -7,13 +7,9 @@ use lib.ListN.{length}
 use Rattle.spec_job.specs.Effects.{Word, refused}
 use Rattle.spec_job.specs.Numbers.{wordNumbered}
 use Rattle.text.specs.Text.{ascii, decimal}
-use Rattle.text.specs.Puts.{Puts, puts-then}
+use Rattle.text.specs.Puts.{Puts, named, puts-then}
 use Rattle.run_text.specs.Few.{number-ends, long-ends}
 use Rattle.run_text.specs.Lines.{answerText, spaced, ended, refusedLine}
-
--- text that is put under another name
-pub named : {m ws m1 us : List ℕ} {a r : ℕ} → ws ≡ us → Puts m a ws m1 r → Puts m a us m1 r
-named e p = rw (← e) p
 
 one-more : {m ws m1 m2 : List ℕ} {a b r : ℕ} (n : ℕ) → n < 2 ^ 32 → length ws ≡ 1 → Puts m a (decimal n) m1 b → Puts m1 b ws m2 r → r ≤ a + 11
 one-more n h l p q = let f = number-ends n h p in let e = q .end in omega (arith, f, e, l)

@@ -1,6 +1,6 @@
 -- THE LINES OF A RUN in document 01's form: "the call's number from 1, task, answer, value or "-"", and at the end ""left"
 -- gives queue and value", or "open" and how many tasks are unfinished. Each ends with a line feed.
-use mathlib.Core.List.{List, [], _∷_, _++_}
+use mathlib.Core.List.{List, [], _++_}
 use Prim.Native.Nat.{ℕ}
 use lib.Dec.{ltb}
 use Rattle.spec_words.specs.Words.{pick}

@@ -6,7 +6,7 @@ use Prim.Native.Nat.{ℕ, _+_, _<_, _≤_}
 use native.Mathlib.Numerals.{add-one}
 use native.Mathlib.Omega.{arith}
 use lib.ListN.{length, take, getD, set}
-use lib.Seq.{take-suc, take-all}
+use lib.Seq.{take-suc, take-suc-set, take-all}
 use borrow.Author.Tests.{eq-eqb, ne-eqb}
 use Rattle.spec_words.specs.Words.{size, pick, halt, pass}
 use Rattle.spec_lists.specs.Maps.{All, all-append}
@@ -20,7 +20,6 @@ use Rattle.spec_runner.specs.Run.{Steps, behind, stepsFrom, steps-append, Liste
 use Rattle.law_any_two.specs.Reached.{Reached, reached-open, reached-tested, reached-step}
 use Rattle.runner_open.specs.Opens.{Opens}
 use Rattle.runner_words.specs.Refusals.{fits}
-use Rattle.runner_run.specs.Filled.{filled}
 
 -- an answer whose value fits its half of the packed number
 abbrev pub Fits : StepAnswer → Type 0
@@ -93,7 +92,7 @@ module _ (j ts m r : List ℕ) (t : ℕ) {i : ℕ} {m1 r1 a1 a m2 r2 a2 : List �
 pub next-made : (j ts m r : List ℕ) (i t : ℕ) {m1 r1 a1 m2 r2 a2 : List ℕ} → i < length ts → i < length a1 → t ≡ getD ts i 0
     → Made j (take i ts) m r m1 r1 (take i a1) → Step j t i m1 r1 a1 m2 r2 a2 → Made j (take (i + 1) ts) m r m2 r2 (take (i + 1) a2)
 next-made j ts m r i t {m1} {r1} {a1} h l g p s =
-    rw (s .written, filled a1 i (packedStep (s .answer)) l, add-one i, take-suc ts i 0 h, ← g) (one-more j (take i ts) m r t p s)
+    rw (s .written, add-one i, take-suc-set a1 i (packedStep (s .answer)) l, take-suc ts i 0 h, ← g) (one-more j (take i ts) m r t p s)
 
 -- all steps are made
 pub all-made : (j ts m r : List ℕ) {i : ℕ} {m1 r1 a : List ℕ} → length ts ≤ i → length a ≡ length ts → Made j (take i ts) m r m1 r1 (take i a)

@@ -30,25 +30,26 @@ fn print_steps(a: &[u32], steps: u32) -> bool {
     true
 }
 
-// Prints the lines of n values of queue q from value `first` on.
-fn print_value_block(w: &[u32], q: u32, first: u32, n: u32) -> bool
-    requires { ⌜ (first + n < 2 ^ 32) × (n ≤ 1024) ⌝ }
+// Prints the lines of the values left in queue q from value `first` on, at most 1,024.
+fn print_value_block(w: &[u32], q: u32, first: usize) -> bool
+    requires { ⌜ first < 2 ^ 32 ⌝ }
 {
+    let mut values = [0u32; 1024];
+    let n = serial_text::left_values(w, q, first, &mut values);
     let mut out = io::large_buffer();
-    let r = serial_text::value_lines(&mut out, w, q, first, n);
+    let r = block_text::value_lines(&mut out, q, &values[..n]);
     io::write_all(STDOUT_FILENO, &out[..r])
 }
 
 // Prints a line for each value left in queue q.
 fn print_queue(w: &[u32], q: u32) -> bool {
-    let values = serial_queues::count(w, q);
-    let mut first: u32 = 0;
-    while first < values {
-        let n = block_text::part(values, first);
-        if !print_value_block(w, q, first, n) {
+    let count = serial_queues::count(w, q) as usize;
+    let mut first: usize = 0;
+    while first < count {
+        if !print_value_block(w, q, first) {
             return false;
         }
-        first += n;
+        first += 1024;
     }
     true
 }

@@ -20,7 +20,8 @@ use Rattle.spec_serial.specs.Outcome.{shown, turnedDown, serialOutcome}
 use Rattle.text.specs.Text.{ascii, digits, decimal}
 use Rattle.run_text.specs.Lines.{answerText, spaced, ended, line, leftLine}
 use Rattle.block_text.specs.Lines.{linesFrom}
-use Rattle.serial_text.specs.Whole.{stepLine, valueLine, queueLines, endText, textOf, serialText}
+use Rattle.block_text.specs.Values.{valueLines}
+use Rattle.serial_text.specs.Whole.{stepLine, queueLines, endText, textOf, serialText}
 
 pub full-run-text : serialText fullRun
     ≡ ascii "1 0 spawned 1\n2 1 pushed 10\n3 1 finished -\n4 0 spawned 2\n5 2 took 10\n6 2 finished -\n"
@@ -29,6 +30,6 @@ unfolding load pick both either size storeAll upto bits pushes pops eachQueue su
     instructionFrom instructionAt rowOf operationOf operationAt sum effect between headHolds refusal10 entryHolds entriesHold contentsHold refusal11
     whichHolds operandHolds fitting instructionHolds lastHolds bodyHolds refusal12 begin queue front queuesAfter advanced parent child stackAfter effectOn
     eventOf does step after eventIn next tooDeep full boundOn stopOf stopped goesOn serialFrom serial numberOf wordNumbered numbersAfter madeAfter row written shown
-    turnedDown serialOutcome ascii digits decimal answerText spaced ended line leftLine linesFrom stepLine valueLine queueLines endText
+    turnedDown serialOutcome ascii digits decimal answerText spaced ended line leftLine linesFrom stepLine valueLines queueLines endText
     textOf serialText
 full-run-text = refl

@@ -1,16 +1,19 @@
--- The lines of steps and values, as the code writes them.
-use mathlib.Core.Path.{_≡_, ap}
+-- The lines of steps, as the code writes them, and the values of a list, as it reads them.
+use mathlib.Core.Path.{_≡_, ap, sym, _∙_}
 use mathlib.Core.List.{List}
-use Prim.Native.Nat.{ℕ, _+_, _*_}
+use mathlib.Core.Option.{Option, none, some}
+use Prim.Native.Nat.{ℕ, _+_, _*_, _<_, _≤_}
 use native.Mathlib.Nat.{zero-add}
-use lib.ListN.{getD}
+use native.Mathlib.Omega.{arith}
+use lib.ListN.{length, getD, take, drop, getElem?}
 use Rattle.spec_words.specs.Words.{load}
 use Rattle.spec_plain.specs.Machine.{queue}
-use Rattle.text.specs.Puts.{Puts}
-use Rattle.run_text.specs.Lines.{line, leftLine}
+use Rattle.spec_serial.specs.Working.{lists}
+use Rattle.run_text.specs.Lines.{line}
 use Rattle.block_text.specs.Lines.{linesFrom, lines-same}
 use Rattle.block_text.specs.Blocks.{Block, rowLine}
-use Rattle.serial_text.specs.Whole.{stepLine, valueLine}
+use Rattle.block_text.specs.Values.{elem-at, elem-past, readFrom, read-list}
+use Rattle.serial_text.specs.Whole.{stepLine}
 
 -- the line of a step is that of its row, with no calls before
 step-row : (a : List ℕ) (i : ℕ) → rowLine a 0 i ≡ stepLine a i
@@ -20,7 +23,19 @@ step-row a i = ap (λ (n : ℕ). line (n + 1) (load a (i * 3)) (load a (i * 3 + 
 pub step-rows : {m : List ℕ} {r : ℕ} (a : List ℕ) (i n : ℕ) → Block m r (linesFrom (rowLine a 0) i n) → Block m r (linesFrom (stepLine a) i n)
 step-rows a i n b = rw (← lines-same (step-row a) i n) b
 
-pub value-line : {m m1 : List ℕ} {p r v : ℕ} (qs : List (List ℕ)) (q i : ℕ) → v ≡ getD (queue qs q) i 0 → Puts m p (leftLine q v) m1 r
-    → Puts m p (valueLine qs q i) m1 r
-unfolding valueLine
-value-line qs q i e p = rw (← e) p
+-- value number i of queue q, and the values read one by one as a part of the list
+unfoldable pub valueIn : List ℕ → ℕ → ℕ → Option ℕ
+valueIn w q i = getElem? (queue (lists w) q) i
+
+pub in-list : (w : List ℕ) (q k a : ℕ) {vs : List ℕ} {i : ℕ} → Block vs i (readFrom (valueIn w q) k a) → Block vs i (take k (drop a (queue (lists w) q)))
+unfolding valueIn
+in-list w q k a b = rw (← read-list (queue (lists w) q) k a) b
+
+module _ (w : List ℕ) (q i : ℕ) {n : ℕ} (e : n ≡ length (queue (lists w) q)) where
+  pub no-value : n ≤ i → valueIn w q i ≡ none
+  unfolding valueIn
+  no-value h = elem-past (queue (lists w) q) i (omega (arith, e, h))
+
+  pub some-value : {v : ℕ} → i < n → v ≡ getD (queue (lists w) q) i 0 → valueIn w q i ≡ some v
+  unfolding valueIn
+  some-value h f = elem-at (queue (lists w) q) i (omega (arith, e, h)) ∙ ap some (sym f)

@@ -1,42 +1,52 @@
--- The digits of a number by those of a tenth of it, and how many they are.
-use mathlib.Core.Path.{_≡_, refl, ap, sym, _∙_}
-use mathlib.Core.Bool.{Bool, true, false}
+-- The digits of a number as the library spells them, and how many they are.
+use mathlib.Core.Path.{_≡_, refl, ap, ap₂, sym, _∙_}
+use mathlib.Core.Bool.{Bool, true, false, cond}
 use mathlib.Core.List.{List, [], _∷_, _++_}
-use Prim.Native.Nat.{ℕ, zero, suc, _+_, _*_, _/_, _%_, _^_, _<_, _≤_}
-use native.Mathlib.Nat.{pow-suc}
+use Prim.Native.Nat.{ℕ, zero, suc, _+_, _-_, _*_, _/_, _%_, _^_, _<_, _≤_}
+use native.Mathlib.Nat.{pow-suc, one-le-pow}
 use native.Mathlib.Omega.{arith}
 use lib.Dec.{ltb}
 use lib.ListN.{length, length-append}
-use borrow.Author.Tests.{lt-ltb, le-ltb, ltb-false}
+use borrow.Author.Tests.{lt-ltb, le-ltb}
 use Rattle.spec_words.specs.Words.{pick-true, pick-false, halt, pass}
+use Rattle.io.specs.Digits.{glyph, digits as spell, Fewest}
 use Rattle.text.specs.Text.{digits, decimal}
-
-tenth-less : (n f : ℕ) → 10 ≤ n → n < suc f → n / 10 < f
-tenth-less n f h l = omega arith
 
 tenth-below : (n k : ℕ) → n < k * 10 → n / 10 < k
 tenth-below n k h = omega arith
 
--- any bound gives the same digits
-enough : (f g n : ℕ) → n < f → n < g → digits f n ≡ digits g n
+suc-sub-one : (n : ℕ) → suc n - 1 ≡ n
+suc-sub-one n = omega arith
+
+digit-code : (d : ℕ) → d < 10 → glyph d ≡ 48 + d
+digit-code d h = ap (λ (b : Bool). cond b (48 + d) (87 + d)) (lt-ltb d 10 h)
+
+two-digits : (k n : ℕ) → Fewest 10 1 n (suc (suc k)) → (10 ^ k * 10 ≤ n) × (10 ≤ n)
+two-digits k n h =
+    let least : 10 ^ k * 10 ≤ n = rw (← pow-suc) (rw (← suc-sub-one (suc k)) (h .2 (omega arith))) in
+    let p = one-le-pow k 10 (omega arith) in
+    (least, omega (arith, least, p))
+
+-- the fewest digits that hold n, as the library spells them
+spelled : (k f n : ℕ) → n ≤ f → Fewest 10 1 n k → spell 10 k n ≡ digits (suc f) n
 unfolding digits
-enough zero g n a b = let z : ⊥ = omega arith in absurd z
-enough (suc f) zero n a b = let z : ⊥ = omega arith in absurd z
-enough (suc f) (suc g) n a b = same (ltb n 10) refl (λ h. enough f g (n / 10) (tenth-less n f h a) (tenth-less n g h b))
-  where
-    same : (t : Bool) → ltb n 10 ≡ t → (10 ≤ n → digits f (n / 10) ≡ digits g (n / 10)) → digits (suc f) n ≡ digits (suc g) n
-    same true e rest = halt _ _ e ∙ sym (halt _ _ e)
-    same false e rest = pass _ e (ap (λ (l : List ℕ). l ++ ((48 + n % 10) ∷ [])) (rest (ltb-false n 10 e))) ∙ sym (pass _ e refl)
+spelled zero f n l h = let z : ⊥ = omega (arith, h .0) in absurd z
+spelled (suc zero) f n l h =
+    let small : n < 10 = let e = h .1 in omega (arith, e) in
+    ap (λ (c : ℕ). c ∷ []) (digit-code (n % 10) (omega arith) ∙ (let z : 48 + n % 10 ≡ 48 + n = omega (arith, small) in z))
+    ∙ sym (halt _ _ (lt-ltb n 10 small))
+spelled (suc (suc k)) zero n l h = let m = two-digits k n h .1 in let z : ⊥ = omega (arith, m, l) in absurd z
+spelled (suc (suc k)) (suc f) n l h =
+    let least = two-digits k n h .0 in
+    let more = two-digits k n h .1 in
+    ap₂ (λ (ds : List ℕ) (c : ℕ). ds ++ (c ∷ []))
+    (spelled (suc k) f (n / 10) (omega (arith, more, l)) (omega arith, tenth-below n (10 ^ suc k) (rw (← pow-suc) (h .1)), λ g. rw (suc-sub-one k) (omega (arith, least))))
+    (digit-code (n % 10) (omega arith))
+    ∙ sym (pass _ (le-ltb n 10 more) refl)
 
-pub decimal-one : (n : ℕ) → n < 10 → decimal n ≡ (48 + n) ∷ []
-unfolding decimal digits
-decimal-one n h = halt _ _ (lt-ltb n 10 h)
-
-pub decimal-more : (n : ℕ) → 10 ≤ n → decimal n ≡ decimal (n / 10) ++ ((48 + n % 10) ∷ [])
-unfolding decimal digits
-decimal-more n h =
-    pass _ (le-ltb n 10 h)
-    (ap (λ (l : List ℕ). l ++ ((48 + n % 10) ∷ [])) (enough n (suc (n / 10)) (n / 10) (tenth-less n n h (omega arith)) (omega arith)))
+pub as-spelled : (k n : ℕ) → Fewest 10 1 n k → spell 10 k n ≡ decimal n
+unfolding decimal
+as-spelled k n h = spelled k n n (omega arith) h
 
 -- a number below ten to the k has at most k digits
 few : (k f n : ℕ) → n < 10 ^ suc k → length (digits f n) ≤ suc k

@@ -16,6 +16,10 @@ pub record Puts (m : List ℕ) (a : ℕ) (ws m' : List ℕ) (r : ℕ) : Type 0 w
   pub stored : m' ≡ storeAll m a ws
   pub end : r ≡ a + length ws
 
+-- text that is put under another name
+pub named : {m ws m1 us : List ℕ} {a r : ℕ} → ws ≡ us → Puts m a ws m1 r → Puts m a us m1 r
+named e p = rw (← e) p
+
 -- one text behind another
 pub puts-then : {m xs m1 ys m2 : List ℕ} {a b c : ℕ} → Puts m a xs m1 b → Puts m1 b ys m2 c → Puts m a (xs ++ ys) m2 c
 puts-then {m} {xs} {m1} {ys} {m2} {a} {b} {c} p q =

@@ -1,8 +1,7 @@
 // Text put into lent bytes. Each function writes from position `at` on and gives the position behind what it wrote; past the
 // end of the bytes nothing is written.
 ghost use mathlib.Core.Path.{_≡_};
-ghost use mathlib.Core.List.{[], _∷_};
-ghost use Prim.Native.Nat.{_+_, _^_, _<_};
+ghost use Prim.Native.Nat.{_^_, _<_};
 ghost use Rattle.spec_words.specs.Words.{store};
 ghost use Rattle.text.specs.Text.{decimal};
 ghost use Rattle.text.specs.Puts.{Puts};
@@ -28,24 +27,14 @@ pub fn put(out: &mut [u8], at: usize, text: &[u8]) -> usize
     at + text.len()
 }
 
-fn digit(out: &mut [u8], at: usize, d: u64) -> usize
-    requires { ⌜ (at < 2 ^ 41) × (d < 10) ⌝ }
-    ensures { λ r. ⌜ Puts (now (out .entry)) at ((48 + d) ∷ []) (now (out .exit)) r ⌝ }
-{
-    put_byte(out, at, 48 + d as u8);
-    at + 1
-}
-
 // A number in decimal digits.
 pub fn long_number(out: &mut [u8], at: usize, n: u64) -> usize
     requires { ⌜ at < 2 ^ 40 ⌝ }
     ensures { λ r. ⌜ Puts (now (out .entry)) at (decimal n) (now (out .exit)) r ⌝ }
 {
-    if n < 10 {
-        return digit(out, at, n);
-    }
-    let b = long_number(out, at, n / 10);
-    digit(out, b, n % 10)
+    let mut digits = [0u8; 20];
+    let k = io::decimal(n, &mut digits);
+    put(out, at, &digits[..k])
 }
 
 // A word in decimal digits.
