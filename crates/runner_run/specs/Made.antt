@@ -1,7 +1,7 @@
 -- What making a list of steps leaves: both memories, and each answer in its place.
 use mathlib.Core.Path.{_≡_, refl, ap, ap₂, sym, _∙_, subst₂}
 use mathlib.Core.Bool.{not}
-use mathlib.Core.List.{List, [], _∷_, _++_, map}
+use mathlib.Core.List.{List, [], _∷_, _++_, map, map-append}
 use Prim.Native.Nat.{ℕ, _+_, _<_, _≤_}
 use native.Mathlib.Numerals.{add-one}
 use native.Mathlib.Omega.{arith}
@@ -58,10 +58,6 @@ one-step : (j m r : List ℕ) (t : ℕ) (x : StepAnswer) {m2 r2 : List ℕ} → 
 unfolding stepsFrom answerOf coreOf runnerOf
 one-step j m r t x e = ap (λ (o : Outcome). behind (answerOf o ∷ []) (record { answers = []; core = coreOf o; runner = runnerOf o })) e
 
-map-append : (xs ys : List StepAnswer) → map packedStep (xs ++ ys) ≡ map packedStep xs ++ map packedStep ys
-map-append [] ys = refl
-map-append (x ∷ xs) ys = ap (λ (l : List ℕ). packedStep x ∷ l) (map-append xs ys)
-
 module _ (j ts m r : List ℕ) (t : ℕ) {i : ℕ} {m1 r1 a1 a m2 r2 a2 : List ℕ} (p : Made j ts m r m1 r1 a1) (s : Step j t i m1 r1 a m2 r2 a2) where
   before : Steps
   before = stepsFrom j ts m r
@@ -82,7 +78,7 @@ module _ (j ts m r : List ℕ) (t : ℕ) {i : ℕ} {m1 r1 a1 a m2 r2 a2 : List �
         runner = sym (ap (λ (s : Steps). s .runner) whole);
         answers =
             ap (λ (l : List ℕ). l ++ packedStep (s .answer) ∷ []) (p .answers)
-            ∙ sym (map-append (before .answers) (s .answer ∷ []))
+            ∙ sym (map-append packedStep (before .answers) (s .answer ∷ []))
             ∙ ap (λ (s : Steps). map packedStep (s .answers)) (sym whole);
         values = rw (whole) (all-append Fits (before .answers) (s .answer ∷ []) (p .values) (s .value, tt));
         reached = s .reached;
