@@ -1,3 +1,4 @@
+-- Where the contents hold, a body has an instruction and lies inside the job, so its last may be read.
 use Rattle.job_test.proofs.Fields.{last-yes, last-no}
 use Rattle.job_test.proofs.Inside.{entry-inside, some-instruction, last-inside}
 use mathlib.Core.Path.{refl}

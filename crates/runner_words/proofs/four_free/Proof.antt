@@ -1,3 +1,4 @@
+-- A record that is not in use holds where its words are 0, so the four tests of words together decide as the four records do.
 use mathlib.Core.Bool.{false≢true}
 use mathlib.Core.Path.{sym, _∙_}
 use Rattle.spec_runner.specs.Rules.{recordHolds}

@@ -1,3 +1,4 @@
+-- Four free records hold; any others are tested one by one.
 use mathlib.Core.Path.{_≡_, ap, sym, _∙_}
 use Prim.Native.Nat.{ℕ, _+_, _-_}
 use native.Mathlib.Omega.{arith}

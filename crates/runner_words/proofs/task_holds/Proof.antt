@@ -1,3 +1,4 @@
+-- The tests are made in the order of `taskHolds`. The contents of an accepted job lie inside it, so the entry may be read.
 use Rattle.job_test.proofs.Inside.{accepted-head, entry-inside}
 use Rattle.spec_words.specs.Words.{size}
 use Rattle.runner_words.proofs.Records.{procedure-at, position-at, rights-at, no-procedure, no-instruction, same-rights}
@@ -5,10 +6,6 @@ use native.Mathlib.Omega.{arith}
 use borrow.Author.Needs.{needs}
 use Rattle.runner_words.proofs.task_holds.Statement.{statement}
 use Rattle.runner_words.proofs.task_holds.Tie as tie
-
-shared-slice-read-p : tie.Need-shared-slice-read-p
-unfolding size
-shared-slice-read-p c = omega (arith, c .before .before .before .before .pre .0 .runner)
 
 returns : tie.Need-returns
 returns c =
@@ -19,10 +16,6 @@ procedure-at-requires : tie.Need-procedure-at-requires
 procedure-at-requires c κs =
     entry-inside _ _ (accepted-head _ (c .before .before .before .before .before .before .pre .0 .job)) (c .before .procedures .ensures) (c .if1 .left)
 
-shared-slice-read-if2 : tie.Need-shared-slice-read-if2
-unfolding size
-shared-slice-read-if2 c = omega (arith, c .before .before .before .before .before .before .before .before .pre .0 .runner)
-
 returns-2 : tie.Need-returns-2
 returns-2 c =
     no-instruction _ _ _ _ (procedure-at (c .before .before .before .before .before .before .before .before .before .before .args .r .now)
@@ -31,10 +24,6 @@ returns-2 c =
     (position-at (c .before .before .before .before .before .before .before .before .before .before .args .r .now)
     (c .before .before .before .before .before .before .before .before .before .before .args .t)) (c .before .before .before .procedure-at .ensures .1)
     (c .if2 .taken)
-
-shared-slice-read-result : tie.Need-shared-slice-read-result
-unfolding size
-shared-slice-read-result c = omega (arith, c .before .before .before .before .before .before .before .before .before .before .before .pre .0 .core)
 
 returns-3 : tie.Need-returns-3
 returns-3 c =
@@ -51,5 +40,8 @@ returns-3 c =
 pub task-holds-spec : {M : Type 1} → statement M
 task-holds-spec =
     tie.close
-    (tie.spec (λ c. search needs) (λ c. search needs) shared-slice-read-p (λ c κs. search needs) returns procedure-at-requires (λ c. search needs)
-    (λ c. search needs) shared-slice-read-if2 returns-2 (λ c. search needs) (λ c. search needs) (λ c. search needs) shared-slice-read-result returns-3)
+    (tie.spec (λ c. search needs) (λ c. search needs) (λ c. unfold size in omega (arith, c .before .before .before .before .pre .0 .runner))
+    (λ c κs. search needs) returns procedure-at-requires (λ c. search needs) (λ c. search needs)
+    (λ c. unfold size in omega (arith, c .before .before .before .before .before .before .before .before .pre .0 .runner)) returns-2 (λ c. search needs)
+    (λ c. search needs) (λ c. search needs)
+    (λ c. unfold size in omega (arith, c .before .before .before .before .before .before .before .before .before .before .before .pre .0 .core)) returns-3)
