@@ -1,17 +1,21 @@
 -- Whether a step would move, by ranges of operation numbers.
-use mathlib.Core.Path.{_≡_, refl, ap, sym, _∙_}
+use mathlib.Core.Path.{_≡_, refl, ap, ap₂, sym, _∙_}
 use mathlib.Core.Bool.{Bool, true, false, not}
 use mathlib.Core.List.{List}
 use mathlib.Core.Logic.{_⊎_, ⊎-elim}
 use Prim.Native.Nat.{ℕ, _<_, _≤_}
 use native.Mathlib.Omega.{arith}
-use Rattle.spec_words.specs.Words.{both-on, both-off}
+use borrow.Author.Tests.{not-false}
+use Rattle.spec_words.specs.Words.{load, both-on, both-off}
+use Rattle.spec_layout.specs.Layout.{rightsOf}
+use Rattle.spec_tree.specs.Rights.{sharesPop}
 use Rattle.spec_outcomes.specs.Waits.{unfinished, blocked}
 use Rattle.spec_job.specs.declared.Instruction.{Instruction}
 use Rattle.spec_job.specs.Fields.{rights}
 use Rattle.spec_job.specs.Operations.{rowOf, operationOf, operationAt}
 use Rattle.spec_job.specs.Rows.{from, row-past}
 use Rattle.core_return.proofs.Deciding.{stop, on}
+use Rattle.core_blocked.specs.Told.{Tell}
 use Rattle.spec_runner.specs.Words.{instructionFor}
 use Rattle.spec_runner.specs.Moves.{pushMoves, spawnMoves, findMoves, syncMoves, finishMoves, instructionMoves, stepMoves}
 
@@ -56,6 +60,11 @@ module _ (j m : List ℕ) (t : ℕ) (s : Instruction) where
 
   pub finishing : (k : ℕ) → (k ≡ 8 → ⊥) → (k ≡ 9 → ⊥) → (k < 1) ⊎ (8 ≤ k) → Says (finishMoves m t) k
   finishing k n8 n9 c = ⊎-elim (λ h. finish-first k h) (λ h. finish-past k (omega (arith, h, n8, n9))) c
+
+-- what the word of a task tells
+pub by-word : {w r : ℕ} {b1 b2 : Bool} (m a : List ℕ) (t : ℕ) → Tell m a → b1 ≡ unfinished m t → not b1 ≡ false → w ≡ load a t → r ≡ rightsOf m t
+    → b2 ≡ sharesPop w r → b2 ≡ blocked m t
+by-word m a t tell e1 f1 ew er e2 = e2 ∙ ap₂ sharesPop ew er ∙ tell t (sym e1 ∙ not-false _ f1)
 
 module _ (j m r : List ℕ) (t : ℕ) {b1 : Bool} (e1 : b1 ≡ unfinished m t) where
   pub not-unfinished : not b1 ≡ true → false ≡ stepMoves j m r t

@@ -5,8 +5,8 @@ use mathlib.Core.List.{List}
 use Prim.Native.Nat.{ℕ}
 use native.Mathlib.Omega.{arith}
 use lib.Dec.{eqb}
-use borrow.Author.Tests.{eqb-true, eqb-false}
-use Rattle.spec_words.specs.Words.{pick, both, pass, halt}
+use borrow.Author.Tests.{eqb-true, eqb-false, not-false}
+use Rattle.spec_words.specs.Words.{pick, both, both-true, pass, halt}
 use Rattle.spec_rules.specs.Test.{rulesHold}
 use Rattle.spec_runner.specs.declared.StepAnswer.the-variants.{Moved, Refused}
 use Rattle.spec_runner.specs.Answers.{Outcome, outcome, answerOf}
@@ -49,3 +49,11 @@ module _ (j m r : List ℕ) {k : ℕ} (e : k ≡ mapRefusal j m r) where
       go false y p q = absurd (eqb-false _ _ p (sym (number p q ∙ halt _ _ refl) ∙ z))
       go true true p q = let a = number p q ∙ pass _ refl (halt _ _ refl) in absurd (omega (arith, a, z))
       go true false p q = sym (goes-on j m r refl _ (eqb-true _ _ p)) ∙ pass _ q refl
+
+  pub rules-held : k ≡ 0 → rulesHold m ≡ true
+  rules-held z = go (eqb (jobRefusal j m r) 0) (not (both (rulesHold m) (runnerHolds j m r))) refl refl
+    where
+      go : (x y : Bool) → eqb (jobRefusal j m r) 0 ≡ x → not (both (rulesHold m) (runnerHolds j m r)) ≡ y → rulesHold m ≡ true
+      go false y p q = absurd (eqb-false _ _ p (sym (number p q ∙ halt _ _ refl) ∙ z))
+      go true true p q = let a = number p q ∙ pass _ refl (halt _ _ refl) in absurd (omega (arith, a, z))
+      go true false p q = both-true _ _ (not-false _ q) .0

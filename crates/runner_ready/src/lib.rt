@@ -1,5 +1,5 @@
-// THE READY MAP: which tasks' next steps would move, how many, and the lowest of them. One job test and one test of the
-// memory's rules; no memory is copied, and none but the map is written.
+// THE READY MAP: which tasks' next steps would move, how many, and the lowest of them. One job test, one test of the
+// memory's rules and one walk along all siblings; no memory is copied, and none but the map is written.
 ghost use mathlib.Core.Path.{_≡_};
 ghost use mathlib.Core.List.{[], _∷_};
 ghost use Prim.Native.Nat.{_+_, _*_, _^_, _<_, _≤_};
@@ -11,6 +11,7 @@ ghost use Rattle.spec_job.specs.Operations.{operationAt};
 ghost use Rattle.spec_runner.specs.Ready.{bitsFrom, wordsFor, lowestFrom, mapOf, readyOutcome};
 ghost use Rattle.spec_runner.specs.Ready.Mapped.{mapped};
 ghost use Rattle.spec_runner.specs.Moves.{instructionMoves, stepMoves};
+ghost use Rattle.core_blocked.specs.Told.{Tell};
 ghost use Rattle.runner_ready.specs.Refusals.{mapRefusal};
 use layout::NONE;
 use spec_job::Instruction;
@@ -33,14 +34,15 @@ fn instruction_moves(job: &[u8], m: &[u32], t: u32, s: Instruction) -> bool
     }
 }
 
-// The next step of task t would move.
-fn step_moves(job: &[u8], m: &[u32], r: &[u32], t: u32) -> bool
+// The next step of task t would move. The words a tell which tasks are blocked.
+fn step_moves(job: &[u8], m: &[u32], r: &[u32], a: &[u32], t: u32) -> bool
+    requires { ⌜ Tell (now m) (now a) ⌝ }
     ensures { λ b. ⌜ b ≡ stepMoves (now (job .entry)) (now (m .entry)) (now (r .entry)) t ⌝ }
 {
     if !walks::unfinished(m, t) {
         return false;
     }
-    if walks::blocked(m, t) {
+    if rights::shares_pop(memory::get(a, t as usize), memory::rights(m, t)) {
         return false;
     }
     instruction_moves(job, m, t, runner_words::instruction_for(job, r, t))
@@ -55,14 +57,14 @@ fn with_bit(w: u32, k: u32, b: bool) -> u32
 }
 
 // The bits of the 32 tasks from i on.
-fn word_from(job: &[u8], m: &[u32], r: &[u32], i: u32) -> u32
-    requires { ⌜ i ≤ 96 ⌝ }
+fn word_from(job: &[u8], m: &[u32], r: &[u32], a: &[u32], i: u32) -> u32
+    requires { ⌜ Tell (now m) (now a) × (i ≤ 96) ⌝ }
     ensures { λ w. ⌜ w ≡ bitsFrom (stepMoves (now (job .entry)) (now (m .entry)) (now (r .entry))) 32 i ⌝ }
 {
     let mut w: u32 = 0;
     let mut k: u32 = 0;
     while k < 32 {
-        w = with_bit(w, k, step_moves(job, m, r, i + k));
+        w = with_bit(w, k, step_moves(job, m, r, a, i + k));
         k += 1;
     }
     w
@@ -104,14 +106,14 @@ fn write_map(out: &mut [u32], w0: u32, w1: u32, w2: u32, w3: u32, n: u32, t: u32
 }
 
 // The map of memories that pass the tests.
-fn write_ready(job: &[u8], m: &[u32], r: &[u32], out: &mut [u32])
-    requires { ⌜ length (now out) ≡ 6 ⌝ }
+fn write_ready(job: &[u8], m: &[u32], r: &[u32], a: &[u32], out: &mut [u32])
+    requires { ⌜ Tell (now m) (now a) × (length (now out) ≡ 6) ⌝ }
     ensures { λ _. ⌜ now (out .exit) ≡ mapOf (wordsFor (stepMoves (now (job .entry)) (now (m .entry)) (now (r .entry)))) ⌝ }
 {
-    let w0 = word_from(job, m, r, 0);
-    let w1 = word_from(job, m, r, 32);
-    let w2 = word_from(job, m, r, 64);
-    let w3 = word_from(job, m, r, 96);
+    let w0 = word_from(job, m, r, a, 0);
+    let w1 = word_from(job, m, r, a, 32);
+    let w2 = word_from(job, m, r, a, 64);
+    let w3 = word_from(job, m, r, a, 96);
     let n = count(w0, w1, w2, w3);
     write_map(out, w0, w1, w2, w3, n, lowest(w0, w1, w2, w3));
 }
@@ -145,6 +147,8 @@ pub fn ready(job: &[u8], m: &[u32], r: &[u32], out: &mut [u32]) -> StepAnswer
         write_map(out, 0, 0, 0, 0, 0, NONE);
         return StepAnswer::Refused(k);
     }
-    write_ready(job, m, r, out);
+    let mut a = [0u32; 128];
+    core_blocked::blocked_all(m, &mut a);
+    write_ready(job, m, r, &a, out);
     StepAnswer::Moved
 }

@@ -1,5 +1,4 @@
 -- The invariant: w has the bits of the first k tasks from i on.
-use borrow.Author.Needs.{needs}
 use native.Mathlib.Omega.{arith}
 use Prim.Native.Nat.{_-_, _≤_}
 use mathlib.Core.Path.{_≡_, sym}
@@ -11,13 +10,16 @@ use Rattle.runner_ready.proofs.word_from.Statement.{statement}
 use Rattle.runner_ready.proofs.word_from.Tie as tie
 
 abbrev Inv-loop : tie.InvT-loop
-Inv-loop job m r i w₀ k₀ w k = (k ≤ 32) × (w ≡ bitsFrom (stepMoves job m r) k i)
+Inv-loop job m r a i w₀ k₀ w k = (k ≤ 32) × (w ≡ bitsFrom (stepMoves job m r) k i)
 
 abbrev μ-loop : tie.MeasureT-loop
-μ-loop job m r i w₀ k₀ w k = 32 - k
+μ-loop job m r a i w₀ k₀ w k = 32 - k
 
 loop-holds : tie.Need-loop-holds Inv-loop μ-loop
 loop-holds c = (omega arith, sym (bits-none _ _))
+
+step-moves-requires : tie.Need-step-moves-requires Inv-loop μ-loop
+step-moves-requires c κs = c .before .before .before .before .before .before .pre .0
 
 with-bit-requires : tie.Need-with-bit-requires Inv-loop μ-loop
 with-bit-requires c κs = (below _ _ _ (c .before .before .loop .inv .1), c .before .loop-test .taken)
@@ -31,5 +33,5 @@ returns c = whole _ _ _ (c .before .loop .inv .1) (c .before .loop .inv .0) (c .
 pub word-from-spec : {M : Type 1} → statement M
 word-from-spec =
     tie.close
-    (tie.spec Inv-loop μ-loop loop-holds (λ c. omega arith) (λ c κs. search needs) with-bit-requires (λ c. omega arith) (λ c. omega arith) loop-again
+    (tie.spec Inv-loop μ-loop loop-holds (λ c. omega arith) step-moves-requires with-bit-requires (λ c. omega arith) (λ c. omega arith) loop-again
     returns)

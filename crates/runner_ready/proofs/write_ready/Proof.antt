@@ -1,7 +1,23 @@
 use Rattle.runner_ready.proofs.Map.{map-written}
 use borrow.Author.Needs.{needs}
+use native.Mathlib.Omega.{arith}
 use Rattle.runner_ready.proofs.write_ready.Statement.{statement}
 use Rattle.runner_ready.proofs.write_ready.Tie as tie
+
+word-from-requires : tie.Need-word-from-requires
+word-from-requires c κs = (c .before .before .before .before .before .pre .0, omega arith)
+
+word-from-requires-2 : tie.Need-word-from-requires-2
+word-from-requires-2 c κs = (c .before .before .before .before .before .before .pre .0, omega arith)
+
+word-from-requires-3 : tie.Need-word-from-requires-3
+word-from-requires-3 c κs = (c .before .before .before .before .before .before .before .pre .0, omega arith)
+
+word-from-requires-4 : tie.Need-word-from-requires-4
+word-from-requires-4 c κs = (c .before .before .before .before .before .before .before .before .pre .0, omega arith)
+
+write-map-requires : tie.Need-write-map-requires
+write-map-requires c κs = c .before .before .before .before .before .before .before .before .before .before .before .before .pre .1
 
 returns : tie.Need-returns
 returns c =
@@ -13,5 +29,5 @@ returns c =
 pub write-ready-spec : {M : Type 1} → statement M
 write-ready-spec =
     tie.close
-    (tie.spec (λ c κs. search needs) (λ c κs. search needs) (λ c κs. search needs) (λ c κs. search needs) (λ c κs. search needs)
-    (λ c κs. search needs) (λ c κs. search needs) (λ c. search needs) returns)
+    (tie.spec word-from-requires word-from-requires-2 word-from-requires-3 word-from-requires-4 (λ c κs. search needs) (λ c κs. search needs)
+    write-map-requires (λ c. search needs) returns)
