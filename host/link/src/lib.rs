@@ -18,6 +18,7 @@ mod outcomes;
 pub mod pair;
 pub mod picture;
 pub mod proved_run;
+pub mod ready_scenes;
 pub mod rounds;
 pub mod runner_pair;
 pub mod scenes;

@@ -1,8 +1,8 @@
 //! Nanoseconds a call, best of several rounds.
 //!
 //! `bench` makes the same calls on the linked core and on the model, in turn.
-//! `bench growth` makes calls on the linked core alone, on memories of growing
-//! size. `bench serial` runs a job of 60,000 steps without overlap on both,
+//! `bench growth` makes calls on the linked core alone, and asks it for the ready
+//! map, on memories of growing size. `bench serial` runs a job of 60,000 steps without overlap on both,
 //! `bench overlap` the same job under a random order of its tasks.
 
 use host::asm::assemble;
@@ -17,6 +17,7 @@ use link::linked;
 use link::linked_jobs::{packed, run_serially, ANSWERS, WORKING};
 use link::linked_runner;
 use link::long_job;
+use link::ready_scenes::{self, ReadyScene};
 use link::scenes::{self, held_segments, unfinished_tasks, Scene};
 use std::process::ExitCode;
 use std::time::Instant;
@@ -108,6 +109,29 @@ fn growth() {
         let (name, best) = (scene.name, core.best);
         println!("{name:10}{tasks:>7}{segments:>10}{best:>8.0}{each:>10.1}");
     }
+    println!(
+        "{:10}{:>7}{:>8}{:>10}",
+        "ready map", "tasks", "ns", "ns each"
+    );
+    for scene in ready_scenes::growing() {
+        let best = map_time(&scene);
+        let (name, tasks, each) = (scene.name, scene.tasks, best / f64::from(scene.tasks));
+        println!("{name:10}{tasks:>7}{best:>8.0}{each:>10.1}");
+    }
+}
+
+/// Best nanoseconds of the linked core for one ready map, which is the model's.
+fn map_time(scene: &ReadyScene) -> f64 {
+    let (job, core, words) = (&scene.job, &scene.core, &scene.words);
+    let due = linked_runner::map_words(runner::ready(job, core, words).1);
+    let mut best = f64::INFINITY;
+    for _ in 0..ROUNDS {
+        let mut map = [0; 6];
+        let (time, _) = timed(|| linked_runner::ready(job, core, words, &mut map));
+        assert_eq!(map, due, "{}", scene.name);
+        best = best.min(time);
+    }
+    best
 }
 
 /// Nanoseconds that this takes.
