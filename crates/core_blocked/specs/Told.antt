@@ -144,7 +144,8 @@ module _ (m : List ℕ) (rules : TaskRules (decode m)) where
   noted-told (suc n) x w a sized u told t h =
       subst (λ (b : List ℕ). Told b t) (sym (noted-step n m x w a (u .0)))
       (⊎-elim
-      (λ z. subst (λ (b : List ℕ). Told b t) (sym (noted-past n m (younger x) _ _ (omega (arith, z)))) (⊎-elim (λ r. let l = r .0 in absurd (omega (arith, z, l))) (λ g. g) (next h)))
+      (λ z. subst (λ (b : List ℕ). Told b t) (sym (noted-past n m (younger x) _ _ (omega (arith, z))))
+      (⊎-elim (λ r. let l = r .0 in absurd (omega (arith, z, l))) (λ g. g) (next h)))
       (λ v.
       noted-told n (younger x) _ (store a x w) (size-store a x w ∙ sized) (v .0)
       (subst (λ (o : ℕ). Tells m (younger x) (bitOr (rightsOf m o) w)) (v .1)
