@@ -4,7 +4,6 @@ use mathlib.Core.Path.{_≡_, refl, _∙_}
 use native.Mathlib.Omega.{arith}
 use lib.ListN.{length}
 use borrow.Author.Needs.{needs}
-use Rattle.spec_words.specs.Words.{size}
 use Rattle.core_blocked.specs.Told.{told}
 use Rattle.core_blocked.specs.Noted.{allNoted}
 use Rattle.core_blocked.proofs.Steps.{none-yet, one-more, all-of-them}
@@ -26,7 +25,6 @@ loop-again c = (
 )
 
 returns : tie.Need-returns Inv-loop μ-loop
-unfolding size
 returns c =
     told _ _ (c .before .before .before .before .pre .0) (c .before .before .before .before .pre .1)
     (all-of-them _ _ (c .before .loop .inv .0) (c .loop-test .left) (c .before .loop .inv .2))
