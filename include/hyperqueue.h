@@ -15,7 +15,8 @@
  * spawned before its writer finds the queue empty.
  *
  * Link with libhyperqueue.a, which is for x86-64. A call needs about 2 kB of
- * stack; hq_run_serially needs 27 kB where 128 tasks are unfinished. */
+ * stack, hq_job_ready 2.5 kB; hq_run_serially needs 27 kB where 128 tasks are
+ * unfinished. */
 #ifndef HYPERQUEUE_H
 #define HYPERQUEUE_H
 

@@ -1,13 +1,14 @@
 -- The turns of the loops.
 use mathlib.Core.Path.{_≡_, refl, ap, ap₂, sym, _∙_}
-use mathlib.Core.Bool.{Bool, true, false}
+use mathlib.Core.Bool.{Bool, true, false, not}
 use mathlib.Core.List.{List}
 use Prim.Native.Nat.{ℕ, suc, _+_, _-_, _<_, _≤_}
 use native.Mathlib.Nat.{le-antisymm}
 use native.Mathlib.Numerals.{add-one}
 use native.Mathlib.Omega.{arith}
 use lib.Bits.{bitOr}
-use lib.Dec.{leb}
+use lib.Dec.{ltb}
+use borrow.Author.Tests.{lt-ltb, le-ltb, not-true, not-false}
 use Rattle.spec_words.specs.Words.{store, pass, halt, both-on, both-off}
 use Rattle.spec_layout.specs.Layout.{OLDER, YOUNGER, task, rightsOf, read}
 use Rattle.spec_outcomes.specs.Waits.{unfinished}
@@ -31,13 +32,19 @@ module _ (n : ℕ) (m : List ℕ) (c w : ℕ) (a : List ℕ) where
       ∙ ap (λ (k : ℕ). noted k m c w a) (let z : suc (n - 1) ≡ n = omega arith in z)
 
 module _ (m : List ℕ) (t : ℕ) {b : Bool} (e : b ≡ unfinished m t) where
-  pub oldest-if : {o : ℕ} → b ≡ true → o ≡ read m (task t OLDER) → leb 128 o ≡ isOldest m t
+  pub not-unfinished : not b ≡ true → false ≡ isOldest m t
   unfolding isOldest
-  oldest-if f eo = ap (leb 128) eo ∙ sym (both-on (sym e ∙ f))
+  not-unfinished f = sym (both-off _ (sym e ∙ not-true _ f))
 
-  pub not-oldest : b ≡ false → false ≡ isOldest m t
-  unfolding isOldest
-  not-oldest f = sym (both-off _ (sym e ∙ f))
+  module _ {o : ℕ} (f : not b ≡ false) (eo : o ≡ read m (task t OLDER)) where
+    pub has-older : o < 128 → false ≡ isOldest m t
+    unfolding isOldest
+    has-older l = sym (both-on (sym e ∙ not-false _ f) ∙ both-off _ (ap not (lt-ltb _ 128 (rw eo at l))))
+
+    pub no-older : {y : ℕ} → 128 ≤ o → y ≡ read m (task t YOUNGER) → ltb y 128 ≡ isOldest m t
+    unfolding isOldest
+    no-older l ey =
+        ap (λ (y : ℕ). ltb y 128) ey ∙ sym (both-on (sym e ∙ not-false _ f) ∙ both-on (ap not (le-ltb _ 128 (rw eo at l))))
 
 module _ (m : List ℕ) (t : ℕ) (a : List ℕ) {b : Bool} (e : b ≡ isOldest m t) where
   pub family : {d : List ℕ} → b ≡ true → d ≡ noted 128 m t 0 a → d ≡ familyNoted m t a

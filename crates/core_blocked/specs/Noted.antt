@@ -1,10 +1,10 @@
 -- Each task's word, written along the list of its siblings from the oldest on: the rights of those that came before.
 use mathlib.Core.Path.{_≡_, refl}
-use mathlib.Core.Bool.{Bool}
+use mathlib.Core.Bool.{Bool, not}
 use mathlib.Core.List.{List}
 use Prim.Native.Nat.{ℕ, zero, suc, _<_, _≤_}
 use lib.Bits.{bitOr}
-use lib.Dec.{leb}
+use lib.Dec.{leb, ltb}
 use borrow.Author.Tests.{le-leb, lt-leb}
 use Rattle.spec_words.specs.Words.{store, pick, pass, halt, both}
 use Rattle.spec_layout.specs.Layout.{OLDER, YOUNGER, task, rightsOf, read}
@@ -27,9 +27,9 @@ unfolding noted
 noted-past zero m c w a l = refl
 noted-past (suc n) m c w a l = halt _ _ (le-leb 128 c l)
 
--- t is the oldest of its siblings
+-- t is the oldest of several siblings
 unfoldable pub isOldest : List ℕ → ℕ → Bool
-isOldest m t = both (unfinished m t) (leb 128 (read m (task t OLDER)))
+isOldest m t = both (unfinished m t) (both (not (ltb (read m (task t OLDER)) 128)) (ltb (read m (task t YOUNGER)) 128))
 
 unfoldable pub familyNoted : List ℕ → ℕ → List ℕ → List ℕ
 familyNoted m t a = pick (isOldest m t) (noted 128 m t 0 a) a

@@ -36,15 +36,15 @@ turn-both false false y b = refl
 
 module _ (recs : ℕ → List ℕ) where
   -- f holds of one of c and its older siblings, at most n of them
-  unfoldable pub some : ℕ → (ℕ → Bool) → ℕ → Bool
-  some n f c = not (eqb (sibling n f recs c) NONE)
+  unfoldable pub someFrom : ℕ → (ℕ → Bool) → ℕ → Bool
+  someFrom n f c = not (eqb (sibling n f recs c) NONE)
 
-  some-none : (f : ℕ → Bool) (c : ℕ) → some 0 f c ≡ false
-  unfolding some sibling
+  some-none : (f : ℕ → Bool) (c : ℕ) → someFrom 0 f c ≡ false
+  unfolding someFrom sibling
   some-none f c = refl
 
-  some-step : (n : ℕ) (f : ℕ → Bool) (c : ℕ) → some (suc n) f c ≡ pick (leb 128 c) false (either (f c) (some n f (load (recs c) OLDER)))
-  unfolding some sibling either pick
+  some-step : (n : ℕ) (f : ℕ → Bool) (c : ℕ) → someFrom (suc n) f c ≡ pick (leb 128 c) false (either (f c) (someFrom n f (load (recs c) OLDER)))
+  unfolding someFrom sibling either pick
   some-step n f c = go (leb 128 c) (f c) refl
     where
       go : (l b : Bool) → leb 128 c ≡ l
@@ -54,28 +54,28 @@ module _ (recs : ℕ → List ℕ) where
       go false true e = let h = leb-false 128 c e in ap not (ne-eqb c NONE (λ z. omega (arith, h, z)))
       go false false e = refl
 
-  pub some-past : (n : ℕ) (f : ℕ → Bool) (c : ℕ) → 128 ≤ c → some (suc n) f c ≡ false
+  pub some-past : (n : ℕ) (f : ℕ → Bool) (c : ℕ) → 128 ≤ c → someFrom (suc n) f c ≡ false
   some-past n f c h = some-step n f c ∙ halt _ _ (le-leb 128 c h)
 
-  pub some-here : (n : ℕ) (f : ℕ → Bool) (c : ℕ) → c < 128 → some (suc n) f c ≡ either (f c) (some n f (load (recs c) OLDER))
+  pub some-here : (n : ℕ) (f : ℕ → Bool) (c : ℕ) → c < 128 → someFrom (suc n) f c ≡ either (f c) (someFrom n f (load (recs c) OLDER))
   some-here n f c h = some-step n f c ∙ pass _ (lt-leb 128 c h) refl
 
   -- one of two tests holds where the first does or the second
-  some-either : (n : ℕ) (f g : ℕ → Bool) (c : ℕ) → some n (λ x. either (f x) (g x)) c ≡ either (some n f c) (some n g c)
+  some-either : (n : ℕ) (f g : ℕ → Bool) (c : ℕ) → someFrom n (λ x. either (f x) (g x)) c ≡ either (someFrom n f c) (someFrom n g c)
   some-either zero f g c = some-none _ c ∙ sym (ap₂ either (some-none f c) (some-none g c) ∙ (unfold either pick in refl))
   some-either (suc n) f g c =
       some-step n _ c
       ∙ ap (λ (b : Bool). pick (leb 128 c) false (either (either (f c) (g c)) b)) (some-either n f g _)
-      ∙ turn-either (leb 128 c) (f c) (g c) (some n f _) (some n g _)
+      ∙ turn-either (leb 128 c) (f c) (g c) (someFrom n f _) (someFrom n g _)
       ∙ sym (ap₂ either (some-step n f c) (some-step n g c))
 
   -- and with what does not hang on the task
-  some-both : (n : ℕ) (f : ℕ → Bool) (b : Bool) (c : ℕ) → some n (λ x. both (f x) b) c ≡ both (some n f c) b
+  some-both : (n : ℕ) (f : ℕ → Bool) (b : Bool) (c : ℕ) → someFrom n (λ x. both (f x) b) c ≡ both (someFrom n f c) b
   some-both zero f b c = some-none _ c ∙ sym (ap (λ (x : Bool). both x b) (some-none f c) ∙ (unfold both pick in refl))
   some-both (suc n) f b c =
       some-step n _ c
       ∙ ap (λ (x : Bool). pick (leb 128 c) false (either (both (f c) b) x)) (some-both n f b _)
-      ∙ turn-both (leb 128 c) (f c) (some n f _) b
+      ∙ turn-both (leb 128 c) (f c) (someFrom n f _) b
       ∙ sym (ap (λ (x : Bool). both x b) (some-step n f c))
 
   -- more steps than the list has find no more
@@ -87,20 +87,20 @@ module _ (recs : ℕ → List ℕ) where
   enough (suc k) (suc n) f c h e =
       ap (λ (w : ℕ). pick (leb 128 c) NONE (pick (f c) c w)) (enough k n f (load (recs c) OLDER) (le-of-suc-le-suc h) e)
 
-  pub some-enough : (k n : ℕ) (f : ℕ → Bool) (c : ℕ) → k ≤ n → k ≤ 128 → walk (λ x. load (recs x) OLDER) k c ≡ NONE → some n f c ≡ some 128 f c
-  unfolding some
+  pub some-enough : (k n : ℕ) (f : ℕ → Bool) (c : ℕ) → k ≤ n → k ≤ 128 → walk (λ x. load (recs x) OLDER) k c ≡ NONE → someFrom n f c ≡ someFrom 128 f c
+  unfolding someFrom
   some-enough k n f c h g e = ap (λ (w : ℕ). not (eqb w NONE)) (enough k n f c h e ∙ sym (enough k 128 f c g e))
 
 -- AN OLDER SIBLING of t may pop q
 unfoldable pub olderPops : List ℕ → ℕ → ℕ → Bool
-olderPops m t q = some (recordOf m) 128 (λ c. pops (rightsOf m c) q) (read m (task t OLDER))
+olderPops m t q = someFrom (recordOf m) 128 (λ c. pops (rightsOf m c) q) (read m (task t OLDER))
 
 -- the word w has the pop bits of the queues that an older sibling of t may pop
 abbrev pub Tells : List ℕ → ℕ → ℕ → Type 0
 Tells m t w = (q : ℕ) → q < 4 → pops w q ≡ olderPops m t q
 
 pub tells-blocked : (m : List ℕ) (t w : ℕ) → Tells m t w → sharesPop w (rightsOf m t) ≡ blocked m t
-unfolding sharesPop someQueue blocked olderPops some
+unfolding sharesPop someQueue blocked olderPops someFrom
 tells-blocked m t w h =
     sym (some-either recs 128 (at 0) (λ c. either (at 1 c) (either (at 2 c) (at 3 c))) o
     ∙ ap₂ either (one 0 (omega arith)) (some-either recs 128 (at 1) (λ c. either (at 2 c) (at 3 c)) o
@@ -116,7 +116,7 @@ tells-blocked m t w h =
     at : ℕ → ℕ → Bool
     at q c = both (pops (rightsOf m c) q) (pops (rightsOf m t) q)
 
-    one : (q : ℕ) → q < 4 → some recs 128 (at q) o ≡ both (pops w q) (pops (rightsOf m t) q)
+    one : (q : ℕ) → q < 4 → someFrom recs 128 (at q) o ≡ both (pops w q) (pops (rightsOf m t) q)
     one q l = some-both recs 128 (λ c. pops (rightsOf m c) q) (pops (rightsOf m t) q) o ∙ ap (λ (b : Bool). both b (pops (rightsOf m t) q)) (sym (h q l))
 
 -- BOTH WORDS' BITS

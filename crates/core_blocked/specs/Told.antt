@@ -1,15 +1,17 @@
 -- On memory that passes the rules each unfinished task has its word then, and the word tells whether the task is blocked.
 use mathlib.Core.Path.{_≡_, refl, ap, sym, _∙_, subst}
-use mathlib.Core.Bool.{Bool, true, false, false≢true}
+use mathlib.Core.Bool.{Bool, true, false, not, false≢true}
 use mathlib.Core.List.{List}
 use mathlib.Core.Logic.{_⊎_, inl, inr, ⊎-elim}
 use Prim.Native.Nat.{ℕ, zero, suc, _<_, _≤_}
 use native.Mathlib.Nat.{le-of-suc-le-suc, eq-or-lt-of-le}
 use native.Mathlib.Omega.{arith}
 use lib.Bits.{bitOr}
-use borrow.Author.Tests.{lt-ltb, ltb-true, le-leb, leb-true, eqb-true, eq-eqb}
+use lib.ListN.{length, replicate}
+use borrow.Author.Tests.{lt-ltb, le-ltb, ltb-true, ltb-false, eqb-true, eq-eqb, not-true}
 use Rattle.spec_words.specs.Words.{load, store, size, pick, either, pass, halt, size-store, load-same, load-other, both-true, true-both}
 use Rattle.spec_lists.specs.Counting.{equal?, below?}
+use Rattle.spec_lists.specs.Marks.{zeros}
 use Rattle.spec_layout.specs.Layout.{NONE, STATUS, PARENT, OLDER, YOUNGER, task, rightsOf, read, recordOf}
 use Rattle.spec_layout.specs.Frame.{record-word}
 use Rattle.spec_tree.specs.Rights.{pops, sharesPop}
@@ -18,7 +20,7 @@ use Rattle.spec_rules.specs.Rules.{Unfinished, Child, TaskRules, walk}
 use Rattle.spec_rules.specs.Test.{test, rulesHold}
 use Rattle.spec_outcomes.specs.Waits.{unfinished, blocked}
 use Rattle.law_rules_tasks.specs.Tasks.{tasks-say}
-use Rattle.core_blocked.specs.Siblings.{some, some-past, some-here, some-enough, olderPops, Tells, tells-blocked, pops-or, pops-none}
+use Rattle.core_blocked.specs.Siblings.{someFrom, some-past, some-here, some-enough, olderPops, Tells, tells-blocked, pops-or, pops-none}
 use Rattle.core_blocked.specs.Noted.{noted, isOldest, familyNoted, allNoted, noted-step, noted-past}
 
 module _ (m : List ℕ) (rules : TaskRules (decode m)) where
@@ -39,13 +41,15 @@ module _ (m : List ℕ) (rules : TaskRules (decode m)) where
   unfolding unfinished
   is-unfinished t e = let w = both-true _ _ e in (ltb-true t 128 (w .0), word-is t STATUS ∙ eqb-true _ _ (w .1))
 
-  is-oldest : (t : ℕ) → Unfinished c t → 128 ≤ older t → isOldest m t ≡ true
+  is-oldest : (t : ℕ) → Unfinished c t → 128 ≤ older t → younger t < 128 → isOldest m t ≡ true
   unfolding isOldest unfinished
-  is-oldest t u l = true-both (true-both (lt-ltb t 128 (u .0)) (eq-eqb _ _ (sym (word-is t STATUS) ∙ u .1))) (le-leb 128 _ l)
+  is-oldest t u l y =
+      true-both (true-both (lt-ltb t 128 (u .0)) (eq-eqb _ _ (sym (word-is t STATUS) ∙ u .1)))
+      (true-both (ap not (le-ltb _ 128 l)) (lt-ltb _ 128 y))
 
   oldest-is : (t : ℕ) → isOldest m t ≡ true → Unfinished c t × (128 ≤ older t)
   unfolding isOldest
-  oldest-is t e = let w = both-true _ _ e in (is-unfinished t (w .0), leb-true 128 _ (w .1))
+  oldest-is t e = let w = both-true _ _ e in (is-unfinished t (w .0), ltb-false _ 128 (not-true _ (both-true _ _ (w .1) .0)))
 
   -- t is unfinished: the top, or a child
   kind : (t : ℕ) → Unfinished c t → (t ≡ 0) ⊎ Child c (word c t PARENT) t
@@ -102,7 +106,7 @@ module _ (m : List ℕ) (rules : TaskRules (decode m)) where
       let k = ends in
       let b = k .1 in
       pops-or (rightsOf m o) w q s
-      ∙ ap (either (pops (rightsOf m o) q)) (told q s ∙ ap (some (recordOf m) 128 (λ c. pops (rightsOf m c) q)) (sym (record-word m o OLDER))
+      ∙ ap (either (pops (rightsOf m o) q)) (told q s ∙ ap (someFrom (recordOf m) 128 (λ c. pops (rightsOf m c) q)) (sym (record-word m o OLDER))
       ∙ sym (some-enough (recordOf m) (k .0) 127 (λ c. pops (rightsOf m c) q) _ (omega (arith, b)) (omega (arith, b)) (k .2)))
       ∙ sym (some-here (recordOf m) 127 (λ c. pops (rightsOf m c) q) o l)
     where
@@ -144,7 +148,8 @@ module _ (m : List ℕ) (rules : TaskRules (decode m)) where
   noted-told (suc n) x w a sized u told t h =
       subst (λ (b : List ℕ). Told b t) (sym (noted-step n m x w a (u .0)))
       (⊎-elim
-      (λ z. subst (λ (b : List ℕ). Told b t) (sym (noted-past n m (younger x) _ _ (omega (arith, z)))) (⊎-elim (λ r. let l = r .0 in absurd (omega (arith, z, l))) (λ g. g) (next h)))
+      (λ z. subst (λ (b : List ℕ). Told b t) (sym (noted-past n m (younger x) _ _ (omega (arith, z))))
+      (⊎-elim (λ r. let l = r .0 in absurd (omega (arith, z, l))) (λ g. g) (next h)))
       (λ v.
       noted-told n (younger x) _ (store a x w) (size-store a x w ∙ sized) (v .0)
       (subst (λ (o : ℕ). Tells m (younger x) (bitOr (rightsOf m o) w)) (v .1)
@@ -207,23 +212,32 @@ module _ (m : List ℕ) (rules : TaskRules (decode m)) where
   all-size zero a = refl
   all-size (suc n) a = family-size n _ ∙ all-size n a
 
-  all-told : (n : ℕ) (a : List ℕ) → size a ≡ 128 → (s t : ℕ) → s < n → isOldest m s ≡ true → Reaches 128 s t → Told (allNoted n m a) t
+  all-told : (n : ℕ) (a : List ℕ) → size a ≡ 128 → (s t : ℕ) → ((s < n) × (isOldest m s ≡ true) × Reaches 128 s t) ⊎ Told a t
+      → Told (allNoted n m a) t
   unfolding allNoted
-  all-told zero a sized s t l e r = let z : ⊥ = omega (arith, l) in absurd z
-  all-told (suc n) a sized s t l e r =
+  all-told zero a sized s t (inl w) = let l = w .0 in let z : ⊥ = omega (arith, l) in absurd z
+  all-told zero a sized s t (inr g) = g
+  all-told (suc n) a sized s t (inl w) =
       family-told n (allNoted n m a) (all-size n a ∙ sized) t
       (⊎-elim
-      (λ q. inl (subst (λ (s : ℕ). (isOldest m s ≡ true) × Reaches 128 s t) q (e, r)))
-      (λ g. inr (all-told n a sized s t g e r))
-      (eq-or-lt-of-le (le-of-suc-le-suc l)))
+      (λ q. inl (subst (λ (s : ℕ). (isOldest m s ≡ true) × Reaches 128 s t) q (w .1, w .2)))
+      (λ g. inr (all-told n a sized s t (inl (g, w .1, w .2))))
+      (eq-or-lt-of-le (le-of-suc-le-suc (w .0))))
+  all-told (suc n) a sized s t (inr g) = family-told n (allNoted n m a) (all-size n a ∙ sized) t (inr (all-told n a sized s t (inr g)))
+
+  -- s is the oldest of several siblings, or t is s, and alone: its word is 0 from the beginning
+  several : (k s t : ℕ) (a : List ℕ) → k ≤ 128 → load a t ≡ 0 → Unfinished c s → 128 ≤ older s → Reaches k s t
+      → ((s < 128) × (isOldest m s ≡ true) × Reaches 128 s t) ⊎ Told a t
+  several k s t a l z u o (here q) = inr (subst (Tells m t) (sym z) (subst (λ (x : ℕ). Tells m x 0) q (oldest-told s o)))
+  several k s t a l z u o (on y r) = inl (u .0, is-oldest s u o y, wider _ 128 s t (on y r) l)
 
 -- THE WORDS then tell of each unfinished task whether it is blocked
 abbrev pub Tell : List ℕ → List ℕ → Type 0
 Tell m a = (t : ℕ) → unfinished m t ≡ true → sharesPop (load a t) (rightsOf m t) ≡ blocked m t
 
-pub told : {b : List ℕ} (m a : List ℕ) → rulesHold m ≡ true → size a ≡ 128 → b ≡ allNoted 128 m a → Tell m b
-unfolding rulesHold test
-told m a h sized e t u =
+pub told : {b : List ℕ} (m a : List ℕ) → rulesHold m ≡ true → a ≡ replicate 128 0 → b ≡ allNoted 128 m a → Tell m b
+unfolding rulesHold test size
+told m a h blank e t u =
     let d = both-true _ _ (both-true _ _ (both-true _ _ (ap test (sym (scan-decodes m)) ∙ h) .1) .1) in
     let f = both-true _ _ (d .1) in
     let rules = tasks-say (decode m) (d .0) (f .0) (both-true _ _ (f .1) .0) in
@@ -232,4 +246,5 @@ told m a h sized e t u =
     let w = from-oldest m rules (k .0) t (k .2) v in
     tells-blocked m t _
     (subst (λ (b : List ℕ). Tells m t (load b t)) (sym e)
-    (all-told m rules 128 a sized (w .0) t (w .1 .0) (is-oldest m rules (w .0) (w .1) (w .2)) (wider m rules (k .0) 128 (w .0) t (w .3) (k .1))))
+    (all-told m rules 128 a (ap length blank) (w .0) t
+    (several m rules (k .0) (w .0) t a (k .1) (ap (λ (a : List ℕ). load a t) blank ∙ zeros 128 t) (w .1) (w .2) (w .3))))

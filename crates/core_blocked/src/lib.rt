@@ -2,7 +2,7 @@
 // rights of those that it has passed.
 ghost use mathlib.Core.Path.{_≡_};
 ghost use mathlib.Core.Bool.{true};
-ghost use lib.ListN.{length};
+ghost use lib.ListN.{replicate};
 ghost use Rattle.spec_rules.specs.Test.{rulesHold};
 ghost use Rattle.core_blocked.specs.Noted.{noted, isOldest, familyNoted};
 ghost use Rattle.core_blocked.specs.Told.{Tell};
@@ -26,14 +26,17 @@ fn note(m: &[u32], t: u32, a: &mut [u32])
     }
 }
 
+// Task t is the oldest of several siblings.
 fn is_oldest(m: &[u32], t: u32) -> bool
     ensures { λ b. ⌜ b ≡ isOldest (now (m .entry)) t ⌝ }
 {
-    if walks::unfinished(m, t) {
-        TASKS <= memory::older(m, t)
-    } else {
-        false
+    if !walks::unfinished(m, t) {
+        return false;
     }
+    if memory::older(m, t) < TASKS {
+        return false;
+    }
+    memory::younger(m, t) < TASKS
 }
 
 fn note_family(m: &[u32], t: u32, a: &mut [u32])
@@ -44,9 +47,10 @@ fn note_family(m: &[u32], t: u32, a: &mut [u32])
     }
 }
 
-// The words a say of each unfinished task what its older siblings may pop: it is blocked where it may pop that too.
+// The words a say of each unfinished task what its older siblings may pop: it is blocked where it may pop that too. They are 0 before, as
+// the word of a task without siblings stays.
 pub fn blocked_all(m: &[u32], a: &mut [u32])
-    requires { ⌜ (rulesHold (now m) ≡ true) × (length (now a) ≡ 128) ⌝ }
+    requires { ⌜ (rulesHold (now m) ≡ true) × (now a ≡ replicate 128 0) ⌝ }
     ensures { λ _. ⌜ Tell (now (m .entry)) (now (a .exit)) ⌝ }
 {
     let mut t: u32 = 0;

@@ -2,12 +2,16 @@
 use mathlib.Core.Path.{_≡_, refl, ap, sym, _∙_}
 use mathlib.Core.Bool.{Bool, true, false, not}
 use mathlib.Core.List.{List}
-use Prim.Native.Nat.{ℕ, _<_, _≤_}
+use Prim.Native.Nat.{ℕ, _+_, _*_, _<_, _≤_}
+use native.Mathlib.Omega.{arith}
 use lib.Dec.{leb, eqb}
+use lib.ListN.{getD}
 use borrow.Author.Tests.{lt-ltb, le-ltb, le-leb, lt-leb, eq-eqb, ne-eqb}
-use Rattle.spec_words.specs.Words.{both, both-on, both-off, either, halt, pass, true-left}
-use Rattle.spec_layout.specs.Layout.{NL, USER, freeTasks, segment, lengthOf, freeHeight, rightsOf, head, tail, read}
+use Rattle.spec_words.specs.Words.{load, both, both-on, both-off, either, halt, pass, true-left, true-both}
+use Rattle.spec_layout.specs.Layout.{NONE, NL, CHILDREN, USER, RIGHT, freeTasks, segment, task, address, lengthOf, freeHeight, rightsOf, head, tail, read}
 use Rattle.spec_tree.specs.Rights.{subset, eachQueue}
+use Rattle.spec_tree.specs.Queues.{by-four, queue-each}
+use Rattle.spec_view_events.specs.Groups.{Blank}
 use Rattle.spec_rules.specs.Views.{view}
 use Rattle.segments.proofs.Stack.{some-left}
 use Rattle.spec_outcomes.specs.Segments.{noneFree, nextFree}
@@ -15,7 +19,8 @@ use Rattle.spec_outcomes.specs.Views.{viewOf, isEmpty, reducible, tailOf, taskA
 use Rattle.spec_outcomes.specs.Waits.{hasChild}
 use Rattle.spec_outcomes.specs.Sync.{syncs}
 use Rattle.spec_outcomes.specs.Finish.{finishes}
-use Rattle.core_return.proofs.Deciding.{stop, on, empty-is}
+use Rattle.core_return.specs.Returning.{noViews}
+use Rattle.core_return.proofs.Deciding.{stop, on, empty-is, nothing-finishes}
 use Rattle.spec_runner.specs.Moves.{fitsApart, hasRoom, valueFits, spawnMoves, syncMoves, finishMoves}
 
 -- a call on queue q that needs the right f, and x besides
@@ -115,3 +120,31 @@ module _ (m : List ℕ) (t : ℕ) {b : Bool} (e : b ≡ hasChild m t) where
     pub task-reduces : (t ≡ 0 → ⊥) → r ≡ eachQueue (finishes m t) → r ≡ finishMoves m t
     unfolding finishMoves
     task-reduces z er = er ∙ sym (both-on (ap not (sym e ∙ f)) ∙ pass _ (ne-eqb _ _ z) refl)
+
+-- A TASK WITHOUT VIEWS
+module _ (m : List ℕ) (t : ℕ) where
+  word-none : (i a : ℕ) → a ≡ 1472 + t * 48 + i → getD m a 0 ≡ NONE → read m (task t i) ≡ NONE
+  unfolding read load address
+  word-none i a e f = ap (λ (a : ℕ). getD m a 0) (sym e) ∙ f
+
+  view-none : (k q a b : ℕ) → a ≡ 1472 + t * 48 + (20 + k * 4 + q) → b ≡ 1472 + t * 48 + (32 + k * 4 + q) → getD m a 0 ≡ NONE → getD m b 0 ≡ NONE
+      → isEmpty (viewOf m q t k) ≡ true
+  unfolding viewOf isEmpty
+  view-none k q a b ea eb h e = true-both (eq-eqb _ _ (word-none _ a ea h)) (eq-eqb _ _ (word-none _ b eb e))
+
+  abbrev pub Blanks : ℕ → Type 0
+  Blanks k = Blank m (1492 + t * 48 + k * 4) × Blank m (1504 + t * 48 + k * 4)
+
+  blank-empty : (k : ℕ) → Blanks k → (q : ℕ) → q < 4 → isEmpty (viewOf m q t k) ≡ true
+  blank-empty k w =
+      by-four (λ q. isEmpty (viewOf m q t k) ≡ true)
+      (view-none k 0 _ _ (omega arith) (omega arith) (w .0 .0) (w .1 .0))
+      (view-none k 1 _ _ (omega arith) (omega arith) (w .0 .1) (w .1 .1))
+      (view-none k 2 _ _ (omega arith) (omega arith) (w .0 .2) (w .1 .2))
+      (view-none k 3 _ _ (omega arith) (omega arith) (w .0 .3) (w .1 .3))
+
+  pub blanks-finish : Blanks CHILDREN → Blanks USER → Blanks RIGHT → true ≡ eachQueue (finishes m t)
+  unfolding noViews
+  blanks-finish c u r =
+      sym (queue-each (finishes m t) (λ q l.
+      sym (nothing-finishes m t q refl (true-both (blank-empty USER u q l) (true-both (blank-empty CHILDREN c q l) (blank-empty RIGHT r q l))))))

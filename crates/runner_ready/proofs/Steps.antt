@@ -1,10 +1,12 @@
 -- Whether a step would move, by ranges of operation numbers.
-use mathlib.Core.Path.{_≡_, refl, ap, ap₂, sym, _∙_}
+use mathlib.Core.Path.{_≡_, refl, ap, ap₂, sym, _∙_, subst}
 use mathlib.Core.Bool.{Bool, true, false, not}
 use mathlib.Core.List.{List}
 use mathlib.Core.Logic.{_⊎_, ⊎-elim}
-use Prim.Native.Nat.{ℕ, _<_, _≤_}
+use Prim.Native.Nat.{ℕ, _-_, _<_, _≤_}
 use native.Mathlib.Omega.{arith}
+use lib.ListN.{length, take}
+use lib.Seq.{take-all}
 use borrow.Author.Tests.{not-false}
 use Rattle.spec_words.specs.Words.{load, both-on, both-off}
 use Rattle.spec_layout.specs.Layout.{rightsOf}
@@ -60,6 +62,17 @@ module _ (j m : List ℕ) (t : ℕ) (s : Instruction) where
 
   pub finishing : (k : ℕ) → (k ≡ 8 → ⊥) → (k ≡ 9 → ⊥) → (k < 1) ⊎ (8 ≤ k) → Says (finishMoves m t) k
   finishing k n8 n9 c = ⊎-elim (λ h. finish-first k h) (λ h. finish-past k (omega (arith, h, n8, n9))) c
+
+-- ALL OF THE WORDS, lent as a part
+module _ (m : List ℕ) (l : length m ≡ 16384) where
+  pub all-lent : take (16384 - 0) m ≡ m
+  all-lent = take-all (16384 - 0) m (omega arith)
+
+  pub lent-known : (a : List ℕ) → Tell m a → (length (take (16384 - 0) m) ≡ 16384) × Tell (take (16384 - 0) m) a
+  lent-known a tell = subst (λ (m : List ℕ). (length m ≡ 16384) × Tell m a) (sym all-lent) (l, tell)
+
+  pub lent-moves : {b : Bool} (j r : List ℕ) (t : ℕ) → b ≡ stepMoves j (take (16384 - 0) m) r t → b ≡ stepMoves j m r t
+  lent-moves j r t e = e ∙ ap (λ (m : List ℕ). stepMoves j m r t) all-lent
 
 -- what the word of a task tells
 pub by-word : {w r : ℕ} {b1 b2 : Bool} (m a : List ℕ) (t : ℕ) → Tell m a → b1 ≡ unfinished m t → not b1 ≡ false → w ≡ load a t → r ≡ rightsOf m t

@@ -6,13 +6,13 @@ use Prim.Native.Nat.{ℕ}
 use native.Mathlib.Omega.{arith}
 use lib.Dec.{eqb}
 use borrow.Author.Tests.{eqb-true, eqb-false, not-false}
-use Rattle.spec_words.specs.Words.{pick, both, both-true, pass, halt}
+use Rattle.spec_words.specs.Words.{size, pick, both, both-true, pass, halt}
 use Rattle.spec_rules.specs.Test.{rulesHold}
 use Rattle.spec_runner.specs.declared.StepAnswer.the-variants.{Moved, Refused}
 use Rattle.spec_runner.specs.Answers.{Outcome, outcome, answerOf}
 use Rattle.spec_runner.specs.Rules.{runnerHolds, refused, jobTested, tested}
 use Rattle.spec_runner.specs.Ready.{testAnswer}
-use Rattle.runner_words.specs.Refusals.{jobRefusal, turned-down, goes-on}
+use Rattle.runner_words.specs.Refusals.{jobRefusal, turned-down, goes-on, fits}
 
 -- 1, 10, 11, 12, then 2; 0 where the tests pass
 unfoldable pub mapRefusal : List ℕ → List ℕ → List ℕ → ℕ
@@ -50,10 +50,18 @@ module _ (j m r : List ℕ) {k : ℕ} (e : k ≡ mapRefusal j m r) where
       go true true p q = let a = number p q ∙ pass _ refl (halt _ _ refl) in absurd (omega (arith, a, z))
       go true false p q = sym (goes-on j m r refl _ (eqb-true _ _ p)) ∙ pass _ q refl
 
-  pub rules-held : k ≡ 0 → rulesHold m ≡ true
-  rules-held z = go (eqb (jobRefusal j m r) 0) (not (both (rulesHold m) (runnerHolds j m r))) refl refl
+  -- then the lengths are right and the rules hold
+  nothing-refuses : k ≡ 0 → (jobRefusal j m r ≡ 0) × (both (rulesHold m) (runnerHolds j m r) ≡ true)
+  nothing-refuses z = go (eqb (jobRefusal j m r) 0) (not (both (rulesHold m) (runnerHolds j m r))) refl refl
     where
-      go : (x y : Bool) → eqb (jobRefusal j m r) 0 ≡ x → not (both (rulesHold m) (runnerHolds j m r)) ≡ y → rulesHold m ≡ true
+      go : (x y : Bool) → eqb (jobRefusal j m r) 0 ≡ x → not (both (rulesHold m) (runnerHolds j m r)) ≡ y
+          → (jobRefusal j m r ≡ 0) × (both (rulesHold m) (runnerHolds j m r) ≡ true)
       go false y p q = absurd (eqb-false _ _ p (sym (number p q ∙ halt _ _ refl) ∙ z))
       go true true p q = let a = number p q ∙ pass _ refl (halt _ _ refl) in absurd (omega (arith, a, z))
-      go true false p q = both-true _ _ (not-false _ q) .0
+      go true false p q = (eqb-true _ _ p, not-false _ q)
+
+  pub rules-held : k ≡ 0 → rulesHold m ≡ true
+  rules-held z = both-true _ _ (nothing-refuses z .1) .0
+
+  pub held-size : k ≡ 0 → size m ≡ 16384
+  held-size z = fits j m r refl (nothing-refuses z .0) .core

@@ -14,12 +14,13 @@ ghost use Rattle.spec_runner.specs.Moves.{instructionMoves, stepMoves};
 ghost use Rattle.core_blocked.specs.Told.{Tell};
 ghost use Rattle.runner_ready.specs.Refusals.{mapRefusal};
 use layout::NONE;
+use layout::WORDS;
 use spec_job::Instruction;
 use spec_runner::StepAnswer;
 
 // Instruction s of task t, which is unfinished and not blocked, would move.
 fn instruction_moves(job: &[u8], m: &[u32], t: u32, s: Instruction) -> bool
-    requires { ⌜ t < 128 ⌝ }
+    requires { ⌜ (length (now m) ≡ 16384) × (t < 128) ⌝ }
     ensures { λ b. ⌜ b ≡ instructionMoves (operationAt (s .operation)) (now (job .entry)) (now (m .entry)) t s ⌝ }
 {
     let k = s.operation;
@@ -35,14 +36,14 @@ fn instruction_moves(job: &[u8], m: &[u32], t: u32, s: Instruction) -> bool
 }
 
 // The next step of task t would move. The words a tell which tasks are blocked.
-fn step_moves(job: &[u8], m: &[u32], r: &[u32], a: &[u32], t: u32) -> bool
-    requires { ⌜ Tell (now m) (now a) ⌝ }
+fn step_moves(job: &[u8], m: &[u32], r: &[u32], a: &[u32; 128], t: u32) -> bool
+    requires { ⌜ (length (now m) ≡ 16384) × Tell (now m) (now a) ⌝ }
     ensures { λ b. ⌜ b ≡ stepMoves (now (job .entry)) (now (m .entry)) (now (r .entry)) t ⌝ }
 {
     if !walks::unfinished(m, t) {
         return false;
     }
-    if rights::shares_pop(memory::get(a, t as usize), memory::rights(m, t)) {
+    if rights::shares_pop(a[t as usize], memory::rights(m, t)) {
         return false;
     }
     instruction_moves(job, m, t, runner_words::instruction_for(job, r, t))
@@ -56,15 +57,16 @@ fn with_bit(w: u32, k: u32, b: bool) -> u32
     if b { w | 1 << k } else { w }
 }
 
-// The bits of the 32 tasks from i on.
-fn word_from(job: &[u8], m: &[u32], r: &[u32], a: &[u32], i: u32) -> u32
-    requires { ⌜ Tell (now m) (now a) × (i ≤ 96) ⌝ }
+// The bits of the 32 tasks from i on. The part of m that is lent is the whole, with a length that is known where it is read.
+fn word_from(job: &[u8], m: &[u32], r: &[u32], a: &[u32; 128], i: u32) -> u32
+    requires { ⌜ (length (now m) ≡ 16384) × Tell (now m) (now a) × (i ≤ 96) ⌝ }
     ensures { λ w. ⌜ w ≡ bitsFrom (stepMoves (now (job .entry)) (now (m .entry)) (now (r .entry))) 32 i ⌝ }
 {
+    let words = &m[0..WORDS];
     let mut w: u32 = 0;
     let mut k: u32 = 0;
     while k < 32 {
-        w = with_bit(w, k, step_moves(job, m, r, a, i + k));
+        w = with_bit(w, k, step_moves(job, words, r, a, i + k));
         k += 1;
     }
     w
@@ -106,8 +108,8 @@ fn write_map(out: &mut [u32], w0: u32, w1: u32, w2: u32, w3: u32, n: u32, t: u32
 }
 
 // The map of memories that pass the tests.
-fn write_ready(job: &[u8], m: &[u32], r: &[u32], a: &[u32], out: &mut [u32])
-    requires { ⌜ Tell (now m) (now a) × (length (now out) ≡ 6) ⌝ }
+fn write_ready(job: &[u8], m: &[u32], r: &[u32], a: &[u32; 128], out: &mut [u32])
+    requires { ⌜ (length (now m) ≡ 16384) × Tell (now m) (now a) × (length (now out) ≡ 6) ⌝ }
     ensures { λ _. ⌜ now (out .exit) ≡ mapOf (wordsFor (stepMoves (now (job .entry)) (now (m .entry)) (now (r .entry)))) ⌝ }
 {
     let w0 = word_from(job, m, r, a, 0);

@@ -43,7 +43,7 @@ fn shared(m: &[u32], a: usize) -> u32
 }
 
 // The four views of kind k of task t are empty.
-fn empty(m: &[u32], t: usize, k: usize) -> bool
+pub fn empty(m: &[u32], t: usize, k: usize) -> bool
     requires { ⌜ (length (now m) ≡ 16384) × (t < 128) × (k < 3) ⌝ }
     ensures { λ r. ⌜ (r ≡ true → Blank (now (m .entry)) (1492 + t * 48 + k * 4) × Blank (now (m .entry)) (1504 + t * 48 + k * 4)) ⌝ }
 {

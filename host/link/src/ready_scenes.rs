@@ -13,10 +13,10 @@ pub struct ReadyScene {
     pub words: Vec<u32>,
 }
 
-/// Four shapes of growing size.
+/// Five shapes of growing size.
 pub fn growing() -> Vec<ReadyScene> {
     let sizes = [2, 17, 33, 65, 128];
-    let shapes = [children, finishing, families, levels];
+    let shapes = [children, finishing, returning, families, levels];
     let scenes = shapes.into_iter().flat_map(|shape| sizes.map(shape));
     scenes.collect()
 }
@@ -57,6 +57,14 @@ fn finishing(tasks: u32) -> ReadyScene {
     let text = below_top(tasks - 1, "push 0 push 1 push 2 push 3", "");
     let steps = vec![0; tasks as usize - 1];
     scene("finishing", tasks, &text, steps)
+}
+
+/// Children of the top, each about to finish with a value to return.
+fn returning(tasks: u32) -> ReadyScene {
+    let text = below_top(tasks - 1, "push 0", "push 0 7\n");
+    let mut steps = vec![0; tasks as usize - 1];
+    steps.extend(1..tasks);
+    scene("returning", tasks, &text, steps)
 }
 
 /// Children of the top, each with a child about to push; one without where the

@@ -4,7 +4,6 @@ use mathlib.Core.Path.{_≡_, refl, _∙_}
 use native.Mathlib.Omega.{arith}
 use lib.ListN.{length}
 use borrow.Author.Needs.{needs}
-use Rattle.spec_words.specs.Words.{size}
 use Rattle.core_blocked.specs.Told.{told}
 use Rattle.core_blocked.specs.Noted.{allNoted}
 use Rattle.core_blocked.proofs.Steps.{none-yet, one-more, all-of-them}
@@ -18,11 +17,17 @@ abbrev μ-loop : tie.MeasureT-loop
 μ-loop m a₀ t₀ a t = 128 - t
 
 loop-again : tie.Need-loop-again Inv-loop μ-loop
-loop-again c = (omega arith, c .before .before .note-family .kept .1 .1 .0 ∙ c .before .before .before .before .before .loop .inv .1, one-more _ _ _ (c .before .before .before .before .before .loop .inv .2) (c .before .before .note-family .ensures))
+loop-again c = (
+  omega arith,
+  c .before .before .note-family .kept .1 .1 .0 ∙ c .before .before .before .before .before .loop .inv .1,
+  one-more _ _ _
+      (c .before .before .before .before .before .loop .inv .2) (c .before .before .note-family .ensures),
+)
 
 returns : tie.Need-returns Inv-loop μ-loop
-unfolding size
-returns c = told _ _ (c .before .before .before .before .pre .0) (c .before .before .before .before .pre .1) (all-of-them _ _ (c .before .loop .inv .0) (c .loop-test .left) (c .before .loop .inv .2))
+returns c =
+    told _ _ (c .before .before .before .before .pre .0) (c .before .before .before .before .pre .1)
+    (all-of-them _ _ (c .before .loop .inv .0) (c .loop-test .left) (c .before .loop .inv .2))
 
 pub blocked-all-spec : {M : Type 1} → statement M
 blocked-all-spec =

@@ -23,7 +23,9 @@ returns c = past-youngest _ _ _ _ _ (c .if1 .taken) ∙ c .before .before .loop 
 loop-again : tie.Need-loop-again Inv-loop μ-loop
 loop-again c = (
   c .before .before .before .before .put .kept .0 ∙ c .before .before .before .before .before .before .before .before .loop .inv .0,
-  one-noted _ _ _ _ _ (c .before .before .before .before .before .before .before .loop-test .taken) (c .before .before .before .before .before .before .if1 .left) (c .before .before .before .before .put .ensures) (c .before .rights .ensures) (c .younger .ensures) ∙ c .before .before .before .before .before .before .before .before .loop .inv .1,
+  one-noted _ _ _ _ _ (c .before .before .before .before .before .before .before .loop-test .taken)
+      (c .before .before .before .before .before .before .if1 .left) (c .before .before .before .before .put .ensures) (c .before .rights .ensures)
+      (c .younger .ensures) ∙ c .before .before .before .before .before .before .before .before .loop .inv .1,
 )
 
 same-length-2 : tie.Need-same-length-2 Inv-loop μ-loop

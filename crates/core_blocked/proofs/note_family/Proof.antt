@@ -4,7 +4,9 @@ use Rattle.core_blocked.proofs.note_family.Statement.{statement}
 use Rattle.core_blocked.proofs.note_family.Tie as tie
 
 returns : tie.Need-returns
-returns c = family _ _ _ (c .before .before .before .before .before .is-oldest .ensures) (c .before .before .before .before .if1 .taken) (c .before .before .note .ensures)
+returns c =
+    family _ _ _ (c .before .before .before .before .before .is-oldest .ensures) (c .before .before .before .before .if1 .taken)
+    (c .before .before .note .ensures)
 
 returns-2 : tie.Need-returns-2
 returns-2 c = no-family _ _ _ (c .before .is-oldest .ensures) (c .if1 .left)

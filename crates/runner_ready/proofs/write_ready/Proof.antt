@@ -5,19 +5,20 @@ use Rattle.runner_ready.proofs.write_ready.Statement.{statement}
 use Rattle.runner_ready.proofs.write_ready.Tie as tie
 
 word-from-requires : tie.Need-word-from-requires
-word-from-requires c κs = (c .before .before .before .before .before .pre .0, omega arith)
+word-from-requires c κs = (c .before .before .before .before .pre .0, c .before .before .before .before .pre .1, omega arith)
 
 word-from-requires-2 : tie.Need-word-from-requires-2
-word-from-requires-2 c κs = (c .before .before .before .before .before .before .pre .0, omega arith)
+word-from-requires-2 c κs = (c .before .before .before .before .before .pre .0, c .before .before .before .before .before .pre .1, omega arith)
 
 word-from-requires-3 : tie.Need-word-from-requires-3
-word-from-requires-3 c κs = (c .before .before .before .before .before .before .before .pre .0, omega arith)
+word-from-requires-3 c κs = (c .before .before .before .before .before .before .pre .0, c .before .before .before .before .before .before .pre .1, omega arith)
 
 word-from-requires-4 : tie.Need-word-from-requires-4
-word-from-requires-4 c κs = (c .before .before .before .before .before .before .before .before .pre .0, omega arith)
+word-from-requires-4 c κs =
+    (c .before .before .before .before .before .before .before .pre .0, c .before .before .before .before .before .before .before .pre .1, omega arith)
 
 write-map-requires : tie.Need-write-map-requires
-write-map-requires c κs = c .before .before .before .before .before .before .before .before .before .before .before .before .pre .1
+write-map-requires c κs = c .before .before .before .before .before .before .before .before .before .before .before .pre .2
 
 returns : tie.Need-returns
 returns c =
