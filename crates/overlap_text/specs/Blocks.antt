@@ -18,7 +18,8 @@ use Rattle.runner_run.specs.Made.{fitting, Made, Ran}
 use Rattle.run_text.specs.Lines.{openLine}
 use Rattle.block_text.specs.Lines.{linesFrom}
 use Rattle.block_text.specs.Blocks.{Block, rowLine}
-use Rattle.overlap_text.specs.Whole.{callLines, unfinishedIn}
+use Rattle.block_text.specs.Values.{valueLines, lines-of, readFrom}
+use Rattle.overlap_text.specs.Whole.{callLines, valueIn, queueLines, unfinishedIn}
 use Rattle.overlap_text.specs.Laws.{block-lines}
 
 -- A BLOCK OF CALLS of tasks ts, where c calls were made before: its text, and the words that the steps leave
@@ -26,6 +27,12 @@ pub record Called (j ts m r : List ℕ) (c : ℕ) (out : List ℕ) (n : ℕ) (m'
   pub lines : Block out n (callLines c ts (stepsFrom j ts m r .answers))
   pub core : m' ≡ stepsFrom j ts m r .core
   pub runner : r' ≡ stepsFrom j ts m r .runner
+
+-- the lines of the values read into 16,384 words
+pub queue-block : (m : List ℕ) (q : ℕ) {out us : List ℕ} {r n k : ℕ} → k ≡ 16384 → Block us n (readFrom (valueIn m q) k 0)
+    → Block out r (valueLines q (take n us)) → Block out r (queueLines m q)
+unfolding queueLines
+queue-block m q e v b = lines-of q (v .text ∙ ap (λ (k : ℕ). readFrom (valueIn m q) k 0) e) b
 
 -- all of at most 1,024 steps have rows in 3,072 words
 all-fit : (n k : ℕ) → n ≤ 1024 → k ≡ 3072 → fitting n k ≡ n

@@ -1,8 +1,8 @@
 -- The lines of steps, as the code writes them, and the values of a list, as it reads them.
-use mathlib.Core.Path.{_≡_, ap, sym, _∙_}
-use mathlib.Core.List.{List}
+use mathlib.Core.Path.{_≡_, refl, ap, sym, _∙_}
+use mathlib.Core.List.{List, [], _∷_}
 use mathlib.Core.Option.{Option, none, some}
-use Prim.Native.Nat.{ℕ, _+_, _*_, _<_, _≤_}
+use Prim.Native.Nat.{ℕ, zero, suc, _+_, _*_, _<_, _≤_}
 use native.Mathlib.Nat.{zero-add}
 use native.Mathlib.Omega.{arith}
 use lib.ListN.{length, getD, take, drop, getElem?}
@@ -12,7 +12,7 @@ use Rattle.spec_serial.specs.Working.{lists}
 use Rattle.run_text.specs.Lines.{line}
 use Rattle.block_text.specs.Lines.{linesFrom, lines-same}
 use Rattle.block_text.specs.Blocks.{Block, rowLine}
-use Rattle.block_text.specs.Values.{elem-at, elem-past, readFrom, read-list}
+use Rattle.block_text.specs.Values.{readFrom, read-list}
 use Rattle.serial_text.specs.Whole.{stepLine}
 
 -- the line of a step is that of its row, with no calls before
@@ -22,6 +22,17 @@ step-row a i = ap (λ (n : ℕ). line (n + 1) (load a (i * 3)) (load a (i * 3 + 
 
 pub step-rows : {m : List ℕ} {r : ℕ} (a : List ℕ) (i n : ℕ) → Block m r (linesFrom (rowLine a 0) i n) → Block m r (linesFrom (stepLine a) i n)
 step-rows a i n b = rw (← lines-same (step-row a) i n) b
+
+-- LISTS BY INDEX
+elem-at : (xs : List ℕ) (i : ℕ) → i < length xs → getElem? xs i ≡ some (getD xs i 0)
+elem-at [] i h = let z : ⊥ = omega (arith, h) in absurd z
+elem-at (x ∷ xs) zero h = refl
+elem-at (x ∷ xs) (suc i) h = elem-at xs i (omega (arith, h))
+
+elem-past : (xs : List ℕ) (i : ℕ) → length xs ≤ i → getElem? xs i ≡ none
+elem-past [] i h = refl
+elem-past (x ∷ xs) zero h = let z : ⊥ = omega (arith, h) in absurd z
+elem-past (x ∷ xs) (suc i) h = elem-past xs i (omega (arith, h))
 
 -- value number i of queue q, and the values read one by one as a part of the list
 unfoldable pub valueIn : List ℕ → ℕ → ℕ → Option ℕ

@@ -13,26 +13,17 @@ Inv-loop m values₀ out₀ q₀ values out q = (q ≤ 4) × (length values ≡ 
 abbrev μ-loop : tie.MeasureT-loop
 μ-loop m values₀ out₀ q₀ values out q = 4 - q
 
-value-lines-requires : tie.Need-value-lines-requires Inv-loop μ-loop
-value-lines-requires c κs =
-    let n = c .before .before .before .left-values .ensures .counted in
-    let l = c .before .before .before .left-values .ensures .inside in
-    let k = c .before .before .before .left-values .kept .1 .1 .0 ∙ c .before .before .before .before .before .before .loop .inv .1 in
-    let o = c .before .before .before .before .before .before .loop .inv .2 in
-    (omega (arith, n, l, k, o), omega (arith, n, l, k))
-
 loop-again : tie.Need-loop-again Inv-loop μ-loop
 loop-again c = (
   omega arith,
-  c .before .before .before .before .before .before .before .before .left-values .kept .1 .1 .0 ∙ c .before .before .before .before .before
-      .before .before .before .before .before .before .loop .inv .1,
-  c .before .before .before .before .value-lines .kept .0 ∙ c .before .before .before .before
-      .before .before .before .before .before .before .before .loop .inv .2,
+  c .before .before .before .before .before .queue-lines .kept .1 .0 ∙ c .before .before .before .before .before .before .before .before
+      .before .loop .inv .1,
+  c .before .before .before .before .before .queue-lines .kept .0 ∙ c .before .before .before .before .before .before .before .before
+      .before .loop .inv .2,
 )
 
 pub print-left-spec : {M : Type 1} → statement M
 print-left-spec =
     tie.close
-    (tie.spec Inv-loop μ-loop (λ c. (omega arith, refl, refl)) (λ c. search needs) (λ c κs. omega arith) (λ c. search needs) (λ c. search needs)
-    (λ c. search needs) value-lines-requires (λ c. search needs) (λ c. search needs) (λ c κs. search needs) (λ c. search needs) (λ c. omega arith)
-    (λ c. omega arith) loop-again (λ c. search needs))
+    (tie.spec Inv-loop μ-loop (λ c. (omega arith, refl, refl)) (λ c. search needs) (λ c. search needs) (λ c κs. search needs) (λ c. search needs)
+    (λ c. search needs) (λ c κs. search needs) (λ c. search needs) (λ c. omega arith) (λ c. omega arith) loop-again (λ c. search needs))
