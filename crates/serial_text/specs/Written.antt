@@ -1,14 +1,15 @@
 -- The lines of steps, as the code writes them, and the values of a list, as it reads them.
-use mathlib.Core.Path.{_≡_, refl, ap, sym, _∙_}
-use mathlib.Core.List.{List, [], _∷_}
-use mathlib.Core.Option.{Option, none, some}
-use Prim.Native.Nat.{ℕ, zero, suc, _+_, _*_, _<_, _≤_}
+use mathlib.Core.Path.{_≡_, ap, sym, _∙_}
+use mathlib.Core.List.{List}
+use mathlib.Core.Option.{Option}
+use Prim.Native.Nat.{ℕ, _+_, _*_}
 use native.Mathlib.Nat.{zero-add}
-use native.Mathlib.Omega.{arith}
-use lib.ListN.{length, getD, take, drop, getElem?}
+use lib.ListN.{take, drop, getElem?}
 use Rattle.spec_words.specs.Words.{load}
 use Rattle.spec_plain.specs.Machine.{queue}
 use Rattle.spec_serial.specs.Working.{lists}
+use Rattle.serial_queues.specs.declared.Found.{Found}
+use Rattle.serial_queues.specs.Found.{foundOf}
 use Rattle.run_text.specs.Lines.{line}
 use Rattle.block_text.specs.Lines.{linesFrom, lines-same}
 use Rattle.block_text.specs.Blocks.{Block, rowLine}
@@ -23,17 +24,6 @@ step-row a i = ap (λ (n : ℕ). line (n + 1) (load a (i * 3)) (load a (i * 3 + 
 pub step-rows : {m : List ℕ} {r : ℕ} (a : List ℕ) (i n : ℕ) → Block m r (linesFrom (rowLine a 0) i n) → Block m r (linesFrom (stepLine a) i n)
 step-rows a i n b = rw (← lines-same (step-row a) i n) b
 
--- LISTS BY INDEX
-elem-at : (xs : List ℕ) (i : ℕ) → i < length xs → getElem? xs i ≡ some (getD xs i 0)
-elem-at [] i h = let z : ⊥ = omega (arith, h) in absurd z
-elem-at (x ∷ xs) zero h = refl
-elem-at (x ∷ xs) (suc i) h = elem-at xs i (omega (arith, h))
-
-elem-past : (xs : List ℕ) (i : ℕ) → length xs ≤ i → getElem? xs i ≡ none
-elem-past [] i h = refl
-elem-past (x ∷ xs) zero h = let z : ⊥ = omega (arith, h) in absurd z
-elem-past (x ∷ xs) (suc i) h = elem-past xs i (omega (arith, h))
-
 -- value number i of queue q, and the values read one by one as a part of the list
 unfoldable pub valueIn : List ℕ → ℕ → ℕ → Option ℕ
 valueIn w q i = getElem? (queue (lists w) q) i
@@ -42,11 +32,6 @@ pub in-list : (w : List ℕ) (q k a : ℕ) {vs : List ℕ} {i : ℕ} → Block v
 unfolding valueIn
 in-list w q k a b = rw (← read-list (queue (lists w) q) k a) b
 
-module _ (w : List ℕ) (q i : ℕ) {n : ℕ} (e : n ≡ length (queue (lists w) q)) where
-  pub no-value : n ≤ i → valueIn w q i ≡ none
-  unfolding valueIn
-  no-value h = elem-past (queue (lists w) q) i (omega (arith, e, h))
-
-  pub some-value : {v : ℕ} → i < n → v ≡ getD (queue (lists w) q) i 0 → valueIn w q i ≡ some v
-  unfolding valueIn
-  some-value h f = elem-at (queue (lists w) q) i (omega (arith, e, h)) ∙ ap some (sym f)
+pub found-is : (w : List ℕ) (q i : ℕ) {f g : Found} → foundOf f ≡ getElem? (queue (lists w) q) i → f ≡ g → valueIn w q i ≡ foundOf g
+unfolding valueIn
+found-is w q i e h = sym e ∙ ap foundOf h

@@ -7,6 +7,7 @@ ghost use Rattle.block_text.specs.Lines.{linesFrom};
 ghost use Rattle.block_text.specs.Blocks.{Block};
 ghost use Rattle.block_text.specs.Values.{valueLines};
 ghost use Rattle.serial_text.specs.Whole.{stepLine};
+use serial_queues::Found;
 
 // The lines of n steps from step `first` on.
 pub fn step_lines(out: &mut [u8], a: &[u32], first: u32, n: u32) -> usize
@@ -22,14 +23,13 @@ fn left_values(w: &[u32], q: u32, first: usize, values: &mut [u32]) -> usize
     requires { ⌜ first + length (now values) < 2 ^ 64 ⌝ }
     ensures { λ n. ⌜ Block (now (values .exit)) n (take (length (now (values .entry))) (drop first (queue (lists (now (w .entry))) q))) ⌝ }
 {
-    let count = serial_queues::count(w, q) as usize;
     let mut i: usize = 0;
     while i < values.len() {
-        let k = first + i;
-        if count <= k {
+        let f = serial_queues::value(w, q, first + i);
+        let Found::Value(v) = f else {
             return i;
-        }
-        values[i] = serial_queues::value(w, q, k as u32);
+        };
+        values[i] = v;
         i += 1;
     }
     i
