@@ -28,7 +28,7 @@ extern "C" {
 #endif
 
 /* The version of the library. */
-#define HQ_VERSION "0.1.0"
+#define HQ_VERSION "0.2.0"
 
 /* An answer that is not looked at is mostly an error: where the compiler can,
  * it says so. */

@@ -44,6 +44,10 @@ pub all-values : (q : ℕ) (vs : List ℕ) (i : ℕ) {m m1 : List ℕ} {a : ℕ}
 all-values q vs i {m} {m1} {a} e h l g b p =
     block e (omega arith) (subst (λ (us : List ℕ). Puts m 0 (valueLines q us) m1 a) (take-all i vs g) p)
 
+-- the lines of values under another name
+pub lines-of : {m vs us : List ℕ} {r : ℕ} (q : ℕ) → vs ≡ us → Block m r (valueLines q vs) → Block m r (valueLines q us)
+lines-of q e b = rw (← e) b
+
 -- THE VALUES that f gives from number i on until it gives none, at most k
 unfoldable pub onto : Option ℕ → List ℕ → List ℕ
 onto none vs = []
@@ -57,17 +61,6 @@ pub read-same : {f g : ℕ → Option ℕ} → ((i : ℕ) → f i ≡ g i) → (
 unfolding readFrom
 read-same e zero i = refl
 read-same {f} {g} e (suc k) i = ap (λ (o : Option ℕ). onto o (readFrom f k (i + 1))) (e i) ∙ ap (onto (g i)) (read-same e k (i + 1))
-
--- LISTS BY INDEX
-pub elem-at : (xs : List ℕ) (i : ℕ) → i < length xs → getElem? xs i ≡ some (getD xs i 0)
-elem-at [] i h = let z : ⊥ = omega (arith, h) in absurd z
-elem-at (x ∷ xs) zero h = refl
-elem-at (x ∷ xs) (suc i) h = elem-at xs i (omega (arith, h))
-
-pub elem-past : (xs : List ℕ) (i : ℕ) → length xs ≤ i → getElem? xs i ≡ none
-elem-past [] i h = refl
-elem-past (x ∷ xs) zero h = let z : ⊥ = omega (arith, h) in absurd z
-elem-past (x ∷ xs) (suc i) h = elem-past xs i (omega (arith, h))
 
 -- the values of a list
 read-rest : (x : ℕ) (xs : List ℕ) (k i : ℕ) → readFrom (getElem? (x ∷ xs)) k (suc i) ≡ readFrom (getElem? xs) k i

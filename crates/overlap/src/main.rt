@@ -68,19 +68,13 @@ fn print_calls(job: &[u8], tasks: &mut [u8], m: &mut [u32], r: &mut [u32]) -> bo
     true
 }
 
-// Prints a line for each value left in queue q, of at most 27 bytes. No queue holds more values than the core has words.
-fn print_queue(m: &[u32], q: u32) -> bool {
-    let mut values = [0u32; WORDS];
-    let n = overlap_text::left_values(m, q, &mut values);
-    let mut out = [0u8; WORDS * 27];
-    let r = block_text::value_lines(&mut out, q, &values[..n]);
-    io::write_all(STDOUT_FILENO, &out[..r])
-}
-
 // Prints a line for each value left, queues in order.
 fn print_left(m: &[u32]) -> bool {
+    let mut values = [0u32; WORDS];
+    let mut out = [0u8; WORDS * 27];
     for q in 0..4 {
-        if !print_queue(m, q) {
+        let r = overlap_text::queue_lines(&mut out, &mut values, m, q);
+        if !io::write_all(STDOUT_FILENO, &out[..r]) {
             return false;
         }
     }

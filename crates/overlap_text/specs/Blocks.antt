@@ -6,7 +6,7 @@ use Prim.Native.Nat.{ℕ, _+_, _≤_}
 use native.Mathlib.Nat.{le-antisymm}
 use native.Mathlib.Numerals.{add-one}
 use native.Mathlib.Omega.{arith}
-use lib.ListN.{length}
+use lib.ListN.{length, take}
 use Rattle.spec_words.specs.Words.{pick}
 use Rattle.spec_lists.specs.Counting.{one, total}
 use Rattle.spec_outcomes.specs.Waits.{unfinished}
@@ -16,7 +16,8 @@ use Rattle.runner_run.specs.Made.{Made}
 use Rattle.run_text.specs.Lines.{openLine}
 use Rattle.block_text.specs.Lines.{linesFrom}
 use Rattle.block_text.specs.Blocks.{Block}
-use Rattle.overlap_text.specs.Whole.{callLines, unfinishedIn}
+use Rattle.block_text.specs.Values.{valueLines, lines-of, readFrom}
+use Rattle.overlap_text.specs.Whole.{callLines, valueIn, queueLines, unfinishedIn}
 use Rattle.overlap_text.specs.Laws.{packedLine, packed-lines}
 
 -- A BLOCK OF CALLS of tasks ts, where c calls were made before: its text, and the words that the steps leave
@@ -25,6 +26,12 @@ pub record Called (j ts m r : List ℕ) (c : ℕ) (out : List ℕ) (n : ℕ) (m'
   pub core : m' ≡ stepsFrom j ts m r .core
   pub runner : r' ≡ stepsFrom j ts m r .runner
   pub reached : Reached j m' r'
+
+-- the lines of the values read into 16,384 words
+pub queue-block : (m : List ℕ) (q : ℕ) {out us : List ℕ} {r n k : ℕ} → k ≡ 16384 → Block us n (readFrom (valueIn m q) k 0)
+    → Block out r (valueLines q (take n us)) → Block out r (queueLines m q)
+unfolding queueLines
+queue-block m q e v b = lines-of q (v .text ∙ ap (λ (k : ℕ). readFrom (valueIn m q) k 0) e) b
 
 pub called : (j ts m r : List ℕ) (c : ℕ) {out m1 r1 ps : List ℕ} {k : ℕ} → Made j ts m r m1 r1 ps
     → Block out k (linesFrom (packedLine ts ps c) 0 (length ts)) → Called j ts m r c out k m1 r1

@@ -3,7 +3,7 @@
 -- at most 256 segments of at most 64 values.
 use mathlib.Core.Path.{_≡_, refl, ap, ap₂, sym, _∙_}
 use mathlib.Core.Bool.{Bool, true, false, not}
-use mathlib.Core.List.{List, [], _++_}
+use mathlib.Core.List.{List, [], _∷_, _++_}
 use mathlib.Core.Logic.{inl, ⊎-elim}
 use mathlib.Core.Option.{Option, none, some}
 use Prim.Native.Nat.{ℕ, zero, suc, _+_, _-_, _*_, _<_, _≤_}
@@ -11,7 +11,7 @@ use native.Mathlib.Omega.{arith}
 use lib.Dec.{ltb, leb, eqb}
 use lib.ListN.{length, getElem?}
 use lib.Seq.{take-all}
-use borrow.Author.Tests.{ltb-true, ltb-false, leb-false, eqb-true, le-ltb}
+use borrow.Author.Tests.{leb-false, eqb-true, le-ltb}
 use Rattle.spec_words.specs.Words.{size, pick, halt, pass}
 use Rattle.spec_layout.specs.Layout.{WORDS, NL, STATUS, FINISHED, task, count, next, Opened, queueHead, read}
 use Rattle.spec_answers.specs.declared.Answer.{Answer}
@@ -26,9 +26,15 @@ use Rattle.spec_outcomes.specs.Left.{queued, leftTested, leftOutcome}
 use Rattle.spec_plain.specs.Machine.{queue}
 use Rattle.spec_serial.specs.declared.End.the-variants.{Ended}
 use Rattle.block_text.specs.Lines.{linesFrom}
-use Rattle.block_text.specs.Values.{valueLines, elem-at, onto, read-same, read-list}
+use Rattle.block_text.specs.Values.{valueLines, onto, read-same, read-list}
 use Rattle.serial_text.specs.Whole.{queueLines as linesOf, endText as lastLines}
 use Rattle.overlap_text.specs.Whole.{leftAt, given, valueIn, queueLines, endText}
+
+elem-few : (xs : List ℕ) (i : ℕ) → getElem? xs i ≡ none → length xs ≤ i
+unfolding onto
+elem-few [] i e = omega arith
+elem-few (x ∷ xs) zero e = let z = ap (λ (o : Option ℕ). length (onto o [])) e in absurd (omega (arith, z))
+elem-few (x ∷ xs) (suc i) e = let h = elem-few xs i e in omega (arith, h)
 
 -- lines that are the same for the numbers asked for
 lines-same : (f g : ℕ → List ℕ) (n i : ℕ) → ((k : ℕ) → i ≤ k → k < i + n → f k ≡ g k) → linesFrom f i n ≡ linesFrom g i n
@@ -106,16 +112,7 @@ module _ (m xs : List ℕ) (q : ℕ) (says : (i : ℕ) → answerOf (leftOutcome
   same-values i = ap given (passes .2 i) ∙ value-is (getElem? xs i)
 
   few : length xs ≤ 16384
-  unfolding onto
-  few = go (ltb 16384 (length xs)) refl
-    where
-      go : (b : Bool) → ltb 16384 (length xs) ≡ b → length xs ≤ 16384
-      go false e = ltb-false _ _ e
-      go true e =
-          let p = none-past m (rules-sound m (passes .0) (passes .1)) q 16384 (omega arith) in
-          let s = sym p ∙ same-values 16384 ∙ elem-at xs 16384 (ltb-true _ _ e) in
-          let z = ap (λ (o : Option ℕ). length (onto o [])) s in
-          absurd (omega (arith, z))
+  few = elem-few xs 16384 (sym (same-values 16384) ∙ none-past m (rules-sound m (passes .0) (passes .1)) q 16384 (omega arith))
 
   pub left-lines : queueLines m q ≡ valueLines q xs
   unfolding queueLines

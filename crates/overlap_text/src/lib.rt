@@ -10,7 +10,7 @@ ghost use Rattle.run_text.specs.Lines.{openLine};
 ghost use Rattle.block_text.specs.Lines.{linesFrom};
 ghost use Rattle.block_text.specs.Blocks.{Block};
 ghost use Rattle.block_text.specs.Values.{readFrom};
-ghost use Rattle.overlap_text.specs.Whole.{valueIn, unfinishedIn};
+ghost use Rattle.overlap_text.specs.Whole.{valueIn, queueLines, unfinishedIn};
 ghost use Rattle.overlap_text.specs.Laws.{packedLine};
 ghost use Rattle.overlap_text.specs.Blocks.{Called};
 use layout::TASKS;
@@ -90,7 +90,7 @@ pub fn call_lines(
 }
 
 // The values left in queue q, as many as there is room for, at the start of the lent words. It gives their number.
-pub fn left_values(m: &[u32], q: u32, values: &mut [u32]) -> usize
+fn left_values(m: &[u32], q: u32, values: &mut [u32]) -> usize
     requires { ⌜ length (now values) < 2 ^ 32 ⌝ }
     ensures { λ n. ⌜ Block (now (values .exit)) n (readFrom (valueIn (now (m .entry)) q) (length (now (values .entry))) 0) ⌝ }
 {
@@ -104,6 +104,16 @@ pub fn left_values(m: &[u32], q: u32, values: &mut [u32]) -> usize
         i += 1;
     }
     i
+}
+
+// The lines of the values left in queue q, which are read into the lent words first. A line has at most 27 bytes, and no queue
+// holds more values than the core has words.
+pub fn queue_lines(out: &mut [u8], values: &mut [u32], m: &[u32], q: u32) -> usize
+    requires { ⌜ (length (now out) ≡ 442368) × (length (now values) ≡ 16384) ⌝ }
+    ensures { λ r. ⌜ Block (now (out .exit)) r (queueLines (now (m .entry)) q) ⌝ }
+{
+    let n = left_values(m, q, values);
+    block_text::value_lines(out, q, &values[..n])
 }
 
 fn one(b: bool) -> u32

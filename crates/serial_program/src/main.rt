@@ -34,10 +34,8 @@ fn print_steps(a: &[u32], steps: u32) -> bool {
 fn print_value_block(w: &[u32], q: u32, first: usize) -> bool
     requires { ⌜ first < 2 ^ 32 ⌝ }
 {
-    let mut values = [0u32; 1024];
-    let n = serial_text::left_values(w, q, first, &mut values);
     let mut out = io::large_buffer();
-    let r = block_text::value_lines(&mut out, q, &values[..n]);
+    let r = serial_text::value_lines(&mut out, w, q, first);
     io::write_all(STDOUT_FILENO, &out[..r])
 }
 

@@ -1,4 +1,4 @@
-pub mod Front
+pub mod Found
 pub mod Rings
 pub mod Pushed
 pub mod Popped

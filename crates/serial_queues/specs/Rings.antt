@@ -6,7 +6,7 @@ use mathlib.Core.Logic.{⊎-elim}
 use Prim.Native.Nat.{ℕ, zero, suc, _+_, _*_, _%_, _<_, _≤_}
 use native.Mathlib.Nat.{add-zero, le-of-suc-le-suc}
 use native.Mathlib.Omega.{arith}
-use lib.ListN.{length, getD, set, length-set, List·getD-eq-default}
+use lib.ListN.{length, getD, set, getElem?, length-set, List·getD-eq-default}
 use lib.Seq.{getD-set-same, getD-set-other, ext-getD}
 use Rattle.spec_words.specs.Words.{load}
 use Rattle.spec_lists.specs.Counting.{equal?}
@@ -103,20 +103,18 @@ queue-there w q n e x = within (λ l. x (e ∙ ap length (queue-none w q l)))
     within : (4 ≤ q → ⊥) → q < 4
     within f = omega (arith, f)
 
--- a queue and its front
-pub front-there : (w : List ℕ) (q n : ℕ) → q < 4 → n ≡ load w (countAt q) → (n ≡ 0 → ⊥)
-    → front (queue (lists w) q) ≡ some (load w (placeAt q (load w (firstAt q))))
-unfolding ring
-front-there w q n l e x = ap front (queue-ring w q l ∙ ap (ringFrom w q (load w (firstAt q))) (sym e)) ∙ first n x
-  where
-    first : (n : ℕ) → (n ≡ 0 → ⊥) → front (ringFrom w q (load w (firstAt q)) n) ≡ some (load w (placeAt q (load w (firstAt q))))
-    first zero x = absurd (x refl)
-    first (suc n) x = unfold ringFrom front in refl
+-- LISTS BY INDEX
+pub elem-at : (xs : List ℕ) (i : ℕ) → i < length xs → getElem? xs i ≡ some (getD xs i 0)
+elem-at [] i h = let z : ⊥ = omega (arith, h) in absurd z
+elem-at (x ∷ xs) zero h = refl
+elem-at (x ∷ xs) (suc i) h = elem-at xs i (omega (arith, h))
 
-pub no-front : (xs : List ℕ) → length xs ≡ 0 → none ≡ front xs
+pub elem-past : (xs : List ℕ) (i : ℕ) → length xs ≤ i → getElem? xs i ≡ none
+elem-past [] i h = refl
+elem-past (x ∷ xs) zero h = let z : ⊥ = omega (arith, h) in absurd z
+elem-past (x ∷ xs) (suc i) h = elem-past xs i (omega (arith, h))
+
+pub elem-front : (xs : List ℕ) → getElem? xs 0 ≡ front xs
 unfolding front
-no-front [] z = refl
-no-front (x ∷ xs) z = let y : ⊥ = omega arith in absurd y
-
-pub front-none : (w : List ℕ) (q n : ℕ) → n ≡ length (queue (lists w) q) → n ≡ 0 → none ≡ front (queue (lists w) q)
-front-none w q n e z = no-front (queue (lists w) q) (sym e ∙ z)
+elem-front [] = refl
+elem-front (x ∷ xs) = refl

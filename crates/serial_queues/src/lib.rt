@@ -2,11 +2,11 @@
 ghost use mathlib.Core.Path.{_≡_};
 ghost use mathlib.Core.List.{[], _∷_, _++_};
 ghost use Prim.Native.Nat.{_<_};
-ghost use lib.ListN.{length, getD, set, drop};
+ghost use lib.ListN.{length, set, drop, getElem?};
 ghost use Rattle.spec_words.specs.Words.{size};
-ghost use Rattle.spec_plain.specs.Machine.{queue, front};
+ghost use Rattle.spec_plain.specs.Machine.{queue};
 ghost use Rattle.spec_serial.specs.Working.{WORKING, lists};
-ghost use Rattle.serial_queues.specs.Front.{frontOf};
+ghost use Rattle.serial_queues.specs.Found.{foundOf};
 
 // Working words that a run is lent, and the most values of a queue.
 pub const WORKING: usize = 16392;
@@ -20,8 +20,8 @@ const FIRST_AT: usize = 16384;
 
 const COUNT_AT: usize = 16385;
 
-// The front of a list.
-pub enum Front {
+// A value of a list, where it is there.
+pub enum Found {
     Value(u32),
     Nothing,
 }
@@ -36,27 +36,16 @@ pub fn count(w: &[u32], q: u32) -> u32
     memory::get(w, COUNT_AT + q as usize * 2)
 }
 
-pub fn first(w: &[u32], q: u32) -> Front
-    ensures { λ r. ⌜ frontOf r ≡ front (queue (lists (now (w .entry))) q) ⌝ }
+// Value number i of queue q, counted from 0.
+pub fn value(w: &[u32], q: u32, i: usize) -> Found
+    ensures { λ r. ⌜ foundOf r ≡ getElem? (queue (lists (now (w .entry))) q) i ⌝ }
 {
     let n = count(w, q);
-    if n == 0 {
-        return Front::Nothing;
+    if n as usize <= i {
+        return Found::Nothing;
     }
     let h = memory::get(w, FIRST_AT + q as usize * 2) as usize;
-    Front::Value(memory::get(w, q as usize * PLACES + h % PLACES))
-}
-
-// Value number i of queue q, counted from 0; 0 past the last.
-pub fn value(w: &[u32], q: u32, i: u32) -> u32
-    ensures { λ r. ⌜ r ≡ getD (queue (lists (now (w .entry))) q) i 0 ⌝ }
-{
-    let n = count(w, q);
-    if n <= i {
-        return 0;
-    }
-    let h = memory::get(w, FIRST_AT + q as usize * 2) as usize;
-    memory::get(w, q as usize * PLACES + (h + i as usize) % PLACES)
+    Found::Value(memory::get(w, q as usize * PLACES + (h + i) % PLACES))
 }
 
 // Adds v at the end of queue q.

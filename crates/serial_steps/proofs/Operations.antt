@@ -17,10 +17,10 @@ use Rattle.spec_job.specs.Rows.{from, above, returns-at}
 use Rattle.spec_plain.specs.Machine.{queue, front, queuesAfter}
 use Rattle.job_effect.specs.declared.Made.{Made}
 use Rattle.job_effect.specs.Made.{foundWith, coded}
-use Rattle.serial_queues.specs.declared.Front.{Front}
-use Rattle.serial_queues.specs.declared.Front.the-variants.{Value, Nothing}
-use Rattle.serial_queues.proofs.Front.{the-type}
-use Rattle.serial_queues.specs.Front.{frontOf}
+use Rattle.serial_queues.specs.declared.Found.{Found}
+use Rattle.serial_queues.specs.declared.Found.the-variants.{Value, Nothing}
+use Rattle.serial_queues.proofs.Found.{the-type}
+use Rattle.serial_queues.specs.Found.{foundOf}
 use Rattle.serial_steps.specs.Steps.{Inner, Gives}
 
 module _ (q x i r : ℕ) (qs : List (List ℕ)) (f : Option ℕ) (e : Made) where
@@ -67,21 +67,21 @@ module _ (q x i r : ℕ) (qs : List (List ℕ)) (e : Made) where
   keyed us p d = subst (λ (k : ℕ). Gives k q x i r qs e us) (sym p) d
 
   -- a pop
-  module _ (us : List (List ℕ)) (f : Front) (ef : frontOf f ≡ front (queue qs q)) (eu : us ≡ set qs q (drop 1 (queue qs q))) where
-    took : (o : Option ℕ) → o ≡ frontOf f → e ≡ coded (effect (operationAt 3) i r x o) → Gives 3 q x i r qs e us
+  module _ (us : List (List ℕ)) (f : Found) (ef : foundOf f ≡ front (queue qs q)) (eu : us ≡ set qs q (drop 1 (queue qs q))) where
+    took : (o : Option ℕ) → o ≡ foundOf f → e ≡ coded (effect (operationAt 3) i r x o) → Gives 3 q x i r qs e us
     unfolding operationAt operationOf rowOf queuesAfter
     took o h g = record { made = g ∙ ap (λ (o : Option ℕ). coded (effect (operationAt 3) i r x o)) (h ∙ ef); lists = eu }
 
     pub pop-takes : {v : ℕ} → f ≡ Value v → e ≡ coded (effect (operationAt 3) i r x (foundWith true v)) → Gives 3 q x i r qs e us
-    unfolding foundWith frontOf
-    pop-takes {v} h g = took (foundWith true v) (ap frontOf (sym h)) g
+    unfolding foundWith foundOf
+    pop-takes {v} h g = took (foundWith true v) (ap foundOf (sym h)) g
 
     pub pop-none : OneOf (1 ∷ []) (tagOf the-type f) → e ≡ coded (effect (operationAt 3) i r x (foundWith false 0)) → Gives 3 q x i r qs e us
     pop-none h g = took (foundWith false 0) (nothing f h) g
       where
-        nothing : (f : Front) → OneOf (1 ∷ []) (tagOf the-type f) → foundWith false 0 ≡ frontOf f
+        nothing : (f : Found) → OneOf (1 ∷ []) (tagOf the-type f) → foundWith false 0 ≡ foundOf f
         nothing (Value v) h = let z : ⊥ = omega (arith, h) in absurd z
-        nothing Nothing h = unfold foundWith frontOf in refl
+        nothing Nothing h = unfold foundWith foundOf in refl
 
   -- a test asks only whether there is a front
   looks : (vs : List ℕ) → effect (operationAt 4) i r x (foundWith (not (eqb (length vs) 0)) 0) ≡ effect (operationAt 4) i r x (front vs)

@@ -12,7 +12,7 @@ ghost use Rattle.spec_serial.specs.Serial.{VALUES, full};
 ghost use Rattle.spec_serial.specs.Working.{WORKING, lists};
 ghost use Rattle.serial_steps.specs.Steps.{Inner, Gives};
 use job_effect::Made;
-use serial_queues::Front;
+use serial_queues::Found;
 use serial_queues::VALUES;
 use spec_job::Instruction;
 
@@ -52,11 +52,11 @@ fn pop_step(w: &mut [u32], q: u32, x: u32, i: u32, r: u32) -> Made
     requires { ⌜ (size (now w) ≡ WORKING) × (i < 2 ^ 31) ⌝ }
     ensures { λ e. ⌜ Gives 3 q x i r (lists (now (w .entry))) e (lists (now (w .exit))) ⌝ }
 {
-    let f = serial_queues::first(w, q);
+    let f = serial_queues::value(w, q, 0);
     serial_queues::pop(w, q);
     match f {
-        Front::Value(v) => job_effect::effect(3, x, i, r, true, v),
-        Front::Nothing => job_effect::effect(3, x, i, r, false, 0),
+        Found::Value(v) => job_effect::effect(3, x, i, r, true, v),
+        Found::Nothing => job_effect::effect(3, x, i, r, false, 0),
     }
 }
 

@@ -1,18 +1,19 @@
 -- The lines of steps, as the code writes them, and the values of a list, as it reads them.
 use mathlib.Core.Path.{_≡_, ap, sym, _∙_}
 use mathlib.Core.List.{List}
-use mathlib.Core.Option.{Option, none, some}
-use Prim.Native.Nat.{ℕ, _+_, _*_, _<_, _≤_}
+use mathlib.Core.Option.{Option}
+use Prim.Native.Nat.{ℕ, _+_, _*_}
 use native.Mathlib.Nat.{zero-add}
-use native.Mathlib.Omega.{arith}
-use lib.ListN.{length, getD, take, drop, getElem?}
+use lib.ListN.{take, drop, getElem?}
 use Rattle.spec_words.specs.Words.{load}
 use Rattle.spec_plain.specs.Machine.{queue}
 use Rattle.spec_serial.specs.Working.{lists}
+use Rattle.serial_queues.specs.declared.Found.{Found}
+use Rattle.serial_queues.specs.Found.{foundOf}
 use Rattle.run_text.specs.Lines.{line}
 use Rattle.block_text.specs.Lines.{linesFrom, lines-same}
 use Rattle.block_text.specs.Blocks.{Block, rowLine}
-use Rattle.block_text.specs.Values.{elem-at, elem-past, readFrom, read-list}
+use Rattle.block_text.specs.Values.{readFrom, read-list}
 use Rattle.serial_text.specs.Whole.{stepLine}
 
 -- the line of a step is that of its row, with no calls before
@@ -31,11 +32,6 @@ pub in-list : (w : List ℕ) (q k a : ℕ) {vs : List ℕ} {i : ℕ} → Block v
 unfolding valueIn
 in-list w q k a b = rw (← read-list (queue (lists w) q) k a) b
 
-module _ (w : List ℕ) (q i : ℕ) {n : ℕ} (e : n ≡ length (queue (lists w) q)) where
-  pub no-value : n ≤ i → valueIn w q i ≡ none
-  unfolding valueIn
-  no-value h = elem-past (queue (lists w) q) i (omega (arith, e, h))
-
-  pub some-value : {v : ℕ} → i < n → v ≡ getD (queue (lists w) q) i 0 → valueIn w q i ≡ some v
-  unfolding valueIn
-  some-value h f = elem-at (queue (lists w) q) i (omega (arith, e, h)) ∙ ap some (sym f)
+pub found-is : (w : List ℕ) (q i : ℕ) {f g : Found} → foundOf f ≡ getElem? (queue (lists w) q) i → f ≡ g → valueIn w q i ≡ foundOf g
+unfolding valueIn
+found-is w q i e h = sym e ∙ ap foundOf h

@@ -40,7 +40,12 @@ spelled (suc (suc k)) (suc f) n l h =
     let least = two-digits k n h .0 in
     let more = two-digits k n h .1 in
     ap₂ (λ (ds : List ℕ) (c : ℕ). ds ++ (c ∷ []))
-    (spelled (suc k) f (n / 10) (omega (arith, more, l)) (omega arith, tenth-below n (10 ^ suc k) (rw (← pow-suc) (h .1)), λ g. rw (suc-sub-one k) (omega (arith, least))))
+    (spelled (suc k) f (n / 10) (omega (arith, more, l)) (
+      omega arith,
+      tenth-below n (10 ^ suc k) (rw (← pow-suc) (h .1)),
+      λ g. rw (suc-sub-one k)
+          (omega (arith, least)),
+    ))
     (digit-code (n % 10) (omega arith))
     ∙ sym (pass _ (le-ltb n 10 more) refl)
 

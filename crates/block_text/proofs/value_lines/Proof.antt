@@ -24,12 +24,14 @@ loop-again c = (
   omega arith,
   omega arith,
   c .before .before .left-line .kept .0 ∙ c .before .before .before .before .before .before .loop .inv .2,
-  next-value _ _ _ (c .before .before .before .before .before .loop-test .taken) (c .before .before .before .before .before .before .loop .inv .3) (c .before .before .left-line .ensures .0),
+  next-value _ _ _ (c .before .before .before .before .before .loop-test .taken) (c .before .before .before .before .before .before .loop .inv .3)
+      (c .before .before .left-line .ensures .0),
 )
 
 returns : tie.Need-returns Inv-loop μ-loop
 returns c =
-    all-values _ _ _ (c .before .loop .inv .2) (c .before .before .before .before .pre .0) (c .before .loop .inv .0) (c .loop-test .left) (c .before .loop .inv .1) (c .before .loop .inv .3)
+    all-values _ _ _ (c .before .loop .inv .2) (c .before .before .before .before .pre .0) (c .before .loop .inv .0) (c .loop-test .left)
+    (c .before .loop .inv .1) (c .before .loop .inv .3)
 
 pub value-lines-spec : {M : Type 1} → statement M
 value-lines-spec =
