@@ -1,14 +1,10 @@
 // spawn (task, rights)
 ghost use mathlib.Core.Path.{_≡_};
-ghost use mathlib.Core.Bool.{true};
 ghost use Prim.Native.Nat.{_+_, _<_, _≤_};
-ghost use lib.ListN.{length};
 ghost use Rattle.spec_words.specs.Words.{pick};
 ghost use Rattle.spec_words.specs.Blocks.{storeAll};
 ghost use Rattle.spec_layout.specs.Layout.{task, address, read};
 ghost use Rattle.spec_outcomes.specs.Spawn.{forQueues, passedUser, keptUser, noWords, childViews, passedOn, childMade, spawnTested};
-ghost use Rattle.spec_rules.specs.Test.{rulesHold};
-ghost use Rattle.spec_answers.specs.Answers.{Outcome};
 ghost use Rattle.spec_answers.specs.Answers.Outcome.{outcome};
 use layout::CHILDREN_HEADS;
 use layout::CHILDREN_TAILS;
@@ -110,9 +106,8 @@ fn make_child(m: &mut [u32], t: u32, r: u32, c: u32)
     memory::set_younger(m, o, c);
 }
 
-// Spawn on memory that passes the rules.
+// On any words; what the rules promise is tested by the calls before.
 pub fn spawn(m: &mut [u32], t: u32, r: u32) -> Answer
-    requires { ⌜ (length (now m) ≡ 16384) × (rulesHold (now m) ≡ true) ⌝ }
     ensures { λ a. ⌜ outcome a (now (m .exit)) ≡ spawnTested (now (m .entry)) t r ⌝ }
 {
     if !walks::unfinished(m, t) {

@@ -20,7 +20,7 @@ use Rattle.law_invariant.specs.Laids.{held-opened, mine-one}
 use Rattle.law_invariant.specs.Parts.{Parts, holders, parts-of, opened-single}
 use Rattle.law_invariant.specs.Views.{unfinished-alive}
 use Rattle.law_invariant.specs.Named.{OnlyNamed}
-use Rattle.law_invariant.specs.Room.{opened-below}
+use Rattle.law_invariant.specs.Room.{opened-says}
 use Rattle.law_invariant.specs.Covered.{Covered, by-marks}
 use Rattle.law_invariant.specs.Naming.{names-only}
 use Rattle.law_invariant.specs.FirstNames.{first-in, first-names}
@@ -33,7 +33,7 @@ module _ (m : List ℕ) (xs : List Item) (r : Represents m xs) where
   pub segment-below : (q s : ℕ) → q < 4 → 0 < occurrences s (segments (r .line q)) → Opened m s
   segment-below q s i p =
       let e = held-opened (opened m) (opened-single m) (storeIn m 0) (r .line) (old .laids .pool) q i s in
-      opened-below m xs r s (omega (arith, e, p))
+      opened-says m s (omega (arith, e, p))
 
   -- the words of a segment's number are no marks
   pub segment-local : (q s : ℕ) → q < 4 → 0 < occurrences s (segments (r .line q)) → s < NL

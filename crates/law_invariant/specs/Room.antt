@@ -42,20 +42,20 @@ module _ (k : ℕ) (taken free : List ℕ) (once : (x : ℕ) → occurrences x t
           (λ e. let f = occurs-past s x free e in omega (arith, f, a))
           (equal? s x)
 
-module _ (m : List ℕ) (xs : List Item) (r : Represents m xs) where
-  pub opened-below : (s : ℕ) → 0 < opened m s → Opened m s
-  unfolding opened one
-  opened-below s p =
-      ⊎-elim
-      (λ l. l)
-      (λ l. let f : opened m s ≡ 0 = pass 1 (le-ltb s _ l) refl in let z : ⊥ = omega (arith, f, p) in absurd z)
-      (below? s _)
+pub opened-says : (m : List ℕ) (s : ℕ) → 0 < opened m s → Opened m s
+unfolding opened one
+opened-says m s p =
+    ⊎-elim
+    (λ l. l)
+    (λ l. let f : opened m s ≡ 0 = pass 1 (le-ltb s _ l) refl in let z : ⊥ = omega (arith, f, p) in absurd z)
+    (below? s _)
 
+module _ (m : List ℕ) (xs : List Item) (r : Represents m xs) where
   held : (q : ℕ) → q < 4 → (x : ℕ) → occurrences x (segments (r .line q)) + occurrences x (freeIn m) ≤ opened m x
   held = held-opened (opened m) (opened-single m) (storeIn m 0) (r .line) (parts-of m xs r .laids .pool)
 
   pub free-below : (s : ℕ) → 0 < occurrences s (freeIn m) → Opened m s
-  free-below s p = let a = held 0 (omega arith) s in opened-below s (omega (arith, a, p))
+  free-below s p = let a = held 0 (omega arith) s in opened-says m s (omega (arith, a, p))
 
   -- a segment of a queue is not free
   pub held-free : (q : ℕ) → q < 4 → (s : ℕ) → 0 < occurrences s (segments (r .line q)) → occurrences s (freeIn m) ≡ 0
@@ -65,4 +65,4 @@ module _ (m : List ℕ) (xs : List Item) (r : Represents m xs) where
   room q i =
       shorter (segmentsOf m q) (segments (r .line q)) (freeIn m)
       (λ x. let a = held q i x in let b = opened-single m x in omega (arith, a, b))
-      (λ x l. let a = held q i x in opened-below x (omega (arith, a, l)))
+      (λ x l. let a = held q i x in opened-says m x (omega (arith, a, l)))

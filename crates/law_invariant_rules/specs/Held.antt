@@ -23,8 +23,9 @@ use Rattle.law_gaps.specs.Store.{Chain}
 use Rattle.law_maps.specs.Meaning.{nextIn, contentsIn}
 use Rattle.law_invariant.specs.Represents.{Represents, opened, queueMemory, ofTasks}
 use Rattle.law_invariant.specs.Parts.{opened-single}
+use Rattle.law_invariant.specs.Room.{opened-says}
 use Rattle.law_invariant_rules.specs.Lists.{over-four}
-use Rattle.law_invariant_rules.specs.Segments.{held, opened-below, opened-says, pool-total, held-opened, line-opened}
+use Rattle.law_invariant_rules.specs.Segments.{held, opened-below, pool-total, held-opened, line-opened}
 use Rattle.law_invariant_rules.specs.Ends.{firsts, lasts, same-length}
 use Rattle.law_invariant_rules.specs.Named.{heads-total, tails-total}
 use Rattle.law_invariant_rules.specs.Chains.{InTable, EndOrFilled, next-none, filled-word, line-ends, line-filled, line-chains, firsts-held, lasts-held}

@@ -6,9 +6,9 @@ use mathlib.Core.Logic.{inl, inr, ⊎-elim}
 use mathlib.Core.List.{List, [], _++_}
 use Prim.Native.Nat.{ℕ, _+_, _<_, _≤_}
 use native.Mathlib.Omega.{arith}
-use borrow.Author.Tests.{lt-ltb, le-ltb}
-use Rattle.spec_words.specs.Words.{pass, halt}
-use Rattle.spec_lists.specs.Counting.{one, occurrences, total, occurs-nil, occurs-append, below?}
+use borrow.Author.Tests.{lt-ltb}
+use Rattle.spec_words.specs.Words.{halt}
+use Rattle.spec_lists.specs.Counting.{one, occurrences, total, occurs-nil, occurs-append}
 use Rattle.spec_lists.specs.Sums.{total-term}
 use Rattle.spec_lists.specs.Tests.{upto}
 use Rattle.spec_layout.specs.Layout.{numberWord, Opened, read}
@@ -20,19 +20,12 @@ use Rattle.spec_lists.specs.Maps.{All, all-in}
 use Rattle.law_gaps.specs.Line.{segments}
 use Rattle.law_maps.specs.Meaning.{freeIn}
 use Rattle.law_invariant.specs.Represents.{Represents, opened}
+use Rattle.law_invariant.specs.Room.{opened-says}
 
--- a segment opened with or not
+-- a segment opened with
 pub opened-below : (m : List ℕ) (s : ℕ) → Opened m s → opened m s ≡ 1
 unfolding opened one
 opened-below m s l = halt _ _ (lt-ltb s _ l)
-
-opened-above : (m : List ℕ) (s : ℕ) → read m numberWord ≤ s → opened m s ≡ 0
-unfolding opened one
-opened-above m s l = pass _ (le-ltb s _ l) refl
-
-pub opened-says : (m : List ℕ) (s : ℕ) → 0 < opened m s → Opened m s
-opened-says m s p =
-    ⊎-elim (λ l. l) (λ l. let a = opened-above m s l in let z : ⊥ = omega (arith, a, p) in absurd z) (below? s _)
 
 module _ (m : List ℕ) (xs : List Item) (r : Represents m xs) where
   -- how often segment s stands in the line of queue q

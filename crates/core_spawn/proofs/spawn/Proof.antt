@@ -1,4 +1,4 @@
--- The tests are those of the definition, in its order; the rules promise that caller and child are task numbers.
+-- The tests are those of the definition, in its order.
 use Rattle.core_spawn.proofs.Answers.{not-unfinished, more-rights, waits, no-record, moved}
 use borrow.Author.Needs.{needs}
 use Rattle.core_spawn.proofs.spawn.Statement.{statement}
