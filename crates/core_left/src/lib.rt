@@ -1,6 +1,5 @@
 // left (queue, index)
 ghost use mathlib.Core.Path.{_≡_};
-ghost use Rattle.spec_answers.specs.Answers.{Outcome};
 ghost use Rattle.spec_answers.specs.Answers.Outcome.{outcome};
 ghost use Rattle.spec_outcomes.specs.Left.{queued, leftTested};
 use layout::FINISHED;

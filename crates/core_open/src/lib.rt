@@ -4,8 +4,6 @@ ghost use Prim.Native.Nat.{_+_, _<_, _≤_};
 ghost use lib.ListN.{length};
 ghost use Rattle.spec_words.specs.Blocks.{storeAll};
 ghost use Rattle.spec_layout.specs.Layout.{segment, address};
-ghost use Rattle.spec_rules.specs.Test.{inRange};
-ghost use Rattle.spec_answers.specs.Answers.{Outcome};
 ghost use Rattle.spec_answers.specs.Answers.Outcome.{outcome};
 ghost use Rattle.spec_outcomes.specs.Open.{down, emptySegment, stacked, segmented, topped, opened, openOutcome};
 use layout::ALL_RIGHTS;

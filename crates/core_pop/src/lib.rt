@@ -1,14 +1,10 @@
 // pop (task, queue) and test (task, queue): one finding
 ghost use mathlib.Core.Path.{_≡_};
-ghost use mathlib.Core.Bool.{true};
 ghost use Prim.Native.Nat.{_<_};
-ghost use lib.ListN.{length};
 ghost use Rattle.spec_layout.specs.Layout.{count, queueHead, read};
-ghost use Rattle.spec_rules.specs.Test.{rulesHold};
-ghost use Rattle.spec_answers.specs.Answers.{Outcome};
 ghost use Rattle.spec_answers.specs.Answers.Outcome.{outcome};
 ghost use Rattle.core_pop.specs.Nothing.{popNothing, testNothing, popRefusal};
-ghost use Rattle.spec_outcomes.specs.Find.{hasValue, finding, popped, popGives, testGives, popTested, testTested};
+ghost use Rattle.spec_outcomes.specs.Find.{hasValue, finding, popped, popTested, testTested};
 use layout::NL;
 use layout::NONE;
 use layout::QUEUES;

@@ -6,7 +6,6 @@ ghost use lib.ListN.{length};
 ghost use Rattle.spec_words.specs.Words.{size};
 ghost use Rattle.spec_layout.specs.Layout.{lengthOf, Opened, ValuesFit, freeHeight};
 ghost use Rattle.spec_rules.specs.Test.{rulesHold};
-ghost use Rattle.spec_answers.specs.Answers.{Outcome};
 ghost use Rattle.spec_answers.specs.Answers.Outcome.{outcome};
 ghost use Rattle.spec_outcomes.specs.Segments.{nextFree};
 ghost use Rattle.spec_outcomes.specs.Waits.{unfinished};

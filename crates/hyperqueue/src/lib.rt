@@ -3,7 +3,6 @@ pub mod jobs;
 pub mod runs;
 
 ghost use mathlib.Core.Path.{_≡_};
-ghost use Rattle.spec_answers.specs.Answers.{Outcome};
 ghost use Rattle.spec_answers.specs.Answers.Outcome.{outcome};
 ghost use Rattle.spec_outcomes.specs.Open.{openOutcome};
 ghost use Rattle.spec_outcomes.specs.Spawn.{spawnOutcome};

@@ -1,5 +1,4 @@
 // Jobs with overlap, for hosts in other languages: opening a job, a step of a task, a list of steps, the ready map.
-ghost use mathlib.Core.Path.{_≡_};
 ghost use Rattle.spec_runner.specs.Open.{openOutcome};
 ghost use Rattle.spec_runner.specs.Step.{stepOutcome};
 ghost use Rattle.spec_runner.specs.Run.{runOutcome};

@@ -67,7 +67,10 @@ module _ (x i r v : ℕ) (b : Bool) (e : Made) where
   returns-done {k} h g = g ∙ ap (λ (o : Operation). coded (effect o i r x (foundWith b v))) (sym (returns-at k h))
 
 -- what is left of the numbers once 1 to 9 are told apart
-pub others : (k : ℕ) → ((((((((Unit {0} × (k ≡ 1 → ⊥)) × (k ≡ 2 → ⊥)) × (k ≡ 3 → ⊥)) × (k ≡ 4 → ⊥)) × (k ≡ 5 → ⊥)) × (k ≡ 6 → ⊥)) × (k ≡ 7 → ⊥)) × (k ≡ 8 → ⊥)) × (k ≡ 9 → ⊥) → (k ≡ 0) ⊎ (10 ≤ k)
+pub others : (k : ℕ) → ((((((((Unit {0} × (k ≡ 1 → ⊥)) × (k ≡ 2 → ⊥)) × (k ≡ 3 → ⊥)) × (k ≡ 4 → ⊥)) × (k ≡ 5 → ⊥)) × (k ≡ 6 → ⊥)) × (k ≡ 7 → ⊥)) × (k ≡ 8 → ⊥))
+    × (k ≡ 9 → ⊥) → (k ≡ 0) ⊎ (10 ≤ k)
 others zero n = inl refl
 others (suc k) n =
-    inr (above 9 (suc k) (above 8 (suc k) (above 7 (suc k) (above 6 (suc k) (above 5 (suc k) (above 4 (suc k) (above 3 (suc k) (above 2 (suc k) (above 1 (suc k) (omega arith) (n .0 .0 .0 .0 .0 .0 .0 .0 .1)) (n .0 .0 .0 .0 .0 .0 .0 .1)) (n .0 .0 .0 .0 .0 .0 .1)) (n .0 .0 .0 .0 .0 .1)) (n .0 .0 .0 .0 .1)) (n .0 .0 .0 .1)) (n .0 .0 .1)) (n .0 .1)) (n .1))
+    inr (above 9 (suc k) (above 8 (suc k) (above 7 (suc k) (above 6 (suc k) (above 5 (suc k) (above 4 (suc k) (above 3 (suc k) (above 2 (suc k) (above 1 (suc k)
+    (omega arith) (n .0 .0 .0 .0 .0 .0 .0 .0 .1)) (n .0 .0 .0 .0 .0 .0 .0 .1)) (n .0 .0 .0 .0 .0 .0 .1)) (n .0 .0 .0 .0 .0 .1)) (n .0 .0 .0 .0 .1)) (n .0 .0
+    .0 .1)) (n .0 .0 .1)) (n .0 .1)) (n .1))

@@ -26,10 +26,9 @@ use Rattle.law_job_order.specs.Located.{located}
 use Rattle.law_job_waits.specs.Able.{Able}
 use Rattle.law_job_moves.specs.AbleMoves.{able-moves}
 use Rattle.law_job_moves.specs.MovesAble.{moves-able}
-use Rattle.spec_runner.specs.declared.StepAnswer.{StepAnswer}
 use Rattle.spec_runner.specs.Answers.{answerOf}
 use Rattle.law_any_order.specs.Statement.{Stand, stepped, stepAnswer, afterCalls, fresh}
-use Rattle.law_any_order.specs.Goes.{Place, Stays, waits, eight, nine, Goes, StaysOrGoes, stays, goes, represents}
+use Rattle.law_any_order.specs.Goes.{Place, Goes, StaysOrGoes, stays, goes, represents}
 use Rattle.law_any_order.specs.Looking.{step-does}
 use Rattle.law_any_order.specs.Running.{Running}
 use Rattle.law_any_order.specs.Called.{place, Mover, its-move, has-gone, goes-event, after-goes}

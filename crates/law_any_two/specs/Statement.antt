@@ -13,7 +13,6 @@ use Rattle.spec_outcomes.specs.Left.{leftOutcome}
 use Rattle.spec_order.specs.Steps.{Name}
 use Rattle.spec_job.specs.Test.{jobAnswer}
 use Rattle.spec_plain.specs.Run.{stackOf, run, answersOf}
-use Rattle.spec_runner.specs.declared.StepAnswer.the-variants.{Refused}
 use Rattle.spec_runner.specs.Words.{RUNNER}
 use Rattle.spec_runner.specs.Answers.{hasMoved}
 use Rattle.law_any_order.specs.Statement.{Stand, eventFor, stepped, afterCalls, fresh, stepAnswer, AllFinished, Wants}

@@ -7,7 +7,7 @@ use mathlib.Core.Logic.{inl, inr, ⊎-elim}
 use Prim.Native.Nat.{ℕ, zero, suc, _+_, _-_, _*_, _<_, _≤_}
 use native.Mathlib.Omega.{arith}
 use lib.Dec.{leb, ltb, eqb}
-use lib.ListN.{take, drop, set}
+use lib.ListN.{take, drop}
 use lib.Seq.{take-set-le, drop-set-add}
 use Rattle.spec_words.specs.Words.{load, store, load-other, pick}
 use Rattle.spec_lists.specs.Counting.{occurrences, equal?}

@@ -3,7 +3,7 @@
 ghost use mathlib.Core.Path.{_≡_};
 ghost use mathlib.Core.List.{[], _∷_};
 ghost use lib.ListN.{length, replicate};
-ghost use Rattle.spec_words.specs.Words.{load, store, pick};
+ghost use Rattle.spec_words.specs.Words.{load, store};
 ghost use Rattle.spec_words.specs.Blocks.{storeAll};
 ghost use Prim.Native.Nat.{_<_, _^_};
 ghost use Rattle.spec_layout.specs.Layout.{address, read, write, header, freeSegment, freeTask, segment, task};

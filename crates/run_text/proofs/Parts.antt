@@ -15,10 +15,12 @@ one-more : {m ws m1 m2 : List ℕ} {a b r : ℕ} (n : ℕ) → n < 2 ^ 32 → le
 one-more n h l p q = let f = number-ends n h p in let e = q .end in omega (arith, f, e, l)
 
 -- the answer that has number i, and that of any other number
-pub said : {m ws m1 : List ℕ} {a r : ℕ} (k i v : ℕ) → k ≡ i → ws ≡ answerText (wordNumbered i) i v → Puts m a ws m1 r → Puts m a (answerText (wordNumbered k) k v) m1 r
+pub said : {m ws m1 : List ℕ} {a r : ℕ} (k i v : ℕ) → k ≡ i → ws ≡ answerText (wordNumbered i) i v → Puts m a ws m1 r → Puts m a (answerText (wordNumbered k) k
+    v) m1 r
 said k i v e f p = named (f ∙ ap (λ (j : ℕ). answerText (wordNumbered j) j v) (sym e)) p
 
-pub said-refused : {m m1 : List ℕ} {a r : ℕ} (k v : ℕ) → wordNumbered k ≡ refused → Puts m a (refusedLine k) m1 r → Puts m a (answerText (wordNumbered k) k v) m1 r
+pub said-refused : {m m1 : List ℕ} {a r : ℕ} (k v : ℕ) → wordNumbered k ≡ refused → Puts m a (refusedLine k) m1 r → Puts m a (answerText (wordNumbered k) k v)
+    m1 r
 unfolding answerText
 said-refused k v e p = named (ap (λ (w : Word). answerText w k v) (sym e)) p
 

@@ -1,6 +1,5 @@
 // The lines of a run, put into lent bytes from position `at` on. Each function gives the position behind what it wrote, and
 // says how far behind that is at most.
-ghost use mathlib.Core.Path.{_≡_};
 ghost use mathlib.Core.List.{_++_};
 ghost use Prim.Native.Nat.{_+_, _^_, _<_, _≤_};
 ghost use lib.ListN.{length};

@@ -2,7 +2,7 @@
 ghost use mathlib.Core.Path.{_≡_};
 ghost use mathlib.Core.Bool.{true};
 ghost use Prim.Native.Nat.{_+_, _*_, _<_, _≤_};
-ghost use lib.ListN.{length, getD};
+ghost use lib.ListN.{length};
 ghost use Rattle.spec_layout.specs.Layout.{NONE, CHILDREN, USER, RIGHT};
 ghost use Rattle.spec_rules.specs.Contents.{decode};
 ghost use Rattle.spec_rules.specs.Test.{viewTests};

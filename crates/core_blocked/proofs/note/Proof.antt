@@ -14,12 +14,6 @@ Inv-loop m t a₀ c₀ w₀ n₀ a c w n = (length a ≡ length a₀) × (noted 
 abbrev μ-loop : tie.MeasureT-loop
 μ-loop m t a₀ c₀ w₀ n₀ a c w n = n
 
-same-length : tie.Need-same-length Inv-loop μ-loop
-same-length c = c .before .before .loop .inv .0
-
-returns : tie.Need-returns Inv-loop μ-loop
-returns c = past-youngest _ _ _ _ _ (c .if1 .taken) ∙ c .before .before .loop .inv .1
-
 loop-again : tie.Need-loop-again Inv-loop μ-loop
 loop-again c = (
   c .before .before .before .before .put .kept .0 ∙ c .before .before .before .before .before .before .before .before .loop .inv .0,
@@ -28,14 +22,10 @@ loop-again c = (
       (c .younger .ensures) ∙ c .before .before .before .before .before .before .before .before .loop .inv .1,
 )
 
-same-length-2 : tie.Need-same-length-2 Inv-loop μ-loop
-same-length-2 c = c .before .loop .inv .0
-
-returns-2 : tie.Need-returns-2 Inv-loop μ-loop
-returns-2 c = none-left _ _ _ _ _ (c .loop-test .left) ∙ c .before .loop .inv .1
-
 pub note-spec : {M : Type 1} → statement M
 note-spec =
     tie.close
-    (tie.spec Inv-loop μ-loop (λ c. (refl, refl)) same-length returns (λ c. omega arith) (λ c κs. search needs) (λ c κs. search needs)
-    (λ c κs. search needs) (λ c. omega arith) (λ c. omega arith) loop-again same-length-2 returns-2)
+    (tie.spec Inv-loop μ-loop (λ c. (refl, refl)) (λ c. c .before .before .loop .inv .0)
+    (λ c. past-youngest _ _ _ _ _ (c .if1 .taken) ∙ c .before .before .loop .inv .1) (λ c. omega arith) (λ c κs. search needs) (λ c κs. search needs)
+    (λ c κs. search needs) (λ c. omega arith) (λ c. omega arith) loop-again (λ c. c .before .loop .inv .0)
+    (λ c. none-left _ _ _ _ _ (c .loop-test .left) ∙ c .before .loop .inv .1))

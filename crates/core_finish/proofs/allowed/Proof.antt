@@ -18,4 +18,5 @@ unfolding allowed
 returns-3 c = allowed-same _ Finish _ _ (c .before .enum-told3 .given .1) (c .each-finishes .ensures)
 
 pub allowed-spec : {M : Type 1} → statement M
-allowed-spec = tie.close (tie.spec (λ c. search needs) (λ c κs. search needs) (λ c. search needs) (λ c κs. search needs) (λ c. search needs) (λ c κs. search needs) returns returns-2 returns-3)
+allowed-spec = tie.close (tie.spec (λ c. search needs) (λ c κs. search needs) (λ c. search needs) (λ c κs. search needs) (λ c. search needs) (λ c κs. search
+    needs) returns returns-2 returns-3)

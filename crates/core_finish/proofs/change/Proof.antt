@@ -21,4 +21,5 @@ unfolding changed
 returns-3 c = changed-same _ Finish _ _ (c .before .before .before .before .enum-told3 .given .1) (c .before .before .finished .ensures)
 
 pub change-spec : {M : Type 1} → statement M
-change-spec = tie.close (tie.spec (λ c. search needs) (λ c κs. search needs) (λ c. search needs) (λ c κs. search needs) (λ c. search needs) finished-requires (λ c. search needs) returns (λ c. search needs) returns-2 (λ c. search needs) returns-3)
+change-spec = tie.close (tie.spec (λ c. search needs) (λ c κs. search needs) (λ c. search needs) (λ c κs. search needs) (λ c. search needs) finished-requires (λ
+    c. search needs) returns (λ c. search needs) returns-2 (λ c. search needs) returns-3)

@@ -14,7 +14,8 @@ returns-3 : tie.Need-returns-3
 returns-3 c =
     value-found _ _ _ (c .before .before .before .before .before .before .before .blocked .ensures)
     (c .before .before .before .before .before .before .if1 .left) (c .before .before .before .before .before .child-pops .ensures)
-    (c .before .before .before .before .if2 .left) (c .before .before .before .has-value .ensures) (c .before .before .if3 .taken) (c .before .queue-head .ensures)
+    (c .before .before .before .before .if2 .left) (c .before .before .before .has-value .ensures) (c .before .before .if3 .taken) (c .before .queue-head
+    .ensures)
     (c .value-at .ensures)
 
 returns-4 : tie.Need-returns-4
@@ -34,4 +35,5 @@ returns-5 c =
 pub find-spec : {M : Type 1} → statement M
 find-spec =
     tie.close
-    (tie.spec (λ c κs. search needs) returns (λ c κs. search needs) returns-2 (λ c κs. search needs) (λ c κs. search needs) (λ c κs. search needs) returns-3 (λ c κs. search needs) returns-4 returns-5)
+    (tie.spec (λ c κs. search needs) returns (λ c κs. search needs) returns-2 (λ c κs. search needs) (λ c κs. search needs) (λ c κs. search needs) returns-3 (λ
+    c κs. search needs) returns-4 returns-5)

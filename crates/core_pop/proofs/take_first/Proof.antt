@@ -21,7 +21,8 @@ returns-2 c =
 returns-3 : tie.Need-returns-3
 returns-3 c =
     segment-freed _ _ _ _
-    (c .before .before .before .before .before .before .before .before .before .before .before .before .before .before .before .before .before .before .queue-head
+    (c .before .before .before .before .before .before .before .before .before .before .before .before .before .before .before .before .before .before
+    .queue-head
     .ensures)
     (c .before .before .before .before .before .before .before .before .before .before .before .before .before .before .before .before .next .ensures)
     (c .before .before .before .before .before .before .before .before .before .before .before .before .before .before .drop-one .ensures)
@@ -33,4 +34,5 @@ returns-3 c =
 pub take-first-spec : {M : Type 1} → statement M
 take-first-spec =
     tie.close
-    (tie.spec (λ c κs. search needs) (λ c κs. search needs) drop-one-requires (λ c. search needs) returns (λ c κs. search needs) (λ c. search needs) returns-2 (λ c κs. search needs) (λ c κs. search needs) (λ c. search needs) returns-3)
+    (tie.spec (λ c κs. search needs) (λ c κs. search needs) drop-one-requires (λ c. search needs) returns (λ c κs. search needs) (λ c. search needs) returns-2
+    (λ c κs. search needs) (λ c κs. search needs) (λ c. search needs) returns-3)

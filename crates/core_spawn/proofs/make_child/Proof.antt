@@ -6,7 +6,8 @@ use Rattle.core_spawn.proofs.make_child.Tie as tie
 returns : tie.Need-returns
 returns c =
     first-child _ _ _ _ _ _ _ _ _
-    (c .before .before .before .before .before .before .before .before .before .before .before .before .before .before .before .before .before .youngest .ensures)
+    (c .before .before .before .before .before .before .before .before .before .before .before .before .before .before .before .before .before .youngest
+    .ensures)
     (c .before .before .before .before .before .before .before .before .before .before .before .before .before .before .before .set-links .ensures)
     (c .before .before .before .before .before .before .before .before .before .before .before .child-views .ensures)
     (c .before .before .before .before .before .before .before .pass-on .ensures) (c .before .before .before .set-youngest .ensures) (c .if1 .taken)

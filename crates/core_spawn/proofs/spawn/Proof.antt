@@ -33,7 +33,8 @@ returns-5 c =
     .before .before .unfinished .ensures)
     (c .before .before .before .before .before .before .before .before .before .before .before .before .before .before .before .before .before .before .before
     .before .if1 .left)
-    (c .before .before .before .before .before .before .before .before .before .before .before .before .before .before .before .before .before .before .rights .ensures)
+    (c .before .before .before .before .before .before .before .before .before .before .before .before .before .before .before .before .before .before .rights
+    .ensures)
     (c .before .before .before .before .before .before .before .before .before .before .before .before .before .before .before .before .before .subset
     .ensures) (c .before .before .before .before .before .before .before .before .before .before .before .before .before .before .before .before .if2 .left)
     (c .before .before .before .before .before .before .before .before .before .before .before .before .before .before .blocked .ensures)

@@ -7,7 +7,8 @@ use Rattle.core_would_move.proofs.at_hand.Statement.{statement}
 use Rattle.core_would_move.proofs.at_hand.Tie as tie
 
 returns : tie.Need-returns
-returns c = child-before _ _ _ (c .before .before .before .before .pre .1) (c .before .before .youngest .ensures) _ (c .before .if1 .taken) (c .entered .ensures)
+returns c = child-before _ _ _ (c .before .before .before .before .pre .1) (c .before .before .youngest .ensures) _ (c .before .if1 .taken) (c .entered
+    .ensures)
 
 returns-4 : tie.Need-returns-4
 returns-4 c =

@@ -1,4 +1,5 @@
--- The invariant: the lent memories keep their lengths and are where a run of the job has come, and the number of a call stays within 64 bits. Each read gives at most 1,024 tasks.
+-- The invariant: the lent memories keep their lengths and are where a run of the job has come, and the number of a call stays within
+-- 64 bits. Each read gives at most 1,024 tasks.
 use Rattle.overlap.proofs.Reading.{read-few}
 use Rattle.read_file.specs.Inside.{read-counts}
 use Prim.Native.Nat.{_-_, _+_, _<_}
@@ -18,30 +19,15 @@ Inv-loop job tasks₀ m₀ r₀ before₀ t8 t9 tasks m r before =
 abbrev μ-loop : tie.MeasureT-loop
 μ-loop job tasks₀ m₀ r₀ before₀ t8 t9 tasks m r before = 9223372036854775808 + 1024 - before
 
-loop-holds : tie.Need-loop-holds Inv-loop μ-loop
-loop-holds c = (refl, refl, refl, omega arith, c .before .before .before .before .pre .0)
-
 same-length : tie.Need-same-length Inv-loop μ-loop
 same-length c =
     c .before .before .before .before .before .before .read-some .kept .1 .0
     ∙ c .before .before .before .before .before .before .before .before .before .loop .inv .0
 
-same-length-2 : tie.Need-same-length-2 Inv-loop μ-loop
-same-length-2 c = c .before .before .before .before .before .before .before .before .before .loop .inv .1
-
-same-length-3 : tie.Need-same-length-3 Inv-loop μ-loop
-same-length-3 c = c .before .before .before .before .before .before .before .before .before .loop .inv .2
-
 same-length-4 : tie.Need-same-length-4 Inv-loop μ-loop
 same-length-4 c =
     c .before .before .before .before .before .before .read-some .kept .1 .0
     ∙ c .before .before .before .before .before .before .before .before .before .loop .inv .0
-
-same-length-5 : tie.Need-same-length-5 Inv-loop μ-loop
-same-length-5 c = c .before .before .before .before .before .before .before .before .before .loop .inv .1
-
-same-length-6 : tie.Need-same-length-6 Inv-loop μ-loop
-same-length-6 c = c .before .before .before .before .before .before .before .before .before .loop .inv .2
 
 slice-reshare-prefix-print-block : tie.Need-slice-reshare-prefix-print-block Inv-loop μ-loop
 slice-reshare-prefix-print-block c =
@@ -136,8 +122,11 @@ loop-again c =
 pub print-calls-spec : {M : Type 1} → statement M
 print-calls-spec =
     tie.close
-    (tie.spec Inv-loop μ-loop loop-holds (λ c κs. search needs) (λ c. c .match .keys1) (λ c. c .match .keys2)
-    (λ c. search needs) (λ c κs. search needs) same-length same-length-2 same-length-3 (λ c. search needs) same-length-4 same-length-5 same-length-6
-    (λ c. search needs) slice-reshare-prefix-print-block slice-aggregate-print-block print-block-requires (λ c. search needs) (λ c κs. search needs)
-    same-length-7 same-length-8 same-length-9 (λ c. search needs) add-before loop-less loop-again (λ c. c .before .loop .inv .0)
-    (λ c. c .before .loop .inv .1) (λ c. c .before .loop .inv .2) (λ c. search needs))
+    (tie.spec Inv-loop μ-loop (λ c. (refl, refl, refl, omega arith, c .before .before .before .before .pre .0)) (λ c κs. search needs) (λ c. c .match .keys1)
+    (λ c. c .match .keys2) (λ c. search needs) (λ c κs. search needs) same-length
+    (λ c. c .before .before .before .before .before .before .before .before .before .loop .inv .1)
+    (λ c. c .before .before .before .before .before .before .before .before .before .loop .inv .2) (λ c. search needs) same-length-4
+    (λ c. c .before .before .before .before .before .before .before .before .before .loop .inv .1)
+    (λ c. c .before .before .before .before .before .before .before .before .before .loop .inv .2) (λ c. search needs) slice-reshare-prefix-print-block
+    slice-aggregate-print-block print-block-requires (λ c. search needs) (λ c κs. search needs) same-length-7 same-length-8 same-length-9 (λ c. search needs)
+    add-before loop-less loop-again (λ c. c .before .loop .inv .0) (λ c. c .before .loop .inv .1) (λ c. c .before .loop .inv .2) (λ c. search needs))

@@ -4,7 +4,8 @@ use Rattle.overlap_text.proofs.call_lines.Statement.{statement}
 use Rattle.overlap_text.proofs.call_lines.Tie as tie
 
 returns : tie.Need-returns
-returns c = called _ _ _ _ _ (c .before .before .before .before .before .before .before .before .before .before .before .steps .ensures) (c .before .before .packed-lines .ensures)
+returns c = called _ _ _ _ _ (c .before .before .before .before .before .before .before .before .before .before .before .steps .ensures) (c .before .before
+    .packed-lines .ensures)
 
 pub call-lines-spec : {M : Type 1} → statement M
 call-lines-spec =

@@ -29,12 +29,14 @@ loop-again c = (
   omega arith,
   omega arith,
   c .before .before .call-line .kept .0 ∙ c .before .before .before .before .before .loop .inv .2,
-  one-line _ 0 (c .before .before .before .before .before .loop .i) (c .before .before .before .before .before .loop .inv .3) (rw (zero-add (c .before .before .before .before .before .loop .i)) (c .before .before .call-line .ensures .0)),
+  one-line _ 0 (c .before .before .before .before .before .loop .i) (c .before .before .before .before .before .loop .inv .3) (rw (zero-add (c .before .before
+      .before .before .before .loop .i)) (c .before .before .call-line .ensures .0)),
 )
 
 returns : tie.Need-returns Inv-loop μ-loop
 returns c =
-    all-lines _ _ _ _ (c .before .loop .inv .2) (c .before .before .before .before .before .pre .0) (c .before .before .before .before .before .pre .1) (c .before .loop .inv .0) (c .loop-test .left) (c .before .loop .inv .1) (c .before .loop .inv .3)
+    all-lines _ _ _ _ (c .before .loop .inv .2) (c .before .before .before .before .before .pre .0) (c .before .before .before .before .before .pre .1) (c
+    .before .loop .inv .0) (c .loop-test .left) (c .before .loop .inv .1) (c .before .loop .inv .3)
 
 pub packed-lines-spec : {M : Type 1} → statement M
 packed-lines-spec =

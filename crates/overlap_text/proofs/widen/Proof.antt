@@ -26,7 +26,8 @@ loop-again c = (
   omega arith,
   length-set (c .before .before .before .loop .words) (c .before .before .before .loop .i) _ ∙ c .before .before .before .loop .inv .1,
   length-set (c .before .before .before .loop .words) (c .before .before .before .loop .i) _ ∙ c .before .before .before .loop .inv .2,
-  one-widened _ _ _ (c .before .before .before .loop .inv .1) (c .before .before .before .loop .inv .3) _ (c .before .before .loop-test .taken) (c .wide .ensures),
+  one-widened _ _ _ (c .before .before .before .loop .inv .1) (c .before .before .before .loop .inv .3) _ (c .before .before .loop-test .taken) (c .wide
+      .ensures),
 )
 
 same-length : tie.Need-same-length Inv-loop μ-loop

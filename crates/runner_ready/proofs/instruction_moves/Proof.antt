@@ -6,21 +6,6 @@ use borrow.Author.Needs.{needs}
 use Rattle.runner_ready.proofs.instruction_moves.Statement.{statement}
 use Rattle.runner_ready.proofs.instruction_moves.Tie as tie
 
-returns : tie.Need-returns
-returns c = c .spawn-moves .ensures ∙ spawning _ _ _ _ (c .before .before .match .keys1) (c .before .rights .ensures)
-
-returns-2 : tie.Need-returns-2
-returns-2 c = c .sync-moves .ensures ∙ syncing _ _ _ _ (c .before .match .keys2)
-
-returns-3 : tie.Need-returns-3
-returns-3 c = c .push-moves .ensures ∙ pushing _ _ _ _ _ (c .before .before .if1 .left) (c .before .if2 .taken)
-
-returns-4 : tie.Need-returns-4
-returns-4 c = c .find-moves .ensures ∙ finding _ _ _ _ _ (c .before .before .if2 .left) (c .before .if3 .taken)
-
-returns-5 : tie.Need-returns-5
-returns-5 c = going _ _ _ _ _ (c .before .if3 .left) (c .if4 .taken)
-
 returns-6 : tie.Need-returns-6
 returns-6 c =
     c .finish-moves .ensures ∙ finishing _ _ _ _ _ (c .before .before .match .rest .0 .1) (c .before .before .match .rest .1)
@@ -29,5 +14,9 @@ returns-6 c =
 pub instruction-moves-spec : {M : Type 1} → statement M
 instruction-moves-spec =
     tie.close
-    (tie.spec (λ c κs. search needs) (λ c κs. search needs) (λ c κs. search needs) (λ c κs. search needs) (λ c κs. search needs)
-    (λ c κs. search needs) returns returns-2 returns-3 returns-4 returns-5 returns-6)
+    (tie.spec (λ c κs. search needs) (λ c κs. search needs) (λ c κs. search needs) (λ c κs. search needs) (λ c κs. search needs) (λ c κs. search needs)
+    (λ c. c .spawn-moves .ensures ∙ spawning _ _ _ _ (c .before .before .match .keys1) (c .before .rights .ensures))
+    (λ c. c .sync-moves .ensures ∙ syncing _ _ _ _ (c .before .match .keys2))
+    (λ c. c .push-moves .ensures ∙ pushing _ _ _ _ _ (c .before .before .if1 .left) (c .before .if2 .taken))
+    (λ c. c .find-moves .ensures ∙ finding _ _ _ _ _ (c .before .before .if2 .left) (c .before .if3 .taken))
+    (λ c. going _ _ _ _ _ (c .before .if3 .left) (c .if4 .taken)) returns-6)

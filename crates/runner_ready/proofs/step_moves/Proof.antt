@@ -30,7 +30,8 @@ instruction-moves-requires c κs = (
 returns-3 : tie.Need-returns-3
 unfolding load
 returns-3 c =
-    goes-by _ _ _ _ (c .before .before .before .before .before .before .before .unfinished .ensures) (c .before .before .before .before .before .before .if1 .left)
+    goes-by _ _ _ _ (c .before .before .before .before .before .before .before .unfinished .ensures) (c .before .before .before .before .before .before .if1
+    .left)
     (by-word _ (c .before .before .before .before .before .before .before .before .before .before .before .args .a .now) _
     (c .before .before .before .before .before .before .before .before .before .before .before .pre .1)
     (c .before .before .before .before .before .before .before .unfinished .ensures) (c .before .before .before .before .before .before .if1 .left) refl

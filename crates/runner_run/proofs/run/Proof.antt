@@ -8,13 +8,21 @@ returns : tie.Need-returns
 returns c = other-length _ _ _ _ _ (c .if1 .taken)
 
 returns-2 : tie.Need-returns-2
-returns-2 c = stays-shut _ _ _ _ _ (c .before .before .before .before .before .before .before .before .if1 .left) (c .before .before .before .before .before .«open» .ensures) (c .if2 .taken)
+returns-2 c = stays-shut _ _ _ _ _ (c .before .before .before .before .before .before .before .before .if1 .left) (c .before .before .before .before .before
+    .«open» .ensures) (c .if2 .taken)
 
 steps-requires : tie.Need-steps-requires
-steps-requires c κs = (opened-reached _ _ _ (c .before .before .before .before .before .before .before .before .«open» .ensures) (c .before .before .before .if2 .left), c .before .before .before .before .before .before .before .before .before .before .before .if1 .left)
+steps-requires c κs = (
+  opened-reached _ _ _ (c .before .before .before .before .before .before .before .before .«open» .ensures) (c .before .before .before .if2
+      .left),
+  c .before .before .before .before .before .before .before .before .before .before .before .if1 .left,
+)
 
 returns-3 : tie.Need-returns-3
-returns-3 c = runs _ _ _ _ _ (c .before .before .before .before .before .before .before .before .before .before .before .before .before .before .before .before .before .before .if1 .left) (c .before .before .before .before .before .before .before .before .before .before .before .before .before .before .before .«open» .ensures) (c .before .before .before .before .before .before .before .before .before .before .if2 .left) (c .before .before .before .before .before .before .steps .ensures)
+returns-3 c = runs _ _ _ _ _ (c .before .before .before .before .before .before .before .before .before .before .before .before .before .before .before .before
+    .before .before .if1 .left) (c .before .before .before .before .before .before .before .before .before .before .before .before .before .before .before
+    .«open» .ensures) (c .before .before .before .before .before .before .before .before .before .before .if2 .left) (c .before .before .before .before .before
+    .before .steps .ensures)
 
 pub run-spec : {M : Type 1} → statement M
 run-spec =

@@ -17,7 +17,15 @@ abbrev μ-loop : tie.MeasureT-loop
 μ-loop job m₀ r₀ tasks answers₀ i₀ m r answers i = length tasks - i
 
 loop-holds : tie.Need-loop-holds Inv-loop μ-loop
-loop-holds c = (omega arith, c .before .before .before .before .before .pre .1, refl, refl, refl, none-made _ _ _ (c .before .before .before .before .before .pre .0))
+loop-holds c = (
+  omega arith,
+  c .before .before .before .before .before .pre .1,
+  refl,
+  refl,
+  refl,
+  none-made _ _ _ (c .before .before .before .before .before
+      .pre .0),
+)
 
 make-requires : tie.Need-make-requires Inv-loop μ-loop
 make-requires c κs =
@@ -30,11 +38,16 @@ loop-again c =
     let l = c .before .before .before .before .before .before .before .before .before .before .before .before .loop .inv .1 in
     let h = c .before .before .before .before .before .before .before .before .before .before .before .loop-test .taken in (
       omega arith,
-      c .before .before .before .before .before .before .make .kept .1 .1 .1 .1 .0 ∙ c .before .before .before .before .before .before .before .before .before .before .before .before .loop .inv .1,
-      c .before .before .before .before .before .before .make .kept .1 .1 .0 ∙ c .before .before .before .before .before .before .before .before .before .before .before .before .loop .inv .2,
-      c .before .before .before .before .before .before .make .kept .1 .1 .1 .0 ∙ c .before .before .before .before .before .before .before .before .before .before .before .before .loop .inv .3,
-      c .before .before .before .before .before .before .make .kept .1 .1 .1 .1 .0 ∙ c .before .before .before .before .before .before .before .before .before .before .before .before .loop .inv .4,
-      next-made _ _ _ _ _ _ h (omega (arith, l, h)) refl (c .before .before .before .before .before .before .before .before .before .before .before .before .loop .inv .5) (c .before .before .before .before .before .before .make .ensures),
+      c .before .before .before .before .before .before .make .kept .1 .1 .1 .1 .0 ∙ c .before .before .before .before .before .before .before .before .before
+          .before .before .before .loop .inv .1,
+      c .before .before .before .before .before .before .make .kept .1 .1 .0 ∙ c .before .before .before .before .before .before .before .before .before .before
+          .before .before .loop .inv .2,
+      c .before .before .before .before .before .before .make .kept .1 .1 .1 .0 ∙ c .before .before .before .before .before .before .before .before .before
+          .before .before .before .loop .inv .3,
+      c .before .before .before .before .before .before .make .kept .1 .1 .1 .1 .0 ∙ c .before .before .before .before .before .before .before .before .before
+          .before .before .before .loop .inv .4,
+      next-made _ _ _ _ _ _ h (omega (arith, l, h)) refl (c .before .before .before .before .before .before .before .before .before .before .before .before
+          .loop .inv .5) (c .before .before .before .before .before .before .make .ensures),
     )
 
 returns : tie.Need-returns Inv-loop μ-loop

@@ -4,7 +4,9 @@ use Rattle.runner_step.proofs.done.Statement.{statement}
 use Rattle.runner_step.proofs.done.Tie as tie
 
 returns : tie.Need-returns
-returns c = does-it _ _ _ _ _ _ (c .before .before .before .before .before .before .before .before .position .ensures) (c .before .before .before .before .before .before .register .ensures) (c .before .before .before .before .before .effect .ensures) (c .before .before .before .write .ensures) (c .answer .ensures)
+returns c = does-it _ _ _ _ _ _ (c .before .before .before .before .before .before .before .before .position .ensures) (c .before .before .before .before
+    .before .before .register .ensures) (c .before .before .before .before .before .effect .ensures) (c .before .before .before .write .ensures) (c .answer
+    .ensures)
 
 pub done-spec : {M : Type 1} → statement M
 done-spec =

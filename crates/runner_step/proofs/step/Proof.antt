@@ -15,23 +15,32 @@ rules-hold-requires c κs = fits _ _ _ (c .before .before .refusal .ensures) (c 
 
 returns-2 : tie.Need-returns-2
 returns-2 c =
-    core-fails _ _ _ _ (c .before .before .before .before .refusal .ensures) (c .before .before .before .if1 .left) (c .before .rules-hold .ensures) (c .if2 .taken)
+    core-fails _ _ _ _ (c .before .before .before .before .refusal .ensures) (c .before .before .before .if1 .left) (c .before .rules-hold .ensures) (c .if2
+    .taken)
 
 holds-requires : tie.Need-holds-requires
 holds-requires c κs = fits _ _ _ (c .before .before .before .before .before .before .refusal .ensures) (c .before .before .before .before .before .if1 .left)
 
 returns-3 : tie.Need-returns-3
 returns-3 c =
-    runner-fails _ _ _ _ (c .before .before .before .before .before .before .before .before .refusal .ensures) (c .before .before .before .before .before .before .before .if1 .left) (c .before .before .before .before .before .rules-hold .ensures) (c .before .before .before .before .if2 .left) (c .before .holds .ensures) (c .if3 .taken)
+    runner-fails _ _ _ _ (c .before .before .before .before .before .before .before .before .refusal .ensures) (c .before .before .before .before .before
+    .before .before .if1 .left) (c .before .before .before .before .before .rules-hold .ensures) (c .before .before .before .before .if2 .left) (c .before
+    .holds .ensures) (c .if3 .taken)
 
 step-tested-requires : tie.Need-step-tested-requires
 unfolding size
 step-tested-requires c κs =
-    ready _ _ _ _ (c .before .before .before .before .before .before .before .before .before .before .refusal .ensures) (c .before .before .before .before .before .before .before .before .before .if1 .left) (c .before .before .before .before .before .before .before .rules-hold .ensures) (c .before .before .before .before .before .before .if2 .left) (c .before .before .before .holds .ensures) (c .before .before .if3 .left)
+    ready _ _ _ _ (c .before .before .before .before .before .before .before .before .before .before .refusal .ensures) (c .before .before .before .before
+    .before .before .before .before .before .if1 .left) (c .before .before .before .before .before .before .before .rules-hold .ensures) (c .before .before
+    .before .before .before .before .if2 .left) (c .before .before .before .holds .ensures) (c .before .before .if3 .left)
 
 returns-4 : tie.Need-returns-4
 returns-4 c =
-    passes _ _ _ _ (c .before .before .before .before .before .before .before .before .before .before .before .before .before .before .before .refusal .ensures) (c .before .before .before .before .before .before .before .before .before .before .before .before .before .before .if1 .left) (c .before .before .before .before .before .before .before .before .before .before .before .before .rules-hold .ensures) (c .before .before .before .before .before .before .before .before .before .before .before .if2 .left) (c .before .before .before .before .before .before .before .before .holds .ensures) (c .before .before .before .before .before .before .before .if3 .left) (c .before .before .before .before .step-tested .ensures)
+    passes _ _ _ _ (c .before .before .before .before .before .before .before .before .before .before .before .before .before .before .before .refusal .ensures)
+    (c .before .before .before .before .before .before .before .before .before .before .before .before .before .before .if1 .left) (c .before .before
+    .before .before .before .before .before .before .before .before .before .before .rules-hold .ensures) (c .before .before .before .before .before .before
+    .before .before .before .before .before .if2 .left) (c .before .before .before .before .before .before .before .before .holds .ensures) (c .before
+    .before .before .before .before .before .before .if3 .left) (c .before .before .before .before .step-tested .ensures)
 
 pub step-spec : {M : Type 1} → statement M
 step-spec =

@@ -4,7 +4,8 @@ use Rattle.segments.proofs.release.Statement.{statement}
 use Rattle.segments.proofs.release.Tie as tie
 
 returns : tie.Need-returns
-returns c = no-room _ _ _ _ _ (c .before .before .before .before .before .free-segments .ensures) (c .before .before .before .set-record .ensures) (c .if1 .taken)
+returns c = no-room _ _ _ _ _ (c .before .before .before .before .before .free-segments .ensures) (c .before .before .before .set-record .ensures) (c .if1
+    .taken)
 
 returns-2 : tie.Need-returns-2
 returns-2 c = give-back _ _ _ _ _ _ _

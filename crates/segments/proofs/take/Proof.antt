@@ -10,7 +10,8 @@ store-at-requires c κs = (
   search needs,
   values-inside _ _ _ _
       (c .before .before .before .before .before .before .before .before .before .before .before .before .before .before .before .before .pre .0)
-      (below _ _ _ (top-of _ _ _ _ (c .before .before .before .before .before .before .before .before .before .before .before .before .before .free-segments .ensures)
+      (below _ _ _ (top-of _ _ _ _ (c .before .before .before .before .before .before .before .before .before .before .before .before .before .free-segments
+      .ensures)
       (c .before .before .before .before .before .before .before .before .before .before .before .free-segment .ensures))
       (c .before .before .before .before .before .before .before .before .before .before .before .before .before .before .before .before .pre .2))
       (c .before .before .before .before .before .before .before .before .before .before .before .before .before .before .before .before .pre .4)
@@ -21,7 +22,8 @@ store-at-requires c κs = (
 returns : tie.Need-returns
 returns c = take-it _ _ _ _ _ _ _ _ _
     (c .before .before .before .before .before .before .before .before .before .before .before .before .length-of
-    .ensures) (c .before .before .before .before .before .before .before .before .before .before .before .before .before .before .before .before .free-segments .ensures)
+    .ensures) (c .before .before .before .before .before .before .before .before .before .before .before .before .before .before .before .before .free-segments
+    .ensures)
     (c .before .before .before .before .before .before .before .before .before .before .before .before .before .before .free-segment .ensures)
     (c .before .before .before .before .before .before .before .before .before .before .set-free-segments .ensures)
     (c .before .before .before .before .before .before .set-record .ensures) (c .before .before .store-at .ensures)

@@ -20,9 +20,6 @@ loop-holds : tie.Need-loop-holds Inv-loop μ-loop
 loop-holds c =
     (omega arith, c .before .before .pre .3, c .before .before .pre .1, same-here (decode (c .before .before .args .m .now)) (c .before .before .args .n) _ _ _)
 
-same-length : tie.Need-same-length Inv-loop μ-loop
-same-length c = c .before .before .loop .inv .2 ∙ sym (c .before .before .before .before .before .pre .1)
-
 returns : tie.Need-returns Inv-loop μ-loop
 returns c = (
   led-here (decode (c .before .before .before .before .before .args .m .now)) (c .before .before .before .before .before .args .n) (omega arith)
@@ -33,16 +30,10 @@ returns c = (
   c .before .before .loop .inv .0,
 )
 
-add-xs : tie.Need-add-xs Inv-loop μ-loop
-add-xs c = let a = c .before .before .loop .inv .1 in omega (arith, a)
-
 slice-write-xs : tie.Need-slice-write-xs Inv-loop μ-loop
 slice-write-xs c =
     (let a = c .before .loop-test .taken in let b = c .before .before .before .before .before .pre .2 in let d = c .before .before .loop .inv .2 in
     omega (arith, a, b, d))
-
-exited-next-requires : tie.Need-exited-next-requires Inv-loop μ-loop
-exited-next-requires c κs = (c .before .before .before .before .before .pre .0, c .before .before .loop .inv .1)
 
 same-length-2 : tie.Need-same-length-2 Inv-loop μ-loop
 same-length-2 c =
@@ -107,9 +98,6 @@ loop-again c = (
       omega (arith, a, b, d)) (let a = c .before .if2 .left in let b = c .if3 .left in omega (arith, a, b))),
 )
 
-same-length-4 : tie.Need-same-length-4 Inv-loop μ-loop
-same-length-4 c = c .before .loop .inv .2 ∙ sym (c .before .before .before .before .pre .1)
-
 returns-4 : tie.Need-returns-4 Inv-loop μ-loop
 returns-4 c = (
   led-wrong (decode (c .before .before .before .before .args .m .now)) (c .before .before .before .before .args .n)
@@ -121,5 +109,7 @@ returns-4 c = (
 pub climb-spec : {M : Type 1} → statement M
 climb-spec =
     tie.close
-    (tie.spec Inv-loop μ-loop loop-holds same-length returns add-xs (λ c. search needs) slice-write-xs (λ c. search needs) exited-next-requires
-    same-length-2 returns-2 same-length-3 returns-3 (λ c. omega arith) loop-again same-length-4 returns-4)
+    (tie.spec Inv-loop μ-loop loop-holds (λ c. c .before .before .loop .inv .2 ∙ sym (c .before .before .before .before .before .pre .1)) returns
+    (λ c. let a = c .before .before .loop .inv .1 in omega (arith, a)) (λ c. search needs) slice-write-xs (λ c. search needs)
+    (λ c κs. (c .before .before .before .before .before .pre .0, c .before .before .loop .inv .1)) same-length-2 returns-2 same-length-3 returns-3
+    (λ c. omega arith) loop-again (λ c. c .before .loop .inv .2 ∙ sym (c .before .before .before .before .pre .1)) returns-4)

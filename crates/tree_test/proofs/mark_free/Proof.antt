@@ -23,12 +23,6 @@ shared-slice-read-t : tie.Need-shared-slice-read-t Inv-loop μ-loop
 shared-slice-read-t c =
     let a = c .before .before .before .pre .0 in let b = c .before .before .before .pre .2 in let e = c .before .loop-test .taken in omega (arith, a, b, e)
 
-cast-t : tie.Need-cast-t Inv-loop μ-loop
-cast-t c = omega (arith, c .shared-slice-known .given (320 + (c .before .before .loop .i)))
-
-shared-slice-read-w : tie.Need-shared-slice-read-w Inv-loop μ-loop
-shared-slice-read-w c = let a = c .before .before .before .before .pre .0 in omega (arith, a)
-
 cast-w-2 : tie.Need-cast-w-2 Inv-loop μ-loop
 cast-w-2 c =
     omega (
@@ -50,9 +44,6 @@ add-w-3 c =
     let f = c .before .shared-slice-known .given
     (1472 + (getD (c .before .before .before .before .args .m .now) (320 + (c .before .before .before .loop .i)) 0) % 128 * 48) in omega (arith, f, g, l, q, b)
 
-slice-write-d : tie.Need-slice-write-d Inv-loop μ-loop
-slice-write-d c = let a = c .before .before .before .loop .inv .1 in omega (arith, a)
-
 loop-again : tie.Need-loop-again Inv-loop μ-loop
 unfolding load store
 loop-again c = (
@@ -72,9 +63,6 @@ loop-again c = (
       (c .before .before .before .loop .d) (c .before .before .loop-test .taken) ∙ c .before .before .before .loop .inv .4,
 )
 
-same-length : tie.Need-same-length Inv-loop μ-loop
-same-length c = c .before .loop .inv .1 ∙ sym (c .before .before .pre .1)
-
 returns : tie.Need-returns Inv-loop μ-loop
 returns c = (
   faults-done (c .before .before .args .m .now) (c .before .before .args .h) (c .before .loop .i) (c .before .loop .w) (c .loop-test .left)
@@ -86,5 +74,8 @@ returns c = (
 pub mark-free-spec : {M : Type 1} → statement M
 mark-free-spec =
     tie.close
-    (tie.spec Inv-loop μ-loop loop-holds (λ c. omega arith) (λ c. omega arith) shared-slice-read-t cast-t (λ c. omega arith) (λ c. omega arith) (λ c. omega arith) (λ c. omega arith)
-    (λ c. omega arith) shared-slice-read-w cast-w-2 add-w-2 add-w-3 slice-write-d (λ c. omega arith) (λ c. omega arith) loop-again same-length returns)
+    (tie.spec Inv-loop μ-loop loop-holds (λ c. omega arith) (λ c. omega arith) shared-slice-read-t
+    (λ c. omega (arith, c .shared-slice-known .given (320 + (c .before .before .loop .i)))) (λ c. omega arith) (λ c. omega arith) (λ c. omega arith)
+    (λ c. omega arith) (λ c. omega arith) (λ c. let a = c .before .before .before .before .pre .0 in omega (arith, a)) cast-w-2 add-w-2 add-w-3
+    (λ c. let a = c .before .before .before .loop .inv .1 in omega (arith, a)) (λ c. omega arith) (λ c. omega arith) loop-again
+    (λ c. c .before .loop .inv .1 ∙ sym (c .before .before .pre .1)) returns)

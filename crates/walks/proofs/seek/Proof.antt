@@ -1,7 +1,7 @@
 -- No mark before x answers the question, so seeking from x gives what seeking from the start gives.
 use mathlib.Core.Path.{_≡_, refl, sym, _∙_}
 use native.Mathlib.Omega.{arith}
-use Rattle.spec_layout.specs.Layout.{rightsOf, recordOf}
+use Rattle.spec_layout.specs.Layout.{recordOf}
 use Rattle.spec_tree.specs.Tour.{MARKS, seek}
 use Rattle.walks.specs.Asked.{asked}
 use Rattle.walks.specs.Steps.{seek-none, seek-end, seek-here, seek-on}
