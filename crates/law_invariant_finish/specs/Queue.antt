@@ -26,7 +26,7 @@ use Rattle.law_invariant.specs.Represents.{alive, ofTasks, queueMemory, opened,
 use Rattle.law_invariant.specs.Laids.{held-opened, mine-one}
 use Rattle.law_invariant.specs.Parts.{opened-single, same-alive}
 use Rattle.law_invariant.specs.Plain.{same-links}
-use Rattle.law_invariant.specs.Room.{shorter, opened-below}
+use Rattle.law_invariant.specs.Room.{shorter, opened-says}
 use Rattle.law_invariant.specs.Views.{unfinished-alive}
 use Rattle.spec_tree.specs.Users.{pops-uses}
 use Rattle.law_invariant_finish.specs.Way.{Way}
@@ -52,7 +52,7 @@ module _ (m : List ℕ) (xs : List Item) (r : Represents m xs) (n : List ℕ) (h
   single = mine-one (opened m) (opened-single m) (storeIn n 0) line (way .laids .pool)
 
   below : (s : ℕ) → 0 < opened m s → Opened n s
-  below s p = let a = opened-below m xs r s p in let e = way .kept .number in omega (arith, a, e)
+  below s p = let a = opened-says m s p in let e = way .kept .number in omega (arith, a, e)
 
   pub held-below : (q : ℕ) → q < 4 → (s : ℕ) → 0 < occurrences s (segments (line q)) → Opened n s
   held-below q i s p = let a = held q i s in below s (omega (arith, a, p))
