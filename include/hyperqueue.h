@@ -151,9 +151,10 @@ HQ_ANSWER hq_job_test(const uint8_t *job, size_t len);
 
 /* WITH OVERLAP: the host says which task of the job moves next. The runner
  * needs HQ_RUNNER_WORDS words beside the core's HQ_WORDS. Every call is given
- * the same job, and tests job and both memories first: 1 for a wrong length,
- * the job's refusals, then HQ_RULES_FAIL. In whatever order tasks are called,
- * each gets the answers that it gets in a run without overlap. */
+ * the same job, and tests first: 1 for a wrong length, the job's refusals, then
+ * HQ_RULES_FAIL for either memory, but for the two calls that open and write
+ * over what they find. In whatever order tasks are called, each gets the
+ * answers that it gets in a run without overlap. */
 #define HQ_RUNNER_WORDS 384
 
 /* Writes all words of both memories: the top task, 0, is at its first

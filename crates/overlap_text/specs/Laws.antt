@@ -8,12 +8,11 @@ use lib.ListN.{length, getD}
 use Rattle.spec_lists.specs.Maps.{All}
 use Rattle.spec_runner.specs.declared.StepAnswer.{StepAnswer}
 use Rattle.spec_runner.specs.Answers.{statusOf, valueOf}
-use Rattle.spec_runner.specs.Packed.{packedStep, step-halves}
+use Rattle.spec_runner.specs.Packed.{packedStep, ValueFits, status-half, value-half}
 use Rattle.spec_runner.specs.Run.{Steps, stepsFrom, steps-append, as-many}
 use Rattle.text.specs.Puts.{Puts}
 use Rattle.run_text.specs.Lines.{line}
 use Rattle.block_text.specs.Lines.{linesFrom}
-use Rattle.runner_run.specs.Made.{Fits}
 use Rattle.overlap_text.specs.Whole.{callLines}
 
 -- calls behind calls
@@ -49,19 +48,13 @@ pub packed-line : {m m1 : List ℕ} {p r k v : ℕ} (ts ps : List ℕ) (c i : �
 unfolding packedLine
 packed-line ts ps c i ek ev q = rw (← ek, ← ev) q
 
--- a packed answer taken apart
-status-half : (x : StepAnswer) → Fits x → packedStep x / 4294967296 ≡ statusOf x
-status-half x h = let e = step-halves x in omega (arith, e, h)
-
-value-half : (x : StepAnswer) → Fits x → packedStep x % 4294967296 ≡ valueOf x
-value-half x h = let e = step-halves x in omega (arith, e, h)
-
 module _ (ts ps : List ℕ) (c : ℕ) where
-  line-says : (k t : ℕ) (x : StepAnswer) → Fits x → getD ts k 0 ≡ t → getD ps k 0 ≡ packedStep x → packedLine ts ps c k ≡ line (c + k + 1) t (statusOf x) (valueOf x)
+  line-says : (k t : ℕ) (x : StepAnswer) → ValueFits x → getD ts k 0 ≡ t → getD ps k 0 ≡ packedStep x
+      → packedLine ts ps c k ≡ line (c + k + 1) t (statusOf x) (valueOf x)
   unfolding packedLine
   line-says k t x h e f = rw (e, f, status-half x h, value-half x h) refl
 
-  lines-say : (us : List ℕ) (xs : List StepAnswer) (k : ℕ) → length xs ≡ length us → All Fits xs
+  lines-say : (us : List ℕ) (xs : List StepAnswer) (k : ℕ) → length xs ≡ length us → All ValueFits xs
       → ((d : ℕ) → getD ts (k + d) 0 ≡ getD us d 0) → ((d : ℕ) → getD ps (k + d) 0 ≡ getD (map packedStep xs) d 0)
       → linesFrom (packedLine ts ps c) k (length us) ≡ callLines (c + k) us xs
   unfolding linesFrom callLines
@@ -82,7 +75,7 @@ module _ (ts ps : List ℕ) (c : ℕ) where
       ∙ ap (λ (n : ℕ). callLines n us xs) (let z : c + (k + 1) ≡ c + k + 1 = omega arith in z))
 
 -- all lines of a block
-pub packed-lines : (ts : List ℕ) (xs : List StepAnswer) (c : ℕ) → length xs ≡ length ts → All Fits xs
+pub packed-lines : (ts : List ℕ) (xs : List StepAnswer) (c : ℕ) → length xs ≡ length ts → All ValueFits xs
     → linesFrom (packedLine ts (map packedStep xs) c) 0 (length ts) ≡ callLines c ts xs
 packed-lines ts xs c e h =
     lines-say ts (map packedStep xs) c ts xs 0 e h (λ d. ap (λ (n : ℕ). getD ts n 0) (zero-add d)) (λ d. ap (λ (n : ℕ). getD (map packedStep xs) n 0) (zero-add d))

@@ -12,8 +12,8 @@ use Rattle.spec_words.specs.Words.{size, pick, halt, pass}
 use Rattle.spec_lists.specs.Maps.{All, all-append}
 use Rattle.spec_runner.specs.declared.StepAnswer.{StepAnswer}
 use Rattle.spec_runner.specs.declared.StepAnswer.the-variants.{Moved, Refused}
-use Rattle.spec_runner.specs.Answers.{valueOf, Outcome, outcome, answerOf, coreOf, runnerOf, hasMoved}
-use Rattle.spec_runner.specs.Packed.{packedStep, Packs}
+use Rattle.spec_runner.specs.Answers.{Outcome, outcome, answerOf, coreOf, runnerOf, hasMoved}
+use Rattle.spec_runner.specs.Packed.{packedStep, ValueFits, Packs}
 use Rattle.spec_runner.specs.Open.{openOutcome}
 use Rattle.spec_runner.specs.Step.{stepTested, stepOutcome}
 use Rattle.spec_runner.specs.Run.{Steps, behind, stepsFrom, steps-append, Listed, listed, runFrom, runOutcome}
@@ -21,16 +21,12 @@ use Rattle.law_any_two.specs.Reached.{Reached, reached-open, reached-tested, re
 use Rattle.runner_open.specs.Opens.{Opens}
 use Rattle.runner_words.specs.Refusals.{fits}
 
--- an answer whose value fits its half of the packed number
-abbrev pub Fits : StepAnswer → Type 0
-Fits x = valueOf x < 4294967296
-
 -- a step of task t is answered x, which stands packed in place i
 pub record Step (j : List ℕ) (t i : ℕ) (m r a m' r' a' : List ℕ) : Type 0 where
   pub answer : StepAnswer
   pub stepped : outcome answer m' r' ≡ stepOutcome j m r t
   pub written : a' ≡ set a i (packedStep answer)
-  pub value : Fits answer
+  pub value : ValueFits answer
   pub reached : Reached j m' r'
 
 -- the tests of a step pass where a run has come, so what is left of it is the step
@@ -45,7 +41,7 @@ pub record Made (j ts m r m' r' a : List ℕ) : Type 0 where
   pub core : m' ≡ stepsFrom j ts m r .core
   pub runner : r' ≡ stepsFrom j ts m r .runner
   pub answers : a ≡ map packedStep (stepsFrom j ts m r .answers)
-  pub values : All Fits (stepsFrom j ts m r .answers)
+  pub values : All ValueFits (stepsFrom j ts m r .answers)
   pub reached : Reached j m' r'
 
 pub none-made : (j m r : List ℕ) → Reached j m r → Made j [] m r m r []
@@ -80,7 +76,7 @@ module _ (j ts m r : List ℕ) (t : ℕ) {i : ℕ} {m1 r1 a1 a m2 r2 a2 : List �
             ap (λ (l : List ℕ). l ++ packedStep (s .answer) ∷ []) (p .answers)
             ∙ sym (map-append packedStep (before .answers) (s .answer ∷ []))
             ∙ ap (λ (s : Steps). map packedStep (s .answers)) (sym whole);
-        values = rw (whole) (all-append Fits (before .answers) (s .answer ∷ []) (p .values) (s .value, tt));
+        values = rw (whole) (all-append ValueFits (before .answers) (s .answer ∷ []) (p .values) (s .value, tt));
         reached = s .reached;
       }
 

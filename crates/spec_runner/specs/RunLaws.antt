@@ -37,7 +37,7 @@ module _ (j m r ts a : List ℕ) where
       go true = unfold pick in λ f. (refl, refl, refl)
       go false = unfold pick in opened-fair
 
-  -- "opens afresh": what was lent has no part in it
+  -- a fresh opening: what the lent words held has no part in it
   pub run-fresh : size a ≡ size ts → answerOf (openOutcome j m r) ≡ Moved
       → (let s = stepsFrom j ts (coreOf (jobOpened j)) (runnerOf (jobOpened j)) in
       runOutcome j m r ts a ≡ listed Moved (s .core) (s .runner) (map packedStep (s .answers)))
