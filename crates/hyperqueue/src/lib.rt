@@ -1,5 +1,6 @@
 // The eight calls of the core, on any words and with any arguments.
 pub mod jobs;
+pub mod replays;
 pub mod runs;
 
 ghost use mathlib.Core.Path.{_≡_};

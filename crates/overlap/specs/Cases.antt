@@ -40,7 +40,7 @@ use Rattle.spec_runner.specs.Step.{callOf, replyOf, runnerAfter, done, replied,
 use Rattle.spec_runner.specs.Run.{stepsFrom}
 use Rattle.spec_job.specs.Examples.{fullRun}
 use Rattle.text.specs.Text.{ascii, digits, decimal}
-use Rattle.run_text.specs.Lines.{answerText, spaced, ended, line, leftLine, openLine, endLine}
+use Rattle.run_text.specs.Lines.{wordRow, answerText, printedNumber, callLine, spaced, ended, line, leftLine, openLine, endLine}
 use Rattle.block_text.specs.Lines.{linesFrom}
 use Rattle.block_text.specs.Values.{valueLines, onto, readFrom}
 use Rattle.overlap_text.specs.Whole.{callLines, leftAt, given, valueIn, queueLines, unfinishedIn, endText, textFrom, overlapText}
@@ -69,6 +69,6 @@ unfolding load store size pick both either storeAll rows one occurrences total e
     entriesHold contentsHold refusal11 whichHolds operandHolds fitting instructionHolds lastHolds bodyHolds refusal12 procedureOf positionOf registerOf put
     instructionFor answerWith valueOf statusOf taskHolds zeros recordHolds runnerHolds refused jobTested tested segmentsFor jobOpened openOutcome callOf
     replyOf runnerAfter done replied coreOutcome repliedTo makes stepTested stepOutcome hasMoved answerOf coreOf runnerOf wordOf stepsFrom numberOf wordNumbered ascii
-    digits decimal answerText spaced ended line leftLine openLine endLine linesFrom valueLines onto readFrom callLines leftAt given
+    digits decimal wordRow answerText printedNumber callLine spaced ended line leftLine openLine endLine linesFrom valueLines onto readFrom callLines leftAt given
     valueIn queueLines unfinishedIn endText textFrom overlapText
 in-full = refl

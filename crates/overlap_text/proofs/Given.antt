@@ -1,11 +1,13 @@
 -- What left gives: a value, or none.
 use mathlib.Core.Path.{_≡_, refl, ap, sym, _∙_}
+use mathlib.Core.Bool.{Bool, true, false}
 use mathlib.Core.List.{List, [], _∷_}
 use mathlib.Core.Logic.{⊎-elim}
 use mathlib.Core.Option.{none, some}
 use Prim.Native.Nat.{ℕ, suc, _+_}
 use native.Mathlib.Nat.{zero-add}
 use native.Mathlib.Omega.{arith}
+use Rattle.spec_words.specs.Words.{pick, halt, pass}
 use types.Run.{OneOf}
 use denote.Enum.Declared.{tagOf}
 use Rattle.spec_answers.proofs.Answer.{the-type}
@@ -31,10 +33,18 @@ module _ (m : List ℕ) (q i : ℕ) {w : List ℕ} (a : Answer) (e : outcome a w
   unfolding leftAt answerOf
   says = ap answerOf (sym e)
 
-  pub value-given : {v : ℕ} → a ≡ Moved v → valueIn m q (0 + i) ≡ some v
+  pub value-given : {v : ℕ} → a ≡ Moved v → valueIn m q i ≡ some v
   unfolding valueIn given
-  value-given h = ap (valueIn m q) (zero-add i) ∙ ap given (says ∙ h)
+  value-given h = ap given (says ∙ h)
 
-  pub none-given : OneOf (1 ∷ 2 ∷ 3 ∷ 4 ∷ []) (tagOf the-type a) → valueIn m q (0 + i) ≡ none
+  pub none-given : OneOf (1 ∷ 2 ∷ 3 ∷ 4 ∷ []) (tagOf the-type a) → valueIn m q i ≡ none
   unfolding valueIn
-  none-given k = ap (valueIn m q) (zero-add i) ∙ ap given says ∙ none-of a k
+  none-given k = ap given says ∙ none-of a k
+
+-- the value read in turn i, and that none is
+module _ (m : List ℕ) (q i : ℕ) (v : ℕ) {b : Bool} (e : valueIn m q i ≡ pick b (some v) none) where
+  pub value-there : b ≡ true → valueIn m q (0 + i) ≡ some v
+  value-there t = ap (valueIn m q) (zero-add i) ∙ e ∙ halt _ _ t
+
+  pub none-there : b ≡ false → valueIn m q (0 + i) ≡ none
+  none-there t = ap (valueIn m q) (zero-add i) ∙ e ∙ pass _ t refl

@@ -1,8 +1,10 @@
 // The lines of a job's run with overlap in blocks of at most 1,024, put at the start of lent bytes, and the values that it
 // left. A block gives the number of its bytes.
 ghost use mathlib.Core.Path.{_≡_};
+ghost use mathlib.Core.Option.{none, some};
 ghost use Prim.Native.Nat.{_+_, _^_, _<_, _≤_};
 ghost use lib.ListN.{length};
+ghost use Rattle.spec_words.specs.Words.{pick};
 ghost use Rattle.spec_lists.specs.Counting.{one};
 ghost use Rattle.law_any_two.specs.Reached.{Reached};
 ghost use Rattle.text.specs.Puts.{Puts};
@@ -89,6 +91,29 @@ pub fn call_lines(
     packed_lines(out, tasks, answers, before)
 }
 
+// A value left in a queue, where it is there.
+pub struct LeftValue {
+    pub there: bool,
+    pub value: u32,
+}
+
+// Value number i left in queue q.
+pub fn left_value(m: &[u32], q: u32, i: u32) -> LeftValue
+    ensures { λ x. ⌜ valueIn (now (m .entry)) q i ≡ pick (x .there) (some (x .value)) none ⌝ }
+{
+    let a = core_left::left_at(m, q, i);
+    let Answer::Moved(v) = a else {
+        return LeftValue {
+            there: false,
+            value: 0,
+        };
+    };
+    LeftValue {
+        there: true,
+        value: v,
+    }
+}
+
 // The values left in queue q, as many as there is room for, at the start of the lent words. It gives their number.
 fn left_values(m: &[u32], q: u32, values: &mut [u32]) -> usize
     requires { ⌜ length (now values) < 2 ^ 32 ⌝ }
@@ -96,11 +121,11 @@ fn left_values(m: &[u32], q: u32, values: &mut [u32]) -> usize
 {
     let mut i: usize = 0;
     while i < values.len() {
-        let a = core_left::left_at(m, q, i as u32);
-        let Answer::Moved(v) = a else {
+        let x = left_value(m, q, i as u32);
+        if !x.there {
             return i;
-        };
-        values[i] = v;
+        }
+        values[i] = x.value;
         i += 1;
     }
     i
@@ -123,7 +148,7 @@ fn one(b: bool) -> u32
 }
 
 // How many tasks are unfinished.
-fn unfinished_count(m: &[u32]) -> u32
+pub fn unfinished_count(m: &[u32]) -> u32
     ensures { λ n. ⌜ n ≡ unfinishedIn (now (m .entry)) ⌝ }
 {
     let mut n: u32 = 0;

@@ -4,16 +4,15 @@ use mathlib.Core.List.{List}
 use Prim.Native.Nat.{ℕ, _<_, _≤_}
 use borrow.Author.Tests.{lt-ltb, le-ltb}
 use Rattle.spec_words.specs.Words.{halt, pass}
-use Rattle.spec_job.specs.Numbers.{wordNumbered}
 use Rattle.text.specs.Text.{ascii, decimal}
 use Rattle.text.specs.Puts.{Puts, named, puts-then, puts-first}
-use Rattle.run_text.specs.Lines.{answerText, spaced, ended, line, leftLine, refusedLine, endLine}
+use Rattle.run_text.specs.Lines.{answered, callLine, spaced, ended, line, leftLine, refusedLine, endLine}
 use Rattle.spec_serial.specs.declared.End.{End}
 use Rattle.spec_serial.specs.declared.End.the-variants.{Ended, Spent, Refused}
 
 pub whole-line : {m m1 m2 m3 : List ℕ} {p0 p1 p2 p3 : ℕ} (n t k v : ℕ) → Puts m p0 (spaced (decimal n)) m1 p1 → Puts m1 p1 (spaced (decimal t)) m2 p2
-    → Puts m2 p2 (answerText (wordNumbered k) k v) m3 p3 → Puts m p0 (line n t k v) m3 p3
-unfolding line
+    → Puts m2 p2 (answered k v) m3 p3 → Puts m p0 (line n t k v) m3 p3
+unfolding line callLine answered
 whole-line n t k v a b c = puts-then (puts-then a b) c
 
 pub whole-left : {m ws m1 m2 m3 : List ℕ} {p0 p1 p2 p3 : ℕ} (q v : ℕ) → ws ≡ ascii "left " → Puts m p0 ws m1 p1 → Puts m1 p1 (spaced (decimal q)) m2 p2

@@ -4,7 +4,7 @@ use Rattle.spec_words.specs.Words.{pick}
 use Rattle.spec_job.specs.Numbers.{WAITS, EMPTY, NOT-EMPTY, SPAWNED, PUSHED, TOOK, FINISHED, MOVED, wordNumbered}
 use Rattle.spec_serial.specs.declared.End.the-variants.{Spent, Refused}
 use Rattle.text.specs.Text.{ascii, digits, decimal}
-use Rattle.run_text.specs.Lines.{answerText, spaced, ended, line, leftLine, openLine, refusedLine, endLine}
+use Rattle.run_text.specs.Lines.{wordRow, answerText, printedNumber, callLine, spaced, ended, line, leftLine, openLine, refusedLine, endLine}
 
 pub record Cases : Type 0 where
   pub spawns : line 3 0 SPAWNED 3 ≡ ascii "3 0 spawned 3\n"
@@ -23,7 +23,7 @@ pub record Cases : Type 0 where
   pub noJob : endLine (Refused 10) ≡ ascii "job refused 10\n"
 
 pub cases : Cases
-unfolding pick wordNumbered ascii digits decimal answerText spaced ended line leftLine openLine refusedLine endLine
+unfolding pick wordNumbered ascii digits decimal wordRow answerText printedNumber callLine spaced ended line leftLine openLine refusedLine endLine
 cases =
     record {
       spawns = refl;

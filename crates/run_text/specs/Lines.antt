@@ -1,7 +1,9 @@
 -- THE LINES OF A RUN in document 01's form: "the call's number from 1, task, answer, value or "-"", and at the end ""left"
 -- gives queue and value", or "open" and how many tasks are unfinished. Each ends with a line feed.
+use mathlib.Core.Bool.{Bool, true, false}
 use mathlib.Core.List.{List, [], _++_}
 use Prim.Native.Nat.{ℕ}
+use Prim.Native.String.{String}
 use lib.Dec.{ltb}
 use Rattle.spec_words.specs.Words.{pick}
 use Rattle.spec_job.specs.Effects.{Word, spawned, pushed, took, moved, finished, empty, notEmpty, waits, refused}
@@ -20,21 +22,52 @@ ended t = t ++ ascii "\n"
 unfoldable pub refusedLine : ℕ → List ℕ
 refusedLine k = ascii "refused " ++ ended (decimal k)
 
--- an answer that has number k, and its value v, at the end of a line; "refused" goes with its number
-unfoldable pub answerText : Word → ℕ → ℕ → List ℕ
-answerText spawned k v = ascii "spawned " ++ ended (decimal v)
-answerText pushed k v = ascii "pushed " ++ ended (decimal v)
-answerText took k v = ascii "took " ++ ended (decimal v)
-answerText finished k v = ascii "finished -\n"
-answerText moved k v = ascii "moved -\n"
-answerText empty k v = ascii "empty -\n"
-answerText notEmpty k v = ascii "not -\n"
-answerText waits k v = ascii "waits -\n"
-answerText refused k v = refusedLine k
+-- THE WORDS OF THE ANSWERS, each with what goes with it: a number, or "-". Who prints and who reads an answer goes by this table.
+pub record Row : Type 0 where
+  pub name : List ℕ
+  pub numbered : Bool
+
+abbrev row : String → Bool → Row
+row s b = record { name = ascii s; numbered = b }
+
+unfoldable pub wordRow : Word → Row
+wordRow spawned = row "spawned" true
+wordRow pushed = row "pushed" true
+wordRow took = row "took" true
+wordRow refused = row "refused" true
+wordRow finished = row "finished" false
+wordRow moved = row "moved" false
+wordRow waits = row "waits" false
+wordRow empty = row "empty" false
+wordRow notEmpty = row "not" false
+
+-- the word of an answer and its number v or "-", at the end of a line
+unfoldable pub answerText : Word → ℕ → List ℕ
+answerText w v = spaced (wordRow w .name) ++ ended (pick (wordRow w .numbered) (decimal v) (ascii "-"))
+
+-- the number that goes with the word of an answer that has number k and value v; a refusal goes with its own
+unfoldable pub printedNumber : Word → ℕ → ℕ → ℕ
+printedNumber refused k v = k
+printedNumber spawned k v = v
+printedNumber pushed k v = v
+printedNumber took k v = v
+printedNumber finished k v = 0
+printedNumber moved k v = 0
+printedNumber waits k v = 0
+printedNumber empty k v = 0
+printedNumber notEmpty k v = 0
+
+-- an answer that has number k, with its value v
+unfoldable pub answered : ℕ → ℕ → List ℕ
+answered k v = answerText (wordNumbered k) (printedNumber (wordNumbered k) k v)
+
+-- the line of call n by task t, with an answer of that word and number
+unfoldable pub callLine : ℕ → ℕ → Word → ℕ → List ℕ
+callLine n t w v = spaced (decimal n) ++ spaced (decimal t) ++ answerText w v
 
 -- THE LINE of call n, counted from 1: task t was answered with number k and value v
 unfoldable pub line : ℕ → ℕ → ℕ → ℕ → List ℕ
-line n t k v = spaced (decimal n) ++ spaced (decimal t) ++ answerText (wordNumbered k) k v
+line n t k v = callLine n t (wordNumbered k) (printedNumber (wordNumbered k) k v)
 
 -- the line of a value v left in queue q
 unfoldable pub leftLine : ℕ → ℕ → List ℕ

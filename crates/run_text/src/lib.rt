@@ -3,10 +3,9 @@
 ghost use mathlib.Core.List.{_++_};
 ghost use Prim.Native.Nat.{_+_, _^_, _<_, _≤_};
 ghost use lib.ListN.{length};
-ghost use Rattle.spec_job.specs.Numbers.{wordNumbered};
 ghost use Rattle.text.specs.Text.{decimal};
 ghost use Rattle.text.specs.Puts.{Puts};
-ghost use Rattle.run_text.specs.Lines.{answerText, spaced, ended, line, leftLine, openLine, refusedLine, endLine};
+ghost use Rattle.run_text.specs.Lines.{answered, spaced, ended, line, leftLine, openLine, refusedLine, endLine};
 use answer_numbers::EMPTY;
 use answer_numbers::FINISHED;
 use answer_numbers::MOVED;
@@ -64,7 +63,7 @@ fn refused_line(out: &mut [u8], at: usize, k: u32) -> usize
 // The answer that has number k, and its value v or "-"; a refusal goes with its number.
 fn answer(out: &mut [u8], at: usize, k: u32, v: u32) -> usize
     requires { ⌜ at + 8 < 2 ^ 39 ⌝ }
-    ensures { λ r. ⌜ Puts (now (out .entry)) at (answerText (wordNumbered k) k v) (now (out .exit)) r × (r ≤ at + 19) ⌝ }
+    ensures { λ r. ⌜ Puts (now (out .entry)) at (answered k v) (now (out .exit)) r × (r ≤ at + 19) ⌝ }
 {
     match k {
         SPAWNED => named_number(out, at, b"spawned ", v),

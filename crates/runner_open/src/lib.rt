@@ -1,6 +1,7 @@
 // Opening a job: the core for its segment length, and the top at its first instruction.
 ghost use mathlib.Core.Path.{_≡_};
 ghost use Rattle.spec_runner.specs.Open.{segmentsFor};
+ghost use Rattle.runner_words.specs.Refusals.{jobRefusal};
 ghost use Rattle.runner_open.specs.Opens.{Opens};
 use layout::SEGMENTS;
 use layout::VALUE_WORDS;
@@ -12,6 +13,16 @@ fn segments_for(l: u32) -> u32
     if l <= 32 { SEGMENTS } else { VALUE_WORDS / l }
 }
 
+// Opens a job that is not refused.
+pub fn open_tested(job: &[u8], m: &mut [u32], r: &mut [u32])
+    requires { ⌜ 0 ≡ jobRefusal (now job) (now m) (now r) ⌝ }
+    ensures { λ _. ⌜ Opens (now (job .entry)) (now (m .entry)) (now (r .entry)) 0 (now (m .exit)) (now (r .exit)) ⌝ }
+{
+    let l = job_fields::segment_length(job);
+    core_open::open(m, l, segments_for(l));
+    memory::clear(r);
+}
+
 // Opens a job, on any words. 0, or the number of the refusal.
 pub fn open(job: &[u8], m: &mut [u32], r: &mut [u32]) -> u32
     ensures { λ k. ⌜ Opens (now (job .entry)) (now (m .entry)) (now (r .entry)) k (now (m .exit)) (now (r .exit)) ⌝ }
@@ -20,8 +31,6 @@ pub fn open(job: &[u8], m: &mut [u32], r: &mut [u32]) -> u32
     if k != 0 {
         return k;
     }
-    let l = job_fields::segment_length(job);
-    core_open::open(m, l, segments_for(l));
-    memory::clear(r);
+    open_tested(job, m, r);
     0
 }

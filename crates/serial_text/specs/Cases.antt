@@ -18,7 +18,7 @@ use Rattle.spec_serial.specs.Serial.{tooDeep, full, boundOn, stopOf, stopped, g
 use Rattle.spec_serial.specs.Answers.{numbersAfter, madeAfter, row, written}
 use Rattle.spec_serial.specs.Outcome.{shown, turnedDown, serialOutcome}
 use Rattle.text.specs.Text.{ascii, digits, decimal}
-use Rattle.run_text.specs.Lines.{answerText, spaced, ended, line, leftLine}
+use Rattle.run_text.specs.Lines.{wordRow, answerText, printedNumber, callLine, spaced, ended, line, leftLine}
 use Rattle.block_text.specs.Lines.{linesFrom}
 use Rattle.block_text.specs.Values.{valueLines}
 use Rattle.serial_text.specs.Whole.{stepLine, queueLines, endText, textOf, serialText}
@@ -30,6 +30,6 @@ unfolding load pick both either size storeAll upto bits pushes pops eachQueue su
     instructionFrom instructionAt rowOf operationOf operationAt sum effect between headHolds refusal10 entryHolds entriesHold contentsHold refusal11
     whichHolds operandHolds fitting instructionHolds lastHolds bodyHolds refusal12 begin queue front queuesAfter advanced parent child stackAfter effectOn
     eventOf does step after eventIn next tooDeep full boundOn stopOf stopped goesOn serialFrom serial numberOf wordNumbered numbersAfter madeAfter row written shown
-    turnedDown serialOutcome ascii digits decimal answerText spaced ended line leftLine linesFrom stepLine valueLines queueLines endText
+    turnedDown serialOutcome ascii digits decimal wordRow answerText printedNumber callLine spaced ended line leftLine linesFrom stepLine valueLines queueLines endText
     textOf serialText
 full-run-text = refl

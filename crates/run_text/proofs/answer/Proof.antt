@@ -4,14 +4,14 @@ use mathlib.Core.Path.{refl}
 use Rattle.spec_words.specs.Words.{pick}
 use Rattle.spec_job.specs.Numbers.{SPAWNED, PUSHED, TOOK, FINISHED, MOVED, EMPTY, NOT-EMPTY, WAITS, wordNumbered, none-numbered}
 use Rattle.text.specs.Text.{ascii}
-use Rattle.run_text.specs.Lines.{answerText}
+use Rattle.run_text.specs.Lines.{wordRow, answerText, printedNumber, answered, spaced, ended}
 use Rattle.run_text.proofs.Parts.{said, said-refused}
 use borrow.Author.Needs.{needs}
 use Rattle.run_text.proofs.answer.Statement.{statement}
 use Rattle.run_text.proofs.answer.Tie as tie
 
 returns : tie.Need-returns
-unfolding wordNumbered pick answerText ascii
+unfolding wordNumbered pick wordRow answerText printedNumber answered spaced ended ascii
 returns c = (
   said _ SPAWNED _ (c .before .before .before .before .before .match .keys1) refl
       (c .before .before .named-number .ensures .0),
@@ -19,7 +19,7 @@ returns c = (
 )
 
 returns-2 : tie.Need-returns-2
-unfolding wordNumbered pick answerText ascii
+unfolding wordNumbered pick wordRow answerText printedNumber answered spaced ended ascii
 returns-2 c = (
   said _ PUSHED _ (c .before .before .before .before .before .match .keys2) refl
       (c .before .before .named-number2 .ensures .0),
@@ -27,7 +27,7 @@ returns-2 c = (
 )
 
 returns-3 : tie.Need-returns-3
-unfolding wordNumbered pick answerText ascii
+unfolding wordNumbered pick wordRow answerText printedNumber answered spaced ended ascii
 returns-3 c = (
   said _ TOOK _ (c .before .before .before .before .before .match .keys3) refl
       (c .before .before .named-number3 .ensures .0),
@@ -35,7 +35,7 @@ returns-3 c = (
 )
 
 returns-4 : tie.Need-returns-4
-unfolding wordNumbered pick answerText ascii
+unfolding wordNumbered pick wordRow answerText printedNumber answered spaced ended ascii
 returns-4 c = (
   said _ FINISHED _ (c .before .before .before .before .before .match .keys4) refl
       (c .before .before .put .ensures),
@@ -43,7 +43,7 @@ returns-4 c = (
 )
 
 returns-5 : tie.Need-returns-5
-unfolding wordNumbered pick answerText ascii
+unfolding wordNumbered pick wordRow answerText printedNumber answered spaced ended ascii
 returns-5 c = (
   said _ MOVED _ (c .before .before .before .before .before .match .keys5) refl
       (c .before .before .put2 .ensures),
@@ -51,7 +51,7 @@ returns-5 c = (
 )
 
 returns-6 : tie.Need-returns-6
-unfolding wordNumbered pick answerText ascii
+unfolding wordNumbered pick wordRow answerText printedNumber answered spaced ended ascii
 returns-6 c = (
   said _ EMPTY _ (c .before .before .before .before .before .match .keys6) refl
       (c .before .before .put3 .ensures),
@@ -59,7 +59,7 @@ returns-6 c = (
 )
 
 returns-7 : tie.Need-returns-7
-unfolding wordNumbered pick answerText ascii
+unfolding wordNumbered pick wordRow answerText printedNumber answered spaced ended ascii
 returns-7 c = (
   said _ NOT-EMPTY _ (c .before .before .before .before .before .match .keys7) refl
       (c .before .before .put4 .ensures),
@@ -67,7 +67,7 @@ returns-7 c = (
 )
 
 returns-8 : tie.Need-returns-8
-unfolding wordNumbered pick answerText ascii
+unfolding wordNumbered pick wordRow answerText printedNumber answered spaced ended ascii
 returns-8 c = (
   said _ WAITS _ (c .before .before .before .before .before .match .keys8) refl
       (c .before .before .put5 .ensures),

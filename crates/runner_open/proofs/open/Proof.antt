@@ -1,21 +1,15 @@
-use Rattle.runner_open.proofs.Openings.{stays-shut, opens}
+use Rattle.runner_open.proofs.Openings.{stays-shut}
 use borrow.Author.Needs.{needs}
+use mathlib.Core.Path.{sym, _∙_}
 use Rattle.runner_open.proofs.open.Statement.{statement}
 use Rattle.runner_open.proofs.open.Tie as tie
 
 returns : tie.Need-returns
 returns c = stays-shut _ _ _ (c .before .refusal .ensures) (c .if1 .taken)
 
-returns-2 : tie.Need-returns-2
-returns-2 c =
-    opens _ _ _ (c .before .before .before .before .before .before .before .before .before .before .before .refusal .ensures)
-    (c .before .before .before .before .before .before .before .before .before .before .if1 .left)
-    (c .before .before .before .before .before .before .before .before .before .segment-length .ensures)
-    (c .before .before .before .before .before .before .before .segments-for .ensures) _ (c .before .before .before .before .before .before .«open» .ensures)
-    _ (c .before .before .clear .ensures)
+open-tested-requires : tie.Need-open-tested-requires
+open-tested-requires c κs = sym (c .before .before .if1 .left) ∙ (c .before .before .before .refusal .ensures)
 
 pub open-spec : {M : Type 1} → statement M
-open-spec =
-    tie.close
-    (tie.spec (λ c κs. search needs) (λ c. search needs) (λ c. search needs) returns (λ c κs. search needs) (λ c κs. search needs)
-    (λ c κs. search needs) (λ c κs. search needs) (λ c. search needs) (λ c. search needs) returns-2)
+open-spec = tie.close (tie.spec (λ c κs. search needs) (λ c. search needs) (λ c. search needs) returns open-tested-requires (λ c. search needs)
+    (λ c. search needs) (λ c. search needs))

@@ -1,0 +1,6 @@
+pub mod Statement
+pub mod Opened
+pub mod Answered
+pub mod Fronts
+pub mod Lines
+pub mod Laws

@@ -1,0 +1,4 @@
+pub mod Line
+pub mod Read
+pub mod Form
+pub mod Cases
