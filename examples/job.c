@@ -1,6 +1,6 @@
 /* A written job, tested, run without overlap, then with it step by step, then
- * the same steps in one call: the top pushes 7 and 9, and a child takes the
- * first of them. */
+ * the same steps in one call, then from the lines that a run printed: the top
+ * pushes 7 and 9, and a child takes the first of them. */
 #include "hyperqueue.h"
 
 #include <stdio.h>
@@ -67,6 +67,26 @@ static void in_one_call(void) {
            memcmp(listed, stepped, steps * sizeof *listed) ? "other" : "the same");
 }
 
+/* What a run of the job printed, and the same with another value taken. */
+static const char recorded[] = "1 0 pushed 7\n2 0 pushed 9\n3 0 spawned 1\n"
+                               "4 1 took 7\n5 1 finished -\n6 0 finished -\n"
+                               "left 0 9\n";
+static const char altered[] = "1 0 pushed 7\n2 0 pushed 9\n3 0 spawned 1\n"
+                              "4 1 took 9\n";
+
+/* Makes the calls of a trace again: does the run print these lines? */
+static void replayed(const char *trace) {
+    uint64_t answer = hq_replay(job, sizeof job, (const uint8_t *)trace,
+                                strlen(trace), core, HQ_WORDS, runner,
+                                HQ_RUNNER_WORDS);
+
+    printf("trace of %u bytes: %s", (unsigned)strlen(trace),
+           hq_status_text(HQ_STATUS(answer)));
+    if (HQ_STATUS(answer) == HQ_DIFFERS)
+        printf(" in line %u", HQ_VALUE(answer));
+    printf("\n");
+}
+
 int main(void) {
     uint64_t run;
     uint32_t step, index;
@@ -85,5 +105,8 @@ int main(void) {
         printf("left in queue 0: %u\n", HQ_QUEUED_VALUE(working, 0, index));
     with_overlap();
     in_one_call();
+    replayed(recorded);
+    replayed(altered);
+    replayed("job refused 10\n");
     return 0;
 }

@@ -1,6 +1,6 @@
 /* The queue core: four queues and a tree of tasks, in memory lent by the host;
- * and the runs of a written job, with overlap and without, at the end of this
- * file.
+ * and the runs of a written job, with overlap and without, and the replay of a
+ * recorded run, at the end of this file.
  *
  * Every call gets the host's words and their number: words points to len words
  * that may be written, and len should be HQ_WORDS. Nothing else has to be
@@ -28,7 +28,7 @@ extern "C" {
 #endif
 
 /* The version of the library. */
-#define HQ_VERSION "0.2.0"
+#define HQ_VERSION "0.3.0"
 
 /* An answer that is not looked at is mostly an error: where the compiler can,
  * it says so. */
@@ -42,13 +42,14 @@ extern "C" {
 #define HQ_WORDS 16384
 
 /* An answer: the status in the high 32 bits, the value in the low 32 bits.
- * The value is 0 unless the call moved. An answer is taken apart before it is
- * compared: hq_push(..) == HQ_MOVED is false for every value but 0. */
+ * The value is 0 unless the call moved or a trace differs. An answer is taken
+ * apart before it is compared: hq_push(..) == HQ_MOVED is false for every value
+ * but 0. */
 #define HQ_STATUS(answer) ((uint32_t)((answer) >> 32))
 #define HQ_VALUE(answer) ((uint32_t)(answer))
 #define HQ_HAS_MOVED(answer) (HQ_STATUS(answer) == HQ_MOVED)
 
-/* The statuses. 1 to 20 are refusals, of which 1 to 12 are in use. A call that
+/* The statuses. 1 to 20 are refusals, of which 1 to 13 are in use. A call that
  * waits may be made again once other tasks have moved. */
 enum {
     HQ_MOVED = 0,
@@ -64,10 +65,13 @@ enum {
     HQ_JOB_HEAD = 10,     /* a job too short, or its first numbers wrong */
     HQ_JOB_CONTENTS = 11, /* an entry of a job or its length is wrong */
     HQ_JOB_BODY = 12,     /* an instruction of a job is wrong */
+    HQ_TRACE_FORM = 13,   /* a line of a trace is none, or there are too many */
     HQ_WAITS = 32,
     HQ_EMPTY = 33,     /* test: a pop would find no value */
     HQ_NOT_EMPTY = 34, /* test: a pop would find a value */
     HQ_SPENT = 35,     /* a run without overlap made 65,535 steps */
+    HQ_DIFFERS = 36,   /* a trace: the value is the first line that differs */
+    HQ_AGREES = 37,    /* a trace: no line of it differs */
     /* A step of a job's task that moved, in a run with overlap or without,
      * with its value if it has one: */
     HQ_TASK_SPAWNED = 40, /* the number of the new task */
@@ -93,10 +97,13 @@ static inline const char *hq_status_text(uint32_t status) {
     case HQ_JOB_HEAD: return "refused: a job's first numbers";
     case HQ_JOB_CONTENTS: return "refused: a job's entries or its length";
     case HQ_JOB_BODY: return "refused: an instruction of a job";
+    case HQ_TRACE_FORM: return "refused: the form of a trace";
     case HQ_WAITS: return "waits";
     case HQ_EMPTY: return "empty";
     case HQ_NOT_EMPTY: return "not empty";
     case HQ_SPENT: return "spent";
+    case HQ_DIFFERS: return "differs";
+    case HQ_AGREES: return "agrees";
     case HQ_TASK_SPAWNED: return "spawned";
     case HQ_TASK_PUSHED: return "pushed";
     case HQ_TASK_TOOK: return "took";
@@ -152,8 +159,8 @@ HQ_ANSWER hq_job_test(const uint8_t *job, size_t len);
 /* WITH OVERLAP: the host says which task of the job moves next. The runner
  * needs HQ_RUNNER_WORDS words beside the core's HQ_WORDS. Every call is given
  * the same job, and tests first: 1 for a wrong length, the job's refusals, then
- * HQ_RULES_FAIL for either memory, but for the two calls that open and write
- * over what they find. In whatever order tasks are called, each gets the
+ * HQ_RULES_FAIL for either memory, but for the calls that open and write over
+ * what they find. In whatever order tasks are called, each gets the
  * answers that it gets in a run without overlap. */
 #define HQ_RUNNER_WORDS 384
 
@@ -189,6 +196,28 @@ HQ_ANSWER hq_job_run(const uint8_t *job, size_t job_len, uint32_t *words,
 HQ_ANSWER hq_job_ready(const uint8_t *job, size_t job_len, const uint32_t *words,
                       size_t len, const uint32_t *runner, size_t runner_len,
                       uint32_t out[6]);
+
+/* A trace is the trace_len bytes of the lines that a run of the job printed,
+ * each ended by a line feed: for each call its number from 1, the task, the
+ * answer and its value or "-"; then "left", queue and value for each value left,
+ * or "open" and the number of unfinished tasks. Any bytes may be handed in, and
+ * none of them is written. The trace's calls are made again, and the answer is
+ * HQ_DIFFERS with the number, from 1, of the first line that the run of these
+ * calls does not print, or HQ_AGREES with value 0. A trace that stops early
+ * agrees as far as it goes, and one of no bytes agrees.
+ *
+ * Refused is, in this order: a wrong length of words or runner with 1; bytes
+ * that are no job, as by hq_job_test; with HQ_TRACE_FORM a line of another form,
+ * a number with leading zeros or above 4,294,967,295, a task above 255, a queue
+ * above 3, a last line without a line feed, a call behind "left" or "open", and
+ * more than 65,535 lines. All lines are tested before a call is made, so
+ * HQ_TRACE_FORM goes before a difference. Words and runner are for working:
+ * their contents before do not matter; a refusal leaves them as they were, and
+ * after HQ_AGREES or HQ_DIFFERS they mean nothing. */
+#define HQ_MOST_LINES 65535
+HQ_ANSWER hq_replay(const uint8_t *job, size_t job_len, const uint8_t *trace,
+                   size_t trace_len, uint32_t *words, size_t len,
+                   uint32_t *runner, size_t runner_len);
 
 /* WITHOUT OVERLAP. Words that a run without overlap is lent for working and for its answers;
  * any other numbers are refused with 1. Their contents before do not matter. */

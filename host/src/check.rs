@@ -98,7 +98,7 @@ pub fn contents(m: &[u32], q: u32) -> Vec<u32> {
 }
 
 /// The values of the chain from `head` on; none for a mark.
-fn chain_values(m: &[u32], head: u32) -> Vec<u32> {
+pub fn chain_values(m: &[u32], head: u32) -> Vec<u32> {
     let mut values = Vec::new();
     let mut s = head;
     for _ in 0..segments(m) {

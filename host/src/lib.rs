@@ -1,6 +1,6 @@
-//! A model of the queue core and of its jobs, written from document 01,
-//! document 003, the readings of the open places and docs/LAYOUT.md, and from
-//! nothing else.
+//! A model of the queue core, of its jobs and of their traces, written from
+//! documents 01 and 02, document 003, the readings of the open places and
+//! docs/LAYOUT.md, and from nothing else.
 
 pub mod answer;
 pub mod asm;
@@ -11,6 +11,7 @@ pub mod check;
 pub mod command;
 pub mod damage;
 pub mod damaged_jobs;
+pub mod damaged_traces;
 pub mod dis;
 pub mod fast;
 pub mod foreign;
@@ -31,11 +32,15 @@ pub mod pools;
 pub mod random;
 pub mod random_bodies;
 pub mod random_jobs;
+pub mod random_traces;
 pub mod refusal;
+pub mod replay;
 pub mod rules;
 pub mod runner;
 pub mod sample;
 pub mod serial;
 pub mod source;
+pub mod trace;
 pub mod tree;
+pub mod vectors;
 pub mod views;

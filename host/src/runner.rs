@@ -88,10 +88,14 @@ fn words_hold(job: &Job, m: &[u32], r: &[u32]) -> bool {
 
 /// Opens the core for the job, and the runner with the top at instruction 0.
 pub fn open(job: &[u8], m: &mut [u32], r: &mut [u32]) -> Stepped {
-    let job = match accepted(job, m, r) {
-        Ok(job) => job,
-        Err(refused) => return refused,
-    };
+    match accepted(job, m, r) {
+        Ok(job) => open_job(&job, m, r),
+        Err(refused) => refused,
+    }
+}
+
+/// The same behind the tests.
+pub(crate) fn open_job(job: &Job, m: &mut [u32], r: &mut [u32]) -> Stepped {
     let length = u32::from(job.length());
     match calls::open(m, length, MOST.min(VALUE_WORDS / length)) {
         Answer::Refused(number) => Stepped::Refused(number),
@@ -131,7 +135,9 @@ pub fn step(job: &[u8], m: &mut [u32], r: &mut [u32], t: u32) -> Stepped {
     }
 }
 
-fn stepped(job: &Job, m: &mut [u32], r: &mut [u32], t: u32) -> Stepped {
+/// The same behind the tests, for memory that only the runner has written: it
+/// passes them.
+pub(crate) fn stepped(job: &Job, m: &mut [u32], r: &mut [u32], t: u32) -> Stepped {
     match try_step(job, m, r, t) {
         Ok(reply) => Stepped::Moved(reply),
         Err(answer) => answer,

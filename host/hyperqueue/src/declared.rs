@@ -49,6 +49,16 @@ extern "C" {
         runner_len: usize,
         out: *mut u32,
     ) -> u64;
+    pub fn hq_replay(
+        job: *const u8,
+        job_len: usize,
+        trace: *const u8,
+        trace_len: usize,
+        words: *mut u32,
+        len: usize,
+        runner: *mut u32,
+        runner_len: usize,
+    ) -> u64;
     pub fn hq_run_serially(
         job: *const u8,
         len: usize,

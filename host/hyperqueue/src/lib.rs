@@ -7,6 +7,7 @@ pub mod core;
 mod declared;
 pub mod jobs;
 pub mod runner;
+pub mod traces;
 
 use std::mem::MaybeUninit;
 
@@ -16,7 +17,8 @@ fn lent<W: Copy>(words: &mut [W]) -> &mut [MaybeUninit<W>] {
     unsafe { &mut *(words as *mut [W] as *mut [MaybeUninit<W>]) }
 }
 
-/// What a call answers: a status, and a value that is 0 unless the call moved.
+/// What a call answers: a status, and a value that is 0 unless the call moved or
+/// a trace differs.
 #[must_use]
 #[derive(Clone, Copy, Debug, PartialEq, Eq)]
 pub struct Answer {
@@ -31,6 +33,11 @@ impl Answer {
     pub const NOT_EMPTY: u32 = 34;
     /// A run without overlap that made all its steps and has not ended.
     pub const SPENT: u32 = 35;
+    /// A trace, with the first line that differs as the value; one that agrees;
+    /// the refusal of one that has another form.
+    pub const DIFFERS: u32 = 36;
+    pub const AGREES: u32 = 37;
+    pub const TRACE_FORM: u32 = 13;
 
     /// A packed answer taken apart.
     pub fn of(number: u64) -> Answer {

@@ -4,7 +4,9 @@
 //! A scene is run by this program in a process of its own under valgrind, which
 //! counts inside one exported function only.
 
-use crate::{linked, linked_runner};
+use crate::large_job::{large, BODIES, BODY};
+use crate::proved_run::printed;
+use crate::{linked, linked_replay, linked_runner};
 use host::asm::assemble;
 use host::call::Call;
 use host::job::Job;
@@ -13,9 +15,6 @@ use host::runner::{self, RUNNER};
 use std::process::Command;
 
 const DOWNLOAD_BENCH: &str = include_str!("../../../jobs/download-bench.txt");
-/// Bodies of the large job, and instructions of each.
-const BODIES: usize = 64;
-const BODY: usize = 128;
 /// Calls of a scene that makes the same call over and over.
 const TIMES: u64 = 64;
 
@@ -63,6 +62,10 @@ impl Stage {
         linked_runner::step(&self.job, &mut self.core, &mut self.runner, task)
     }
 
+    fn replay(&mut self, trace: &[u8]) -> u64 {
+        linked_replay::replay(&self.job, trace, &mut self.core, &mut self.runner)
+    }
+
     fn run(&mut self, tasks: &[u32]) {
         let mut answers = vec![0; tasks.len()];
         let (core, runner) = (&mut self.core, &mut self.runner);
@@ -73,36 +76,6 @@ impl Stage {
 
 fn small() -> Vec<u8> {
     assemble(DOWNLOAD_BENCH).expect("the download bench assembles")
-}
-
-/// So many bodies of all operations; the top pushes and pops without end.
-fn large(bodies: usize) -> Vec<u8> {
-    let mut text = "length 4\n".to_string();
-    for body in 0..bodies {
-        let name = match body {
-            0 => "top".to_string(),
-            _ => format!("body{body}"),
-        };
-        text += &format!("procedure {name} all\nagain:\n");
-        let turn = [
-            "push 0 1",
-            "pop 0",
-            "push-register 1 2",
-            "go-if-empty 1 again",
-            "pop 1",
-            "add 1",
-            "go-if-zero again",
-            "sync",
-            "spawn top 0",
-        ];
-        let some = turn[..8 + (body > 0) as usize].iter();
-        text += &some
-            .cycle()
-            .take(BODY - 1)
-            .fold(String::new(), |all, line| all + line + "\n");
-        text += "go again\n";
-    }
-    assemble(&text).expect("the large job assembles")
 }
 
 /// So many children of the top, each about to push and none able to pop.
@@ -240,6 +213,56 @@ fn listed(name: &str, job: Vec<u8>, tasks: Vec<u32>) -> [Scene; 2] {
     ]
 }
 
+/// The lines of these tasks' calls.
+fn trace(job: &[u8], tasks: &[u32]) -> Vec<u8> {
+    let tasks: Vec<u8> = tasks.iter().map(|task| *task as u8).collect();
+    let text = printed(job, &tasks).map_or(String::new(), |printed| printed.text);
+    let lines: Vec<&str> = text.split_inclusive('\n').take(tasks.len()).collect();
+    lines.concat().into_bytes()
+}
+
+/// The replay of a trace, which is made when the part is run, since the library's
+/// other calls do not count then.
+fn replay(job: &[u8], trace: impl Fn(&[u8]) -> Vec<u8> + 'static) -> Part {
+    let job = job.to_vec();
+    Part {
+        call: "hq_replay",
+        run: Box::new(move || {
+            let trace = trace(&job);
+            Stage::of(job.clone()).replay(&trace);
+        }),
+    }
+}
+
+/// What the replay of a trace takes beyond that of an empty one; and the form of
+/// its lines: without the last line feed it is refused, and so is a line feed by
+/// itself, which is taken off.
+fn replayed(name: &str, job: Vec<u8>, tasks: Vec<u32>) -> [Scene; 2] {
+    let units = tasks.len() as u64;
+    let (whole, cut) = (tasks.clone(), tasks);
+    let cut_trace = move |job: &[u8]| {
+        let mut trace = trace(job, &cut);
+        trace.pop();
+        trace
+    };
+    [
+        Scene {
+            name: format!("{name}, a trace"),
+            part: replay(&job, move |job| trace(job, &whole)),
+            less: vec![replay(&job, |_| vec![])],
+            unit: "a line",
+            units,
+        },
+        Scene {
+            name: format!("{name}, the form of a trace"),
+            part: replay(&job, cut_trace),
+            less: vec![replay(&job, |_| vec![b'\n'])],
+            unit: "a line",
+            units,
+        },
+    ]
+}
+
 fn ready(tasks: usize) -> Scene {
     let run = move || {
         let (stage, mut map) = (children(tasks - 1), [0; 6]);
@@ -279,7 +302,8 @@ pub fn scenes() -> Vec<Scene> {
         ("64 bodies of 128", large_job, vec![0; 1_000]),
     ] {
         all.push(one_by_one(name, job.clone(), tasks.clone()));
-        all.extend(listed(name, job, tasks));
+        all.extend(listed(name, job.clone(), tasks.clone()));
+        all.extend(replayed(name, job, tasks));
     }
     all.extend([2, 17, 33, 65, 128].map(ready));
     all

@@ -9,9 +9,13 @@ pub mod guarded;
 pub mod instructions;
 #[cfg(test)]
 mod job_outcomes;
+pub mod large_job;
 pub mod linked;
 pub mod linked_jobs;
+pub mod linked_replay;
 pub mod linked_runner;
+#[cfg(test)]
+mod linked_vectors;
 pub mod long_job;
 pub mod on_off;
 #[cfg(test)]
@@ -20,6 +24,10 @@ pub mod pair;
 pub mod picture;
 pub mod proved_run;
 pub mod ready_scenes;
+#[cfg(test)]
+mod replay_outcomes;
+pub mod replay_pair;
+pub mod replay_scenes;
 pub mod rounds;
 pub mod runner_pair;
 pub mod scenes;

@@ -1,5 +1,10 @@
 //! A job of 60,000 steps that does every operation, for timing.
 
+use host::layout::WORDS;
+use host::overlap::Log;
+use host::random::Random;
+use host::runner::{self, RUNNER};
+
 pub const STEPS: usize = 60_000;
 
 /// Queue 3 holds what is left of a count; each turn spawns a child, which
@@ -34,3 +39,17 @@ procedure note push 2 pop 2
     pop 2
     return
 ";
+
+/// Task numbers that lead the long job to its end, some of them in vain.
+pub fn order(job: &[u8]) -> Vec<u32> {
+    let (mut core, mut words) = (vec![0; WORDS], vec![0; RUNNER]);
+    runner::open(job, &mut core, &mut words);
+    let (mut log, mut tasks, mut r) = (Log::default(), Vec::new(), Random::new(2013));
+    while !log.unfinished().is_empty() {
+        let t = r.pick(&log.unfinished());
+        log.note(t, runner::step(job, &mut core, &mut words, t));
+        tasks.push(t);
+    }
+    assert_eq!(log.moves(), STEPS as u64);
+    tasks
+}

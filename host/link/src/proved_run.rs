@@ -2,10 +2,12 @@
 
 use host::layout::WORDS;
 use host::overlap::Log;
+use host::overlap_text::line;
 use host::plain::Reply;
 use host::runner::{Stepped, RUNNER};
 use hyperqueue::runner::{self, FINISHED, MOVED, PUSHED, SPAWNED, TOOK};
 use hyperqueue::{core, Answer};
+use std::fmt::Write;
 
 pub struct ProvedRun<'a> {
     job: &'a [u8],
@@ -94,4 +96,34 @@ impl<'a> ProvedRun<'a> {
         let value = |index| core::left(&mut self.core, queue, index).moved();
         (0..).map_while(value).collect()
     }
+}
+
+/// What a run prints.
+pub struct Printed {
+    pub text: String,
+    /// No step was refused.
+    pub fine: bool,
+}
+
+/// The text of the run in which each of `tasks` makes a step, or the number with
+/// which the job is refused.
+pub fn printed(job: &[u8], tasks: &[u8]) -> Result<Printed, u32> {
+    let numbers: Vec<u32> = tasks.iter().copied().map(u32::from).collect();
+    let (mut run, answers) = ProvedRun::of_list(job, &numbers)?;
+    let (mut text, mut fine) = (String::new(), true);
+    for (number, (task, answer)) in (1..).zip(tasks.iter().zip(answers)) {
+        fine &= !matches!(answer, Stepped::Refused(_));
+        text += &line(number, *task, answer);
+    }
+    let open = run.log.unfinished().len();
+    if open > 0 {
+        let _ = writeln!(text, "open {open}");
+        return Ok(Printed { text, fine });
+    }
+    for queue in 0..4 {
+        for value in run.left(queue) {
+            let _ = writeln!(text, "left {queue} {value}");
+        }
+    }
+    Ok(Printed { text, fine })
 }

@@ -1,15 +1,27 @@
 //! The tool as its users call it: what it prints, and its exit status.
 
 use std::fs;
+use std::io::Write;
 use std::path::{Path, PathBuf};
 use std::process::{Command, Output, Stdio};
 
 const JOB: &str = "../../jobs/document-01.txt";
+/// What the run of these steps prints.
+const RUN: &str = include_str!("../../../crates/overlap/stdout");
 const STEPS: [&str; 12] = ["0", "0", "0", "3", "2", "1", "2", "1", "2", "3", "0", "0"];
 
 fn tool(words: &[&str]) -> Output {
     let mut command = Command::new(env!("CARGO_BIN_EXE_kettlepast"));
     command.args(words).stdin(Stdio::null()).output().unwrap()
+}
+
+/// The tool with these bytes on standard input.
+fn tool_reads(words: &[&str], input: &[u8]) -> Output {
+    let mut command = Command::new(env!("CARGO_BIN_EXE_kettlepast"));
+    command.args(words).stdin(Stdio::piped());
+    let mut child = command.stdout(Stdio::piped()).spawn().unwrap();
+    child.stdin.take().unwrap().write_all(input).unwrap();
+    child.wait_with_output().unwrap()
 }
 
 fn status(output: &Output) -> i32 {
@@ -33,7 +45,7 @@ fn word(path: &Path) -> &str {
 
 #[test]
 fn wrong_arguments_get_2() {
-    let wrong: [&[&str]; 12] = [
+    let wrong: [&[&str]; 15] = [
         &[],
         &["nothing"],
         &["serial"],
@@ -46,6 +58,9 @@ fn wrong_arguments_get_2() {
         &["assemble", JOB],
         &["run", JOB, "0", "256"],
         &["draw", JOB, "x"],
+        &["replay", JOB],
+        &["replay", JOB, "no-such-file"],
+        &["replay", JOB, JOB, "more"],
     ];
     for words in wrong {
         let given = tool(words);
@@ -70,6 +85,7 @@ fn help_and_version_are_fine() {
         "run",
         "serial",
         "compare",
+        "replay",
         "draw",
         "assemble",
         "disassemble",
@@ -138,6 +154,95 @@ fn a_run_and_a_test() {
     assert!(
         out(&tool(&["test", JOB])).starts_with("a job: 94 bytes, 4 procedures, 11 instructions")
     );
+}
+
+/// The answer to a trace of document 01's job, with status 0 where it agrees.
+fn replayed(trace: &[u8]) -> String {
+    let given = tool_reads(&["replay", JOB, "-"], trace);
+    let said = out(&given);
+    let due = i32::from(!said.starts_with("all agree"));
+    assert_eq!(status(&given), due, "{said}");
+    said
+}
+
+#[test]
+fn a_replay_that_agrees_says_how_far() {
+    let trace = file("trace", RUN.as_bytes());
+    let given = tool(&["replay", JOB, word(&trace)]);
+    assert_eq!(status(&given), 0);
+    assert_eq!(out(&given), replayed(RUN.as_bytes()));
+    let of = "that the run of these calls prints";
+    assert_eq!(out(&given), format!("all agree: 13 lines of 13 {of}\n"));
+    let begun = RUN.split_once("6 1").unwrap().0;
+    let stops = format!("all agree: 5 lines of 6 {of}; the trace stops before: open 4\n");
+    assert_eq!(replayed(begun.as_bytes()), stops);
+    let nothing = format!("all agree: 0 lines of 1 {of}; the trace stops before: open 1\n");
+    assert_eq!(replayed(b""), nothing);
+}
+
+#[test]
+fn a_replay_that_differs_shows_both_lines() {
+    let other = RUN.replace("took 10", "took 11");
+    assert_eq!(
+        replayed(other.as_bytes()),
+        "line 7 differs\ntrace:    7 2 took 11\nexpected: 7 2 took 10\n"
+    );
+    assert_eq!(
+        replayed(format!("{RUN}left 1 1\n").as_bytes()),
+        "line 14 differs\ntrace:    left 1 1\n\
+         expected: no such line, the run of these calls prints 13\n"
+    );
+}
+
+#[test]
+fn a_replay_that_is_refused_says_why() {
+    for (trace, due) in [
+        (
+            &RUN.as_bytes()[..RUN.len() - 1],
+            "line 13: no line feed ends it\ntrace:    left 0 20\n",
+        ),
+        (
+            b"1 256 moved -\n",
+            "line 1: a task is at most 255\ntrace:    1 256 moved -\n",
+        ),
+        (
+            b"1 0 moved -\r\n",
+            "line 1: `-` goes with this answer\ntrace:    1 0 moved -\\r\n",
+        ),
+        (
+            b"open 1\n1 0 moved -\n",
+            "line 2: a call stands behind `left` or `open`\ntrace:    1 0 moved -\n",
+        ),
+    ] {
+        assert_eq!(replayed(trace), format!("trace refused 13: {due}"));
+    }
+    assert!(replayed(b"\xFF\x1B\n").ends_with("trace:    \\xff\\x1b\n"));
+    let long = replayed(&[b'7'; 5_000]);
+    assert!(
+        long.ends_with(&format!("{} and 4880 bytes more\n", "7".repeat(120))),
+        "{long}"
+    );
+    let many = b"1 0 moved -\n".repeat(65_536);
+    assert!(replayed(&many)
+        .starts_with("trace refused 13: line 65536: a trace has at most 65,535 lines\n"));
+    let cut = file("cut-for-replay.job", &[4, 0, 4, 0]);
+    let given = tool_reads(&["replay", word(&cut), "-"], b"no trace");
+    assert_eq!(status(&given), 1);
+    assert_eq!(
+        out(&given),
+        "job refused 10: shorter than head and contents\n"
+    );
+}
+
+/// What the tool prints of a run, it finds again.
+#[test]
+fn a_printed_run_agrees() {
+    let job = "../../jobs/download-bench.txt";
+    for steps in ["0 0 1 1 2 200 0 3", "0 1 2 3 4 0 1 2 3 4 0 1 2 3 4"] {
+        let printed = tool(&["run", job, steps]).stdout;
+        let given = tool_reads(&["replay", job, "-"], &printed);
+        assert_eq!(status(&given), 0);
+    }
 }
 
 #[test]

@@ -4,22 +4,25 @@
 //! `bench growth` makes calls on the linked core alone, and asks it for the ready
 //! map, on memories of growing size. `bench serial` runs a job of 60,000 steps
 //! without overlap on both, `bench overlap` the same job under a random order of
-//! its tasks. `bench counts` counts instructions instead, with valgrind.
+//! its tasks. `bench replay` replays traces of 65,535 lines. `bench counts` counts
+//! instructions instead, with valgrind.
 
 use host::asm::assemble;
 use host::call::Call;
 use host::job::Job;
 use host::layout::WORDS;
-use host::overlap::Log;
-use host::random::Random;
+use host::replay::{self, Judged};
 use host::runner::{self, RUNNER};
 use host::serial::{self, End};
+use host::trace::MOST_LINES;
 use link::instructions;
 use link::linked;
 use link::linked_jobs::{packed, run_serially, ANSWERS, WORKING};
+use link::linked_replay;
 use link::linked_runner;
 use link::long_job;
 use link::ready_scenes::{self, ReadyScene};
+use link::replay_scenes::{self, ReplayScene};
 use link::scenes::{self, held_segments, unfinished_tasks, Scene};
 use std::process::ExitCode;
 use std::time::Instant;
@@ -164,20 +167,6 @@ fn without_overlap() {
 /// Rounds of a run under another order, which takes longer.
 const RUNS: u32 = 31;
 
-/// Task numbers that lead the long job to its end, some of them in vain.
-fn order(job: &[u8]) -> Vec<u32> {
-    let (mut core, mut words) = (vec![0; WORDS], vec![0; RUNNER]);
-    runner::open(job, &mut core, &mut words);
-    let (mut log, mut tasks, mut r) = (Log::default(), Vec::new(), Random::new(2013));
-    while !log.unfinished().is_empty() {
-        let t = r.pick(&log.unfinished());
-        log.note(t, runner::step(job, &mut core, &mut words, t));
-        tasks.push(t);
-    }
-    assert_eq!(log.moves(), long_job::STEPS as u64);
-    tasks
-}
-
 /// How a job is opened and a step is made, with the answer in one number.
 type Steps = (
     fn(&[u8], &mut [u32], &mut [u32]) -> u64,
@@ -216,7 +205,7 @@ fn run_list(job: &[u8], tasks: &[u32]) -> (f64, u64) {
 /// library as one list of steps.
 fn with_overlap() {
     let job = assemble(long_job::TEXT).expect("the long job assembles");
-    let tasks = order(&job);
+    let tasks = long_job::order(&job);
     let (mut linked, mut model, mut list) = (f64::INFINITY, f64::INFINITY, f64::INFINITY);
     for _ in 0..RUNS {
         let (time, sum) = run_order(LINKED, &job, &tasks);
@@ -236,6 +225,54 @@ fn with_overlap() {
         "{:10}{list:>10.1}{model:>10.0}{list_ratio:>8.3}",
         "of a list"
     );
+}
+
+/// Best nanoseconds a line: of the linked replay and of the model's; and a step
+/// of the same calls as one list of the linked library.
+fn replay_times(scene: &ReplayScene) -> [f64; 3] {
+    let (job, trace) = (&scene.job, &scene.trace);
+    let (mut core, mut words) = (vec![0; WORDS], vec![0; RUNNER]);
+    let mut answers = vec![0; scene.tasks.len()];
+    let mut best = [f64::INFINITY; 3];
+    for _ in 0..RUNS {
+        let (linked, answer) = timed(|| linked_replay::replay(job, trace, &mut core, &mut words));
+        assert_eq!(
+            answer,
+            linked_replay::packed(Judged::Agrees),
+            "{}",
+            scene.name
+        );
+        let (model, judged) = timed(|| replay::replay(job, trace, &mut core, &mut words));
+        assert_eq!(judged, Judged::Agrees, "{}", scene.name);
+        let run = || linked_runner::run(job, &mut core, &mut words, &scene.tasks, &mut answers);
+        let (list, _) = timed(run);
+        let (lines, steps) = (MOST_LINES as f64, scene.tasks.len() as f64);
+        for (best, time) in best
+            .iter_mut()
+            .zip([linked / lines, model / lines, list / steps])
+        {
+            *best = best.min(time);
+        }
+    }
+    best
+}
+
+/// Traces of the most lines, on the library and on the model, and their steps as
+/// a list.
+fn replays() {
+    println!(
+        "{:20}{:>10}{:>10}{:>8}{:>12}{:>8}{:>14}{:>14}",
+        "", "linked", "model", "ratio", "of a list", "ratio", "linked, 1/s", "model, 1/s"
+    );
+    for scene in replay_scenes::all() {
+        let [linked, model, list] = replay_times(&scene);
+        let (of_model, of_list) = (linked / model, linked / list);
+        let (a_second, of_the_model) = (1e9 / linked, 1e9 / model);
+        let name = scene.name;
+        println!(
+            "{name:20}{linked:>10.1}{model:>10.1}{of_model:>8.2}{list:>12.1}{of_list:>8.2}{a_second:>14.0}{of_the_model:>14.0}"
+        );
+    }
 }
 
 /// The instructions of each scene.
@@ -261,6 +298,7 @@ fn main() -> ExitCode {
         ["growth"] => (growth, ROUNDS),
         ["serial"] => (without_overlap, ROUNDS),
         ["overlap"] => (with_overlap, RUNS),
+        ["replay"] => (replays, RUNS),
         ["counts"] => return counts(),
         ["scene", scene, part] => {
             let number = |word: &str| word.parse().expect("a number");
@@ -268,7 +306,7 @@ fn main() -> ExitCode {
             return ExitCode::SUCCESS;
         }
         _ => {
-            eprintln!("bench [growth | serial | overlap | counts]");
+            eprintln!("bench [growth | serial | overlap | replay | counts]");
             return ExitCode::FAILURE;
         }
     };

@@ -9,9 +9,11 @@
 use host::layout::WORDS;
 use host::random::Random;
 use host::random_jobs::accepted;
+use host::random_traces::of_a_run;
 use host::runner::RUNNER;
 use hyperqueue::jobs::run_serially_unset;
 use hyperqueue::runner::run_unset;
+use hyperqueue::traces::replay_unset;
 use link::fuzzing::{calls, Made};
 use link::ground::Ground;
 use link::linked_jobs::{job_test, ANSWERS, WORKING};
@@ -79,7 +81,9 @@ fn every_call(r: &mut Random, ground: &Ground, made: &mut [u64; 2]) {
 fn list_of_steps(r: &mut Random, job: &[u8]) {
     let mut core = Box::new_uninit_slice(WORDS);
     let mut runner = Box::new_uninit_slice(RUNNER);
-    let tasks: Box<[u32]> = (0..r.within(1, 60)).map(|n| r.below(6.min(n + 1))).collect();
+    let tasks: Box<[u32]> = (0..r.within(1, 60))
+        .map(|n| r.below(6.min(n + 1)))
+        .collect();
     let mut answers = Box::new_uninit_slice(tasks.len());
     let _ = run_unset(job, &mut core, &mut runner, &tasks, &mut answers);
     let _ = run_unset(job, &mut core, &mut runner, &tasks, &mut answers[1..]);
@@ -88,9 +92,21 @@ fn list_of_steps(r: &mut Random, job: &[u8]) {
     assert!(moved > 0, "the top of a job can make its first step");
 }
 
-/// What opens and what runs a job serially, on words that nobody has written:
-/// the checker sees a word that is read before it is written. The calls behind
-/// an opening find all words written.
+/// Replays on words that nobody has written, of traces in blocks of exactly
+/// their size: as they are printed, begun and damaged; and with a word too few.
+fn replays(r: &mut Random) {
+    for case in of_a_run(r) {
+        let (job, trace) = (case.job.into_boxed_slice(), case.trace.into_boxed_slice());
+        let mut core = Box::new_uninit_slice(case.words);
+        let mut runner = Box::new_uninit_slice(case.runner);
+        let _ = replay_unset(&job, &trace, &mut core, &mut runner);
+        let _ = replay_unset(&job, &trace, &mut core[1..], &mut runner);
+    }
+}
+
+/// What opens, what replays and what runs a job serially, on words that nobody
+/// has written: the checker sees a word that is read before it is written. The
+/// calls behind an opening find all words written.
 fn on_unset_words(r: &mut Random) {
     let job = accepted(r).into_boxed_slice();
     let mut core = Box::new_uninit_slice(WORDS);
@@ -106,6 +122,7 @@ fn on_unset_words(r: &mut Random) {
     };
     every_call(r, &ground, &mut [0; 2]);
     list_of_steps(r, &job);
+    replays(r);
     let mut working = Box::new_uninit_slice(WORKING);
     let mut answers = Box::new_uninit_slice(ANSWERS);
     let _ = run_serially_unset(&job, &mut working, &mut answers);

@@ -3,7 +3,8 @@
 /// How many words stand behind the job.
 pub enum Behind {
     None,
-    One,
+    /// One, which is this.
+    One(&'static str),
     Any,
 }
 
@@ -32,6 +33,7 @@ kettlepast COMMAND JOB ..
     run JOB TASK..          run a job with overlap: each number makes a step of that task
     serial JOB              run it without overlap
     compare JOB             run it with overlap in many orders against the run without
+    replay JOB TRACE        make a recorded run's steps again, and say which line of it differs
     draw JOB TASK..         draw a run with overlap (SVG)
     assemble TEXT OUT       write the job file of a text
     disassemble JOB         print a text that gives the same job
@@ -49,7 +51,7 @@ const TASKS: &str = "\
 TASK is the number of a task, 0 to 255, or several with blanks between them; a single - takes
 them from standard input.\n";
 
-pub const COMMANDS: [Command; 7] = [
+pub const COMMANDS: [Command; 8] = [
     Command {
         name: "run",
         form: "run JOB TASK..",
@@ -77,6 +79,17 @@ pub const COMMANDS: [Command; 7] = [
         more: "",
     },
     Command {
+        name: "replay",
+        form: "replay JOB TRACE",
+        behind: Behind::One("the trace"),
+        options: &[],
+        what: "Makes the steps of a recorded run again. TRACE is the file of the lines that a run of the job printed, as\n\
+               run prints them, at most 65,535 of them; a single - takes them from standard input. It says that all\n\
+               agree, and how many of the lines that the run prints were there; or the first line that differs, with\n\
+               the line that the run prints; or why the job or the trace is refused, with the line of the trace.",
+        more: "",
+    },
+    Command {
         name: "draw",
         form: "draw JOB TASK..",
         behind: Behind::Any,
@@ -88,7 +101,7 @@ pub const COMMANDS: [Command; 7] = [
     Command {
         name: "assemble",
         form: "assemble TEXT OUT",
-        behind: Behind::One,
+        behind: Behind::One("the file to write"),
         options: &[],
         what: "Writes the job that a text describes to the file OUT.",
         more: "",

@@ -4,6 +4,7 @@ use super::Fault;
 use host::asm::assemble;
 use host::source::Source;
 use std::fs;
+use std::io::Read;
 
 /// A job, with the names of its procedures where it came as text.
 pub struct Input {
@@ -44,6 +45,17 @@ pub fn job(file: &str) -> Result<Input, Fault> {
             names: Vec::new(),
         }),
     }
+}
+
+/// The bytes of a file, or of standard input where the file is `-`.
+pub fn bytes(file: &str) -> Result<Vec<u8>, Fault> {
+    if file != "-" {
+        return read(file);
+    }
+    let mut bytes = Vec::new();
+    let read = std::io::stdin().read_to_end(&mut bytes);
+    read.map_err(|e| Fault(format!("standard input: {e}")))?;
+    Ok(bytes)
 }
 
 /// The bytes of a file that has to be a text.

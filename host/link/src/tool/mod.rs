@@ -6,6 +6,7 @@ mod compare;
 mod help;
 mod input;
 mod prints;
+mod replay;
 mod words;
 
 use help::{COMMANDS, OVERVIEW};
@@ -60,6 +61,7 @@ pub fn answer(words: &[String]) -> Result<Said, Fault> {
         "run" => prints::run(&words),
         "serial" => prints::serial(&words),
         "compare" => compare::compare(&words),
+        "replay" => replay::replay(&words),
         "draw" => prints::draw(&words),
         "assemble" => prints::assemble(&words),
         "disassemble" => prints::disassemble(&words),

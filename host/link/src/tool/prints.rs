@@ -5,11 +5,9 @@ use super::words::Words;
 use super::{Fault, Said};
 use crate::on_off::reply;
 use crate::picture::svg;
-use crate::proved_run::ProvedRun;
+use crate::proved_run::printed;
 use host::dis::disassemble as text_of;
 use host::job::Job;
-use host::overlap_text::line;
-use host::runner::Stepped;
 use hyperqueue::jobs::{self, ANSWERS, WORKING};
 use hyperqueue::Answer;
 use std::fmt::Write;
@@ -28,25 +26,10 @@ fn left(out: &mut String, queue: usize, values: &[u32]) {
 pub fn run(words: &Words) -> Result<Said, Fault> {
     let tasks = words.tasks()?;
     let job = input::job(words.file)?;
-    let numbers: Vec<u32> = tasks.iter().copied().map(u32::from).collect();
-    let (mut run, answers) = match ProvedRun::of_list(&job.bytes, &numbers) {
-        Ok(made) => made,
-        Err(number) => return Ok(refused(number)),
-    };
-    let (mut out, mut fine) = (String::new(), true);
-    for (number, (task, answer)) in (1..).zip(tasks.iter().zip(answers)) {
-        fine &= !matches!(answer, Stepped::Refused(_));
-        out += &line(number, *task, answer);
-    }
-    let open = run.log.unfinished().len();
-    if open > 0 {
-        let _ = writeln!(out, "open {open}");
-        return Ok(Said::only(fine, out));
-    }
-    for queue in 0..4 {
-        left(&mut out, queue, &run.left(queue as u32));
-    }
-    Ok(Said::only(fine, out))
+    Ok(match printed(&job.bytes, &tasks) {
+        Ok(printed) => Said::only(printed.fine, printed.text),
+        Err(number) => refused(number),
+    })
 }
 
 pub fn serial(words: &Words) -> Result<Said, Fault> {
@@ -86,13 +69,13 @@ pub fn draw(words: &Words) -> Result<Said, Fault> {
 
 pub fn assemble(words: &Words) -> Result<Said, Fault> {
     let bytes = input::only_text(words.file)?;
-    let out = words.out();
+    let out = words.one();
     fs::write(out, bytes).map_err(|e| Fault(format!("{out}: {e}")))?;
     Ok(Said::fine(String::new()))
 }
 
 /// A refusal with the model's reason, where it has one.
-fn told(bytes: &[u8], number: u32) -> Said {
+pub fn told(bytes: &[u8], number: u32) -> Said {
     let why = Job::read(bytes).err().filter(|why| why.number() == number);
     let why = why.map_or(String::new(), |why| format!(": {why}"));
     Said::only(false, format!("job refused {number}{why}\n"))

@@ -40,10 +40,8 @@ impl<'a> Words<'a> {
         let (file, behind) = (plain[0], plain.split_off(1));
         match command.behind {
             Behind::None if !behind.is_empty() => Err(fault(format!("{} is too much", behind[0]))),
-            Behind::One if behind.is_empty() => {
-                Err(fault("the file to write is missing".to_string()))
-            }
-            Behind::One if behind.len() > 1 => Err(fault(format!("{} is too much", behind[1]))),
+            Behind::One(what) if behind.is_empty() => Err(fault(format!("{what} is missing"))),
+            Behind::One(_) if behind.len() > 1 => Err(fault(format!("{} is too much", behind[1]))),
             _ => Ok(Words {
                 command,
                 file,
@@ -58,7 +56,7 @@ impl<'a> Words<'a> {
     }
 
     /// The one word behind the job.
-    pub fn out(&self) -> &str {
+    pub fn one(&self) -> &str {
         self.behind[0]
     }
 

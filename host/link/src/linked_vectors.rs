@@ -1,0 +1,48 @@
+//! Tests: the linked library against the answers of models that were written
+//! apart from it and from the model here.
+
+use crate::linked_jobs::{queues, ANSWERS, WORKING};
+use crate::linked_replay::packed;
+use crate::proved_run::printed;
+use crate::{linked_jobs, linked_replay};
+use host::layout::WORDS;
+use host::runner::RUNNER;
+use host::vectors::level_1;
+
+#[test]
+fn job_tests_and_prints() {
+    for vector in level_1() {
+        let test = linked_jobs::job_test(&vector.job);
+        assert_eq!(test, u64::from(vector.test) << 32);
+        let printed = match printed(&vector.job, &vector.tasks) {
+            Ok(printed) => printed.text,
+            Err(number) => format!("job refused {number}\n"),
+        };
+        assert_eq!(printed, vector.printed);
+    }
+}
+
+#[test]
+fn runs_without_overlap() {
+    let (mut working, mut answers) = (vec![7; WORKING], vec![7; ANSWERS]);
+    for vector in level_1() {
+        let Some((end, steps)) = vector.serial else {
+            continue;
+        };
+        let given = linked_jobs::run_serially(&vector.job, &mut working, &mut answers);
+        assert_eq!((end.as_str(), given), ("ended", steps as u64));
+        assert_eq!(queues(&working).to_vec(), vector.queues);
+    }
+}
+
+#[test]
+fn replays() {
+    for vector in level_1() {
+        for (trace, due) in &vector.replays {
+            let (mut core, mut runner) = ([7; WORDS], [7; RUNNER]);
+            let trace = trace.as_bytes();
+            let given = linked_replay::replay(&vector.job, trace, &mut core, &mut runner);
+            assert_eq!(given, packed(*due));
+        }
+    }
+}

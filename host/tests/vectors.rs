@@ -1,0 +1,57 @@
+//! The model against models that were written apart from it.
+
+use host::job::Job;
+use host::layout::WORDS;
+use host::overlap_text;
+use host::replay::{replay, replay_by_text};
+use host::runner::RUNNER;
+use host::serial::{self, End};
+use host::vectors::level_1;
+
+#[test]
+fn all_are_there() {
+    let vectors = level_1();
+    let replays: usize = vectors.iter().map(|vector| vector.replays.len()).sum();
+    assert_eq!((vectors.len(), replays), (120, 555));
+}
+
+#[test]
+fn job_tests_and_prints() {
+    for vector in level_1() {
+        let test = Job::read(&vector.job).map_or_else(|refusal| refusal.number(), |_| 0);
+        assert_eq!(test, vector.test);
+        assert_eq!(
+            overlap_text::text(&vector.job, &vector.tasks),
+            vector.printed
+        );
+    }
+}
+
+#[test]
+fn runs_without_overlap() {
+    for vector in level_1() {
+        let Some((end, steps)) = vector.serial else {
+            continue;
+        };
+        let run = serial::run(&Job::read(&vector.job).expect("a job"));
+        let due = match end.as_str() {
+            "ended" => End::Ended,
+            "spent" => End::Spent,
+            other => panic!("no end: {other}"),
+        };
+        assert_eq!((run.end, run.events.len()), (due, steps));
+        assert_eq!(run.queues.to_vec(), vector.queues);
+    }
+}
+
+#[test]
+fn replays() {
+    for vector in level_1() {
+        for (trace, due) in vector.replays {
+            let trace = trace.as_bytes();
+            let given = replay(&vector.job, trace, &mut [7; WORDS], &mut [7; RUNNER]);
+            assert_eq!(given, due);
+            assert_eq!(replay_by_text(&vector.job, trace), due);
+        }
+    }
+}
