@@ -4,3 +4,4 @@ pub mod Answered
 pub mod Fronts
 pub mod Lines
 pub mod Laws
+pub mod Left
