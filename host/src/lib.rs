@@ -9,6 +9,7 @@ pub mod call;
 pub mod calls;
 pub mod check;
 pub mod command;
+pub mod crowds;
 pub mod damage;
 pub mod damaged_jobs;
 pub mod damaged_traces;

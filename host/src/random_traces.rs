@@ -2,6 +2,7 @@
 //! long, of no job, and with memories of other lengths.
 
 use crate::asm::assemble;
+use crate::crowds::CROWDS;
 use crate::damaged_jobs;
 use crate::damaged_traces::damaged;
 use crate::layout::WORDS;
@@ -32,9 +33,8 @@ impl Case {
     }
 }
 
-/// Jobs of `jobs/`; then one whose top spawns more children than there are
-/// records, and one whose top pushes more values than the segments hold.
-const JOBS: [&str; 12] = [
+/// The jobs of `jobs/`.
+const JOBS: [&str; 10] = [
     include_str!("../../jobs/checker-fan.txt"),
     include_str!("../../jobs/counted-loop.txt"),
     include_str!("../../jobs/cut-check-print.txt"),
@@ -45,21 +45,6 @@ const JOBS: [&str; 12] = [
     include_str!("../../jobs/stages-by-recursion.txt"),
     include_str!("../../jobs/too-deep.txt"),
     include_str!("../../jobs/wrap-around.txt"),
-    "length 1
-     procedure top all
-     again: spawn child 1
-     go again
-     procedure child pop 0
-     pop 0
-     return",
-    "length 1
-     procedure top all
-     spawn child 1
-     again: push 0 1
-     go again
-     procedure child pop 0
-     pop 0
-     return",
 ];
 
 /// Jobs for many lines: one without end, and one that leaves 8,000 values.
@@ -95,7 +80,7 @@ fn job_of(text: &str) -> Vec<u8> {
 /// A job, and what it prints under a random order.
 fn recorded(r: &mut Random) -> (Vec<u8>, Vec<u8>) {
     let job = match r.chance(20) {
-        true => job_of(r.pick(&JOBS)),
+        true => job_of(r.pick(&[&JOBS[..], &CROWDS].concat())),
         false => accepted(r),
     };
     let most = match r.below(50) {

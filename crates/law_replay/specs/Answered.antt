@@ -22,7 +22,7 @@ use Rattle.spec_replay.specs.declared.Replayed.the-variants.{Agrees, Differs, R
 use Rattle.spec_replay.specs.Expected.{printedFrom}
 use Rattle.spec_replay.specs.Replay.{tasksOf, sameText, firstDifference, judgement, judged, replayAnswer}
 use Rattle.spec_replay.specs.Same.{text-same}
-use Rattle.law_replay.specs.Statement.{Opens}
+use Rattle.runner_words.specs.Refusals.{Fits}
 use Rattle.law_replay.specs.Opened.{opening, has-opened}
 
 -- the texts with which the lines ls are compared, and the number of the first that differs
@@ -32,22 +32,22 @@ expected j m r ls = let o = openOutcome j m r in printedFrom j 0 (tasksOf ls) (c
 abbrev pub difference : List ℕ → List ℕ → List ℕ → List Line → ℕ
 difference j m r ls = firstDifference 0 ls (expected j m r ls)
 
-pub replays : {j m r xs : List ℕ} {ls : List Line} → Opens j m r → Trace xs ls → replayAnswer j xs m r ≡ judgement (difference j m r ls)
+pub replays : {j m r xs : List ℕ} {ls : List Line} → Fits j m r → Trace xs ls → replayAnswer j xs m r ≡ judgement (difference j m r ls)
 unfolding replayAnswer expected judged
 replays {j} {m} {r} o t = halt _ _ (has-opened o) ∙ ap (λ (x : Option (List Line)). judged j x (openOutcome j m r)) (reads t)
 
 -- THE THREE WAYS: a trace is compared, has no form, or the opening is refused
 pub by-answer : (j xs m r : List ℕ) (P : Replayed → Type 0)
-    → (Opens j m r → (ls : List Line) → Trace xs ls → P (judgement (difference j m r ls)))
-    → (Opens j m r → ((ls : List Line) → Trace xs ls → ⊥) → P (Refused 13))
-    → ((k : ℕ) → (k ≡ 13 → ⊥) → (Opens j m r → ⊥) → P (Refused k)) → P (replayAnswer j xs m r)
+    → (Fits j m r → (ls : List Line) → Trace xs ls → P (judgement (difference j m r ls)))
+    → (Fits j m r → ((ls : List Line) → Trace xs ls → ⊥) → P (Refused 13))
+    → ((k : ℕ) → (k ≡ 13 → ⊥) → (Fits j m r → ⊥) → P (Refused k)) → P (replayAnswer j xs m r)
 unfolding replayAnswer expected judged
 by-answer j xs m r P compared formless refused =
     either-way P (hasMoved (answerOf (openOutcome j m r)))
     (λ h. go (opening j m r .0 h) (traceLines xs) refl)
     (λ h. refused _ (opening j m r .1) (λ o. false≢true (sym h ∙ has-opened o)))
   where
-    go : Opens j m r → (x : Option (List Line)) → traceLines xs ≡ x → P (judged j x (openOutcome j m r))
+    go : Fits j m r → (x : Option (List Line)) → traceLines xs ≡ x → P (judged j x (openOutcome j m r))
     go o none e = formless o (λ ls t. Option·none-ne-some ls (sym e ∙ reads t))
     go o (some ls) e = compared o ls (read e)
 

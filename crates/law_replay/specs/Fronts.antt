@@ -18,7 +18,7 @@ use Rattle.spec_replay.specs.Expected.{callText, printedFrom}
 use Rattle.spec_replay.specs.AsLines.{no-tasks}
 use Rattle.spec_replay.specs.Replay.{tasksOf, sameText, firstDifference, judgement, replayAnswer}
 use Rattle.spec_replay.specs.Same.{text-refl}
-use Rattle.law_replay.specs.Statement.{Opens}
+use Rattle.runner_words.specs.Refusals.{Fits}
 use Rattle.law_replay.specs.Answered.{expected, replays}
 
 order-front : (e : Bool) (p q : List Line) → CallsFirst e (p ++ q) → CallsFirst e p
@@ -41,7 +41,7 @@ module _ (j : List ℕ) where
   same-front (Open x ∷ p) q e h n c m r = ap (firstDifference n (Open x ∷ p)) (same-tasks p q (h .1) m r c)
 
 -- THE ANSWER for the first lines p
-pub front-replays : {j m r : List ℕ} → Opens j m r → (p q : List Line) → All Valid p → length p ≤ 65535 → CallsFirst false (p ++ q)
+pub front-replays : {j m r : List ℕ} → Fits j m r → (p q : List Line) → All Valid p → length p ≤ 65535 → CallsFirst false (p ++ q)
     → replayAnswer j (renderAll p) m r ≡ judgement (firstDifference 0 p (expected j m r (p ++ q)))
 unfolding expected
 front-replays {j} {m} {r} o p q v f h =

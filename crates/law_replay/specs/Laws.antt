@@ -19,17 +19,18 @@ use Rattle.spec_replay.specs.declared.Replayed.the-variants.{Agrees, Differs, R
 use Rattle.spec_replay.specs.Expected.{printedFrom}
 use Rattle.spec_replay.specs.Replay.{tasksOf, firstDifference, judgement, replayAnswer}
 use Rattle.law_values_fit.specs.Fit.{answers-fit, left-fits}
-use Rattle.law_replay.specs.Statement.{Opens, Beginning, Differing}
+use Rattle.runner_words.specs.Refusals.{Fits}
+use Rattle.law_replay.specs.Statement.{Beginning, Differing}
 use Rattle.law_replay.specs.Opened.{program-text}
 use Rattle.law_replay.specs.Answered.{expected, difference, by-answer, agrees-zero, differs-at, never-refused, same-text, lines-end, task-bytes}
 use Rattle.law_replay.specs.Fronts.{front-replays, own-texts, flat-texts, render-append, find}
 use Rattle.law_replay.specs.Lines.{printed-lines}
 
 -- WHAT A RUN PRINTED AGREES: an accepted job of bytes, and a beginning of what is printed for it
-pub printed-agrees : (j xs m r : List ℕ) → Opens j m r → All (λ b. b < 256) j → Beginning j xs → replayAnswer j xs m r ≡ Agrees
+pub printed-agrees : (j xs m r : List ℕ) → Fits j m r → All (λ b. b < 256) j → Beginning j xs → replayAnswer j xs m r ≡ Agrees
 unfolding expected judgement
 printed-agrees j xs m r o bytes b =
-    let e = o .accepted in
+    let e = o .job in
     let x = openOutcome j m r in
     let ts = b .tasks in
     let p =
@@ -54,10 +55,10 @@ wrong e f = let z = f e in absurd (omega (arith, z))
 
 module _ (j xs m r : List ℕ) where
   -- WHAT AGREES WAS PRINTED by a run of an accepted job
-  pub agrees-printed : replayAnswer j xs m r ≡ Agrees → Opens j m r × Beginning j xs
+  pub agrees-printed : replayAnswer j xs m r ≡ Agrees → Fits j m r × Beginning j xs
   unfolding expected
   agrees-printed =
-      by-answer j xs m r (λ a. a ≡ Agrees → Opens j m r × Beginning j xs)
+      by-answer j xs m r (λ a. a ≡ Agrees → Fits j m r × Beginning j xs)
       (λ o ls t e.
       let s = same-text 0 ls _ (agrees-zero _ e) in (
         o,
@@ -74,7 +75,7 @@ module _ (j xs m r : List ℕ) where
       (λ k n o e. wrong e (λ q. cc))
 
   -- "THE NUMBER OF THE FIRST LINE THAT DIFFERS"
-  first-different : (n : ℕ) → Opens j m r → (ls : List Line) → Trace xs ls → judgement (difference j m r ls) ≡ Differs n → Differing j xs m r n
+  first-different : (n : ℕ) → Fits j m r → (ls : List Line) → Trace xs ls → judgement (difference j m r ls) ≡ Differs n → Differing j xs m r n
   unfolding renderAll judgement
   first-different n o ls t e =
       let at = differs-at _ n e in
@@ -120,6 +121,6 @@ module _ (j xs m r : List ℕ) where
       (λ k n o e. absurd (n (cc)))
 
   -- and without a form the answer is 13, where the opening is not refused
-  pub form-refused : Opens j m r → ((ls : List Line) → Trace xs ls → ⊥) → replayAnswer j xs m r ≡ Refused 13
+  pub form-refused : Fits j m r → ((ls : List Line) → Trace xs ls → ⊥) → replayAnswer j xs m r ≡ Refused 13
   form-refused opens f =
       by-answer j xs m r (λ a. a ≡ Refused 13) (λ o ls t. absurd (f ls t)) (λ o n. refl) (λ k n o. absurd (o opens))

@@ -17,7 +17,7 @@ use Rattle.spec_runner.specs.Run.{stepsFrom}
 use Rattle.run_text.specs.Lines.{line, leftLine}
 use Rattle.block_text.specs.Values.{onto, readFrom}
 use Rattle.overlap_text.specs.Whole.{valueIn, unfinishedIn}
-use Rattle.law_values_fit.specs.Order.{Fits}
+use Rattle.law_values_fit.specs.Order.{IsWord}
 use Rattle.law_values_fit.specs.Fit.{StepFits}
 use Rattle.spec_trace.specs.declared.Line.{Line}
 use Rattle.spec_trace.specs.declared.Line.the-variants.{Call, Left, Open}
@@ -61,21 +61,21 @@ no-line : Ends []
 unfolding tasksOf
 no-line e c = record { lines = []; text = refl; tasks = refl; order = tt; valid = elim [ zero ↦ λ h. tt | suc k ↦ λ h. tt ] }
 
-left-lines : (q : ℕ) → q < 4 → (vs : List ℕ) → All Fits vs → (es : List (List ℕ)) → Ends es → Ends (map (leftLine q) vs ++ es)
+left-lines : (q : ℕ) → q < 4 → (vs : List ℕ) → All IsWord vs → (es : List (List ℕ)) → Ends es → Ends (map (leftLine q) vs ++ es)
 unfolding render tasksOf isCall
 left-lines q h [] f es n = n
 left-lines q h (v ∷ vs) f es n = λ e c. first-line (Left q v) (both-right-off e refl) (λ l. (h, f .0)) (left-lines q h vs (f .1) es n true (c + 1))
 
-read-fits : (f : ℕ → Option ℕ) → ((i x : ℕ) → f i ≡ some x → Fits x) → (k i : ℕ) → All Fits (readFrom f k i)
+read-fits : (f : ℕ → Option ℕ) → ((i x : ℕ) → f i ≡ some x → IsWord x) → (k i : ℕ) → All IsWord (readFrom f k i)
 unfolding readFrom onto
 read-fits f h zero i = tt
 read-fits f h (suc k) i = go (f i) refl (read-fits f h k (i + 1))
   where
-    go : (o : Option ℕ) → f i ≡ o → All Fits (readFrom f k (i + 1)) → All Fits (onto o (readFrom f k (i + 1)))
+    go : (o : Option ℕ) → f i ≡ o → All IsWord (readFrom f k (i + 1)) → All IsWord (onto o (readFrom f k (i + 1)))
     go none e more = tt
     go (some v) e more = (h i v e, more)
 
-module _ (m : List ℕ) (f : (q i x : ℕ) → valueIn m q i ≡ some x → Fits x) where
+module _ (m : List ℕ) (f : (q i x : ℕ) → valueIn m q i ≡ some x → IsWord x) where
   queues-lines : (n q : ℕ) → q + n ≤ 4 → Ends (queuesFrom m q n)
   unfolding queuesFrom queueTexts
   queues-lines zero q h = no-line
@@ -100,7 +100,7 @@ one-call c t x {ts} {es} b f n =
 
 -- THE TEXTS OF A RUN, whose answers and values left are words of 32 bits
 pub printed-lines : (j ts : List ℕ) (c : ℕ) (m r : List ℕ) → All (λ t. t < 256) ts → let s = stepsFrom j ts m r in
-    All StepFits (s .answers) → ((q i x : ℕ) → valueIn (s .core) q i ≡ some x → Fits x) → Printed false c ts (printedFrom j c ts m r)
+    All StepFits (s .answers) → ((q i x : ℕ) → valueIn (s .core) q i ≡ some x → IsWord x) → Printed false c ts (printedFrom j c ts m r)
 unfolding printedFrom stepsFrom callText
 printed-lines j [] c m r b f h = end-lines m h false c
 printed-lines j (t ∷ ts) c m r b f h =

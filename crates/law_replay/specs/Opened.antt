@@ -17,13 +17,13 @@ use Rattle.spec_runner.specs.Laws.{job-passes}
 use Rattle.overlap_text.specs.Whole.{textFrom, overlapText}
 use Rattle.law_trace.specs.Digits.{either-way}
 use Rattle.spec_replay.specs.Expected.{printedFrom, printed-text}
-use Rattle.law_replay.specs.Statement.{Opens}
+use Rattle.runner_words.specs.Refusals.{Fits}
 
 -- where it has moved all tests have passed, and none refuses with 13
-pub opening : (j m r : List ℕ) → let a = answerOf (openOutcome j m r) in (hasMoved a ≡ true → Opens j m r) × (statusOf a ≡ 13 → ⊥)
+pub opening : (j m r : List ℕ) → let a = answerOf (openOutcome j m r) in (hasMoved a ≡ true → Fits j m r) × (statusOf a ≡ 13 → ⊥)
 unfolding openOutcome jobTested refused jobOpened answerOf hasMoved statusOf jobAnswer
 opening j m r =
-    let P : Outcome → Type 0 = λ o. (hasMoved (answerOf o) ≡ true → Opens j m r) × (statusOf (answerOf o) ≡ 13 → ⊥) in
+    let P : Outcome → Type 0 = λ o. (hasMoved (answerOf o) ≡ true → Fits j m r) × (statusOf (answerOf o) ≡ 13 → ⊥) in
     let stops : (k : ℕ) → (k ≡ 13 → ⊥) → P (refused k m r) = λ k n. (λ h. absurd (false≢true h), n) in
     either-way P _ (λ t. stops 1 (λ q. omega (arith, q)))
     (λ a.
@@ -37,28 +37,28 @@ opening j m r =
     (λ e. (
       λ h.
           record {
-            accepted = pass _ c (pass _ d (pass _ e refl));
+            job = pass _ c (pass _ d (pass _ e refl));
             core = eqb-true (size m) WORDS (not-false _ a);
             runner = eqb-true (size r) RUNNER (not-false _ b);
           },
       λ q. omega (arith, q),
     ))))))
 
-module _ {j m r : List ℕ} (o : Opens j m r) where
+module _ {j m r : List ℕ} (o : Fits j m r) where
   opened-words : openOutcome j m r ≡ jobOpened j
   unfolding openOutcome
-  opened-words = job-passes j m r (o .accepted) (o .core) (o .runner) (jobOpened j)
+  opened-words = job-passes j m r (o .job) (o .core) (o .runner) (jobOpened j)
 
   pub has-opened : hasMoved (answerOf (openOutcome j m r)) ≡ true
   unfolding jobOpened answerOf hasMoved
   has-opened = ap (λ (x : Outcome). hasMoved (answerOf x)) opened-words
 
 -- the words that the program lends; any others are opened alike
-zeros-open : {j m r : List ℕ} → Opens j m r → Opens j (replicate WORDS 0) (replicate RUNNER 0)
+zeros-open : {j m r : List ℕ} → Fits j m r → Fits j (replicate WORDS 0) (replicate RUNNER 0)
 unfolding size
-zeros-open o = record { accepted = o .accepted; core = length-replicate {A = ℕ} WORDS 0; runner = length-replicate {A = ℕ} RUNNER 0 }
+zeros-open o = record { job = o .job; core = length-replicate {A = ℕ} WORDS 0; runner = length-replicate {A = ℕ} RUNNER 0 }
 
-pub program-text : {j m r : List ℕ} → Opens j m r → (ts : List ℕ) → let x = openOutcome j m r in
+pub program-text : {j m r : List ℕ} → Fits j m r → (ts : List ℕ) → let x = openOutcome j m r in
     flatten (printedFrom j 0 ts (coreOf x) (runnerOf x)) ≡ overlapText j ts
 unfolding overlapText textFrom
 program-text {j} {m} {r} o ts =

@@ -3,22 +3,11 @@
 use mathlib.Core.Path.{_≡_}
 use mathlib.Core.List.{List, _++_}
 use Prim.Native.Nat.{ℕ, _+_, _<_, _≤_}
-use Rattle.spec_words.specs.Words.{size}
 use Rattle.spec_lists.specs.Maps.{All}
-use Rattle.spec_layout.specs.Layout.{WORDS}
-use Rattle.spec_answers.specs.declared.Answer.the-variants.{Moved}
-use Rattle.spec_job.specs.Test.{jobAnswer}
-use Rattle.spec_runner.specs.Words.{RUNNER}
 use Rattle.overlap_text.specs.Whole.{overlapText}
 use Rattle.law_trace.specs.Feeds.{IsLine, feeds, EndsLine}
 use Rattle.spec_replay.specs.declared.Replayed.the-variants.{Agrees, Differs}
 use Rattle.spec_replay.specs.Replay.{replayAnswer}
-
--- an accepted job, and words of the right number: an opening moves
-pub record Opens (j m r : List ℕ) : Type 0 where
-  pub accepted : jobAnswer j ≡ Moved 0
-  pub core : size m ≡ WORDS
-  pub runner : size r ≡ RUNNER
 
 -- "a trace of at most 65,535 lines printed by `overlap` for any accepted job and any task bytes .. and each beginning of it that ends
 -- with a line": xs, of what is printed for job j

@@ -111,11 +111,11 @@ all-digits =
     ∙ next-digit g n d bs h)
 
 -- a byte that is no digit ends a number
-stops : (g v : ℕ) (bs : List ℕ) → digitOf (front bs) ≡ 10 → moreDigits g v bs ≡ numbered v bs
+pub stops : (g v : ℕ) (bs : List ℕ) → 10 ≤ digitOf (front bs) → moreDigits g v bs ≡ numbered v bs
 unfolding moreDigits front
 stops zero v bs h = refl
 stops (suc g) v [] h = refl
-stops (suc g) v (b ∷ bs) h = pass _ (le-ltb (digitOf b) 10 (omega (arith, h))) refl
+stops (suc g) v (b ∷ bs) h = pass _ (le-ltb (digitOf b) 10 h) refl
 
 -- a number that does not begin with the digit 0
 number-digits : (bs : List ℕ) → digitOf (front bs) < 10 → 1 ≤ digitOf (front bs) → numberAt bs ≡ fitting (moreDigits 10 0 bs)
@@ -137,7 +137,7 @@ number-read (suc n) bs h s =
     ∙ ap fitting
     (ap (λ (k : ℕ). moreDigits k 0 (t ++ bs)) (let z : 10 ≡ length t + (10 - length t) = omega (arith, decimal-few (suc n) h) in z)
     ∙ all-digits (suc n) j bs
-    ∙ stops j (suc n) bs s)
+    ∙ stops j (suc n) bs (omega (arith, s)))
     ∙ halt _ _ (lt-ltb (suc n) 4294967296 h)
 
 -- WHAT WAS READ IS A NUMBER'S TEXT, if a byte stands behind it

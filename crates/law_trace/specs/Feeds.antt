@@ -1,6 +1,6 @@
 -- LINES: texts that end with their only line feed. What is written of lines one behind the other, up to a line feed, is whole lines.
 use mathlib.Core.Path.{_≡_, refl, ap, ap₂, sym, _∙_}
-use mathlib.Core.List.{List, [], _∷_, _++_, flatten, append-assoc, nil≢cons, head-eq-of-cons-eq, tail-eq-of-cons-eq}
+use mathlib.Core.List.{List, [], _∷_, _++_, append-assoc, nil≢cons, head-eq-of-cons-eq, tail-eq-of-cons-eq}
 use Prim.Native.Nat.{ℕ, suc, _≤_}
 use native.Mathlib.Omega.{arith}
 use lib.ListN.{length, take, drop}
@@ -94,12 +94,3 @@ module _ {A : Type 0} (write : A → List ℕ) (text : List A → List ℕ) (non
         front = p .first ∙ sym (split (p .rest)) ∙ ap (λ (t : List ℕ). write l ++ t) (r .front) ∙ sym (more l (take (r .count) ls));
         behind = r .behind;
       }
-
--- and for texts that are lines
-pub feeds-lines : (ts : List (List ℕ)) → All IsLine ts → feeds (flatten ts) ≡ length ts
-unfolding flatten
-feeds-lines = feeds-written (λ t. t) flatten refl (λ t ts. refl)
-
-pub whole-lines : (ts : List (List ℕ)) → All IsLine ts → (xs ys : List ℕ) → xs ++ ys ≡ flatten ts → EndsLine xs → Whole flatten ts xs ys
-unfolding flatten
-whole-lines = whole-written (λ t. t) flatten refl (λ t ts. refl)

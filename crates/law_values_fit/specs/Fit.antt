@@ -50,7 +50,8 @@ use Rattle.law_any_order.specs.AnyOrder.{calls, under-way, noTicks}
 use Rattle.law_any_order.specs.Fold.{same-words}
 use Rattle.law_in_range.specs.Sound.{rules-sound}
 use Rattle.overlap_text.specs.Whole.{leftAt, given, valueIn}
-use Rattle.law_values_fit.specs.Order.{Fits, AnswerFits, OrderFits, chosen, begin-fits, advance-fits, noted-fits, pop-fits}
+use Rattle.law_timed_line.specs.Times.{picked}
+use Rattle.law_values_fit.specs.Order.{IsWord, AnswerFits, OrderFits, begin-fits, advance-fits, noted-fits, pop-fits}
 use Rattle.law_values_fit.specs.Order.{left-fits as over-fits}
 
 -- a job is bytes
@@ -59,11 +60,11 @@ Bytes j = All (λ b. b < 256) j
 
 -- an answer whose value and status are words
 abbrev pub StepFits : StepAnswer → Type 0
-StepFits x = Fits (valueOf x) × Fits (statusOf x)
+StepFits x = IsWord (valueOf x) × IsWord (statusOf x)
 
 abbrev OptionFits : Option ℕ → Type 0
 OptionFits none = Unit {0}
-OptionFits (some v) = Fits v
+OptionFits (some v) = IsWord v
 
 -- THE JOB'S NUMBERS
 load-byte : (j : List ℕ) → Bytes j → (a : ℕ) → load j a < 256
@@ -72,19 +73,19 @@ load-byte [] h a = omega arith
 load-byte (b ∷ j) h zero = h .0
 load-byte (b ∷ j) h (suc a) = load-byte j (h .1) a
 
-word-fits : (j : List ℕ) → Bytes j → (a : ℕ) → Fits (bytes4 j a)
+word-fits : (j : List ℕ) → Bytes j → (a : ℕ) → IsWord (bytes4 j a)
 unfolding bytes4 bytes2
 word-fits j h a = let b = load-byte j h in omega (arith, b a, b (a + 1), b (a + 2), b (a + 2 + 1))
 
-operand-fits : (j : List ℕ) → Bytes j → (r : List ℕ) (t : ℕ) → Fits (instructionFor j r t .operand)
+operand-fits : (j : List ℕ) → Bytes j → (r : List ℕ) (t : ℕ) → IsWord (instructionFor j r t .operand)
 unfolding instructionFor instructionAt instructionFrom
 operand-fits j h r t = word-fits j h _
 
-sum-fits : (r x : ℕ) → Fits (sum r x)
+sum-fits : (r x : ℕ) → IsWord (sum r x)
 unfolding sum
 sum-fits r x = mod-lt (r + x) (omega arith)
 
-effect-fits : (o : Operation) (i r x : ℕ) (f : Option ℕ) (c : ℕ) → Fits x → OptionFits f → Fits c
+effect-fits : (o : Operation) (i r x : ℕ) (f : Option ℕ) (c : ℕ) → IsWord x → OptionFits f → IsWord c
     → (let e = effect o i r x f in StepFits (answerWith (e .word) (e .value) c))
 unfolding effect answerWith valueOf statusOf
 effect-fits return i r x f c hx hf hc = omega arith
@@ -130,18 +131,18 @@ module _ (m : List ℕ) (xs : List Mark) (st : State m xs) (small : OrderFits xs
 
   task-fits : (t : ℕ) (a : Answer) → AnswerFits a → AnswerFits (forTask t xs a)
   unfolding forTask
-  task-fits t a h = chosen AnswerFits _ h (omega arith)
+  task-fits t a h = picked AnswerFits _ h (omega arith)
 
   queue-fits : (t q : ℕ) (b : Bool) (a : Answer) → AnswerFits a → AnswerFits (forTask t xs (forQueue q b a))
   unfolding forQueue
-  queue-fits t q b a h = task-fits t _ (chosen AnswerFits _ (omega arith) (chosen AnswerFits b h (omega arith)))
+  queue-fits t q b a h = task-fits t _ (picked AnswerFits _ (omega arith) (picked AnswerFits b h (omega arith)))
 
   -- a new task's number is that of a free record
   spawn-fits : (t u : ℕ) → AnswerFits (coreAnswer (spawnTested m t u))
   unfolding spawnTested coreAnswer
   spawn-fits t u =
       let P : CoreOutcome → Type 0 = λ o. AnswerFits (coreAnswer o) in
-      chosen P _ (omega arith) (chosen P _ (omega arith) (chosen P _ tt (by (eqb (read m freeTasks) 0) refl)))
+      picked P _ (omega arith) (picked P _ (omega arith) (picked P _ tt (by (eqb (read m freeTasks) 0) refl)))
     where
       by : (b : Bool) → eqb (read m freeTasks) 0 ≡ b → AnswerFits (coreAnswer (pick b (core-outcome (Answer.Refused 8) m) (spawned m t u)))
       by true e = unfold pick coreAnswer in omega arith
@@ -151,21 +152,21 @@ module _ (m : List ℕ) (xs : List Mark) (st : State m xs) (small : OrderFits xs
           let c = rules-sound m (state-size m xs st) (state-rules m xs st) .idle-tasks (read m freeTasks - 1) (omega (arith, some)) in
           omega (arith, c)
 
-  push-fits : (t q v : ℕ) → Fits v → CallFits (push-call t q v)
+  push-fits : (t q v : ℕ) → IsWord v → CallFits (push-call t q v)
   unfolding answered ordered counted
   push-fits t q v h = (
-    said (push-call t q v) (queue-fits t q _ _ (chosen AnswerFits _ tt (chosen AnswerFits _ (omega arith) h))),
+    said (push-call t q v) (queue-fits t q _ _ (picked AnswerFits _ tt (picked AnswerFits _ (omega arith) h))),
     λ _. advance-fits t (pushes q v) xs h small,
   )
 
   left-said : (q i : ℕ) → AnswerFits (coreAnswer (coreOutcome (left-call q i) m))
   unfolding answered ordered
-  left-said q i = said (left-call q i) (chosen AnswerFits _ (omega arith) (chosen AnswerFits _ tt (over-fits q i xs small)))
+  left-said q i = said (left-call q i) (picked AnswerFits _ (omega arith) (picked AnswerFits _ tt (over-fits q i xs small)))
 
   -- the call of an instruction
-  call-fits : (o : Operation) (j : List ℕ) (t x : ℕ) (s : Instruction) → Fits (s .operand) → MaybeFits (callOf o j t x s)
+  call-fits : (o : Operation) (j : List ℕ) (t x : ℕ) (s : Instruction) → IsWord (s .operand) → MaybeFits (callOf o j t x s)
   unfolding callOf answered ordered counted
-  call-fits return j t x s h = (said (finish-call t) (task-fits t _ (chosen AnswerFits _ tt (omega arith))), λ _. advance-fits t finishes xs tt small)
+  call-fits return j t x s h = (said (finish-call t) (task-fits t _ (picked AnswerFits _ tt (omega arith))), λ _. advance-fits t finishes xs tt small)
   call-fits push j t x s h = push-fits t (s .which) (s .operand) h
   call-fits pushSum j t x s h = push-fits t (s .which) (sum x (s .operand)) (sum-fits x (s .operand))
   call-fits pop j t x s h =
@@ -176,7 +177,7 @@ module _ (m : List ℕ) (xs : List Mark) (st : State m xs) (small : OrderFits xs
   call-fits goIfZero j t x s h = tt
   call-fits add j t x s h = tt
   call-fits spawn j t x s h = (unfold coreOutcome in spawn-fits t _, λ v. advance-fits t (spawns v _) xs tt small)
-  call-fits sync j t x s h = (said (sync-call t) (task-fits t _ (chosen AnswerFits _ tt (omega arith))), λ _. advance-fits t syncs xs tt small)
+  call-fits sync j t x s h = (said (sync-call t) (task-fits t _ (picked AnswerFits _ tt (omega arith))), λ _. advance-fits t syncs xs tt small)
 
 module _ (j : List ℕ) (bytes : Bytes j) (e : jobAnswer j ≡ Answer.Moved 0) where
   -- ONE STEP
@@ -190,7 +191,7 @@ module _ (j : List ℕ) (bytes : Bytes j) (e : jobAnswer j ≡ Answer.Moved 0) w
     asked : Asked (coreCall j (s .runner) t)
     asked = call-fits (s .core) (s .order) (run .state) small (operationAt (i .operation)) j t _ i (operand-fits j bytes (s .runner) t)
 
-    done-fits : (f : Option ℕ) (c : ℕ) (n : List ℕ) → OptionFits f → Fits c → StepFits (answerOf (done t i f c n (s .runner)))
+    done-fits : (f : Option ℕ) (c : ℕ) (n : List ℕ) → OptionFits f → IsWord c → StepFits (answerOf (done t i f c n (s .runner)))
     unfolding done answerOf
     done-fits f c n h k = effect-fits (operationAt (i .operation)) _ _ _ f c (operand-fits j bytes (s .runner) t) h k
 
@@ -201,7 +202,7 @@ module _ (j : List ℕ) (bytes : Bytes j) (e : jobAnswer j ≡ Answer.Moved 0) w
     told-fits (core-outcome Answer.NotEmpty n) h = done-fits (some 0) 0 n (omega arith) (omega arith)
     told-fits (core-outcome Answer.Waits n) h = omega arith
     told-fits (core-outcome (Answer.Refused k) n) h =
-        chosen (λ (x : Reply). StepFits (answerOf (replied t i x n (s .core) (s .runner)))) (eqb k 7) (done-fits none 0 n tt (omega arith)) (omega arith)
+        picked (λ (x : Reply). StepFits (answerOf (replied t i x n (s .core) (s .runner)))) (eqb k 7) (done-fits none 0 n tt (omega arith)) (omega arith)
 
     makes-fits : (c : Option Call) → Asked c → StepFits (answerOf (makes t i c (s .core) (s .runner)))
     unfolding makes
@@ -212,7 +213,7 @@ module _ (j : List ℕ) (bytes : Bytes j) (e : jobAnswer j ≡ Answer.Moved 0) w
     unfolding stepTested answerOf valueOf statusOf
     behind-tests =
         let P : Outcome → Type 0 = λ o. StepFits (answerOf o) in
-        chosen P _ (omega arith) (chosen P _ (omega arith) (makes-fits _ asked))
+        picked P _ (omega arith) (picked P _ (omega arith) (makes-fits _ asked))
 
     step-fits : StepFits (answerOf (stepOutcome j (s .core) (s .runner) t))
     unfolding stepOutcome
@@ -227,7 +228,7 @@ module _ (j : List ℕ) (bytes : Bytes j) (e : jobAnswer j ≡ Answer.Moved 0) w
 
     order-fits : OrderFits (stepped j t s .order)
     unfolding stepped standAfter
-    order-fits = chosen OrderFits _ (noted-by _ asked) small
+    order-fits = picked OrderFits _ (noted-by _ asked) small
 
   -- A LIST OF STEPS
   all-fit : (ts : List ℕ) (s : Stand) (l : List (Item Numbered)) → Running j noTicks s l → OrderFits (s .order)
@@ -256,7 +257,7 @@ module _ (j : List ℕ) (bytes : Bytes j) (e : jobAnswer j ≡ Answer.Moved 0) w
     answers-fit = fits .0
 
     -- EVERY VALUE THAT IS LEFT
-    pub left-fits : (q i x : ℕ) → valueIn (stepsFrom j ts (coreOf o) (runnerOf o) .core) q i ≡ some x → Fits x
+    pub left-fits : (q i x : ℕ) → valueIn (stepsFrom j ts (coreOf o) (runnerOf o) .core) q i ≡ some x → IsWord x
     unfolding valueIn leftAt coreOutcome fresh
     left-fits q i x d =
         let same = ap (λ (m : List ℕ). valueIn m q i) (same-words j ts (fresh j w v) .0) in

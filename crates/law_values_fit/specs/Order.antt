@@ -1,34 +1,34 @@
 -- WHERE ALL VALUES PUSHED ARE WORDS, SO ARE THOSE THAT PROGRAM ORDER HANDS OUT: a pending value is one that was pushed.
-use mathlib.Core.Bool.{Bool, true, false}
+use mathlib.Core.Bool.{true, false}
 use mathlib.Core.List.{List, [], _∷_}
 use Prim.Native.Nat.{ℕ, zero, suc, _<_}
 use native.Mathlib.Omega.{arith}
 use lib.Dec.{eqb}
-use Rattle.spec_words.specs.Words.{pick}
 use Rattle.spec_lists.specs.Maps.{All, all-append}
 use Rattle.spec_answers.specs.declared.Answer.{Answer}
 use Rattle.spec_answers.specs.declared.Answer.the-variants.{Moved, Empty, NotEmpty, Waits, Refused}
 use Rattle.spec_answers.specs.declared.Finding.{Finding}
 use Rattle.spec_answers.specs.Calls.{Call}
+use Rattle.law_timed_line.specs.Times.{picked}
 use Rattle.spec_order.specs.Steps.{Task, task, Act, spawns, pushes, pops, tests, syncs, finishes, Item, step, spot, numberOf}
 use Rattle.spec_order.specs.Steps.{begin, made, moved, advance, counted, noted}
 use Rattle.spec_order.specs.Finding.{before, Pending, pending, Run, run, later, stepped, passes, runs, found, finding, valueNumber, pendingOf, leftOver}
 use Rattle.spec_order.specs.Ordered.{popAnswer, leftAnswer}
 
 -- "words of 32 bits"
-abbrev pub Fits : ℕ → Type 0
-Fits v = v < 4294967296
+abbrev pub IsWord : ℕ → Type 0
+IsWord v = v < 4294967296
 
 abbrev pub AnswerFits : Answer → Type 0
-AnswerFits (Moved v) = Fits v
+AnswerFits (Moved v) = IsWord v
 AnswerFits Empty = Unit {0}
 AnswerFits NotEmpty = Unit {0}
 AnswerFits Waits = Unit {0}
-AnswerFits (Refused k) = Fits k
+AnswerFits (Refused k) = IsWord k
 
 abbrev pub ActFits : Act → Type 0
 ActFits (spawns c r) = Unit {0}
-ActFits (pushes q v) = Fits v
+ActFits (pushes q v) = IsWord v
 ActFits (pops q) = Unit {0}
 ActFits (tests q) = Unit {0}
 ActFits syncs = Unit {0}
@@ -41,12 +41,6 @@ ItemFits (spot s) = Unit {0}
 -- THE STEPS SO FAR push words only
 abbrev pub OrderFits : List Item → Type 0
 OrderFits xs = All ItemFits xs
-
--- what holds of both holds of a choice
-pub chosen : {A : Type 0} (P : A → Type 0) (b : Bool) {x y : A} → P x → P y → P (pick b x y)
-unfolding pick
-chosen P true h k = h
-chosen P false h k = k
 
 -- A CALL KEEPS IT
 pub begin-fits : OrderFits begin
@@ -65,7 +59,7 @@ made-fits (task p t r k) finishes h = omega arith
 moved-fits : (t : ℕ) (a : Act) (x : Item) → ActFits a → ItemFits x → OrderFits (moved t a x)
 unfolding moved
 moved-fits t a (step p b) h k = (k, tt)
-moved-fits t a (spot s) h k = chosen OrderFits (eqb (numberOf s) t) (made-fits s a h) (tt, tt)
+moved-fits t a (spot s) h k = picked OrderFits (eqb (numberOf s) t) (made-fits s a h) (tt, tt)
 
 pub advance-fits : (t : ℕ) (a : Act) (xs : List Item) → ActFits a → OrderFits xs → OrderFits (advance t a xs)
 unfolding advance
@@ -82,7 +76,7 @@ noted-fits c (Refused n) xs h k = k
 
 -- WHAT IS PENDING
 abbrev PendingFits : Pending → Type 0
-PendingFits (pending v b) = Fits v
+PendingFits (pending v b) = IsWord v
 
 abbrev RunFits : Run → Type 0
 RunFits r = All PendingFits (pendingOf r)
@@ -94,8 +88,8 @@ later-fits (v ∷ vs) h = h .1
 
 stepped-fits : (q : ℕ) (a : Act) (r : Run) → ActFits a → RunFits r → RunFits (stepped q a r)
 unfolding stepped pendingOf
-stepped-fits q (pushes p v) (run b vs) h k = chosen RunFits (eqb p q) (all-append PendingFits vs (pending v b ∷ []) k (h, tt)) k
-stepped-fits q (pops p) (run b vs) h k = chosen RunFits (eqb p q) (later-fits vs k) k
+stepped-fits q (pushes p v) (run b vs) h k = picked RunFits (eqb p q) (all-append PendingFits vs (pending v b ∷ []) k (h, tt)) k
+stepped-fits q (pops p) (run b vs) h k = picked RunFits (eqb p q) (later-fits vs k) k
 stepped-fits q (spawns c r) (run b vs) h k = k
 stepped-fits q (tests p) (run b vs) h k = k
 stepped-fits q syncs (run b vs) h k = k
@@ -112,7 +106,7 @@ before-fits : (t : ℕ) (xs : List Item) → OrderFits xs → OrderFits (before 
 unfolding before
 before-fits t [] h = tt
 before-fits t (step p a ∷ xs) h = (h .0, before-fits t xs (h .1))
-before-fits t (spot s ∷ xs) h = chosen OrderFits (eqb (numberOf s) t) tt (tt, before-fits t xs (h .1))
+before-fits t (spot s ∷ xs) h = picked OrderFits (eqb (numberOf s) t) tt (tt, before-fits t xs (h .1))
 
 found-fits : (r : Run) → RunFits r → AnswerFits (popAnswer (found r))
 unfolding found popAnswer pendingOf
@@ -124,7 +118,7 @@ found-fits (run true []) h = tt
 pub pop-fits : (t q : ℕ) (xs : List Item) → OrderFits xs → AnswerFits (popAnswer (finding t q xs))
 unfolding finding popAnswer pendingOf
 pop-fits t q xs h =
-    chosen (λ (f : Finding). AnswerFits (popAnswer f)) _ tt (found-fits _ (runs-fits q (before t xs) (run false []) (before-fits t xs h) tt))
+    picked (λ (f : Finding). AnswerFits (popAnswer f)) _ tt (found-fits _ (runs-fits q (before t xs) (run false []) (before-fits t xs h) tt))
 
 -- WHAT IS LEFT
 number-fits : (i : ℕ) (vs : List Pending) → All PendingFits vs → AnswerFits (leftAnswer (valueNumber i vs))

@@ -1,5 +1,5 @@
--- THE FORM OF A TRACE: lines one behind the other, first those of calls, then those of the end. 13: "a line of another form (.. too), a
--- call line after "left" or "open", or more lines" than 65,535.
+-- THE FORM OF A TRACE: lines one behind the other, first those of calls, then those of the end. "It refuses with 13 .. a line of another
+-- form ("job refused" too), a call line after "left" or "open", or more lines" than 65,535.
 use mathlib.Core.Path.{_≡_}
 use mathlib.Core.Bool.{Bool, true, false, not}
 use mathlib.Core.List.{List, [], _∷_}
@@ -43,13 +43,13 @@ unfoldable pub there : Option (List Line) → Bool
 there none = false
 there (some ls) = true
 
--- WHAT THE READER ACCEPTS, in words of text alone: bs are the lines ls, printed one behind the other.
--- No call stands behind a line of the end; e says whether one stands before.
+-- WHAT THE READER ACCEPTS, in words of text alone (`reads`, `read`, crates/law_trace/specs/Whole.antt). No call stands behind a line of the
+-- end; e says whether one stands before.
 abbrev pub CallsFirst : Bool → List Line → Type 0
 CallsFirst e [] = Unit {0}
 CallsFirst e (l ∷ ls) = (both e (isCall l) ≡ false) × CallsFirst (not (isCall l)) ls
 
--- at most f of them
+-- bs are at most f lines ls, printed one behind the other
 pub record Lined (f : ℕ) (e : Bool) (bs : List ℕ) (ls : List Line) : Type 0 where
   pub text : renderAll ls ≡ bs
   pub valid : All Valid ls

@@ -60,7 +60,7 @@ numberAt (b ∷ bs) =
 unfoldable pub below : ℕ → Numbered → List ℕ
 below k x = pick (ltb (x .value) k) (x .rest) []
 
--- the only word that may begin with a byte
+-- the only word that may begin with a byte: with s, p, t, f, m, e, n, w, and "refused" with any other
 unfoldable pub wordAt : ℕ → Word
 wordAt b =
     pick (eqb b 115) spawned

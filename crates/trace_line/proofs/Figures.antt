@@ -8,6 +8,7 @@ use native.Mathlib.Omega.{arith}
 use lib.ListN.{length, drop}
 use borrow.Author.Tests.{eq-eqb, ne-eqb, lt-ltb, le-ltb}
 use Rattle.spec_words.specs.Words.{pick, pass, halt}
+use Rattle.law_trace.specs.Digits.{stops}
 use Rattle.spec_trace.specs.Read.{front, digitOf, Numbered, numbered, moreDigits, fitting, numberAt}
 use Rattle.trace_line.specs.Reads.{NumberRead}
 use Rattle.trace_line.proofs.Places.{at-end, on-one}
@@ -47,13 +48,7 @@ unfolding fitting
 too-much bs v p l =
     read-as (sym (pass (numbered v (drop p bs)) (le-ltb v 4294967296 l) refl)) record { value = refl; behind = at-end bs refl }
 
--- no digit more, and one more
-more-none : (f v : ℕ) (bs : List ℕ) → 10 ≤ digitOf (front bs) → moreDigits f v bs ≡ numbered v bs
-unfolding moreDigits front
-more-none zero v bs h = refl
-more-none (suc f) v [] h = refl
-more-none (suc f) v (b ∷ bs) h = pass (moreDigits f (v * 10 + digitOf b) bs) (le-ltb (digitOf b) 10 h) refl
-
+-- one digit more
 more-one : (f v : ℕ) (bs : List ℕ) → digitOf (front bs) < 10 → moreDigits (suc f) v bs ≡ moreDigits f (v * 10 + digitOf (front bs)) (drop 1 bs)
 unfolding moreDigits front
 more-one f v [] h = absurd (no-digit h)
@@ -87,7 +82,7 @@ number-more (b ∷ bs) n h = pass (numbered 0 bs) (ne-eqb (digitOf b) 0 n) (halt
 pub figures-none : (bs : List ℕ) (v p k d : ℕ) {u q : ℕ} {w : Numbered} → d ≡ digitOf (front (drop p bs)) → 10 ≤ d
     → moreDigits (9 - k) v (drop p bs) ≡ w → NumberRead bs u q (fitting (numbered v (drop p bs))) → NumberRead bs u q (fitting w)
 figures-none bs v p k d e h f r =
-    let g : 10 ≤ digitOf (front (drop p bs)) = omega (arith, e) in read-as (ap fitting (sym (more-none (9 - k) v (drop p bs) g) ∙ f)) r
+    let g : 10 ≤ digitOf (front (drop p bs)) = omega (arith, e) in read-as (ap fitting (sym (stops (9 - k) v (drop p bs) g) ∙ f)) r
 
 pub figures-one : (bs : List ℕ) (v p k d : ℕ) {w : Numbered} → k < 9 → d ≡ digitOf (front (drop p bs)) → d < 10
     → moreDigits (9 - k) v (drop p bs) ≡ w → moreDigits (9 - (k + 1)) (v * 10 + d) (drop (p + 1) bs) ≡ w

@@ -5,6 +5,7 @@
 //! one part again, as the line of a difference names it.
 
 use host::asm::assemble;
+use host::crowds::CROWDS;
 use host::damage::damage;
 use host::damaged_jobs::damaged;
 use host::job::Job;
@@ -31,26 +32,6 @@ struct Part {
     rounds: u32,
     round: fn(&mut State, &mut Random) -> Outcome,
 }
-
-/// A top that spawns without end, more children than there are records; and one
-/// that pushes without end, more values than the segments hold.
-const CROWDS: [&str; 2] = [
-    "length 1
-     procedure top all
-     again: spawn child 1
-     go again
-     procedure child pop 0
-     pop 0
-     return",
-    "length 1
-     procedure top all
-     spawn child 1
-     again: push 0 1
-     go again
-     procedure child pop 0
-     pop 0
-     return",
-];
 
 const PARTS: [Part; 4] = [
     Part {
