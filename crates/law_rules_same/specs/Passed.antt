@@ -57,7 +57,7 @@ module _ (c : Contents) where
       let f = both-true _ _ (d .1) in
       record { words = a .0; order = b .0; owned = d .0; segs = f .0; holding = f .1 }
 
-  says-seen : (xs : List ℕ) → Seen xs → viewTests c xs ≡ true
+  pub says-seen : (xs : List ℕ) → Seen xs → viewTests c xs ≡ true
   unfolding viewTests
   says-seen xs s = true-both (s .words) (true-both (s .order) (true-both (s .owned) (true-both (s .segs) (s .holding))))
 

@@ -3,21 +3,21 @@ use mathlib.Core.Path.{_≡_, refl, ap, sym, _∙_, subst⁻¹}
 use mathlib.Core.Bool.{Bool, true, false}
 use mathlib.Core.List.{List, [], _∷_}
 use mathlib.Core.Logic.{⊎-elim}
-use Prim.Native.Nat.{ℕ, zero, suc, _<_, _≤_}
+use Prim.Native.Nat.{ℕ, zero, suc, _-_, _<_, _≤_}
 use native.Mathlib.Omega.{arith}
 use native.Mathlib.Nat.{le-of-suc-le-suc}
 use lib.Dec.{leb}
-use lib.ListN.{length, getD, set, replicate, drop, length-drop}
+use lib.ListN.{length, getD, set, replicate}
 use borrow.Author.Tests.{le-leb, leb-true, leb-false}
-use lib.Seq.{length-take-le}
 use Rattle.spec_words.specs.Words.{load, store, size, pass, halt, both-true, both-on, both-off}
 use Rattle.spec_lists.specs.Tests.{upto}
-use Rattle.spec_lists.specs.Distinct.{fresh}
+use Rattle.spec_lists.specs.Distinct.{distinct, Distinct, distinct-says}
 use Rattle.spec_lists.specs.Marks.{marking}
-use Rattle.spec_layout.specs.Layout.{WORDS, FREE-SEGMENTS, lengthWord, numberWord, freeSegments, address, read}
+use Rattle.spec_layout.specs.Layout.{WORDS, lengthWord, numberWord, address, read}
 use Rattle.spec_tree.specs.Tour.{END, after, tour}
 use Rattle.spec_rules.specs.Contents.{decode}
 use Rattle.spec_rules.specs.Test.{within, inRange, topTest, idleTest, treeTest, segmentTest, viewTests}
+use Rattle.spec_rules.specs.Held.{stackTest, heldCount, held-free, free-left}
 use Rattle.law_rules_views.specs.Marks.{yes-no}
 use Rattle.spec_view_events.specs.Events.{events}
 use Rattle.spec_view_events.specs.Run.{PLACED, run}
@@ -26,12 +26,12 @@ use Rattle.spec_view_events.specs.Walk.{Marks}
 use Rattle.spec_view_events.specs.Parts.{number-at}
 use Rattle.law_view_events.specs.Whole.{coded, marks, views-same}
 
--- The opening numbers are in range, no more segments are free than were opened, the tests of the top, of the free records
--- and of the tree have passed, and xs are the marks of the tour.
+-- The opening numbers are in range, the stack of free segments is right, the tests of the top, of the free records and of the
+-- tree have passed, and xs are the marks of the tour.
 pub record Begun (m xs : List ℕ) : Type 0 where
   pub words : size m ≡ WORDS
   pub range : inRange (read m lengthWord) (read m numberWord) ≡ true
-  pub room : read m freeSegments ≤ read m numberWord
+  pub stack : stackTest (decode m) ≡ true
   pub top : topTest (decode m) ≡ true
   pub idle : idleTest (decode m) ≡ true
   pub tree : treeTest (decode m) (marks (decode m)) 0 ≡ true
@@ -65,23 +65,15 @@ module _ (m xs : List ℕ) (b : Begun m xs) where
   unfolding size read address load
   ready = (b .words, most)
 
-  pub height : getD m 2 0 ≤ 256
-  unfolding read address load
-  height = let a = most in let d = b .room in omega (arith, a, d)
-
   pub below : Marks xs
   below = subst⁻¹ (λ (l : List ℕ). Marks l) (b .toured) (tour-below (marks (decode m)) (decode m .recs) 0)
 
-  free-length : length (decode m .free) ≡ getD m 2 0
-  unfolding read address load size
-  free-length =
-      length-take-le (getD m 2 0) (drop FREE-SEGMENTS m) (let a = length-drop FREE-SEGMENTS m in let d = b .words in let e = height in omega (arith, a, d, e))
+  once : Distinct (decode m .number) (decode m .free)
+  unfolding stackTest
+  once = distinct-says (decode m .number) (decode m .free) most (b .stack)
 
-  few : leb (length (decode m .free)) (decode m .number) ≡ true
-  few = le-leb (length (decode m .free)) (decode m .number) (let a = free-length in let d = b .room in let e = at in omega (arith, a, d, e))
-    where
-      at : getD m 2 0 ≡ read m freeSegments
-      at = unfold read address load in refl
+  pub few : leb (length (decode m .free)) (decode m .number) ≡ true
+  few = le-leb (length (decode m .free)) (decode m .number) (let a = held-free (decode m) once in omega (arith, a))
 
   law : coded (decode m) xs ≡ viewTests (decode m) xs
   law =
@@ -89,7 +81,7 @@ module _ (m xs : List ℕ) (b : Begun m xs) where
       ∙ views-same (decode m) most few (b .top) (b .idle) (b .tree)
       ∙ ap (viewTests (decode m)) (sym (b .toured))
 
-  -- the code's three steps
+  -- the code's two steps
   module _ {x : Bool} (segs : x ≡ upto (segmentTest (decode m)) (getD m 1 0) 0) where
     first : upto (segmentTest (decode m)) (decode m .number) 0 ≡ x
     first = sym (segs ∙ ap (λ (k : ℕ). upto (segmentTest (decode m)) k 0) (number-at m))
@@ -98,20 +90,15 @@ module _ (m xs : List ℕ) (b : Begun m xs) where
     unfolding coded
     no-segments e = sym (both-off _ (first ∙ e)) ∙ law
 
-    module _ {y : Bool} (good : x ≡ true) (free : y ≡ fresh (decode m .number) (decode m .free) (replicate 256 0)) where
-      pub no-free : y ≡ false → false ≡ viewTests (decode m) xs
-      unfolding coded
-      no-free e = sym (both-on (first ∙ good) ∙ both-off _ (sym free ∙ e)) ∙ law
-
-      pub all-views : (d : List ℕ) → y ≡ true → d ≡ marking (decode m .free) (replicate 256 0)
-          → run (decode m) (events (decode m) xs) d d (set (replicate 12 0) PLACED (getD m 2 0)) ≡ viewTests (decode m) xs
-      unfolding coded store
-      all-views d e p =
-          ap (λ (l : List ℕ). run (decode m) (events (decode m) xs) l l (set (replicate 12 0) PLACED (getD m 2 0))) p
-          ∙ ap
-          (λ (k : ℕ).
-          run (decode m) (events (decode m) xs) (marking (decode m .free) (replicate 256 0)) (marking (decode m .free) (replicate 256 0))
-          (set (replicate 12 0) PLACED k))
-          (sym free-length)
-          ∙ sym (both-on (first ∙ good) ∙ both-on (sym free ∙ e))
-          ∙ law
+    pub all-views : (d w : List ℕ) → x ≡ true → d ≡ marking (decode m .free) (replicate 256 0)
+        → w ≡ set (replicate 12 0) PLACED (getD m 1 0 - heldCount (decode m))
+        → run (decode m) (events (decode m) xs) d d w ≡ viewTests (decode m) xs
+    unfolding coded stackTest distinct store
+    all-views d w good p e =
+        ap (λ (l : List ℕ). run (decode m) (events (decode m) xs) l l w) p
+        ∙ ap
+        (run (decode m) (events (decode m) xs) (marking (decode m .free) (replicate 256 0)) (marking (decode m .free) (replicate 256 0)))
+        (e ∙ ap (λ (k : ℕ). set (replicate 12 0) PLACED (k - heldCount (decode m))) (number-at m)
+        ∙ ap (set (replicate 12 0) PLACED) (free-left (decode m) once))
+        ∙ sym (both-on (first ∙ good) ∙ both-on (b .stack))
+        ∙ law

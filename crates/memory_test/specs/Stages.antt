@@ -1,102 +1,97 @@
--- The memory test, stage by stage, as the code goes through it.
-use mathlib.Core.Path.{_≡_, ap, sym, _∙_}
-use mathlib.Core.Bool.{Bool, true, false, not}
+-- The memory test, stage by stage, as the code goes through it: where one test fails the whole does, whatever the others say.
+use mathlib.Core.Path.{_≡_, ap, ap₂, sym, _∙_}
+use mathlib.Core.Bool.{Bool, true, false, not, false≢true}
 use mathlib.Core.List.{List}
-use Prim.Native.Nat.{ℕ, _-_, _*_, _≤_}
+use Prim.Native.Nat.{ℕ, _+_, _-_, _*_, _≤_}
 use native.Mathlib.Omega.{arith}
-use lib.Dec.{leb}
-use lib.ListN.{length, take, drop, length-take, length-drop}
+use lib.ListN.{length, getD, take, drop, length-take, length-drop}
 use borrow.Author.Tests.{leb-true, not-false, not-true}
-use Rattle.spec_words.specs.Words.{size, both-on, both-off, both-true}
-use Rattle.spec_layout.specs.Layout.{lengthWord, numberWord, freeSegments, freeTasks, read, recordOf}
+use Rattle.spec_words.specs.Words.{load, size, both-true, true-both, refuted}
+use Rattle.spec_layout.specs.Layout.{lengthWord, numberWord, freeTasks, address, read, recordOf}
 use Rattle.spec_tree.specs.Tour.{tour}
 use Rattle.spec_rules.specs.Contents.{Contents, decode, scan-decodes}
 use Rattle.spec_rules.specs.Test.{within, inRange, topTest, idleTest, treeTest, viewTests, test, rulesHold}
-use Rattle.law_view_events.specs.Whole.{marks}
-use Rattle.law_view_events.specs.Begun.{Begun}
+use Rattle.spec_rules.specs.Held.{stackTest, heldCount}
+use Rattle.spec_view_events.specs.Parts.{number-at}
+use Rattle.spec_view_events.specs.Sees.{Ready}
+use Rattle.law_rules_same.specs.Passed.{marks, toured, Passed, test-says, says-seen}
+use Rattle.law_rules_same.specs.Held.{stack-passed, held-and-free}
+use Rattle.law_view_events.specs.Begun.{Begun, few}
+use Rattle.segment_test.specs.declared.Counted.the-variants.{Held, Wrong}
+use Rattle.segment_test.specs.Count.{Counts, wrong-counts, held-counts}
+
+-- a test that has not failed
+pub so : {b x : Bool} → b ≡ x → not b ≡ false → x ≡ true
+so e f = sym e ∙ not-false _ f
 
 module _ (m : List ℕ) where
-  -- the test of the decoded memory
-  decoded : rulesHold m ≡ test (decode m)
-  unfolding rulesHold
-  decoded = ap test (scan-decodes m)
-
   abbrev C : Contents
   C = decode m
 
-  module _ {b1 : Bool} (e1 : b1 ≡ inRange (read m lengthWord) (read m numberWord)) where
-    pub out-of-range : not b1 ≡ true → false ≡ rulesHold m
-    unfolding test
-    out-of-range f = sym (decoded ∙ both-off _ (sym e1 ∙ not-true _ f))
+  -- the test of the decoded memory
+  decoded : rulesHold m ≡ test C
+  unfolding rulesHold
+  decoded = ap test (scan-decodes m)
 
-    pub number-small : not b1 ≡ false → read m numberWord ≤ 256
+  -- a test that every memory that passes would pass has failed
+  pub wrong : {b x : Bool} → (Passed C → x ≡ true) → b ≡ x → not b ≡ true → Counts C (rulesHold m) Wrong
+  wrong f e n = wrong-counts C (refuted _ (λ p. false≢true (sym (not-true _ n) ∙ e ∙ f (test-says C (sym decoded ∙ p)))))
+
+  pub stack-wrong : stackTest C ≡ false → Counts C (rulesHold m) Wrong
+  stack-wrong e = wrong-counts C (refuted _ (λ p. false≢true (sym e ∙ stack-passed m p)))
+
+  pub tree-wrong : {b : Bool} {k : ℕ} → k ≡ marks C → b ≡ treeTest C k 0 → not b ≡ true → Counts C (rulesHold m) Wrong
+  tree-wrong number e f = wrong (λ p. p .tree) (e ∙ ap (λ (j : ℕ). treeTest C j 0) number) f
+
+  -- the count is no more than the number opened, and what is left of it is where the walk starts
+  pub held-few : {n h : ℕ} → n ≡ read m numberWord → h + length (C .free) ≡ C .number → h ≤ n
+  held-few e t = omega (arith, e, t)
+
+  pub started : {n h : ℕ} → n ≡ read m numberWord → h ≡ heldCount C → n - h ≡ getD m 1 0 - heldCount C
+  started e q = ap₂ (λ (x y : ℕ). x - y) (e ∙ sym (number-at m)) q
+
+  module _ (range : inRange (read m lengthWord) (read m numberWord) ≡ true) where
+    number-small : read m numberWord ≤ 256
     unfolding inRange within
-    number-small f =
-        let a = both-true _ _ (sym e1 ∙ not-false _ f) in
+    number-small =
+        let a = both-true _ _ range in
         let b = both-true _ _ (a .1) in
         leb-true _ _ (both-true _ _ (b .0) .1)
 
-    module _ {b2 : Bool} (f1 : not b1 ≡ false) (e2 : b2 ≡ leb (length (C .free)) (C .number)) where
-      pub too-many : not b2 ≡ true → false ≡ rulesHold m
-      unfolding test
-      too-many f = sym (decoded ∙ both-on (sym e1 ∙ not-false _ f1) ∙ both-off _ (sym e2 ∙ not-true _ f))
+    pub ready : length m ≡ 16384 → Ready m
+    unfolding read address load
+    ready big = (big, number-small)
 
-      module _ {b3 : Bool} (f2 : not b2 ≡ false) (e3 : b3 ≡ topTest C) where
-        pub top-wrong : not b3 ≡ true → false ≡ rulesHold m
-        unfolding test
-        top-wrong f = sym (decoded ∙ both-on (sym e1 ∙ not-false _ f1) ∙ both-on (sym e2 ∙ not-false _ f2) ∙ both-off _ (sym e3 ∙ not-true _ f))
+    -- all tests before that of the views have passed
+    module _ {xs : List ℕ} {k : ℕ} (big : length m ≡ 16384) (stack : stackTest C ≡ true) (top : topTest C ≡ true) (idle : idleTest C ≡ true)
+        (number : k ≡ marks C) (tree : treeTest C k 0 ≡ true) (tours : xs ≡ tour k (recordOf m) 0) where
+      begins : xs ≡ toured C
+      begins = tours ∙ ap (λ (j : ℕ). tour j (recordOf m) 0) number
 
-        module _ {b4 : Bool} (f3 : not b3 ≡ false) (e4 : b4 ≡ idleTest C) where
-          pub idle-wrong : not b4 ≡ true → false ≡ rulesHold m
-          unfolding test
-          idle-wrong f =
-              sym (decoded ∙ both-on (sym e1 ∙ not-false _ f1) ∙ both-on (sym e2 ∙ not-false _ f2) ∙ both-on (sym e3 ∙ not-false _ f3)
-              ∙ both-off _ (sym e4 ∙ not-true _ f))
+      whole : treeTest C (marks C) 0 ≡ true
+      whole = ap (λ (j : ℕ). treeTest C j 0) (sym number) ∙ tree
 
-          module _ {b5 : Bool} {k : ℕ} (f4 : not b4 ≡ false) (ek : k ≡ marks C) (e5 : b5 ≡ treeTest C k 0) where
-            tree-same : b5 ≡ treeTest C (marks C) 0
-            tree-same = e5 ∙ ap (λ (j : ℕ). treeTest C j 0) ek
+      pub begun : Begun m xs
+      unfolding size
+      begun = record { words = big; range = range; stack = stack; top = top; idle = idle; tree = whole; toured = begins }
 
-            pub tree-wrong : not b5 ≡ true → false ≡ rulesHold m
-            unfolding test
-            tree-wrong f =
-                sym (decoded ∙ both-on (sym e1 ∙ not-false _ f1) ∙ both-on (sym e2 ∙ not-false _ f2) ∙ both-on (sym e3 ∙ not-false _ f3)
-                ∙ both-on (sym e4 ∙ not-false _ f4)
-                ∙ both-off _ (sym tree-same ∙ not-true _ f))
+      pub views-wrong : {b : Bool} → b ≡ viewTests C xs → not b ≡ true → Counts C (rulesHold m) Wrong
+      views-wrong e f = wrong (λ p. says-seen C (toured C) (p .seen)) (e ∙ ap (viewTests C) begins) f
 
-            module _ (f5 : not b5 ≡ false) (big : size m ≡ 16384) (xs : List ℕ) (ex : xs ≡ tour k (recordOf m) 0) where
-              toured : xs ≡ tour (marks C) (C .recs) 0
-              toured = ex ∙ ap (λ (j : ℕ). tour j (recordOf m) 0) ek
-
-              pub begun : Begun m xs
-              unfolding size
-              begun =
-                  let a = leb-true (length (C .free)) (C .number) (sym e2 ∙ not-false _ f2) in
-                  let b = length-take (read m freeSegments) (drop 64 m) in
-                  let d = length-drop 64 m in
-                  let f = number-small f1 in
-                  record {
-                    words = big;
-                    range = sym e1 ∙ not-false _ f1;
-                    room = omega (arith, a, b, d, f, big);
-                    top = sym e3 ∙ not-false _ f3;
-                    idle = sym e4 ∙ not-false _ f4;
-                    tree = sym tree-same ∙ not-false _ f5;
-                    toured = toured;
-                  }
-
-              pub passed : {b6 : Bool} → b6 ≡ viewTests C xs → b6 ≡ rulesHold m
-              unfolding test
-              passed e6 =
-                  e6
-                  ∙ ap (viewTests C) toured
-                  ∙ sym (decoded ∙ both-on (sym e1 ∙ not-false _ f1) ∙ both-on (sym e2 ∙ not-false _ f2) ∙ both-on (sym e3 ∙ not-false _ f3)
-                  ∙ both-on (sym e4 ∙ not-false _ f4)
-                  ∙ both-on (sym tree-same ∙ not-false _ f5))
+      -- the count is that of a memory that passes
+      pub all-right : {b : Bool} {h : ℕ} → b ≡ viewTests C xs → not b ≡ false → h ≡ heldCount C → Counts C (rulesHold m) (Held h)
+      all-right e f q = held-counts C rules q (ap (λ (k : ℕ). k + length (C .free)) q ∙ held-and-free m rules)
+        where
+          rules : rulesHold m ≡ true
+          rules = unfold test in
+              decoded
+              ∙ true-both range (true-both (few m xs begun)
+              (true-both top (true-both idle (true-both whole (ap (viewTests C) (sym begins) ∙ so e f)))))
 
 -- the number of marks
-pub marks-number : (m : List ℕ) {h : ℕ} → size m ≡ 16384 → idleTest (decode m) ≡ true → h ≡ read m freeTasks → (h ≤ 127) × (256 - 2 * h ≡ marks (decode m))
-unfolding idleTest size
+pub marks-number : (m : List ℕ) {h : ℕ} → length m ≡ 16384 → idleTest (decode m) ≡ true → h ≡ read m freeTasks
+    → (h ≤ 127) × (256 - 2 * h ≡ marks (decode m))
+unfolding idleTest
 marks-number m big e eh =
     let a = leb-true (length (decode m .idle)) 127 (both-true _ _ e .0) in
     let b = length-take (read m freeTasks) (drop 320 m) in

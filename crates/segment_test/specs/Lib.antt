@@ -1,2 +1,4 @@
 pub mod Records
 pub mod Stack
+pub mod Count
+pub mod Marked

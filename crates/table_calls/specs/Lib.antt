@@ -1,2 +1,3 @@
 pub mod Cases
 pub mod Foreign
+pub mod Counted

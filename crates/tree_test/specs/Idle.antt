@@ -5,7 +5,7 @@ use mathlib.Core.List.{List, [], _∷_}
 use Prim.Native.Nat.{ℕ, zero, suc, _+_, _*_, _<_, _≤_}
 use native.Mathlib.Omega.{arith}
 use lib.Dec.{leb, ltb, eqb}
-use lib.ListN.{length, drop, take, replicate, length-drop}
+use lib.ListN.{length, drop, take, replicate, length-drop, length-take}
 use borrow.Author.Tests.{ltb-true, lt-ltb, leb-true, le-leb, lt-leb}
 use Rattle.spec_words.specs.Words.{load, store, size, pick, both, both-on, both-off, same-test}
 use Rattle.spec_words.specs.Blocks.{take-more}
@@ -15,7 +15,6 @@ use Rattle.spec_layout.specs.Layout.{FREE, STATUS, freeTasks, read}
 use Rattle.spec_rules.specs.Contents.{decode, word}
 use Rattle.spec_rules.specs.Test.{idleTest}
 use Rattle.tree_test.specs.Records.{status-at}
-use Rattle.tree_test.specs.Stacks.{take-few, take-many}
 
 -- the k records from place i of the stack on; d has the marks of those before
 unfoldable pub idleFrom : ℕ → List ℕ → ℕ → List ℕ → Bool
@@ -89,11 +88,12 @@ module _ (m : List ℕ) where
   unfolding idleTest distinct freeOne
   idle-same s h =
       idle-parts (read m freeTasks) 0 (replicate 256 0) (omega (arith, s, h))
-      ∙ sym (both-on (le-leb (length (take (read m freeTasks) (drop 320 m))) 127 (let a = take-few (read m freeTasks) (drop 320 m) in omega (arith, a, h))))
+      ∙ sym (both-on (le-leb (length (take (read m freeTasks) (drop 320 m))) 127 (let a = length-take (read m freeTasks) (drop 320 m) in omega (arith, a, h))))
 
   -- a height above 127
   pub idle-many : size m ≡ 16384 → 127 < read m freeTasks → false ≡ idleTest (decode m)
   unfolding idleTest size
   idle-many s h =
       let a = length-drop 320 m in
-      sym (both-off _ (lt-leb (length (take (read m freeTasks) (drop 320 m))) 127 (take-many 127 (read m freeTasks) (drop 320 m) h (omega (arith, a, s)))))
+      let b = length-take (read m freeTasks) (drop 320 m) in
+      sym (both-off _ (lt-leb (length (take (read m freeTasks) (drop 320 m))) 127 (omega (arith, a, b, s, h))))

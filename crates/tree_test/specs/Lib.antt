@@ -1,5 +1,4 @@
 pub mod Records
-pub mod Stacks
 pub mod Idle
 pub mod Counted
 pub mod Top

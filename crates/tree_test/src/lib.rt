@@ -2,9 +2,8 @@
 ghost use mathlib.Core.Path.{_≡_};
 ghost use mathlib.Core.Bool.{true};
 ghost use Prim.Native.Nat.{_+_, _<_, _≤_};
-ghost use lib.Dec.{leb};
 ghost use lib.ListN.{length, take};
-ghost use Rattle.spec_layout.specs.Layout.{read, header, recordOf};
+ghost use Rattle.spec_layout.specs.Layout.{recordOf};
 ghost use Rattle.spec_tree.specs.Tour.{tour};
 ghost use Rattle.spec_rules.specs.Contents.{decode};
 ghost use Rattle.spec_rules.specs.Test.{inRange, topTest, idleTest, treeTest};
@@ -54,14 +53,6 @@ pub fn in_range(l: u32, n: u32) -> bool
         return false;
     }
     l * n <= VALUE_WORDS
-}
-
-// No more free segments than segments opened.
-pub fn few_free(m: &[u32]) -> bool
-    requires { ⌜ (length (now m) ≡ 16384) × (read (now m) (header 1) ≤ 256) ⌝ }
-    ensures { λ r. ⌜ r ≡ leb (length ((decode (now (m .entry))) .free)) ((decode (now (m .entry))) .number) ⌝ }
-{
-    memory::free_segments(m, 0) <= memory::number(m)
 }
 
 // The links and the rights of the top.

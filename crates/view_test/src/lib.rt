@@ -1,18 +1,19 @@
-// The memory test of views and segments: the views in the order of the tour, the free segments, all segment records.
+// The memory test of views and segments: the views in the order of the tour, with the chains of segments; all segment records.
 ghost use mathlib.Core.Path.{_≡_};
 ghost use mathlib.Core.Bool.{true};
-ghost use Prim.Native.Nat.{_+_, _*_, _<_, _≤_};
-ghost use lib.ListN.{length};
+ghost use Prim.Native.Nat.{_+_, _-_, _*_, _<_, _≤_};
+ghost use lib.ListN.{length, getD, set, replicate};
+ghost use Rattle.spec_lists.specs.Marks.{marking};
 ghost use Rattle.spec_layout.specs.Layout.{NONE, CHILDREN, USER, RIGHT};
 ghost use Rattle.spec_rules.specs.Contents.{decode};
 ghost use Rattle.spec_rules.specs.Test.{viewTests};
+ghost use Rattle.spec_rules.specs.Held.{heldCount};
 ghost use Rattle.spec_view_events.specs.Events.{queuesAt, kindAt, eventsAt, events};
-ghost use Rattle.spec_view_events.specs.Run.{fourOnes, whole, run};
+ghost use Rattle.spec_view_events.specs.Run.{PLACED, fourOnes, whole, run};
 ghost use Rattle.spec_view_events.specs.Walk.{Marks};
 ghost use Rattle.spec_view_events.specs.Groups.{Blank};
 ghost use Rattle.spec_view_events.specs.Sees.{Ready, Sees, SeesHeads};
 ghost use Rattle.law_view_events.specs.Begun.{Begun};
-use layout::FREE_SEGMENTS_AT;
 use layout::HEADS_AT;
 use layout::NONE;
 use layout::NUMBER_AT;
@@ -214,20 +215,16 @@ fn walk(d: &mut [u8; 256], f: &mut [u8; 256], w: &mut [u32; 12], m: &[u32], xs: 
     whole(w, m)
 }
 
-// The memory test of views and segments; xs are the marks of the tour.
-pub fn views_hold(m: &[u32], xs: &[u32]) -> bool
-    requires { ⌜ Begun (now m) (now xs) ⌝ }
+// The memory test of views and segments: xs are the marks of the tour, d has those of the free segments, which count as placed
+// from the start, so w has as many as were opened and are not held.
+pub fn views_hold(d: &mut [u8; 256], w: &mut [u32; 12], m: &[u32], xs: &[u32]) -> bool
+    requires { ⌜ Begun (now m) (now xs) × (now d ≡ marking (decode (now m) .free) (replicate 256 0))
+        × (now w ≡ set (replicate 12 0) PLACED (getD (now m) 1 0 - heldCount (decode (now m)))) ⌝ }
     ensures { λ b. ⌜ b ≡ viewTests (decode (now (m .entry))) (now (xs .entry)) ⌝ }
 {
     if !segment_test::segments_hold(m) {
         return false;
     }
-    let mut d = [0u8; 256];
-    if !segment_test::mark_free(&mut d, m) {
-        return false;
-    }
-    let mut f = d;
-    let mut w = [0u32; 12];
-    w[PLACED] = m[FREE_SEGMENTS_AT];
-    walk(&mut d, &mut f, &mut w, m, xs)
+    let mut f = *d;
+    walk(d, &mut f, w, m, xs)
 }
