@@ -107,6 +107,8 @@ fn segments() -> Vec<Change> {
         one_word(places, segment(7) + COUNT, 5),
         one_word(places, segment(7) + FIRST, 4),
         one_word("each segment held or free", segment_place(0), 0),
+        // Segment 6 stands on the stack twice.
+        one_word("each segment held or free", segment_place(0), 6),
         one_word("held segments are named once", FREE_SEGMENTS, 3),
     ]
 }

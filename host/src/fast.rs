@@ -1,10 +1,13 @@
 //! The memory rules in one pass, for speed. `rules` has their wording; tests
 //! compare the two on good and on damaged memory.
 //!
-//! Why this says the same. Each segment gets a mark for every place it has: on
-//! the stack, inside a chain, at the end of a chain. There are no more places
-//! than segments and each segment has one, so each has exactly one: held
-//! segments are named once, and no nexts form a ring. The order of the views
+//! Why this says the same. The held segments are counted once, before a task
+//! record is looked at: those opened that are not on the stack. They and the
+//! entries of the stack are as many as were opened where none stands there
+//! twice. Each segment gets a mark for every place it has: on the stack, inside
+//! a chain, at the end of a chain. Chains have no more places than segments are
+//! held and each segment has one, so each has exactly one: held segments are
+//! named once, and no nexts form a ring. The order of the views
 //! and one queue view for each queue make the tails as many as the chains, and
 //! each end of a chain has a tail, so each has exactly one. The tree is walked
 //! from the top along links that are tested where they are followed, and has as
@@ -25,7 +28,8 @@ struct Walk<'a> {
     m: &'a Words,
     opened: u32,
     marks: [u8; MOST_SEGMENTS as usize],
-    /// Places of segments met: on the stack and in chains.
+    /// How many segments are held, and how many places in chains were met.
+    held: u32,
     placed: u32,
     /// Bit q: a queue view of queue q has a head.
     queues: u32,
@@ -42,21 +46,30 @@ impl Walk<'_> {
 
 /// Does this memory pass?
 pub fn hold(m: &[u32]) -> bool {
-    let Ok(m) = <&Words>::try_from(m) else {
-        return false;
-    };
-    if !numbers(m) || !segment_words(m) || !free_tasks(m) || !top(m) {
-        return false;
+    held(m).is_some()
+}
+
+/// How many segments are held, where this memory passes.
+pub fn held(m: &[u32]) -> Option<u32> {
+    let m = <&Words>::try_from(m).ok()?;
+    if !numbers(m) {
+        return None;
+    }
+    let mut marks = [0; MOST_SEGMENTS as usize];
+    let held = count_held(m, &mut marks)?;
+    if !segment_words(m) || !free_tasks(m) || !top(m) {
+        return None;
     }
     let mut walk = Walk {
         m,
         opened: m[SEGMENTS],
-        marks: [0; MOST_SEGMENTS as usize],
+        marks,
+        held,
         placed: 0,
         queues: 0,
         nonlocal: 0,
     };
-    free_segments(&mut walk) && tree(&mut walk, TASKS - m[FREE_TASKS]) && whole(&walk)
+    (tree(&mut walk, TASKS - m[FREE_TASKS]) && whole(&walk)).then_some(held)
 }
 
 fn numbers(m: &Words) -> bool {
@@ -83,18 +96,25 @@ fn segment_words(m: &Words) -> bool {
     bad == [0; SEGMENT_WORDS]
 }
 
-fn free_segments(walk: &mut Walk) -> bool {
-    let (opened, height) = (walk.opened, walk.m[FREE_SEGMENTS]);
+/// Marks the free segments and counts those opened that are held. None where a
+/// number on the stack is no segment opened, or stands there twice.
+fn count_held(m: &Words, marks: &mut [u8; MOST_SEGMENTS as usize]) -> Option<u32> {
+    let (opened, height) = (m[SEGMENTS], m[FREE_SEGMENTS]);
     if height > opened {
-        return false;
+        return None;
     }
-    let mut good = true;
-    for &s in &walk.m[SEGMENT_STACK..SEGMENT_STACK + height as usize] {
-        good &= s < opened;
-        walk.mark(s, FREE_ONE);
+    for &s in &m[SEGMENT_STACK..SEGMENT_STACK + height as usize] {
+        if s >= opened {
+            return None;
+        }
+        marks[s as usize] = FREE_ONE;
     }
-    walk.placed = height;
-    good
+    let held: u16 = marks[..opened as usize]
+        .iter()
+        .map(|mark| u16::from(*mark == 0))
+        .sum();
+    let held = u32::from(held);
+    (held + height == opened).then_some(held)
 }
 
 /// The free records are distinct, are not task 0, and say that they are free.
@@ -233,11 +253,11 @@ fn view(walk: &mut Walk, q: u32, head: u32, tail: u32) -> bool {
     (tail == NL || end(walk, tail)) && (head == NL || chain(walk, head))
 }
 
-/// Marks the segments from `head` on. More places than segments end it, so a
-/// ring does.
+/// Marks the segments from `head` on. More places than held segments end it, so
+/// a ring does.
 fn chain(walk: &mut Walk, head: u32) -> bool {
     let mut s = head;
-    while s < walk.opened && walk.placed < walk.opened {
+    while s < walk.opened && walk.placed < walk.held {
         walk.placed += 1;
         let record = &walk.m[segment(s)..segment(s) + SEGMENT_WORDS];
         let (held, after) = (record[COUNT], record[NEXT]);

@@ -126,7 +126,7 @@ impl Calls for Core {
         if !answer.moved() {
             assert!(self.0 == before, "{call} is {answer:?} and changes words");
         }
-        assert_eq!(fast::hold(&self.0), rules::hold(&self.0), "after {call}");
+        assert_eq!(fast::held(&self.0), rules::held(&self.0), "after {call}");
         answer
     }
 }

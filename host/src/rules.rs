@@ -42,6 +42,11 @@ pub fn hold(m: &[u32]) -> bool {
     first_broken(m).is_none()
 }
 
+/// How many segments are held, where this memory passes.
+pub fn held(m: &[u32]) -> Option<u32> {
+    hold(m).then(|| held_segments(m).len() as u32)
+}
+
 /// The first rule that this memory breaks.
 pub fn first_broken(m: &[u32]) -> Option<&'static str> {
     if m.len() != WORDS {

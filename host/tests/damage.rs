@@ -4,7 +4,7 @@
 use host::answer::Answer;
 use host::call::Call;
 use host::damage::damage;
-use host::layout::WORDS;
+use host::layout::{get, segments, FREE_SEGMENTS, WORDS};
 use host::random::Random;
 use host::sample::*;
 use host::{fast, foreign, rules};
@@ -37,6 +37,16 @@ fn try_calls(r: &mut Random, m: &[u32]) {
     }
 }
 
+/// The count of held segments that is made first is the one by the words of the
+/// rules, and they and the free ones are those opened.
+fn assert_held(m: &[u32]) {
+    let held = fast::held(m);
+    assert_eq!(held, rules::held(m));
+    if let Some(held) = held {
+        assert_eq!(held + get(m, FREE_SEGMENTS), segments(m));
+    }
+}
+
 /// Damages memories and makes calls; how many passed all the same.
 fn damaged(seed: u64, times: u32, source: fn(&mut Random) -> Vec<u32>) -> u32 {
     let mut r = Random::new(seed);
@@ -47,7 +57,7 @@ fn damaged(seed: u64, times: u32, source: fn(&mut Random) -> Vec<u32>) -> u32 {
         for _ in 0..20 {
             let mut m = good.clone();
             damage(&mut r, &mut m);
-            assert_eq!(fast::hold(&m), rules::hold(&m));
+            assert_held(&m);
             passing += u32::from(m != good && fast::hold(&m));
             try_calls(&mut r, &m);
         }

@@ -4,6 +4,7 @@
 use crate::fuzzing::{Failure, Fuzzer, Made};
 use crate::ground::Ground;
 use crate::linked_runner::Map;
+use crate::pair::Library;
 use crate::rounds::random_of;
 use crate::runner_pair::RunnerLibrary;
 use crate::shrink::{changes, shrunk};
@@ -11,6 +12,7 @@ use crate::{linked, linked_runner, runner_pair};
 use host::call::Call;
 use host::layout::*;
 use host::random::Random;
+use host::rules;
 
 const SEED: u64 = 5;
 
@@ -36,6 +38,22 @@ fn other_word(call: Call, m: &mut [u32]) -> u64 {
 fn other_answer(call: Call, m: &mut [u32]) -> u64 {
     let errs = strange(m) && matches!(call, Call::Sync { .. });
     linked::make(call, m) ^ u64::from(errs)
+}
+
+/// A segment stands on the stack of free ones twice.
+fn twice_free(m: &[u32]) -> bool {
+    let mut free = rules::free_segments(m);
+    let height = free.len();
+    free.sort_unstable();
+    free.dedup();
+    m.len() == WORDS && free.len() < height
+}
+
+fn wrong_stack_taken(call: Call, m: &mut [u32]) -> u64 {
+    if twice_free(m) && matches!(call, Call::Sync { .. }) {
+        return 0;
+    }
+    linked::make(call, m)
 }
 
 fn other_runner_word(job: &[u8], m: &mut [u32], runner: &mut [u32], t: u32) -> u64 {
@@ -79,6 +97,12 @@ fn brought_to_one_word(failure: &Failure) {
     assert!(text.contains("core word 1473 (task 0, rights): "), "{text}");
 }
 
+fn with_core(library: Library) -> Fuzzer {
+    let mut fuzzer = Fuzzer::default();
+    fuzzer.core.library = library;
+    fuzzer
+}
+
 fn with_runner(library: RunnerLibrary) -> Fuzzer {
     let mut fuzzer = Fuzzer::default();
     fuzzer.runner.library = library;
@@ -87,11 +111,7 @@ fn with_runner(library: RunnerLibrary) -> Fuzzer {
 
 #[test]
 fn a_word_of_the_core() {
-    let failure = found(|| {
-        let mut fuzzer = Fuzzer::default();
-        fuzzer.core.library = other_word;
-        fuzzer
-    });
+    let failure = found(|| with_core(other_word));
     brought_to_one_word(&failure);
     assert!(matches!(failure.call, Made::Core(Call::Pop { .. })));
     assert!(failure.what.contains("word 8197: "), "{failure}");
@@ -99,12 +119,21 @@ fn a_word_of_the_core() {
 
 #[test]
 fn an_answer() {
-    let failure = found(|| {
-        let mut fuzzer = Fuzzer::default();
-        fuzzer.core.library = other_answer;
-        fuzzer
-    });
+    let failure = found(|| with_core(other_answer));
     brought_to_one_word(&failure);
+    assert!(matches!(failure.call, Made::Core(Call::Sync { .. })));
+}
+
+/// One word is left: an entry of the stack, or its height.
+#[test]
+fn a_stack_with_a_number_twice() {
+    let failure = found(|| with_core(wrong_stack_taken));
+    let [change] = &failure.changes[..] else {
+        panic!("{failure}");
+    };
+    let stack = SEGMENT_STACK..SEGMENT_STACK + MOST_SEGMENTS as usize;
+    let of_stack = stack.contains(&change.address) || change.address == FREE_SEGMENTS;
+    assert!(change.of_core && of_stack, "{failure}");
     assert!(matches!(failure.call, Made::Core(Call::Sync { .. })));
 }
 

@@ -10,7 +10,7 @@ use crate::{linked, linked_replay, linked_runner};
 use host::asm::assemble;
 use host::call::Call;
 use host::job::Job;
-use host::layout::WORDS;
+use host::layout::{segment_place, WORDS};
 use host::runner::{self, RUNNER};
 use std::process::Command;
 
@@ -130,17 +130,42 @@ fn job_test(name: &str, job: Vec<u8>, units: u64) -> Scene {
     }
 }
 
-/// Tests of the core alone: a call that is refused right behind them.
-fn core_tests() -> Part {
+/// Tests of the core alone: a call that is refused right behind them, or by them.
+fn core_tests(memory: impl Fn() -> Vec<u32> + 'static) -> Part {
     Part {
         call: "hq_sync",
-        run: Box::new(|| {
-            let (mut stage, call) = (children(0), Call::Sync { task: 128 });
+        run: Box::new(move || {
+            let (mut core, call) = (memory(), Call::Sync { task: 128 });
             for _ in 0..TIMES {
-                linked::make(call, &mut stage.core);
+                linked::make(call, &mut core);
             }
         }),
     }
+}
+
+fn memory_test(name: &str, core: Vec<u32>) -> Scene {
+    Scene {
+        name: format!("memory test, {name}"),
+        part: core_tests(move || core.clone()),
+        less: vec![],
+        unit: "a call",
+        units: TIMES,
+    }
+}
+
+/// The memory test on each memory of `bench`, and on those with tasks few and
+/// many where it fails since a segment stands on the stack twice.
+fn memory_tests() -> Vec<Scene> {
+    let mut all = Vec::new();
+    for scene in crate::scenes::all() {
+        let mut core = scene.memory();
+        all.push(memory_test(scene.name, core.clone()));
+        if ["fresh", "wide"].contains(&scene.name) {
+            core[segment_place(0)] = core[segment_place(1)];
+            all.push(memory_test(&format!("{}, refused", scene.name), core));
+        }
+    }
+    all
 }
 
 /// The runner's tests without those of the core and of the job: its words, all
@@ -158,7 +183,7 @@ fn runner_words() -> Scene {
             call: "hq_job_step",
             run: Box::new(step),
         },
-        less: vec![core_tests(), tested(children(0).job)],
+        less: vec![core_tests(|| children(0).core), tested(children(0).job)],
         unit: "a record",
         units: 128 * TIMES,
     }
@@ -306,6 +331,7 @@ pub fn scenes() -> Vec<Scene> {
         all.extend(replayed(name, job, tasks));
     }
     all.extend([2, 17, 33, 65, 128].map(ready));
+    all.extend(memory_tests());
     all
 }
 

@@ -56,6 +56,26 @@ fn free_segments(core: &Pair) -> Vec<u32> {
     host::rules::free_segments(&core.model)
 }
 
+/// The stack of free segments, which is [7, 6, 5, 4], with a number twice, without
+/// one that nothing names, with one that is no segment, and too high.
+#[test]
+fn wrong_stack() {
+    let changes: [&[(usize, u32)]; 4] = [
+        &[(segment_place(3), 5)],
+        &[(segment_place(2), 4), (FREE_SEGMENTS, 3)],
+        &[(segment_place(0), 8)],
+        &[(FREE_SEGMENTS, 9)],
+    ];
+    for change in changes {
+        let mut words = opened(4, 8).model;
+        assert_eq!(on(&words).sync(0), Moved(0));
+        for (place, word) in change {
+            words[*place] = *word;
+        }
+        assert_eq!(on(&words).sync(0), Refused(2), "{change:?}");
+    }
+}
+
 #[test]
 fn open() {
     for (number, length, segments, due) in [
