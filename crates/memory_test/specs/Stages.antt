@@ -18,7 +18,7 @@ use Rattle.law_rules_same.specs.Passed.{marks, toured, Passed, test-says, says-
 use Rattle.law_rules_same.specs.Held.{stack-passed, held-and-free}
 use Rattle.law_view_events.specs.Begun.{Begun, few}
 use Rattle.segment_test.specs.declared.Counted.the-variants.{Held, Wrong}
-use Rattle.segment_test.specs.Count.{Counts, wrong-counts, held-counts}
+use Rattle.segment_test.specs.Count.{Counts, wrong-counts, right-counts}
 
 -- a test that has not failed
 pub so : {b x : Bool} → b ≡ x → not b ≡ false → x ≡ true
@@ -80,7 +80,7 @@ module _ (m : List ℕ) where
 
       -- the count is that of a memory that passes
       pub all-right : {b : Bool} {h : ℕ} → b ≡ viewTests C xs → not b ≡ false → h ≡ heldCount C → Counts C (rulesHold m) (Held h)
-      all-right e f q = held-counts C rules q (ap (λ (k : ℕ). k + length (C .free)) q ∙ held-and-free m rules)
+      all-right e f q = right-counts C rules q (ap (λ (k : ℕ). k + length (C .free)) q ∙ held-and-free m rules)
         where
           rules : rulesHold m ≡ true
           rules = unfold test in

@@ -10,6 +10,7 @@ use Rattle.spec_rules.specs.Held.{heldCount}
 use Rattle.segment_test.specs.declared.Counted.{Counted}
 use Rattle.segment_test.specs.declared.Counted.the-variants.{Held, Wrong}
 
+-- the number that is said, where one is
 unfoldable pub heldOf : Counted → Option ℕ
 heldOf (Held h) = some h
 heldOf Wrong = none
@@ -25,9 +26,9 @@ unfolding heldOf
 wrong-counts c e =
     record { same = sym (ap (λ (x : Bool). pick x (some (heldCount c)) none) e ∙ pick-false _ _); together = λ h q. absurd (Option·none-ne-some _ q) }
 
-pub held-counts : (c : Contents) {b : Bool} {h : ℕ} → b ≡ true → h ≡ heldCount c → h + length (c .free) ≡ c .number → Counts c b (Held h)
+pub right-counts : (c : Contents) {b : Bool} {h : ℕ} → b ≡ true → h ≡ heldCount c → h + length (c .free) ≡ c .number → Counts c b (Held h)
 unfolding heldOf
-held-counts c e q t =
+right-counts c e q t =
     record {
       same = ap some q ∙ sym (ap (λ (x : Bool). pick x (some (heldCount c)) none) e ∙ pick-true _ _);
       together = λ k r. ap (λ (x : ℕ). x + length (c .free)) (sym (Option·some-injective _ _ r)) ∙ t;

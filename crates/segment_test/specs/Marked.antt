@@ -14,11 +14,12 @@ use Rattle.spec_lists.specs.Marks.{marking, marked-occurs}
 use Rattle.spec_lists.specs.Tests.{each-says, says-each}
 use Rattle.spec_layout.specs.Layout.{address, read}
 use Rattle.spec_rules.specs.Contents.{Contents, decode}
+use Rattle.spec_rules.specs.Stack.{stack-height}
 use Rattle.spec_rules.specs.Held.{stackTest, heldCount, held-free, free-held}
 use Rattle.spec_view_events.specs.Parts.{number-at}
 use Rattle.spec_view_events.specs.Sees.{Ready}
-use Rattle.segment_test.specs.Stack.{allBelow, free-height}
-use Rattle.segment_test.specs.Count.{Counts, wrong-counts, held-counts}
+use Rattle.segment_test.specs.Stack.{allBelow}
+use Rattle.segment_test.specs.Count.{Counts, wrong-counts, right-counts}
 use Rattle.segment_test.specs.declared.Counted.{Counted}
 use Rattle.segment_test.specs.declared.Counted.the-variants.{Held, Wrong}
 
@@ -87,8 +88,9 @@ module _ (m : List ℕ) (ready : Ready m) where
 
     -- the code's sum
     sum : (h + length (c .free) ≡ c .number → h + getD m 2 0 ≡ getD m 1 0) × (h + getD m 2 0 ≡ getD m 1 0 → h + length (c .free) ≡ c .number)
+    unfolding read address load
     sum =
-        let a = free-height m (ready .0) (let k = ready .1 in omega (arith, k, few)) in
+        let a = stack-height m (getD m 2 0) (ready .0) (let k = ready .1 in omega (arith, k, few)) in
         let n = number-at m in
         ((λ q. omega (arith, a, n, q)), (λ q. omega (arith, a, n, q)))
 
@@ -98,7 +100,7 @@ module _ (m : List ℕ) (ready : Ready m) where
     pub stack-right : h + getD m 2 0 ≡ getD m 1 0 → Stacked (Held h) d
     unfolding stackTest allBelow
     stack-right q = (
-      held-counts c (says-distinct (c .number) (c .free) small (free-held c below (ap (λ (k : ℕ). k + length (c .free)) (sym counted) ∙ sum .1 q))) counted
+      right-counts c (says-distinct (c .number) (c .free) small (free-held c below (ap (λ (k : ℕ). k + length (c .free)) (sym counted) ∙ sum .1 q))) counted
           (sum .1 q),
       λ e. marked,
     )

@@ -11,16 +11,12 @@ use Rattle.spec_lists.specs.Tests.{each}
 use Rattle.spec_lists.specs.Marks.{marking}
 use Rattle.spec_layout.specs.Layout.{read, address}
 use Rattle.spec_rules.specs.Contents.{decode}
-use Rattle.spec_rules.specs.Stack.{rest, rest-start, rest-next, rest-end, stack-height}
+use Rattle.spec_rules.specs.Stack.{rest, rest-start, rest-next, rest-end}
 use Rattle.spec_view_events.specs.Parts.{number-at}
 
 pub rest-all : (m : List ℕ) → rest m (getD m 2 0) 0 ≡ decode m .free
 unfolding read address load
 rest-all m = rest-start m (getD m 2 0)
-
-pub free-height : (m : List ℕ) → length m ≡ 16384 → getD m 2 0 ≤ 256 → length (decode m .free) ≡ getD m 2 0
-unfolding read address load
-free-height m w l = stack-height m (getD m 2 0) w l
 
 -- all numbers of a list are below n
 unfoldable pub allBelow : ℕ → List ℕ → Bool
