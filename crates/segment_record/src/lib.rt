@@ -1,7 +1,7 @@
 // The record of a segment as a struct, lent to the two functions that change it.
 ghost use mathlib.Core.Path.{_≡_};
 ghost use Prim.Native.Nat.{_+_, _<_, _^_};
-ghost use Rattle.segment_record.specs.Ring.{oneMore, oneLess};
+ghost use Rattle.segment_record.specs.Ring.{more, oneLess};
 
 // The place of the first value in the ring, the number of values, the segment linked behind this one.
 pub struct Record {
@@ -10,12 +10,12 @@ pub struct Record {
     pub next: u32,
 }
 
-// One value more: the count is raised in the segment's own record.
-fn store_one(r: &mut Record)
-    requires { ⌜ now r .count + 1 < 2 ^ 32 ⌝ }
-    ensures { λ _. ⌜ now (r .exit) ≡ oneMore (now (r .entry)) ⌝ }
+// A run of k values more: the count is raised in the segment's own record.
+fn store_some(r: &mut Record, k: u32)
+    requires { ⌜ now r .count + k < 2 ^ 32 ⌝ }
+    ensures { λ _. ⌜ now (r .exit) ≡ more (now (r .entry)) k ⌝ }
 {
-    r.count = r.count + 1;
+    r.count = r.count + k;
 }
 
 // The first value is gone: the one at place p is the first now.
@@ -28,12 +28,12 @@ fn drop_one(r: &mut Record, p: u32)
 }
 
 // For callers, whose proofs then need no walk.
-pub fn with_one_more(r: Record) -> Record
-    requires { ⌜ r .count + 1 < 2 ^ 32 ⌝ }
-    ensures { λ s. ⌜ s ≡ oneMore r ⌝ }
+pub fn with_more(r: Record, k: u32) -> Record
+    requires { ⌜ r .count + k < 2 ^ 32 ⌝ }
+    ensures { λ s. ⌜ s ≡ more r k ⌝ }
 {
     let mut s = r;
-    store_one(&mut s);
+    store_some(&mut s, k);
     s
 }
 

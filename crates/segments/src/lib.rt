@@ -1,17 +1,20 @@
 // Segments: the ring of values, the stack of free segments, linking two segments.
+mod ring;
+
 use segment_record::Record;
 ghost use mathlib.Core.Path.{_≡_};
 ghost use mathlib.Core.List.{[], _∷_};
-ghost use Prim.Native.Nat.{_+_, _*_, _<_, _≤_};
-ghost use lib.ListN.{length};
+ghost use Prim.Native.Nat.{_+_, _*_, _<_, _≤_, min};
+ghost use lib.ListN.{length, take};
 ghost use Rattle.spec_words.specs.Words.{store, size};
 ghost use Rattle.spec_words.specs.Blocks.{storeAll};
 ghost use Rattle.spec_lists.specs.Marks.{marking};
 ghost use Rattle.spec_layout.specs.Layout.{segment, value, first, count, next, lengthOf, Opened, ValuesFit, segmentsOf, freeHeight, freeStack};
 ghost use Rattle.spec_layout.specs.Layout.{address, read, write, recordOf};
 ghost use Rattle.spec_tree.specs.Tour.{MARKS, seek};
-ghost use Rattle.spec_outcomes.specs.Segments.{place, valueAt, stored, dropped, noneFree, nextFree, taken, released};
+ghost use Rattle.spec_outcomes.specs.Segments.{valueAt, storedAll, dropped, noneFree, nextFree, taken, released};
 ghost use Rattle.spec_outcomes.specs.Segments.{headIndex, linkedBy, renamed, linked};
+ghost use Rattle.segments.specs.Runs.{Storable, fitting, storeRing};
 ghost use Rattle.segments.specs.Names.{held, freeMarks, nextIs, headHere};
 use layout::END;
 use layout::MARKS;
@@ -23,46 +26,13 @@ use layout::TASKS;
 use layout::VALUES;
 use layout::VIEW_HEADS;
 
-// The place of value number k in a ring of l places, the first value at place f.
-fn place(l: u32, f: u32, k: u32) -> u32
-    ensures { λ r. ⌜ r ≡ place l f k ⌝ }
-{
-    let n = l as usize;
-    let p = f as usize + k as usize;
-    if p < n {
-        return p as u32;
-    }
-    let p = p - n;
-    if p < n {
-        return p as u32;
-    }
-    0
-}
-
 // Value number k of segment s.
 pub fn value_at(m: &[u32], s: u32, k: u32) -> u32
     ensures { λ r. ⌜ r ≡ valueAt (now (m .entry)) s k ⌝ }
 {
     let l = memory::length_of(m, s);
-    let p = place(l, memory::first(m, s), k);
+    let p = ring::place(l, memory::first(m, s), k);
     memory::get(m, VALUES + (s as usize * l as usize + p as usize))
-}
-
-// It is lent the values of one segment.
-fn store(values: &mut [u32], at: u32, v: u32)
-    ensures { λ _. ⌜ now (values .exit) ≡ store (now (values .entry)) at v ⌝ }
-{
-    memory::put(values, at as usize, v);
-}
-
-// Stores v at a place of segment s, where segments have l places.
-fn store_at(m: &mut [u32], s: u32, l: u32, at: u32, v: u32)
-    requires { ⌜ (at < l) × (8192 + (s * l + l) ≤ length (now m)) ⌝ }
-    ensures { λ _. ⌜ now (m .exit) ≡ write (now (m .entry)) (value (s * l + at)) v ⌝ }
-{
-    let a = VALUES + s as usize * l as usize;
-    let b = a + l as usize;
-    store(&mut m[a..b], at, v);
 }
 
 // The record of segment s.
@@ -77,17 +47,39 @@ fn read_record(m: &[u32], s: u32) -> Record
     }
 }
 
-// One value more behind the others of segment s. Of the record, only the word that changed is written back.
-pub fn store_one(m: &mut [u32], s: u32, v: u32)
-    requires { ⌜ (size (now m) ≡ 16384) × (Opened (now m) s)
-        × (ValuesFit (now m)) × (read (now m) (count s) < lengthOf (now m) s) ⌝ }
-    ensures { λ _. ⌜ now (m .exit) ≡ stored (now (m .entry)) s v ⌝ }
+// Stores the run vs from place p of segment s on, where segments have l places.
+fn store_from(m: &mut [u32], s: u32, l: u32, p: u32, vs: &[u32])
+    requires { ⌜ (p < l) × (length (now vs) ≤ l) × (8192 + (s * l + l) ≤ length (now m)) ⌝ }
+    ensures { λ _. ⌜ now (m .exit) ≡ storeRing (now (m .entry)) (8192 + s * l) l p (now (vs .entry)) ⌝ }
 {
+    let a = VALUES + s as usize * l as usize;
+    let b = a + l as usize;
+    ring::fill(&mut m[a..b], p as usize, vs);
+}
+
+fn smaller(a: usize, b: usize) -> usize
+    ensures { λ r. ⌜ r ≡ min a b ⌝ }
+{
+    if a < b { a } else { b }
+}
+
+// As many of the values vs behind the others of segment s as fit, and how many that are. Of the record, only the word that
+// changed is written back.
+pub fn store_run(m: &mut [u32], s: u32, vs: &[u32]) -> usize
+    requires { ⌜ Storable (now m) s ⌝ }
+    ensures { λ k. ⌜ (k ≡ fitting (now (m .entry)) s (length (now (vs .entry))))
+        × (now (m .exit) ≡ storedAll (now (m .entry)) s (take k (now (vs .entry)))) ⌝ }
+{
+    let n = vs.len();
     let l = memory::length_of(m, s);
     let r = read_record(m, s);
-    store_at(m, s, l, place(l, r.first, r.count), v);
-    let r = segment_record::with_one_more(r);
+    let room = l - r.count;
+    let k = smaller(n, room as usize);
+    let p = ring::place(l, r.first, r.count);
+    store_from(m, s, l, p, &vs[0..k]);
+    let r = segment_record::with_more(r, k as u32);
     memory::set_count(m, s, r.count);
+    k
 }
 
 // The first value of segment s is gone.
@@ -96,7 +88,7 @@ pub fn drop_one(m: &mut [u32], s: u32)
     ensures { λ _. ⌜ now (m .exit) ≡ dropped (now (m .entry)) s ⌝ }
 {
     let r = read_record(m, s);
-    let p = place(memory::length_of(m, s), r.first, 1);
+    let p = ring::place(memory::length_of(m, s), r.first, 1);
     let r = segment_record::with_one_less(r, p);
     memory::set_first(m, s, r.first);
     memory::set_count(m, s, r.count);
@@ -123,6 +115,16 @@ fn set_record(m: &mut [u32], s: u32, f: u32, n: u32, x: u32)
     memory::set_first(m, s, f);
     memory::set_count(m, s, n);
     memory::set_next(m, s, x);
+}
+
+// Stores v at a place of segment s, where segments have l places. Only the values of s are lent on.
+fn store_at(m: &mut [u32], s: u32, l: u32, at: u32, v: u32)
+    requires { ⌜ (at < l) × (8192 + (s * l + l) ≤ length (now m)) ⌝ }
+    ensures { λ _. ⌜ now (m .exit) ≡ write (now (m .entry)) (value (s * l + at)) v ⌝ }
+{
+    let a = VALUES + s as usize * l as usize;
+    let b = a + l as usize;
+    memory::put(&mut m[a..b], at as usize, v);
 }
 
 // The next free segment gets v as its only value, and no next.

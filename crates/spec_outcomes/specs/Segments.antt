@@ -26,6 +26,11 @@ stored m s v =
     let m1 = write m (valueWord m s (place (lengthOf m s) (read m (first s)) (read m (count s)))) v in
     write m1 (count s) (read m (count s) + 1)
 
+-- a run of values, one after another
+unfoldable pub storedAll : List ℕ → ℕ → List ℕ → List ℕ
+storedAll m s [] = m
+storedAll m s (v ∷ vs) = storedAll (stored m s v) s vs
+
 -- the first value gone
 unfoldable pub dropped : List ℕ → ℕ → List ℕ
 dropped m s =

@@ -1,4 +1,4 @@
-use Rattle.segments.proofs.Ring.{one-less}
+use Rattle.segments.proofs.Values.{one-less}
 use borrow.Author.Needs.{needs}
 use Rattle.segments.proofs.drop_one.Statement.{statement}
 use Rattle.segments.proofs.drop_one.Tie as tie

@@ -1,5 +1,5 @@
 use mathlib.Core.Path.{_∙_}
-use Rattle.segments.proofs.Ring.{values-inside}
+use Rattle.segments.proofs.Values.{values-inside}
 use Rattle.segments.proofs.Stack.{below, top-of, take-it}
 use borrow.Author.Needs.{needs}
 use Rattle.segments.proofs.take.Statement.{statement}

@@ -1,5 +1,5 @@
 use native.Mathlib.Omega.{arith}
-use Rattle.segments.proofs.Ring.{product-fits, value-read}
+use Rattle.segments.proofs.Values.{product-fits, value-read}
 use borrow.Author.Needs.{needs}
 use Rattle.segments.proofs.value_at.Statement.{statement}
 use Rattle.segments.proofs.value_at.Tie as tie

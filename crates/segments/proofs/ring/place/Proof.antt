@@ -1,8 +1,8 @@
 use mathlib.Core.Path.{sym}
 use Rattle.spec_outcomes.specs.Places.{place-low, place-high, place-past}
 use borrow.Author.Needs.{needs}
-use Rattle.segments.proofs.place.Statement.{statement}
-use Rattle.segments.proofs.place.Tie as tie
+use Rattle.segments.proofs.ring.place.Statement.{statement}
+use Rattle.segments.proofs.ring.place.Tie as tie
 
 returns : tie.Need-returns
 returns c = sym (place-low _ _ _ (c .if1 .taken))
