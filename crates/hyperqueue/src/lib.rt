@@ -47,14 +47,14 @@ pub fn spawn(m: &mut [u32], t: u32, r: u32) -> Answer
     core_spawn::spawn(m, t, r)
 }
 
-pub fn push(m: &mut [u32], t: u32, q: u32, v: u32) -> Answer
-    ensures { λ a. ⌜ outcome a (now (m .exit)) ≡ pushOutcome (now (m .entry)) t q v ⌝ }
+pub fn push(m: &mut [u32], t: u32, q: u32, vs: &[u32]) -> Answer
+    ensures { λ a. ⌜ outcome a (now (m .exit)) ≡ pushOutcome (now (m .entry)) t q (now (vs .entry)) ⌝ }
 {
     let k = refusal(m);
     if k != 0 {
         return Answer::Refused(k);
     }
-    core_push::push(m, t, q, v)
+    core_push::push(m, t, q, vs)
 }
 
 pub fn pop(m: &mut [u32], t: u32, q: u32) -> Answer
@@ -140,10 +140,10 @@ pub extern "C" fn hq_spawn(words: &mut [u32], task: u32, rights: u32) -> u64
 }
 
 #[no_mangle]
-pub extern "C" fn hq_push(words: &mut [u32], task: u32, queue: u32, value: u32) -> u64
-    ensures { λ r. ⌜ Handed r (now (words .exit)) (pushOutcome (now (words .entry)) task queue value) ⌝ }
+pub extern "C" fn hq_push(words: &mut [u32], task: u32, queue: u32, values: &[u32]) -> u64
+    ensures { λ r. ⌜ Handed r (now (words .exit)) (pushOutcome (now (words .entry)) task queue (now (values .entry))) ⌝ }
 {
-    pack(push(words, task, queue, value))
+    pack(push(words, task, queue, values))
 }
 
 #[no_mangle]

@@ -2,12 +2,12 @@
 -- sibling blocks it, and the job gave it the right.
 use mathlib.Core.Path.{_≡_, refl, ap, _∙_}
 use mathlib.Core.Bool.{Bool, true, false}
-use mathlib.Core.List.{List}
+use mathlib.Core.List.{List, [], _∷_}
 use mathlib.Core.Logic.{_⊎_, inl, inr}
 use Prim.Native.Nat.{ℕ, _<_}
 use lib.Dec.{eqb}
 use borrow.Author.Tests.{lt-leb, eqb-true}
-use Rattle.spec_words.specs.Words.{pick, pass, halt, both, either, both-true}
+use Rattle.spec_words.specs.Words.{pick, pass, halt, both, either, both-true, true-left, neither}
 use Rattle.spec_tree.specs.Rights.{pushes as mayPush, pops as mayPop, subset}
 use Rattle.spec_answers.specs.declared.Answer.{Answer}
 use Rattle.spec_answers.specs.declared.Answer.the-variants.{Moved, Waits, Refused}
@@ -18,7 +18,8 @@ use Rattle.spec_order.specs.Waits.{unfinished, blocked, hasChild}
 use Rattle.spec_order.specs.Finding.{finding}
 use Rattle.spec_order.specs.Ordered.{rightsAt, spots, forTask, forQueue, popAnswer, testAnswer, ordered}
 use Rattle.spec_outcomes.specs.Segments.{noneFree}
-use Rattle.law_in_order.specs.Answered.{needsSegment, nextTask, decided, answered}
+use Rattle.spec_outcomes.specs.Push.{needsSegment}
+use Rattle.law_in_order.specs.Answered.{segmentsRunOut, nextTask, decided, answered}
 
 module _ (m : List ℕ) (xs : List Item) (t : ℕ) (there : unfinished t xs ≡ true) (free : blocked t xs ≡ false) where
   queue-passes : (q : ℕ) (held : Bool) (a : Answer) → q < 4 → held ≡ true → forTask t xs (forQueue q held a) ≡ a
@@ -27,19 +28,25 @@ module _ (m : List ℕ) (xs : List Item) (t : ℕ) (there : unfinished t xs ≡ 
 
   -- a push moves, or is refused with 9: it needs a segment and none is free
   pub push-answer : (q v : ℕ) → q < 4 → mayPush (rightsAt t xs) q ≡ true
-      → (answered (push-call t q v) m xs ≡ Moved v)
-      ⊎ ((answered (push-call t q v) m xs ≡ Refused 9) × (needsSegment m t q ≡ true) × (noneFree m q ≡ true))
-  unfolding answered ordered decided statusOf
+      → (answered (push-call t q (v ∷ [])) m xs ≡ Moved v)
+      ⊎ ((answered (push-call t q (v ∷ [])) m xs ≡ Refused 9) × (needsSegment m t q ≡ true) × (noneFree m q ≡ true))
   push-answer q v small e = go (both (needsSegment m t q) (noneFree m q)) refl
     where
-      is : (a : Answer) → decided (push-call t q v) m ≡ a → answered (push-call t q v) m xs ≡ pick (eqb (statusOf a) 9) (Refused 9) (Moved v)
+      is : (a : Answer) → decided (push-call t q (v ∷ [])) m ≡ a → answered (push-call t q (v ∷ [])) m xs ≡ pick (eqb (statusOf a) 9) (Refused 9) (Moved v)
       is a d = unfold answered ordered in queue-passes q _ _ small e ∙ pass _ free (ap (λ (b : Answer). pick (eqb (statusOf b) 9) (Refused 9) (Moved v)) d)
 
+      -- a run of one runs out where its value needs a segment and none is free
+      out : (b : Bool) → both (needsSegment m t q) (noneFree m q) ≡ b → segmentsRunOut m t q (v ∷ []) ≡ b
+      out true d = unfold segmentsRunOut in true-left _ d
+      out false d = unfold segmentsRunOut in neither d refl
+
       go : (b : Bool) → both (needsSegment m t q) (noneFree m q) ≡ b
-          → (answered (push-call t q v) m xs ≡ Moved v)
-          ⊎ ((answered (push-call t q v) m xs ≡ Refused 9) × (needsSegment m t q ≡ true) × (noneFree m q ≡ true))
-      go true d = let w = both-true _ _ d in inr (is (Refused 9) (unfold decided in halt _ _ d) ∙ (unfold statusOf in halt _ _ refl), w .0, w .1)
-      go false d = inl (is (Moved v) (unfold decided in pass _ d refl) ∙ (unfold statusOf in pass _ refl refl))
+          → (answered (push-call t q (v ∷ [])) m xs ≡ Moved v)
+          ⊎ ((answered (push-call t q (v ∷ [])) m xs ≡ Refused 9) × (needsSegment m t q ≡ true) × (noneFree m q ≡ true))
+      go true d =
+          let w = both-true _ _ d in
+          inr (is (Refused 9) (unfold decided in halt _ _ (out true d)) ∙ (unfold statusOf in halt _ _ refl), w .0, w .1)
+      go false d = inl (is (Moved v) (unfold decided in pass _ (out false d) refl) ∙ (unfold statusOf in pass _ refl refl))
 
   pub pop-answer : (q : ℕ) → q < 4 → mayPop (rightsAt t xs) q ≡ true → answered (pop-call t q) m xs ≡ popAnswer (finding t q xs)
   unfolding answered ordered

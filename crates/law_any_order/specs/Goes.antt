@@ -2,7 +2,7 @@
 -- or 9. Here what the step of every operation has in common.
 use mathlib.Core.Path.{_≡_, refl, ap, ap₂, sym, _∙_, subst}
 use mathlib.Core.Bool.{true, false, not, false≢true}
-use mathlib.Core.List.{List, _∷_, _++_}
+use mathlib.Core.List.{List, [], _∷_, _++_}
 use mathlib.Core.Option.{Option, some}
 use Prim.Native.Nat.{ℕ}
 use Rattle.spec_words.specs.Words.{pass, halt}
@@ -18,7 +18,8 @@ use Rattle.spec_order.specs.Waits.{unfinished, blocked}
 use Rattle.spec_order.specs.Ordered.{rightsAt, spots}
 use Rattle.law_invariant.specs.Represents.{Represents}
 use Rattle.spec_outcomes.specs.Segments.{noneFree}
-use Rattle.law_in_order.specs.Answered.{needsSegment, answered}
+use Rattle.spec_outcomes.specs.Push.{needsSegment}
+use Rattle.law_in_order.specs.Answered.{answered}
 use Rattle.law_in_order.specs.State.{State}
 use Rattle.law_in_order.specs.Refusals.{blocked-same, rights-are}
 use Rattle.law_in_order.specs.InOrder.{call-does}
@@ -48,7 +49,7 @@ use Rattle.law_any_order.specs.Tested.{stands-at, tests-pass}
 pub data Stays (j m r : List ℕ) (xs : List Mark) (n : Numbered) : StepAnswer → Type 0 where
   waits : ¬ Able j xs n → Stays j m r xs n Waits
   eight : (k : ℕ) → coreCall j r (n .number) ≡ some (spawn-call (n .number) k) → spots xs ≡ 128 → Stays j m r xs n (Refused 8)
-  nine : (q v : ℕ) → coreCall j r (n .number) ≡ some (push-call (n .number) q v) → needsSegment m (n .number) q ≡ true → noneFree m q ≡ true
+  nine : (q v : ℕ) → coreCall j r (n .number) ≡ some (push-call (n .number) q (v ∷ [])) → needsSegment m (n .number) q ≡ true → noneFree m q ≡ true
       → Stays j m r xs n (Refused 9)
 
 -- a step that moves: what it found, the number of a new task, and what it leaves

@@ -14,7 +14,7 @@ use Rattle.spec_answers.specs.declared.Answer.the-variants.{Moved, Waits, Refus
 use Rattle.spec_answers.specs.Answers.{wordsOf}
 use Rattle.spec_answers.specs.Calls.{Call, spawn-call, push-call, sync-call, finish-call}
 use Rattle.spec_outcomes.specs.Outcomes.{outcomeOf}
-use Rattle.spec_order.specs.Steps.{Item as Mark, noted, counted, advance, spawns, pushes, finishes}
+use Rattle.spec_order.specs.Steps.{Item as Mark, noted, counted, pushesAll, pushesRun, advance, spawns, pushes, finishes}
 use Rattle.spec_order.specs.Waits.{blocked, hasChild}
 use Rattle.spec_order.specs.Finding.{finding}
 use Rattle.spec_answers.specs.declared.Finding.the-variants as Finding
@@ -189,17 +189,18 @@ module _ {j m r : List ℕ} {xs : List Mark} {a b : List (Item Numbered)} {n : N
 
   -- a push moves, or is refused with 9
   push-with : (i : Instruction) → instructionOf j u ≡ i → Able j xs n → (v : ℕ)
-      → callOf (operationAt (i .operation)) j t (u .task .register) i ≡ some (push-call t (i .which) v)
+      → callOf (operationAt (i .operation)) j t (u .task .register) i ≡ some (push-call t (i .which) (v ∷ []))
       → i .which < 4 → mayPush (rightsOf j (u .task)) (i .which) ≡ true
-      → done t i (some v) v (wordsOf (outcomeOf (push-call t (i .which) v) m)) r ≡ done t i none v (wordsOf (outcomeOf (push-call t (i .which) v) m)) r
+      → done t i (some v) v (wordsOf (outcomeOf (push-call t (i .which) (v ∷ [])) m)) r
+      ≡ done t i none v (wordsOf (outcomeOf (push-call t (i .which) (v ∷ [])) m)) r
       → After j (advance t (pushes (i .which) v) xs) a b n (on n (goesOn u i none) ∷ []) none
       → runnerAfter (operationAt (i .operation)) t v i (does u i none) r ≡ put r t (procedureOf r t) (does u i none .next) (does u i none .register) → Result
-  unfolding replyOf replied noted counted pick
+  unfolding replyOf replied noted counted pushesRun pushesAll pick
   push-with i is able v which small may same after words =
       ⊎-elim
-      (λ d. called i is able (push-call t (i .which) v) which (Moved v) d none v _ same after
+      (λ d. called i is able (push-call t (i .which) (v ∷ [])) which (Moved v) d none v _ same after
       (subst (λ (k : List ℕ). Written k (standing a ++ on n (goesOn u i none) ∷ standing b)) (sym words) (on-written i is none)))
-      (λ d. held i is (push-call t (i .which) v) which (Refused 9) (d .0) (Step.Refused 9)
+      (λ d. held i is (push-call t (i .which) (v ∷ [])) which (Refused 9) (d .0) (Step.Refused 9)
       (nine (i .which) v (common.call-is p free i is ∙ which) (d .1) (d .2)) refl)
       (push-answer m xs t (common.is-unfinished p) free (i .which) v small
       (subst (λ (k : ℕ). mayPush k (i .which) ≡ true) (sym (common.rights-is p)) may))

@@ -19,10 +19,10 @@ use Rattle.spec_answers.specs.Calls.{Call, spawn-call, push-call}
 use Rattle.spec_order.specs.Steps.{Name, Item, step, spot, nameOf, numberOf, begin, noted}
 use Rattle.spec_order.specs.Ordered.{spots, leftAnswer}
 use Rattle.spec_outcomes.specs.Segments.{noneFree}
+use Rattle.spec_outcomes.specs.Push.{needsSegment}
 use Rattle.spec_outcomes.specs.Waits.{unfinished}
 use Rattle.spec_outcomes.specs.Left.{leftOutcome}
 use Rattle.spec_outcomes.specs.Outcomes.{outcomeOf}
-use Rattle.law_in_order.specs.Answered.{needsSegment}
 use Rattle.spec_job.specs.Operations.{operationAt}
 use Rattle.spec_job.specs.Test.{jobAnswer}
 use Rattle.spec_plain.specs.Machine.{Event, queue}
@@ -109,7 +109,7 @@ AllFinished s = (t : ℕ) → unfinished (s .core) t ≡ false
 -- a segment and none is free
 pub data Wants (j : List ℕ) (s : Stand) (t : ℕ) : Type 0 where
   a-record : (r : ℕ) → stepAnswer j s t ≡ Step.Refused 8 → coreCall j (s .runner) t ≡ some (spawn-call t r) → spots (s .order) ≡ 128 → Wants j s t
-  a-segment : (q v : ℕ) → stepAnswer j s t ≡ Step.Refused 9 → coreCall j (s .runner) t ≡ some (push-call t q v) → needsSegment (s .core) t q ≡ true
+  a-segment : (q v : ℕ) → stepAnswer j s t ≡ Step.Refused 9 → coreCall j (s .runner) t ≡ some (push-call t q (v ∷ [])) → needsSegment (s .core) t q ≡ true
       → noneFree (s .core) q ≡ true → Wants j s t
 
 -- What is promised of a run of job j that stands at s, where the plain machine ends after n steps.

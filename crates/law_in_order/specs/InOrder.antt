@@ -6,14 +6,14 @@ use mathlib.Core.Logic.{inl, inr}
 use Prim.Native.Nat.{ℕ}
 use native.Mathlib.Omega.{arith}
 use lib.Dec.{eqb}
-use Rattle.spec_words.specs.Words.{pick, pass as skip, both}
+use Rattle.spec_words.specs.Words.{pick, pass as skip}
+use Rattle.spec_lists.specs.Maps.{lastOf}
 use Rattle.spec_answers.specs.declared.Answer.{Answer}
 use Rattle.spec_answers.specs.declared.Answer.the-variants.{Moved, Waits, Refused}
 use Rattle.spec_answers.specs.Answers.{Outcome, answerOf, wordsOf, statusOf, valueOf}
 use Rattle.spec_answers.specs.Calls.{Call, open-call, spawn-call, push-call, pop-call, test-call, sync-call, finish-call, left-call}
 use Rattle.spec_tree.specs.Rights.{pushes as mayPush}
 use Rattle.spec_outcomes.specs.Waits.{tested, test-passes}
-use Rattle.spec_outcomes.specs.Segments.{noneFree}
 use Rattle.spec_outcomes.specs.Open.{openOutcome}
 use Rattle.spec_outcomes.specs.Spawn.{spawnTested, spawnOutcome}
 use Rattle.spec_outcomes.specs.Push.{pushTested, pushOutcome}
@@ -26,12 +26,12 @@ use Rattle.spec_order.specs.Steps.{Item, begin, noted}
 use Rattle.spec_order.specs.Waits.{unfinished, blocked}
 use Rattle.spec_order.specs.Ordered.{rightsAt, forTask, forQueue, ordered}
 use Rattle.law_invariant.specs.Represents.{Represents}
-use Rattle.law_in_order.specs.Answered.{needsSegment, decided, answered}
+use Rattle.law_in_order.specs.Answered.{segmentsRunOut, decided, answered}
 use Rattle.law_in_order.specs.Yields.{Yields, does-as}
 use Rattle.law_in_order.specs.State.{Ended, State, state-rules, state-size}
 use Rattle.law_in_order.specs.Open.{open-does, opens}
 use Rattle.law_in_order.specs.Spawn.{spawn-does, fresh-task}
-use Rattle.law_in_order.specs.Push.{push-does}
+use Rattle.law_in_order.specs.Run.{push-does}
 use Rattle.law_in_order.specs.Pop.{pop-does, test-does}
 use Rattle.law_in_order.specs.Sync.{sync-does}
 use Rattle.law_in_order.specs.Finish.{tested-is as finish-tested, finish-does}
@@ -62,9 +62,9 @@ module _ (m : List ℕ) (xs : List Item) (e : Ended m xs) where
   unfolding spawnTested
   spawn-ended t u a = ended-refuses m xs e (spawn-call t u) _ a t
 
-  push-ended : (t q v : ℕ) → (a : Answer) → Yields State xs (push-call t q v) (pushTested m t q v) (forTask t xs a)
+  push-ended : (t q : ℕ) (vs : List ℕ) → (a : Answer) → Yields State xs (push-call t q vs) (pushTested m t q vs) (forTask t xs a)
   unfolding pushTested
-  push-ended t q v a = ended-refuses m xs e (push-call t q v) _ a t
+  push-ended t q vs a = ended-refuses m xs e (push-call t q vs) _ a t
 
   pop-ended : (t q : ℕ) → (a : Answer) → Yields State xs (pop-call t q) (popTested m t q) (forTask t xs a)
   unfolding popTested popAllowed
@@ -88,13 +88,13 @@ unfolding outcomeOf answered ordered decided valueOf spawnOutcome pushOutcome po
 call-does (open-call l n) m xs st = open-does m xs l n (state-size m xs st) st
 call-does (spawn-call t u) m xs (inl r) = through m xs (inl r) (spawnTested m t u) (spawn-does State runs m xs t u r)
 call-does (spawn-call t u) m xs (inr e) = through m xs (inr e) (spawnTested m t u) (spawn-ended m xs e t u _)
-call-does (push-call t q v) m xs (inl r) =
-    through m xs (inl r) (pushTested m t q v)
+call-does (push-call t q vs) m xs (inl r) =
+    through m xs (inl r) (pushTested m t q vs)
     (does-as State _ _ _ _ refl
     (ap (λ (a : Answer). forTask t xs (forQueue q (mayPush (rightsAt t xs) q) (pick (blocked t xs) Waits a)))
-    (nine (both (needsSegment m t q) (noneFree m q)) v))
-    (push-does State runs m xs t q v r))
-call-does (push-call t q v) m xs (inr e) = through m xs (inr e) (pushTested m t q v) (push-ended m xs e t q v _)
+    (nine (segmentsRunOut m t q vs) (lastOf 0 vs)))
+    (push-does State runs m xs t q vs r))
+call-does (push-call t q vs) m xs (inr e) = through m xs (inr e) (pushTested m t q vs) (push-ended m xs e t q vs _)
 call-does (pop-call t q) m xs (inl r) = through m xs (inl r) (popTested m t q) (pop-does State runs m xs t q r)
 call-does (pop-call t q) m xs (inr e) = through m xs (inr e) (popTested m t q) (pop-ended m xs e t q _)
 call-does (test-call t q) m xs (inl r) = through m xs (inl r) (testTested m t q) (test-does State runs m xs t q r)

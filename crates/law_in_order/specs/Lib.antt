@@ -2,6 +2,7 @@ pub mod Answered
 pub mod Yields
 pub mod Refusals
 pub mod Push
+pub mod Run
 pub mod Finding
 pub mod Pop
 pub mod Sync
@@ -16,3 +17,4 @@ pub mod Finish
 pub mod NotTwo
 pub mod Statement
 pub mod InOrder
+pub mod OneByOne

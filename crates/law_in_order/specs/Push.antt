@@ -1,28 +1,26 @@
--- push: the answer is that of program order, 9 exactly where a segment is needed and none is free.
+-- A PUSH OF ONE VALUE moves as program order says, or gets 9 where a segment is needed and none is free.
 use mathlib.Core.Path.{_≡_, refl, ap, sym, _∙_, subst}
 use mathlib.Core.Bool.{Bool, true, false, not}
 use mathlib.Core.List.{List, [], _∷_, _++_}
 use Prim.Native.Nat.{ℕ, zero, suc, _<_}
 use native.Mathlib.Omega.{arith}
-use lib.Dec.{leb, ltb, eqb}
+use lib.Dec.{ltb, eqb}
 use lib.ListN.{length}
 use borrow.Author.Tests.{eqb-false, lt-leb, ltb-true, ltb-false}
 use Rattle.spec_words.specs.Words.{pick, pass as skip, halt, both, either, both-on, true-left}
 use Rattle.spec_lists.specs.Counting.{occurrences, occurs-append, occurs-here}
-use Rattle.spec_layout.specs.Layout.{NL, USER, freeSegment, count, next, lengthOf, Opened, freeHeight, rightsOf as rightsIn, head, tail, read, write}
+use Rattle.spec_layout.specs.Layout.{NL, USER, freeSegment, count, next, lengthOf, Opened, freeHeight, head, tail, read, write}
 use Rattle.spec_tree.specs.Rights.{pushes as mayPush}
 use Rattle.spec_answers.specs.declared.Answer.{Answer}
-use Rattle.spec_answers.specs.declared.Answer.the-variants.{Moved, Waits, Refused}
+use Rattle.spec_answers.specs.declared.Answer.the-variants.{Moved, Refused}
 use Rattle.spec_answers.specs.Answers.{outcome, answerOf, wordsOf}
 use Rattle.spec_answers.specs.Calls.{Call, push-call}
 use Rattle.spec_rules.specs.Views.{View, view}
-use Rattle.spec_outcomes.specs.Waits.{blocked as blockedIn}
 use Rattle.spec_outcomes.specs.Segments.{noneFree, nextFree, stored, taken}
 use Rattle.spec_outcomes.specs.Views.{viewOf, isEmpty, tailOf, reducible, justBefore, taskAt, kindAt}
-use Rattle.spec_outcomes.specs.Push.{pushedApart, pushedBehind, pushed, pushTested}
-use Rattle.spec_order.specs.Steps.{Task, Item, spot, pushes, numberOf, rightsOf, advance, counted, noted}
+use Rattle.spec_outcomes.specs.Push.{needsSegment, pushedApart, pushedBehind, pushed}
+use Rattle.spec_order.specs.Steps.{Task, Item, spot, pushes, numberOf, rightsOf, advance, pushesAll, pushesRun, counted, noted}
 use Rattle.spec_order.specs.Waits.{blocked}
-use Rattle.spec_order.specs.Ordered.{rightsAt, forTask, forQueue}
 use Rattle.law_order.specs.Reached.{Fresh}
 use Rattle.law_order_waits.specs.Spots.{says-unfinished}
 use Rattle.law_order_waits.specs.Played.{Asked, Played, plays}
@@ -43,9 +41,7 @@ use Rattle.law_invariant.specs.FirstNamed.{segment-below}
 use Rattle.law_invariant.specs.Room.{held-free}
 use Rattle.law_invariant.specs.Push.{stands, push-into, push-behind, user-word}
 use Rattle.law_invariant.specs.PushApart.{apart-reducible, push-apart}
-use Rattle.law_in_order.specs.Answered.{needsSegment}
-use Rattle.law_in_order.specs.Yields.{Yields, refuses, waits, chooses, never, does-as}
-use Rattle.law_in_order.specs.Refusals.{for-task, for-queue, rights-are, rights-same, blocked-same}
+use Rattle.law_in_order.specs.Yields.{Yields, refuses, chooses, never, does-as}
 
 -- a free segment, where there is one
 pub some-free : (m : List ℕ) (q : ℕ) → noneFree m q ≡ false → (g : ℕ) × (rest : List ℕ) × (freeIn m ≡ g ∷ rest)
@@ -78,14 +74,14 @@ module _ (P : List ℕ → List Item → Type 0) (runs : (m : List ℕ) (xs : Li
     New = advance t (pushes q v) Old
 
     abbrev c : Call
-    c = push-call t q v
+    c = push-call t q (v ∷ [])
 
     play : Played New
     unfolding Fresh Asked
     play = plays t (pushes q v) (r .played) (says-unfinished Old s (mine-spot m ys zs s r)) tt free tt
 
     moves : (w : List ℕ) → Represents w New → Yields P Old c (outcome (Moved v) w) (Moved v)
-    unfolding answerOf wordsOf noted counted
+    unfolding answerOf wordsOf noted counted pushesRun pushesAll
     moves w h = record { answer = refl; holds = runs w New h }
 
     none-left : Yields P Old c (outcome (Refused 9) m) (Refused 9)
@@ -196,7 +192,7 @@ module _ (P : List ℕ → List Item → Type 0) (runs : (m : List ℕ) (xs : Li
             (sym tail-is)
             (moves _ (push-behind m ys zs s r q v small may h z (k .0) (k .1) (w .0) (w .1) d low (k .2) (w .2) (apart-from (k .0) (k .1) (k .2)) play)))
 
-    pushes-well : Yields P Old c (pushed m t q v) Answers
+    pub pushes-well : Yields P Old c (pushed m t q v) Answers
     pushes-well = go (queueMemory m q .user t) refl
       where
         go : (e : Extent) → queueMemory m q .user t ≡ e → Yields P Old c (pushed m t q v) Answers
@@ -204,21 +200,3 @@ module _ (P : List ℕ → List Item → Type 0) (runs : (m : List ℕ) (xs : Li
         go (extent h x) d =
             let w = user-local (views .1) .0 h x d in
             behind h (w .0) (d ∙ ap (extent h) (w .1))
-
-  pub push-does : (m : List ℕ) (xs : List Item) (t q v : ℕ) → Represents m xs
-      → Yields P xs (push-call t q v) (pushTested m t q v)
-      (forTask t xs (forQueue q (mayPush (rightsAt t xs) q)
-      (pick (blocked t xs) Waits (pick (both (needsSegment m t q) (noneFree m q)) (Refused 9) (Moved v)))))
-  unfolding pushTested
-  push-does m xs t q v =
-      for-task P runs (λ t. push-call t q v)
-      (λ t. pick (leb 4 q) (outcome (Refused 5) m)
-      (pick (not (mayPush (rightsIn m t) q)) (outcome (Refused 6) m) (pick (blockedIn m t) (outcome Waits m) (pushed m t q v))))
-      (λ t xs. forQueue q (mayPush (rightsAt t xs) q) (pick (blocked t xs) Waits (pick (both (needsSegment m t q) (noneFree m q)) (Refused 9) (Moved v)))) m
-      (λ ys zs s r.
-      for-queue P runs m q (mayPush (rightsIn m (numberOf s)) q) (mayPush (rightsAt (numberOf s) (ys ++ spot s ∷ zs)) q)
-      (ap (λ (x : ℕ). mayPush x q) (rights-same m ys zs s r)) (runs m (ys ++ spot s ∷ zs) r) (λ small may.
-      chooses P (blockedIn m (numberOf s)) (blocked (numberOf s) (ys ++ spot s ∷ zs)) (blocked-same m ys zs s r)
-      (λ b. waits P m (ys ++ spot s ∷ zs) (push-call (numberOf s) q v) (runs m (ys ++ spot s ∷ zs) r))
-      (λ b. pushes-well m ys zs s r q v small (ap (λ (x : ℕ). mayPush x q) (sym (rights-are m ys zs s r)) ∙ may) b)))
-      xs t

@@ -70,7 +70,7 @@ busy m t l e = inr (l, word-is m t STATUS ∙ e)
 -- RULE 6. Two children of the top that push, and the younger one does first: task 1 has the head of the new segment 4 in its
 -- right view, task 2 the tail, and neither may pop. The paper's Figure 4 (a) has the same with its Tasks 2 and 3.
 abbrev pub youngerPushes : Case
-youngerPushes = row (open-call 4 8) (Moved 0) ∷ row (spawn-call 0 1) (Moved 1) ∷ row (spawn-call 0 1) (Moved 2) ∷ row (push-call 2 0 9) (Moved 9) ∷ []
+youngerPushes = row (open-call 4 8) (Moved 0) ∷ row (spawn-call 0 1) (Moved 1) ∷ row (spawn-call 0 1) (Moved 2) ∷ row (push-call 2 0 (9 ∷ [])) (Moved 9) ∷ []
 
 abbrev shared : List ℕ → List ℕ
 shared m =
@@ -112,7 +112,7 @@ rule-6-case = moves youngerPushes (unfold computed isSome in refl)
 -- the head and the tail of segment 4.
 abbrev pub youngerFinished : Case
 youngerFinished =
-    row (open-call 4 8) (Moved 0) ∷ row (spawn-call 0 1) (Moved 1) ∷ row (spawn-call 0 1) (Moved 2) ∷ row (push-call 2 0 9) (Moved 9)
+    row (open-call 4 8) (Moved 0) ∷ row (spawn-call 0 1) (Moved 1) ∷ row (spawn-call 0 1) (Moved 2) ∷ row (push-call 2 0 (9 ∷ [])) (Moved 9)
     ∷ row (finish-call 2) (Moved 0) ∷ []
 
 abbrev returned : List ℕ → List ℕ

@@ -20,7 +20,7 @@ use Rattle.spec_answers.specs.declared.Finding.the-variants as Finding
 use Rattle.spec_answers.specs.Answers.{Outcome as CoreOutcome, outcome as core-outcome, answerOf as coreAnswer}
 use Rattle.spec_answers.specs.Calls.{Call, push-call, pop-call, test-call, sync-call, finish-call, left-call}
 use Rattle.spec_outcomes.specs.Spawn.{spawned, spawnTested}
-use Rattle.spec_order.specs.Steps.{Item as Mark, spawns, pushes, pops, tests, syncs, finishes, counted}
+use Rattle.spec_order.specs.Steps.{Item as Mark, spawns, pushes, pops, tests, syncs, finishes, pushesAll, pushesRun, counted}
 use Rattle.spec_order.specs.Finding.{finding}
 use Rattle.spec_order.specs.Ordered.{forTask, forQueue, testAnswer, ordered}
 use Rattle.law_in_order.specs.Answered.{answered}
@@ -152,10 +152,10 @@ module _ (m : List ℕ) (xs : List Mark) (st : State m xs) (small : OrderFits xs
           let c = rules-sound m (state-size m xs st) (state-rules m xs st) .idle-tasks (read m freeTasks - 1) (omega (arith, some)) in
           omega (arith, c)
 
-  push-fits : (t q v : ℕ) → IsWord v → CallFits (push-call t q v)
-  unfolding answered ordered counted
+  push-fits : (t q v : ℕ) → IsWord v → CallFits (push-call t q (v ∷ []))
+  unfolding answered ordered counted pushesRun pushesAll
   push-fits t q v h = (
-    said (push-call t q v) (queue-fits t q _ _ (picked AnswerFits _ tt (picked AnswerFits _ (omega arith) h))),
+    said (push-call t q (v ∷ [])) (queue-fits t q _ _ (picked AnswerFits _ tt (picked AnswerFits _ (omega arith) h))),
     λ _. advance-fits t (pushes q v) xs h small,
   )
 

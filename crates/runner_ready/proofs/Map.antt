@@ -2,7 +2,7 @@
 use mathlib.Core.Path.{_≡_, refl, ap, sym, _∙_, fun-ext}
 use mathlib.Core.Bool.{Bool, true, false, not}
 use mathlib.Core.List.{List, [], _∷_}
-use Prim.Native.Nat.{ℕ}
+use Prim.Native.Nat.{ℕ, _<_}
 use native.Mathlib.Omega.{arith}
 use lib.Count.{ones}
 use lib.ListN.{length}
@@ -10,7 +10,9 @@ use borrow.Author.Tests.{eq-eqb, ne-eqb, not-true, not-false}
 use Rattle.spec_words.specs.Words.{store, size, pick, both-on, both-off, pass, halt}
 use Rattle.spec_words.specs.Blocks.{storeAll}
 use Rattle.spec_lists.specs.Counting.{over}
+use Rattle.spec_layout.specs.Layout.{lengthOf}
 use Rattle.spec_rules.specs.Test.{rulesHold}
+use Rattle.law_in_range.specs.Sound.{rules-sound}
 use Rattle.spec_runner.specs.declared.StepAnswer.{StepAnswer}
 use Rattle.spec_runner.specs.declared.StepAnswer.the-variants.{Moved, Refused}
 use Rattle.spec_runner.specs.Answers.{hasMoved, answerOf}
@@ -19,7 +21,7 @@ use Rattle.spec_runner.specs.Ready.{bitsFrom, wordsFor, lowestFrom, mapOf, read
 use Rattle.spec_runner.specs.Moves.{stepMoves}
 use Rattle.spec_runner.specs.MovesLaws.{ready-moves}
 use Rattle.runner_words.specs.Refusals.{jobRefusal}
-use Rattle.runner_ready.specs.Refusals.{mapRefusal, refused-with, tests-pass}
+use Rattle.runner_ready.specs.Refusals.{mapRefusal, refused-with, tests-pass, rules-held, held-size}
 
 -- six words, all written
 written : (o : List ℕ) (w0 w1 w2 w3 n t : ℕ) → length o ≡ 6 → store (store (storeAll o 0 (w0 ∷ w1 ∷ w2 ∷ w3 ∷ [])) 4 n) 5 t ≡ w0 ∷ w1 ∷ w2 ∷ w3 ∷ n ∷ t ∷ []
@@ -95,5 +97,8 @@ module _ (j m r o : List ℕ) where
         answer : testAnswer j m r ≡ Moved
         answer = unfold testAnswer in ap answerOf (tests-pass j m r e z _) ∙ (unfold answerOf in refl)
 
+        wide : (s : ℕ) → 0 < lengthOf m s
+        wide s = rules-sound m (held-size j m r e z) (rules-held j m r e z) .length-range s .0
+
         same : mapOf (wordsFor (stepMoves j m r)) ≡ readyMap j m r
-        same = unfold readyMap in ap (λ (f : ℕ → Bool). mapOf (wordsFor f)) (fun-ext (λ t. sym (ready-moves j m r t (tests-pass j m r e z))))
+        same = unfold readyMap in ap (λ (f : ℕ → Bool). mapOf (wordsFor f)) (fun-ext (λ t. sym (ready-moves j m r t wide (tests-pass j m r e z))))

@@ -1,6 +1,6 @@
 -- The core call of an instruction, by its number.
 use mathlib.Core.Path.{_≡_, ap, sym, _∙_}
-use mathlib.Core.List.{List, []}
+use mathlib.Core.List.{List, [], _∷_}
 use mathlib.Core.Logic.{_⊎_}
 use mathlib.Core.Option.{Option}
 use Prim.Native.Nat.{ℕ, _+_, _%_, _<_, _≤_}
@@ -37,13 +37,13 @@ module _ (j m : List ℕ) (t : ℕ) (s : Instruction) (x : ℕ) where
     pub queue-made : 1 ≤ s .operation → s .operation < 5 → o ≡ called (callOf (operationAt (s .operation)) [] t x s) m → Called o
     queue-made a b e = e ∙ ap (λ (o : Option Call). called o m) (any-job j t x s (s .operation) a b)
 
-    pub push-made : s .operation ≡ 1 → o ≡ pushTested m t (s .which) (s .operand) → Called o
+    pub push-made : s .operation ≡ 1 → o ≡ pushTested m t (s .which) (s .operand ∷ []) → Called o
     unfolding operationAt operationOf rowOf callOf called coreOutcome
     push-made k e = numbered k e
 
-    pub sum-made : {v : ℕ} → s .operation ≡ 2 → v ≡ (x + s .operand) % 4294967296 → o ≡ pushTested m t (s .which) v → Called o
+    pub sum-made : {v : ℕ} → s .operation ≡ 2 → v ≡ (x + s .operand) % 4294967296 → o ≡ pushTested m t (s .which) (v ∷ []) → Called o
     unfolding operationAt operationOf rowOf callOf called coreOutcome sum
-    sum-made k ev e = numbered k (e ∙ ap (pushTested m t (s .which)) ev)
+    sum-made k ev e = numbered k (e ∙ ap (λ (y : ℕ). pushTested m t (s .which) (y ∷ [])) ev)
 
     pub pop-made : s .operation ≡ 3 → o ≡ popTested m t (s .which) → Called o
     unfolding operationAt operationOf rowOf callOf called coreOutcome

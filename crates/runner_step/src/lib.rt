@@ -1,12 +1,13 @@
 // One step of a job's task: the tests, the core call of its instruction, and where the task goes on.
 ghost use mathlib.Core.Path.{_≡_};
 ghost use mathlib.Core.Bool.{true};
-ghost use mathlib.Core.List.{[]};
+ghost use mathlib.Core.List.{[], _∷_};
 ghost use Prim.Native.Nat.{_^_, _<_, _≤_};
 ghost use lib.ListN.{length};
 ghost use Rattle.spec_rules.specs.Test.{rulesHold};
 ghost use Rattle.spec_answers.specs.Answers.{outcome as answered};
 ghost use Rattle.spec_outcomes.specs.Waits.{unfinished};
+ghost use Rattle.spec_outcomes.specs.Push.{pushTested};
 ghost use Rattle.spec_job.specs.Operations.{operationAt};
 ghost use Rattle.spec_job.specs.Numbers.{wordNumbered};
 ghost use Rattle.spec_runner.specs.Words.{positionOf};
@@ -76,6 +77,15 @@ fn done(r: &mut [u32], t: u32, s: Instruction, found: bool, v: u32) -> StepAnswe
     answer(e.answer, e.value, v)
 }
 
+// A push of one value.
+fn push_one(m: &mut [u32], t: u32, q: u32, v: u32) -> Answer
+    requires { ⌜ (length (now m) ≡ 16384) × (rulesHold (now m) ≡ true) ⌝ }
+    ensures { λ a. ⌜ answered a (now (m .exit)) ≡ pushTested (now (m .entry)) t q (v ∷ []) ⌝ }
+{
+    let run = [v];
+    core_push::push(m, t, q, &run)
+}
+
 // The core call of an instruction s that uses a queue. No job has a part in it, so the contract has the empty one.
 fn queue_call(m: &mut [u32], t: u32, s: Instruction, x: u32) -> Answer
     requires { ⌜ (length (now m) ≡ 16384) × (rulesHold (now m) ≡ true) × (1 ≤ s .operation) × (s .operation ≤ 4) ⌝ }
@@ -84,8 +94,8 @@ fn queue_call(m: &mut [u32], t: u32, s: Instruction, x: u32) -> Answer
     let k = s.operation;
     let q = s.which;
     match k {
-        1 => core_push::push(m, t, q, s.operand),
-        2 => core_push::push(m, t, q, std::num::wrapping_add_u32(x, s.operand)),
+        1 => push_one(m, t, q, s.operand),
+        2 => push_one(m, t, q, std::num::wrapping_add_u32(x, s.operand)),
         3 => core_pop::pop(m, t, q),
         _ => core_pop::test(m, t, q),
     }

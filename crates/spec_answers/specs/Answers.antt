@@ -34,6 +34,15 @@ valueOf NotEmpty = 0
 valueOf Waits = 0
 valueOf (Refused k) = 0
 
+-- A call and, where it has moved, the next, which gets its value and the words that it left. One that has not moved ends both, and the words
+-- are m.
+unfoldable pub whenMoved : List ℕ → Outcome → (ℕ → List ℕ → Outcome) → Outcome
+whenMoved m (outcome (Moved v) n) f = f v n
+whenMoved m (outcome Empty n) f = outcome Empty m
+whenMoved m (outcome NotEmpty n) f = outcome NotEmpty m
+whenMoved m (outcome Waits n) f = outcome Waits m
+whenMoved m (outcome (Refused k) n) f = outcome (Refused k) m
+
 -- two answers have the same number and the same value
 unfoldable pub sameAnswer : Answer → Answer → Bool
 sameAnswer a b = both (eqb (statusOf a) (statusOf b)) (eqb (valueOf a) (valueOf b))

@@ -7,9 +7,9 @@ use Rattle.spec_cases.specs.Rows.{Case, row}
 -- Values over several segments come out in order, and segments are used again: 3 are free at any time, 7 are pushed.
 abbrev pub ring : Case
 ring =
-    row (open-call 2 6) (Moved 0) ∷ row (push-call 0 0 1) (Moved 1) ∷ row (push-call 0 0 2) (Moved 2) ∷ row (push-call 0 0 3) (Moved 3)
-    ∷ row (pop-call 0 0) (Moved 1) ∷ row (push-call 0 0 4) (Moved 4) ∷ row (push-call 0 0 5) (Moved 5) ∷ row (push-call 0 0 6) (Moved 6)
-    ∷ row (push-call 0 0 7) (Refused 9) ∷ row (pop-call 0 0) (Moved 2) ∷ row (push-call 0 0 7) (Moved 7) ∷ row (pop-call 0 0) (Moved 3)
+    row (open-call 2 6) (Moved 0) ∷ row (push-call 0 0 (1 ∷ [])) (Moved 1) ∷ row (push-call 0 0 (2 ∷ [])) (Moved 2) ∷ row (push-call 0 0 (3 ∷ [])) (Moved 3)
+    ∷ row (pop-call 0 0) (Moved 1) ∷ row (push-call 0 0 (4 ∷ [])) (Moved 4) ∷ row (push-call 0 0 (5 ∷ [])) (Moved 5) ∷ row (push-call 0 0 (6 ∷ [])) (Moved 6)
+    ∷ row (push-call 0 0 (7 ∷ [])) (Refused 9) ∷ row (pop-call 0 0) (Moved 2) ∷ row (push-call 0 0 (7 ∷ [])) (Moved 7) ∷ row (pop-call 0 0) (Moved 3)
     ∷ row (pop-call 0 0) (Moved 4) ∷ row (pop-call 0 0) (Moved 5) ∷ row (pop-call 0 0) (Moved 6) ∷ row (pop-call 0 0) (Moved 7)
     ∷ row (pop-call 0 0) (Refused 7) ∷ []
 
@@ -18,27 +18,27 @@ ring =
 abbrev pub localHead : Case
 localHead =
     row (open-call 4 8) (Moved 0) ∷ row (spawn-call 0 1) (Moved 1) ∷ row (spawn-call 0 1) (Moved 2) ∷ row (spawn-call 0 2) (Moved 3)
-    ∷ row (spawn-call 2 1) (Moved 4) ∷ row (spawn-call 2 1) (Moved 5) ∷ row (push-call 5 0 9) (Moved 9) ∷ row (finish-call 4) (Moved 0)
+    ∷ row (spawn-call 2 1) (Moved 4) ∷ row (spawn-call 2 1) (Moved 5) ∷ row (push-call 5 0 (9 ∷ [])) (Moved 9) ∷ row (finish-call 4) (Moved 0)
     ∷ row (pop-call 3 0) Waits ∷ row (finish-call 1) (Moved 0) ∷ row (pop-call 3 0) (Moved 9) ∷ row (pop-call 3 0) Waits ∷ []
 
 -- A link onto an empty segment frees it, and the queue view that named it is another task's.
 abbrev pub emptyFreed : Case
 emptyFreed =
     row (open-call 4 5) (Moved 0) ∷ row (spawn-call 0 1) (Moved 1) ∷ row (spawn-call 0 1) (Moved 2) ∷ row (spawn-call 0 2) (Moved 3)
-    ∷ row (push-call 2 0 7) (Moved 7) ∷ row (push-call 1 0 6) (Moved 6) ∷ row (pop-call 3 0) (Moved 6) ∷ row (push-call 0 0 8) (Refused 9)
-    ∷ row (finish-call 1) (Moved 0) ∷ row (pop-call 3 0) (Moved 7) ∷ row (push-call 0 0 8) (Moved 8) ∷ row (pop-call 3 0) Waits
+    ∷ row (push-call 2 0 (7 ∷ [])) (Moved 7) ∷ row (push-call 1 0 (6 ∷ [])) (Moved 6) ∷ row (pop-call 3 0) (Moved 6) ∷ row (push-call 0 0 (8 ∷ [])) (Refused 9)
+    ∷ row (finish-call 1) (Moved 0) ∷ row (pop-call 3 0) (Moved 7) ∷ row (push-call 0 0 (8 ∷ [])) (Moved 8) ∷ row (pop-call 3 0) Waits
     ∷ row (finish-call 2) (Moved 0) ∷ row (pop-call 3 0) (Refused 7) ∷ row (finish-call 3) (Moved 0) ∷ row (pop-call 0 0) (Moved 8) ∷ []
 
 -- A push needs a segment although the one that it would free is empty.
 abbrev pub stillNine : Case
 stillNine =
-    row (open-call 1 4) (Moved 0) ∷ row (spawn-call 0 1) (Moved 1) ∷ row (finish-call 1) (Moved 0) ∷ row (push-call 0 0 5) (Refused 9)
-    ∷ row (sync-call 0) (Moved 0) ∷ row (push-call 0 0 5) (Moved 5) ∷ []
+    row (open-call 1 4) (Moved 0) ∷ row (spawn-call 0 1) (Moved 1) ∷ row (finish-call 1) (Moved 0) ∷ row (push-call 0 0 (5 ∷ [])) (Refused 9)
+    ∷ row (sync-call 0) (Moved 0) ∷ row (push-call 0 0 (5 ∷ [])) (Moved 5) ∷ []
 
 -- "a returned queue view goes to the oldest unfinished sibling with that pop right, else to the parent"
 abbrev pub queueView : Case
 queueView =
-    row (open-call 4 8) (Moved 0) ∷ row (push-call 0 0 5) (Moved 5) ∷ row (push-call 0 0 6) (Moved 6) ∷ row (push-call 0 0 7) (Moved 7)
+    row (open-call 4 8) (Moved 0) ∷ row (push-call 0 0 (5 ∷ [])) (Moved 5) ∷ row (push-call 0 0 (6 ∷ [])) (Moved 6) ∷ row (push-call 0 0 (7 ∷ [])) (Moved 7)
     ∷ row (spawn-call 0 2) (Moved 1) ∷ row (spawn-call 0 1) (Moved 2) ∷ row (spawn-call 0 2) (Moved 3) ∷ row (finish-call 2) (Moved 0)
     ∷ row (pop-call 1 0) (Moved 5) ∷ row (pop-call 3 0) Waits ∷ row (finish-call 1) (Moved 0) ∷ row (pop-call 3 0) (Moved 6)
     ∷ row (finish-call 3) (Moved 0) ∷ row (pop-call 0 0) (Moved 7) ∷ []
@@ -53,5 +53,5 @@ numbers =
 -- Freed segments are used again, "the last freed first; opening offers them in ascending order": segments 0 and 4 are freed, in this order.
 abbrev pub lastFreed : Case
 lastFreed =
-    row (open-call 1 6) (Moved 0) ∷ row (push-call 0 0 1) (Moved 1) ∷ row (push-call 0 0 2) (Moved 2) ∷ row (push-call 0 0 3) (Moved 3)
-    ∷ row (pop-call 0 0) (Moved 1) ∷ row (pop-call 0 0) (Moved 2) ∷ row (push-call 0 0 4) (Moved 4) ∷ row (push-call 0 0 5) (Moved 5) ∷ []
+    row (open-call 1 6) (Moved 0) ∷ row (push-call 0 0 (1 ∷ [])) (Moved 1) ∷ row (push-call 0 0 (2 ∷ [])) (Moved 2) ∷ row (push-call 0 0 (3 ∷ [])) (Moved 3)
+    ∷ row (pop-call 0 0) (Moved 1) ∷ row (pop-call 0 0) (Moved 2) ∷ row (push-call 0 0 (4 ∷ [])) (Moved 4) ∷ row (push-call 0 0 (5 ∷ [])) (Moved 5) ∷ []

@@ -4,3 +4,4 @@ pub mod Traps
 pub mod Waiting
 pub mod Refused
 pub mod Joining
+pub mod Runs

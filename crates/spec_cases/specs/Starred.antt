@@ -7,11 +7,11 @@ use Rattle.spec_cases.specs.Rows.{Case, row}
 
 -- "L = 1, 4 segments: first push to queue 0 moves, second gives 9."
 abbrev pub oneSegment : Case
-oneSegment = row (open-call 1 4) (Moved 0) ∷ row (push-call 0 0 5) (Moved 5) ∷ row (push-call 0 0 6) (Refused 9) ∷ []
+oneSegment = row (open-call 1 4) (Moved 0) ∷ row (push-call 0 0 (5 ∷ [])) (Moved 5) ∷ row (push-call 0 0 (6 ∷ [])) (Refused 9) ∷ []
 
 -- "L = 64 opens with 128 segments, not 129."
 abbrev pub longest : Case
-longest = row (open-call 64 129) (Refused 3) ∷ row (open-call 64 128) (Moved 0) ∷ row (push-call 0 3 5) (Moved 5) ∷ []
+longest = row (open-call 64 129) (Refused 3) ∷ row (open-call 64 128) (Moved 0) ∷ row (push-call 0 3 (5 ∷ [])) (Moved 5) ∷ []
 
 -- n children of the top, from number i on
 unfoldable pub children : ℕ → ℕ → Case
@@ -30,7 +30,7 @@ newQueue = row (open-call 4 8) (Moved 0) ∷ row (test-call 0 0) Empty ∷ row (
 abbrev pub fullRun : Case
 fullRun =
     row (open-call 4 256) (Moved 0) ∷ row (spawn-call 0 1) (Moved 1) ∷ row (spawn-call 0 2) (Moved 2) ∷ row (spawn-call 0 1) (Moved 3)
-    ∷ row (push-call 3 0 20) (Moved 20) ∷ row (pop-call 2 0) Waits ∷ row (push-call 1 0 10) (Moved 10) ∷ row (pop-call 2 0) (Moved 10)
+    ∷ row (push-call 3 0 (20 ∷ [])) (Moved 20) ∷ row (pop-call 2 0) Waits ∷ row (push-call 1 0 (10 ∷ [])) (Moved 10) ∷ row (pop-call 2 0) (Moved 10)
     ∷ row (finish-call 1) (Moved 0) ∷ row (finish-call 2) (Moved 0) ∷ row (finish-call 3) (Moved 0) ∷ row (sync-call 0) (Moved 0)
     ∷ row (finish-call 0) (Moved 0) ∷ row (left-call 0 0) (Moved 20) ∷ row (left-call 0 1) (Refused 7) ∷ []
 
@@ -43,7 +43,7 @@ noPush =
 -- "Top pushes 5, spawns a popper, pushes 6: popper takes 5, then is refused with 7."
 abbrev pub laterPush : Case
 laterPush =
-    row (open-call 4 8) (Moved 0) ∷ row (push-call 0 0 5) (Moved 5) ∷ row (spawn-call 0 2) (Moved 1) ∷ row (push-call 0 0 6) (Moved 6)
+    row (open-call 4 8) (Moved 0) ∷ row (push-call 0 0 (5 ∷ [])) (Moved 5) ∷ row (spawn-call 0 2) (Moved 1) ∷ row (push-call 0 0 (6 ∷ [])) (Moved 6)
     ∷ row (pop-call 1 0) (Moved 5) ∷ row (pop-call 1 0) (Refused 7) ∷ []
 
 -- "Child rights 3 under rights 1: 6."

@@ -11,7 +11,8 @@ use Rattle.spec_cases.specs.Traps.{parentPush, reachable, hidden}
 use Rattle.spec_cases.specs.Waiting.{olderSibling, waitBeforeNine, childPopping, pushersBefore, farPusher, leftLater}
 use Rattle.spec_cases.specs.Refused.{notAllowed}
 use Rattle.spec_cases.specs.Joining.{ring, localHead, emptyFreed, stillNine, queueView, numbers, lastFreed}
-use Rattle.spec_order.specs.Steps.{Item, nameOf, numberOf, rightsOf, begin, made, moved, advance, counted, noted}
+use Rattle.spec_cases.specs.Runs.{runOn, partWay, freedOnTheWay, freedTooLate, runOfNone, runsInOrder}
+use Rattle.spec_order.specs.Steps.{Item, nameOf, numberOf, rightsOf, begin, made, moved, advance, pushesAll, pushesRun, counted, noted}
 use Rattle.spec_order.specs.Waits.{sameName, isChild, isOlder, someSpot, unfinished, somePair, blocked, childPops, hasChild}
 use Rattle.spec_order.specs.Finding.{before, later, stepped, passes, runs, found, finding, valueNumber, pendingOf, leftOver}
 use Rattle.spec_order.specs.Ordered.{rightsAt, spots, forTask, forQueue, popAnswer, testAnswer, leftAnswer, ordered}
@@ -29,10 +30,11 @@ abbrev pub table : List Case
 table =
     oneSegment ∷ longest ∷ manyChildren ∷ newQueue ∷ fullRun ∷ noPush ∷ laterPush ∷ moreRights ∷ parentPush ∷ reachable ∷ hidden
     ∷ olderSibling ∷ waitBeforeNine ∷ childPopping ∷ pushersBefore ∷ farPusher ∷ leftLater ∷ notAllowed
-    ∷ ring ∷ localHead ∷ emptyFreed ∷ stillNine ∷ queueView ∷ numbers ∷ lastFreed ∷ []
+    ∷ ring ∷ localHead ∷ emptyFreed ∷ stillNine ∷ queueView ∷ numbers ∷ lastFreed
+    ∷ runOn ∷ partWay ∷ freedOnTheWay ∷ freedTooLate ∷ runOfNone ∷ runsInOrder ∷ []
 
 pub table-follows : allFollow table ≡ true
 unfolding pick both either statusOf valueOf sameAnswer bits pushes pops eachQueue someQueue sharesPop subset nameOf numberOf rightsOf begin made moved advance
-    counted noted sameName isChild isOlder someSpot unfinished somePair blocked childPops hasChild before later stepped passes runs found finding valueNumber
-    pendingOf leftOver rightsAt spots forTask forQueue popAnswer testAnswer leftAnswer ordered follows allFollow children
+    pushesAll pushesRun counted noted sameName isChild isOlder someSpot unfinished somePair blocked childPops hasChild before later stepped passes runs found finding
+    valueNumber pendingOf leftOver rightsAt spots forTask forQueue popAnswer testAnswer leftAnswer ordered follows allFollow children
 table-follows = refl

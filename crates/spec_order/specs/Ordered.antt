@@ -5,6 +5,7 @@ use mathlib.Core.Option.{Option, none, some}
 use Prim.Native.Nat.{ℕ, _+_}
 use lib.Dec.{leb, eqb}
 use Rattle.spec_words.specs.Words.{pick, either}
+use Rattle.spec_lists.specs.Maps.{lastOf}
 use Rattle.spec_answers.specs.declared.Answer.{Answer}
 use Rattle.spec_answers.specs.declared.Answer.the-variants.{Moved, Empty, NotEmpty, Waits, Refused}
 use Rattle.spec_answers.specs.declared.Finding.{Finding}
@@ -53,13 +54,14 @@ leftAnswer (some v) = Moved v
 leftAnswer none = Refused 7
 
 -- The answer to a call, where xs are the steps and spots before it. It hangs on the answer given, a, only in what
--- program order leaves open: the number of a new task, 9 for a push, and opening.
+-- program order leaves open: the number of a new task, 9 for a push, and opening. "Push returns the run's last value, 0 for
+-- none."
 unfoldable pub ordered : Call → List Item → Answer → Answer
 ordered (open-call l n) xs a = a
 ordered (spawn-call t r) xs a =
     forTask t xs (pick (subset r (rightsAt t xs)) (pick (blocked t xs) Waits (pick (eqb (spots xs) 128) (Refused 8) (Moved (valueOf a)))) (Refused 6))
-ordered (push-call t q v) xs a =
-    forTask t xs (forQueue q (mayPush (rightsAt t xs) q) (pick (blocked t xs) Waits (pick (eqb (statusOf a) 9) (Refused 9) (Moved v))))
+ordered (push-call t q vs) xs a =
+    forTask t xs (forQueue q (mayPush (rightsAt t xs) q) (pick (blocked t xs) Waits (pick (eqb (statusOf a) 9) (Refused 9) (Moved (lastOf 0 vs)))))
 ordered (pop-call t q) xs a = forTask t xs (forQueue q (mayPop (rightsAt t xs) q) (popAnswer (finding t q xs)))
 ordered (test-call t q) xs a = forTask t xs (forQueue q (mayPop (rightsAt t xs) q) (testAnswer (finding t q xs)))
 ordered (sync-call t) xs a = forTask t xs (pick (either (blocked t xs) (hasChild t xs)) Waits (Moved 0))

@@ -65,11 +65,21 @@ unfoldable pub advance : ℕ → Act → List Item → List Item
 advance t a [] = []
 advance t a (x ∷ xs) = moved t a x ++ advance t a xs
 
+-- "In program order a run is its values one after another."
+unfoldable pub pushesAll : ℕ → ℕ → List ℕ → List Item → List Item
+pushesAll t q [] xs = xs
+pushesAll t q (v ∷ vs) xs = pushesAll t q vs (advance t (pushes q v) xs)
+
+-- "A run of none moves and stores nothing": a step without effect on the queue, as a test is.
+unfoldable pub pushesRun : ℕ → ℕ → List ℕ → List Item → List Item
+pushesRun t q [] xs = advance t (tests q) xs
+pushesRun t q (v ∷ vs) xs = pushesAll t q (v ∷ vs) xs
+
 -- "Only calls that moved (neither refused nor waiting) count as steps." A spawn's answer is the child's number.
 unfoldable pub counted : Call → ℕ → List Item → List Item
 counted (open-call l n) v xs = begin
 counted (spawn-call t r) v xs = advance t (spawns v r) xs
-counted (push-call t q w) v xs = advance t (pushes q w) xs
+counted (push-call t q vs) v xs = pushesRun t q vs xs
 counted (pop-call t q) v xs = advance t (pops q) xs
 counted (test-call t q) v xs = advance t (tests q) xs
 counted (sync-call t) v xs = advance t syncs xs

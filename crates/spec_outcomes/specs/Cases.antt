@@ -1,4 +1,4 @@
--- Cases that show what opens, where views go, when left answers and in which order calls are turned down. The whole table is a crate
+-- Cases that show what opens, where views go, when left answers, in which order calls are turned down and what a run finds. The whole table is a crate
 -- of its own.
 use mathlib.Core.Path.{_≡_, refl}
 use mathlib.Core.Bool.{true}
@@ -8,6 +8,7 @@ use Rattle.spec_cases.specs.Traps.{parentPush, hidden}
 use Rattle.spec_cases.specs.Waiting.{leftLater}
 use Rattle.spec_cases.specs.Refused.{notAllowed}
 use Rattle.spec_cases.specs.Joining.{localHead, lastFreed}
+use Rattle.spec_cases.specs.Runs.{partWay, freedOnTheWay}
 use Rattle.spec_outcomes.specs.Table.{lent, right, Placed, placed, leaves}
 
 pub parent-push-right : right lent parentPush ≡ true
@@ -45,3 +46,12 @@ lastFreedPlaces = placed 0 5 ∷ placed 4 4 ∷ placed 5 3 ∷ []
 pub last-freed-right : leaves lent lastFreed lastFreedPlaces ≡ true
 unfolding leaves
 last-freed-right = refl
+
+-- 5 goes to segment 4, the link frees segment 0, and 6 goes there
+pub freed-on-the-way-right : leaves lent freedOnTheWay (placed 4 5 ∷ placed 0 6 ∷ []) ≡ true
+unfolding leaves
+freed-on-the-way-right = refl
+
+pub part-way-right : right lent partWay ≡ true
+unfolding right
+part-way-right = refl

@@ -1,7 +1,7 @@
 -- "no refused or waiting call changes a word": only a call that moves leaves other words, and a test or a left never does.
 use mathlib.Core.Path.{_≡_, refl}
 use mathlib.Core.Bool.{Bool, true, false}
-use mathlib.Core.List.{List}
+use mathlib.Core.List.{List, [], _∷_}
 use Prim.Native.Nat.{ℕ}
 use Rattle.spec_words.specs.Words.{pick}
 use Rattle.spec_layout.specs.Layout.{queueHead, read}
@@ -9,12 +9,12 @@ use Rattle.spec_answers.specs.declared.Answer.{Answer}
 use Rattle.spec_answers.specs.declared.Answer.the-variants.{Moved, Empty, NotEmpty, Waits, Refused}
 use Rattle.spec_answers.specs.declared.Finding.{Finding}
 use Rattle.spec_answers.specs.declared.Finding.the-variants as Finding
-use Rattle.spec_answers.specs.Answers.{Outcome, outcome, wordsOf}
+use Rattle.spec_answers.specs.Answers.{Outcome, outcome, wordsOf, whenMoved}
 use Rattle.spec_answers.specs.Calls.{Call, open-call, spawn-call, push-call, pop-call, test-call, sync-call, finish-call, left-call}
 use Rattle.spec_outcomes.specs.Waits.{tested}
 use Rattle.spec_outcomes.specs.Open.{openOutcome}
 use Rattle.spec_outcomes.specs.Spawn.{spawned, spawnTested, spawnOutcome}
-use Rattle.spec_outcomes.specs.Push.{pushedApart, pushedBehind, pushed, pushTested, pushOutcome}
+use Rattle.spec_outcomes.specs.Push.{pushedApart, pushedBehind, pushed, pushedAll, pushedRun, pushTested, pushOutcome}
 use Rattle.spec_outcomes.specs.Find.{popGives, testGives, popAllowed, popTested, testTested, popOutcome, testOutcome}
 use Rattle.spec_outcomes.specs.Sync.{whenReduced, syncTested, syncOutcome}
 use Rattle.spec_outcomes.specs.Finish.{finishTested, finishOutcome}
@@ -66,16 +66,31 @@ keeps-behind : (m : List ℕ) (t q v e : ℕ) → Keeps m (pushedBehind m t q v 
 unfolding pushedBehind
 keeps-behind m t q v e = tt
 
-keeps-pushed : (m : List ℕ) (t q v : ℕ) → Keeps m (pushed m t q v)
+pub keeps-pushed : (m : List ℕ) (t q v : ℕ) → Keeps m (pushed m t q v)
 unfolding pushed
 keeps-pushed m t q v =
     keeps-pick m _ _ _ (keeps-pick m _ _ _ refl (keeps-apart m t q v _))
     (keeps-pick m _ _ _ refl (keeps-pick m _ _ _ tt (keeps-pick m _ _ _ refl (keeps-behind m t q v _))))
 
-keeps-push : (m : List ℕ) (t q v : ℕ) → Keeps m (pushOutcome m t q v)
-unfolding pushOutcome pushTested
-keeps-push m t q v =
-    keeps-tested m _ (keeps-pick m _ _ _ refl (keeps-pick m _ _ _ refl (keeps-pick m _ _ _ refl (keeps-pick m _ _ _ refl (keeps-pushed m t q v)))))
+-- a run that is refused part way
+keeps-moved : (m : List ℕ) (o : Outcome) (f : ℕ → List ℕ → Outcome) → ((v : ℕ) (n : List ℕ) → Keeps m (f v n)) → Keeps m (whenMoved m o f)
+unfolding whenMoved
+keeps-moved m (outcome (Moved v) n) f p = p v n
+keeps-moved m (outcome Empty n) f p = refl
+keeps-moved m (outcome NotEmpty n) f p = refl
+keeps-moved m (outcome Waits n) f p = refl
+keeps-moved m (outcome (Refused k) n) f p = refl
+
+keeps-all : (m n : List ℕ) (t q w : ℕ) (vs : List ℕ) → Keeps m (pushedAll m n t q w vs)
+unfolding pushedAll
+keeps-all m n t q w [] = tt
+keeps-all m n t q w (v ∷ vs) = keeps-moved m (pushed n t q v) _ (λ x l. keeps-all m l t q x vs)
+
+keeps-push : (m : List ℕ) (t q : ℕ) (vs : List ℕ) → Keeps m (pushOutcome m t q vs)
+unfolding pushOutcome pushTested pushedRun
+keeps-push m t q vs =
+    keeps-tested m _ (keeps-pick m _ _ _ refl (keeps-pick m _ _ _ refl (keeps-pick m _ _ _ refl (keeps-pick m _ _ _ refl
+    (keeps-pick m _ _ _ refl (keeps-all m m t q 0 vs))))))
 
 keeps-allowed : (m : List ℕ) (t q : ℕ) (o : Outcome) → Keeps m o → Keeps m (popAllowed m t q o)
 unfolding popAllowed
@@ -101,7 +116,7 @@ pub keeps : (c : Call) (m : List ℕ) → Keeps m (outcomeOf c m)
 unfolding outcomeOf popOutcome popTested testOutcome testTested syncOutcome syncTested finishOutcome finishTested leftOutcome leftTested
 keeps (open-call l n) m = keeps-open m l n
 keeps (spawn-call t r) m = keeps-spawn m t r
-keeps (push-call t q v) m = keeps-push m t q v
+keeps (push-call t q vs) m = keeps-push m t q vs
 keeps (pop-call t q) m = keeps-tested m _ (keeps-allowed m t q _ (keeps-popped m t q _))
 keeps (test-call t q) m = keeps-tested m _ (keeps-allowed m t q _ (keeps-found m _))
 keeps (sync-call t) m = keeps-tested m _ (keeps-reduced m t _ _ tt)

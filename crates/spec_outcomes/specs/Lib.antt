@@ -11,5 +11,6 @@ pub mod Finish
 pub mod Left
 pub mod Outcomes
 pub mod Keeps
+pub mod RunOfOne
 pub mod Table
 pub mod Cases

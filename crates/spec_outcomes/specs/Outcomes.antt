@@ -15,7 +15,7 @@ use Rattle.spec_outcomes.specs.Left.{leftOutcome}
 unfoldable pub outcomeOf : Call → List ℕ → Outcome
 outcomeOf (open-call l n) m = openOutcome m l n
 outcomeOf (spawn-call t r) m = spawnOutcome m t r
-outcomeOf (push-call t q v) m = pushOutcome m t q v
+outcomeOf (push-call t q vs) m = pushOutcome m t q vs
 outcomeOf (pop-call t q) m = popOutcome m t q
 outcomeOf (test-call t q) m = testOutcome m t q
 outcomeOf (sync-call t) m = syncOutcome m t

@@ -12,7 +12,7 @@ use Rattle.spec_lists.specs.Counting.{one, occurrences}
 use Rattle.spec_lists.specs.Tests.{each, upto, eachWord}
 use Rattle.spec_lists.specs.Distinct.{fresh, distinct}
 use Rattle.spec_layout.specs.Layout.{WORDS, value, address, read, write, recordOf}
-use Rattle.spec_answers.specs.Answers.{Outcome, outcome, answerOf, wordsOf, statusOf, valueOf, sameAnswer}
+use Rattle.spec_answers.specs.Answers.{Outcome, outcome, answerOf, wordsOf, statusOf, valueOf, whenMoved, sameAnswer}
 use Rattle.spec_tree.specs.Rights.{bits, pushes, pops, uses, eachQueue, someQueue, sharesPop, subset}
 use Rattle.spec_tree.specs.Tour.{exiting, entering, after, tour, entered, seek, sibling, oldest}
 use Rattle.spec_rules.specs.Contents.{segmentOf, tables, look, scan, word, part, locals, heads, tails, owners}
@@ -25,7 +25,8 @@ use Rattle.spec_outcomes.specs.Views.{standsAt, justBefore, returnedTo}
 use Rattle.spec_outcomes.specs.Waits.{tested, unfinished, blocked, childPops, hasChild, pusherBefore}
 use Rattle.spec_outcomes.specs.Spawn.{forQueues, passedUser, passedQueue, keptUser, keptQueue, childViews, passedOn, childMade, spawned, spawnTested}
 use Rattle.spec_outcomes.specs.Spawn.{spawnOutcome}
-use Rattle.spec_outcomes.specs.Push.{pushedApart, pushedBehind, pushed, pushTested, pushOutcome}
+use Rattle.spec_outcomes.specs.Push.{pushedApart, pushedBehind, pushed, pushedAll, linkFrees, capacity, endsAway, runsOut, pushedRun}
+use Rattle.spec_outcomes.specs.Push.{pushTested, pushOutcome}
 use Rattle.spec_outcomes.specs.Find.{hasValue, finding, popped, popGives, testGives, popAllowed, popTested, testTested, popOutcome, testOutcome}
 use Rattle.spec_outcomes.specs.Sync.{syncs, syncedQueue, synced, whenReduced, syncTested, syncOutcome}
 use Rattle.spec_outcomes.specs.Finish.{returned, finishes, viewsReturned, heir, queueReturned, finishedQueue, unlinked, recordFreed, finished, topFinished}
@@ -66,13 +67,13 @@ lent = replicate WORDS 7
 -- the same, with every definition open, so that it can be computed
 unfoldable pub computed : Case → List ℕ → Option (List ℕ)
 unfolding load store size pick both either storeAll rows one occurrences each upto eachWord fresh distinct address read write recordOf answerOf wordsOf
-    statusOf valueOf sameAnswer bits pushes pops uses eachQueue someQueue sharesPop subset exiting entering after tour entered seek sibling oldest segmentOf
+    statusOf valueOf whenMoved sameAnswer bits pushes pops uses eachQueue someQueue sharesPop subset exiting entering after tour entered seek sibling oldest segmentOf
     tables look scan word part locals heads tails owners within inRange topTest idleTest kin linkTest treeTest viewWord viewsTest marked passed passedAt
     orderAt orderOf orderTest ownersTest segmentTest chain chains heldTest viewTests test rulesHold down stacked segmented topped opened openOutcome place
     valueAt stored dropped noneFree nextFree taken released indexOf headIndex linkedBy renamed linked viewOf isEmpty headOf tailOf reducible frees behind
     reduced setView joined merged taskAt kindAt takesPart standsAt justBefore returnedTo tested unfinished blocked childPops hasChild pusherBefore
     forQueues passedUser passedQueue keptUser keptQueue childViews passedOn childMade spawned spawnTested spawnOutcome pushedApart pushedBehind pushed
-    pushTested pushOutcome hasValue finding popped popGives testGives popAllowed popTested testTested popOutcome testOutcome syncs syncedQueue synced
+    pushedAll linkFrees capacity endsAway runsOut pushedRun pushTested pushOutcome hasValue finding popped popGives testGives popAllowed popTested testTested popOutcome testOutcome syncs syncedQueue synced
     whenReduced syncTested syncOutcome returned finishes viewsReturned heir queueReturned finishedQueue unlinked recordFreed finished topFinished finishTested
     finishOutcome queued leftTested leftOutcome outcomeOf tried
 computed c m = tried c m

@@ -12,7 +12,7 @@ use Rattle.spec_tree.specs.Rights.{pushes, pops, subset}
 use Rattle.spec_answers.specs.declared.Answer.the-variants.{Moved, Waits, Refused}
 use Rattle.spec_answers.specs.Answers.{Outcome, outcome}
 use Rattle.spec_outcomes.specs.Waits.{unfinished, blocked}
-use Rattle.spec_outcomes.specs.Push.{pushed, pushTested}
+use Rattle.spec_outcomes.specs.Push.{pushedRun, pushTested}
 use Rattle.spec_outcomes.specs.Find.{popAllowed}
 use Rattle.spec_outcomes.specs.Spawn.{spawned, spawnTested}
 use Rattle.spec_layout.specs.Layout.{freeTasks, rightsOf, read}
@@ -44,9 +44,10 @@ module _ (j m r : List ℕ) (t : ℕ) (job : jobAnswer j ≡ Moved 0) (rules : r
       (both-true _ _ (accepted j job .instructions p (positionOf r t) (ltb-true _ _ (w .0)) (ltb-true _ _ (v .0))) .0)
 
   -- so these tests of the core's calls pass
-  pub push-allowed : (q v : ℕ) → q < 4 → pushes (rightsOf m t) q ≡ true → pushTested m t q v ≡ pick (blocked m t) (outcome Waits m) (pushed m t q v)
+  pub push-allowed : (q : ℕ) (vs : List ℕ) → q < 4 → pushes (rightsOf m t) q ≡ true
+      → pushTested m t q vs ≡ pick (blocked m t) (outcome Waits m) (pushedRun m t q vs)
   unfolding pushTested
-  push-allowed q v small may = pass _ (ap not there) (pass _ (lt-leb 4 q small) (pass _ (ap not may) refl))
+  push-allowed q vs small may = pass _ (ap not there) (pass _ (lt-leb 4 q small) (pass _ (ap not may) refl))
 
   pub pop-allowed : (q : ℕ) (o : Outcome) → q < 4 → pops (rightsOf m t) q ≡ true → popAllowed m t q o ≡ o
   unfolding popAllowed

@@ -53,7 +53,7 @@ module _ (m : List ℕ) (s : size m ≡ WORDS) (h : rulesHold m ≡ true) where
   unfolding coreOutcome outcomeOf spawnOutcome pushOutcome popOutcome testOutcome syncOutcome finishOutcome leftOutcome
   core-outcome (open-call l n) = refl
   core-outcome (spawn-call t u) = sym (test-passes m s h (spawnTested m t u))
-  core-outcome (push-call t q v) = sym (test-passes m s h (pushTested m t q v))
+  core-outcome (push-call t q vs) = sym (test-passes m s h (pushTested m t q vs))
   core-outcome (pop-call t q) = sym (test-passes m s h (popTested m t q))
   core-outcome (test-call t q) = sym (test-passes m s h (testTested m t q))
   core-outcome (sync-call t) = sym (test-passes m s h (syncTested m t))

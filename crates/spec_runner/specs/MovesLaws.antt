@@ -1,9 +1,9 @@
 -- A step moves exactly where it is decided that it would.
 use mathlib.Core.Path.{_≡_, refl, ap, ap₂, sym, _∙_}
 use mathlib.Core.Bool.{Bool, true, false, not}
-use mathlib.Core.List.{List}
+use mathlib.Core.List.{List, [], _∷_}
 use mathlib.Core.Option.{Option, none, some}
-use Prim.Native.Nat.{ℕ}
+use Prim.Native.Nat.{ℕ, _<_}
 use lib.Dec.{leb, ltb, eqb}
 use Rattle.spec_words.specs.Words.{pick, both, both-right-on, either, pass}
 use Rattle.spec_layout.specs.Layout.{NL, USER, count, lengthOf, rightsOf, read}
@@ -17,6 +17,7 @@ use Rattle.spec_outcomes.specs.Segments.{noneFree}
 use Rattle.spec_outcomes.specs.Views.{viewOf, isEmpty, tailOf, justBefore}
 use Rattle.spec_outcomes.specs.Waits.{unfinished, blocked, hasChild}
 use Rattle.spec_outcomes.specs.Push.{pushedApart, pushedBehind, pushed, pushTested}
+use Rattle.spec_outcomes.specs.RunOfOne.{run-of-one}
 use Rattle.spec_outcomes.specs.Spawn.{spawned, spawnTested}
 use Rattle.spec_outcomes.specs.Find.{finding, popGives, testGives, popAllowed, popTested, testTested}
 use Rattle.spec_outcomes.specs.Sync.{whenReduced, syncTested}
@@ -86,12 +87,14 @@ module _ (m : List ℕ) (t : ℕ) (alive : unfinished m t ≡ true) (free : bloc
       (gives v _)
       (turned _ 9 _ _ refl ∙ both-right-on _ (behind q v _))))
 
-  pub push-moves : (q v : ℕ) → moves (coreAnswer (pushTested m t q v)) ≡ pushMoves m t q
+  -- a run of one, in segments that have a place
+  pub push-moves : ((s : ℕ) → 0 < lengthOf m s) → (q v : ℕ) → moves (coreAnswer (pushTested m t q (v ∷ []))) ≡ pushMoves m t q
   unfolding goesOn pushTested pushMoves
-  push-moves q v =
+  push-moves wide q v =
       ap goesOn (pass _ (ap not alive) refl)
       ∙ turned _ 5 _ _ refl
-      ∙ ap (both (not (leb 4 q))) (lacking _ 6 _ _ refl ∙ ap (both (pushes (rightsOf m t) q)) (ap goesOn (pass _ free refl) ∙ fits q v))
+      ∙ ap (both (not (leb 4 q)))
+      (lacking _ 6 _ _ refl ∙ ap (both (pushes (rightsOf m t) q)) (ap goesOn (pass _ free (run-of-one m t q wide v)) ∙ fits q v))
 
   pub spawn-moves : (a : ℕ) → moves (coreAnswer (spawnTested m t a)) ≡ spawnMoves m t a
   unfolding goesOn spawnTested spawned spawnMoves
@@ -161,7 +164,7 @@ replied-moves t s (Refused k) n m r = turn (eqb k 7)
     turn true = unfold pick in done-moves t s none 0 n r
     turn false = unfold pick in unfold answerOf in unfold hasMoved in refl
 
-module _ (j m r : List ℕ) (t : ℕ) where
+module _ (j m r : List ℕ) (t : ℕ) (wide : (s : ℕ) → 0 < lengthOf m s) where
   called : (s : Instruction) (o : CoreOutcome) (b : Bool) → moves (coreAnswer o) ≡ b → hasMoved (answerOf (repliedTo t s o m r)) ≡ b
   unfolding repliedTo coreAnswer
   called s (answered a n) b h = replied-moves t s a n m r ∙ h
@@ -170,8 +173,8 @@ module _ (j m r : List ℕ) (t : ℕ) where
       → hasMoved (answerOf (makes t s (callOf o j t x s) m r)) ≡ instructionMoves o j m t s
   unfolding makes callOf coreOutcome instructionMoves
   made alive free return x s = called s _ _ (finish-moves m t alive free)
-  made alive free push x s = called s _ _ (push-moves m t alive free (s .which) _)
-  made alive free pushSum x s = called s _ _ (push-moves m t alive free (s .which) _)
+  made alive free push x s = called s _ _ (push-moves m t alive free wide (s .which) _)
+  made alive free pushSum x s = called s _ _ (push-moves m t alive free wide (s .which) _)
   made alive free pop x s = called s _ _ (pop-moves m t alive free (s .which))
   made alive free goIfEmpty x s = called s _ _ (test-moves m t alive free (s .which))
   made alive free go x s = done-moves t s none 0 m r

@@ -1,6 +1,6 @@
 -- A STEP OF TASK t: the instruction that it is at, by a call of the core where the operation has one.
 use mathlib.Core.Bool.{not}
-use mathlib.Core.List.{List}
+use mathlib.Core.List.{List, [], _∷_}
 use mathlib.Core.Option.{Option, none, some}
 use Prim.Native.Nat.{ℕ}
 use lib.Dec.{eqb}
@@ -27,11 +27,11 @@ use Rattle.spec_runner.specs.Words.{procedureOf, positionOf, registerOf,
 use Rattle.spec_runner.specs.Answers.{answerWith, Outcome, outcome}
 use Rattle.spec_runner.specs.Rules.{tested}
 
--- The core call that instruction s makes for task t with register x. Operations 5, 6 and 7 make none.
+-- The core call that instruction s makes for task t with register x: a push is of one value. Operations 5, 6 and 7 make none.
 unfoldable pub callOf : Operation → List ℕ → ℕ → ℕ → Instruction → Option Call
 callOf return j t x s = some (finish-call t)
-callOf push j t x s = some (push-call t (s .which) (s .operand))
-callOf pushSum j t x s = some (push-call t (s .which) (sum x (s .operand)))
+callOf push j t x s = some (push-call t (s .which) (s .operand ∷ []))
+callOf pushSum j t x s = some (push-call t (s .which) (sum x (s .operand) ∷ []))
 callOf pop j t x s = some (pop-call t (s .which))
 callOf goIfEmpty j t x s = some (test-call t (s .which))
 callOf go j t x s = none
@@ -84,7 +84,7 @@ replied t s (stops a) n m r = outcome a m r
 -- The outcome of a core call behind the memory test, which the step has made itself. Opening and left are no calls of a task.
 unfoldable pub coreOutcome : Call → List ℕ → CoreOutcome
 coreOutcome (spawn-call t u) m = spawnTested m t u
-coreOutcome (push-call t q v) m = pushTested m t q v
+coreOutcome (push-call t q vs) m = pushTested m t q vs
 coreOutcome (pop-call t q) m = popTested m t q
 coreOutcome (test-call t q) m = testTested m t q
 coreOutcome (sync-call t) m = syncTested m t

@@ -9,15 +9,17 @@ use Rattle.spec_cases.specs.Traps.{parentPush, reachable, hidden}
 use Rattle.spec_cases.specs.Waiting.{olderSibling, waitBeforeNine, childPopping, pushersBefore, farPusher, leftLater}
 use Rattle.spec_cases.specs.Refused.{unopened, notAllowed}
 use Rattle.spec_cases.specs.Joining.{ring, localHead, emptyFreed, stillNine, queueView, numbers, lastFreed}
+use Rattle.spec_cases.specs.Runs.{runOn, partWay, freedOnTheWay, freedTooLate, runOfNone, runsInOrder}
 use Rattle.spec_outcomes.specs.Table.{lent, isSome, computes, right}
 use Rattle.table_children.specs.Wide.{many-children}
 use Rattle.spec_outcomes.specs.Cases.{parent-push-right, hidden-right, local-head-right, no-push-right, not-allowed-right, longest-right, left-later-right}
+use Rattle.spec_outcomes.specs.Cases.{part-way-right}
 
 abbrev pub table : List Case
 table =
     oneSegment ∷ longest ∷ manyChildren ∷ newQueue ∷ fullRun ∷ noPush ∷ laterPush ∷ moreRights ∷ parentPush ∷ reachable ∷ hidden ∷ olderSibling ∷
     waitBeforeNine ∷ childPopping ∷ pushersBefore ∷ farPusher ∷ leftLater ∷ unopened ∷ notAllowed ∷ ring ∷ localHead ∷ emptyFreed ∷ stillNine ∷ queueView ∷
-    numbers ∷ lastFreed ∷ []
+    numbers ∷ lastFreed ∷ runOn ∷ partWay ∷ freedOnTheWay ∷ freedTooLate ∷ runOfNone ∷ runsInOrder ∷ []
 
 unfoldable pub allRight : List Case → Bool
 allRight [] = true
@@ -100,6 +102,26 @@ last-freed-right : right lent lastFreed ≡ true
 unfolding right
 last-freed-right = refl
 
+run-on-right : right lent runOn ≡ true
+unfolding right
+run-on-right = refl
+
+freed-on-the-way-right : right lent freedOnTheWay ≡ true
+unfolding right
+freed-on-the-way-right = refl
+
+freed-too-late-right : right lent freedTooLate ≡ true
+unfolding right
+freed-too-late-right = refl
+
+run-of-none-right : right lent runOfNone ≡ true
+unfolding right
+run-of-none-right = refl
+
+runs-in-order-right : right lent runsInOrder ≡ true
+unfolding right
+runs-in-order-right = refl
+
 pub table-right : allRight table ≡ true
 unfolding allRight
 table-right =
@@ -108,4 +130,5 @@ table-right =
     (true-both hidden-right (true-both older-sibling-right (true-both wait-before-nine-right (true-both child-popping-right
     (true-both pushers-before-right (true-both far-pusher-right (true-both left-later-right (true-both unopened-right (true-both not-allowed-right
     (true-both ring-right (true-both local-head-right (true-both empty-freed-right (true-both still-nine-right (true-both queue-view-right
-    (true-both numbers-right (true-both last-freed-right refl))))))))))))))))))))))))))
+    (true-both numbers-right (true-both last-freed-right (true-both run-on-right (true-both part-way-right (true-both freed-on-the-way-right
+    (true-both freed-too-late-right (true-both run-of-none-right (true-both runs-in-order-right refl))))))))))))))))))))))))))))))))

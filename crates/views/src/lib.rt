@@ -59,7 +59,7 @@ fn local(e: u32, h: u32) -> bool
 }
 
 // Reducing the two views frees the tail of the left one.
-fn frees(m: &[u32], h1: u32, e1: u32, h2: u32, e2: u32) -> bool
+pub fn frees(m: &[u32], h1: u32, e1: u32, h2: u32, e2: u32) -> bool
     ensures { λ r. ⌜ r ≡ frees (now (m .entry)) (view h1 e1) (view h2 e2) ⌝ }
 {
     if is_empty(h1, e1) {

@@ -1,5 +1,5 @@
 -- The tests are those of the definition, in its order; past them the rules promise what a store needs.
-use Rattle.core_push.proofs.Ways.{refused-4, refused-5, refused-6, waits, goes-on}
+use Rattle.core_push.proofs.Ways.{refused-4, refused-5, refused-6, waits, can-push, goes-on}
 use borrow.Author.Tests.{not-false}
 use mathlib.Core.Path.{sym, _∙_}
 use borrow.Author.Needs.{needs}
@@ -24,14 +24,13 @@ returns-4 c =
     (c .before .before .before .before .before .rights .ensures) (c .before .before .before .before .pushes .ensures) (c .before .before .before .if3 .left)
     (c .before .blocked .ensures) (c .if4 .taken)
 
-push-value-requires : tie.Need-push-value-requires
-push-value-requires c κs = (
-  c .before .before .before .before .before .before .before .before .before .before .before .before .before .pre .0,
-  c .before .before .before .before .before .before .before .before .before .before .before .before .before .pre .1,
-  sym (c .before .before .before .before .before .before .before .before .before .before .unfinished .ensures)
-      ∙ not-false _ (c .before .before .before .before .before .before .before .before .before .if1 .left),
-  c .before .before .before .before .before .before .before .before .if2 .left,
-)
+push-run-requires : tie.Need-push-run-requires
+push-run-requires c κs =
+    can-push _ _ _ (c .before .before .before .before .before .before .before .before .before .before .before .before .before .before .pre .0)
+    (c .before .before .before .before .before .before .before .before .before .before .before .before .before .before .pre .1)
+    (sym (c .before .before .before .before .before .before .before .before .before .before .unfinished .ensures) ∙ not-false _ (c .before .before .before
+    .before .before .before .before .before .before .if1 .left))
+    (c .before .before .before .before .before .before .before .before .if2 .left)
 
 returns-5 : tie.Need-returns-5
 returns-5 c =
@@ -41,10 +40,13 @@ returns-5 c =
     (c .before .before .before .before .before .before .before .before .before .rights .ensures)
     (c .before .before .before .before .before .before .before .before .pushes .ensures)
     (c .before .before .before .before .before .before .before .if3 .left) (c .before .before .before .before .before .blocked .ensures)
-    (c .before .before .before .before .if4 .left) (c .before .before .push-value .ensures)
+    (c .before .before .before .before .if4 .left)
+    (c .before .before .before .before .before .before .before .before .before .before .before .before .before .before .before .before .before .pre .0)
+    (c .before .before .push-run .ensures)
 
 pub push-spec : {M : Type 1} → statement M
 push-spec =
     tie.close
     (tie.spec (λ c κs. search needs) (λ c. search needs) returns (λ c. search needs) returns-2 (λ c κs. search needs) (λ c κs. search needs)
-    (λ c. search needs) returns-3 (λ c κs. search needs) (λ c. search needs) returns-4 push-value-requires (λ c. search needs) returns-5)
+    (λ c. search needs) returns-3 (λ c κs. search needs) (λ c. search needs) returns-4 (λ c. search needs) (λ c. search needs) (λ c. search needs)
+    push-run-requires (λ c. search needs) returns-5)

@@ -5,12 +5,12 @@ use Rattle.runner_step.proofs.queue_call.Statement.{statement}
 use Rattle.runner_step.proofs.queue_call.Tie as tie
 
 returns : tie.Need-returns
-returns c = push-made _ _ _ _ _ (c .before .before .before .before .match .keys1) (c .before .before .push .ensures)
+returns c = push-made _ _ _ _ _ (c .before .before .before .before .match .keys1) (c .before .before .push-one .ensures)
 
 returns-2 : tie.Need-returns-2
 returns-2 c =
     sum-made _ _ _ _ _ (c .before .before .before .before .before .match .keys2) (c .before .before .before .wrapping-add-u32 .ensures)
-    (c .before .before .push2 .ensures)
+    (c .before .before .push-one2 .ensures)
 
 returns-3 : tie.Need-returns-3
 returns-3 c = pop-made _ _ _ _ _ (c .before .before .before .before .match .keys3) (c .before .before .pop .ensures)

@@ -1,0 +1,9 @@
+pub mod Searched
+pub mod Pushable
+pub mod Watched
+pub mod NewTail
+pub mod Grown
+pub mod Ways
+pub mod Single
+pub mod Runs
+pub mod Statement

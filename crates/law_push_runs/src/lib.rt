@@ -1,0 +1,1 @@
+// What the memory test promises to the calls: laws only.
