@@ -1,8 +1,10 @@
-//! The bench of host.c: cut makes pieces, check marks them, print shows them.
-//! Queue 0 goes from cut to check, queue 1 from check to print.
+//! The bench of host.c: cut makes blocks of pieces, check marks pieces, print
+//! shows them. Queue 0 goes from cut to check, queue 1 from check to print.
 
 use hyperqueue::core::{finish, left, may_pop, may_push, open, pop, push, spawn, WORDS};
 use hyperqueue::Answer;
+
+const BLOCK: u32 = 40;
 
 /// A stage takes a piece; nothing once none will come.
 fn take(words: &mut [u32], name: &str, task: u32, queue: u32) -> Option<u32> {
@@ -16,6 +18,15 @@ fn take(words: &mut [u32], name: &str, task: u32, queue: u32) -> Option<u32> {
 /// The value of a call that has to move here.
 fn moved(answer: Answer) -> u32 {
     answer.moved().expect("the call moves")
+}
+
+/// Print shows a piece, then check marks one and hands it on, if they are there.
+fn turn(words: &mut [u32], check: u32, print: u32) {
+    take(words, "print", print, 1).inspect(|piece| println!("print shows {piece}"));
+    if let Some(taken) = take(words, "check", check, 0) {
+        println!("check takes {taken}");
+        moved(push(words, check, 1, &[taken + 100]));
+    }
 }
 
 fn main() {
@@ -32,15 +43,17 @@ fn main() {
         task
     });
     // The last stage goes first, so that each one has to wait.
-    for piece in 1..=4 {
-        take(&mut words, "print", print, 1).inspect(|piece| println!("print shows {piece}"));
-        if let Some(taken) = take(&mut words, "check", check, 0) {
-            println!("check takes {taken}");
-            moved(push(&mut words, check, 1, taken + 100));
-        }
-        moved(push(&mut words, cut, 0, piece));
+    turn(&mut words, check, print);
+    let block: Vec<u32> = (1..=BLOCK).collect();
+    let last = moved(push(&mut words, cut, 0, &block));
+    println!("cut pushes a block, its last piece is {last}");
+    // The free segments hold a part of a second block: none of it is stored.
+    let again = push(&mut words, cut, 0, &block).status;
+    println!("a second block is refused with {again}");
+    for _ in 0..3 {
+        turn(&mut words, check, print);
     }
-    // Check ends early: piece 4 stays in queue 0.
+    // Check ends early: the other pieces stay in queue 0.
     moved(finish(&mut words, cut));
     moved(finish(&mut words, check));
     while let Some(piece) = take(&mut words, "print", print, 1) {
@@ -48,6 +61,10 @@ fn main() {
     }
     moved(finish(&mut words, print));
     moved(finish(&mut words, 0));
-    println!("left in queue 0: {}", moved(left(&mut words, 0, 0)));
-    println!("then refused with {}", left(&mut words, 0, 1).status);
+    let [first, last] = [0, BLOCK - 4].map(|index| moved(left(&mut words, 0, index)));
+    println!("left in queue 0: {first} to {last}");
+    println!(
+        "then refused with {}",
+        left(&mut words, 0, BLOCK - 3).status
+    );
 }

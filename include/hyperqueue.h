@@ -6,9 +6,9 @@
  * that may be written, and len should be HQ_WORDS. Nothing else has to be
  * checked before a call: any contents, any len and any arguments give an
  * answer. A call that is refused or waits changes no word. Nothing outside
- * words[0] to words[len - 1] is read or written, and nothing is kept between
- * calls, so a host may have many cores. Two calls on the same words must not
- * run at the same time.
+ * words[0] to words[len - 1] is read or written, but for the values of a push,
+ * which are read, and nothing is kept between calls, so a host may have many
+ * cores. Two calls on the same words must not run at the same time.
  *
  * The order of a queue's values is that of a run in which every child ends
  * before its spawner goes on, so it is the order of spawns: a reader that was
@@ -28,7 +28,7 @@ extern "C" {
 #endif
 
 /* The version of the library. */
-#define HQ_VERSION "0.3.0"
+#define HQ_VERSION "0.4.0"
 
 /* An answer that is not looked at is mostly an error: where the compiler can,
  * it says so. */
@@ -61,7 +61,7 @@ enum {
     HQ_NO_RIGHT = 6,      /* the task lacks the right */
     HQ_PAST_THE_END = 7,  /* pop, left: no value is there */
     HQ_NO_RECORD = 8,     /* spawn: 128 tasks are unfinished */
-    HQ_NO_SEGMENT = 9,    /* push: no segment is free */
+    HQ_NO_SEGMENT = 9,    /* push: too few segments are free for the run */
     HQ_JOB_HEAD = 10,     /* a job too short, or its first numbers wrong */
     HQ_JOB_CONTENTS = 11, /* an entry of a job or its length is wrong */
     HQ_JOB_BODY = 12,     /* an instruction of a job is wrong */
@@ -93,7 +93,7 @@ static inline const char *hq_status_text(uint32_t status) {
     case HQ_NO_RIGHT: return "refused: the task lacks the right";
     case HQ_PAST_THE_END: return "refused: no value is there";
     case HQ_NO_RECORD: return "refused: 128 tasks are unfinished";
-    case HQ_NO_SEGMENT: return "refused: no segment is free";
+    case HQ_NO_SEGMENT: return "refused: too few segments are free";
     case HQ_JOB_HEAD: return "refused: a job's first numbers";
     case HQ_JOB_CONTENTS: return "refused: a job's entries or its length";
     case HQ_JOB_BODY: return "refused: an instruction of a job";
@@ -126,10 +126,19 @@ HQ_ANSWER hq_open(uint32_t *words, size_t len, uint32_t length,
 /* A child of `task`, with some of its rights; the value is its number. */
 HQ_ANSWER hq_spawn(uint32_t *words, size_t len, uint32_t task, uint32_t rights);
 
-/* The value of the answer is the one pushed. A stage that has taken a value
- * and is refused with HQ_NO_SEGMENT has to keep it: it is in no queue. */
+/* Pushes a run of count values, values[0] first; a single value is a run of one.
+ * The value of the answer is the last one of the run, 0 for a run of none. A run
+ * goes on into new segments as needed. If they run out part way the whole run is
+ * refused with HQ_NO_SEGMENT and nothing is stored: a stage that has taken values
+ * has to keep them, since they are in no queue, or push fewer of them at once. A
+ * run of none needs no segment, is tested as any other, and changes no word.
+ *
+ * values points to count words that may be read, and must not be a null pointer
+ * where count is 0 either. They are not written, and nothing behind the last of
+ * them is read. They must not overlap the core's words. Any count gives an
+ * answer. */
 HQ_ANSWER hq_push(uint32_t *words, size_t len, uint32_t task, uint32_t queue,
-                 uint32_t value);
+                 const uint32_t *values, size_t count);
 
 /* The value of the answer is the one taken: the next in the order of a run in
  * which every child ends before its parent goes on. */

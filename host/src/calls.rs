@@ -7,7 +7,7 @@
 use crate::answer::*;
 use crate::layout::*;
 use crate::views::{self, EMPTY};
-use crate::{fast, late, pools, tree};
+use crate::{fast, late, pools, push, tree};
 
 /// An answer that ends a call early is the error case.
 pub(crate) type Tried = Result<Answer, Answer>;
@@ -174,74 +174,22 @@ fn pass_queue_view(m: &mut [u32], from: u32, to: u32, q: u32) {
     }
 }
 
-/// What a push does, once nothing turns it down.
-enum PushPlan {
-    /// Into the user view's tail segment, which has room.
-    Store(u32),
-    /// Into a new segment behind the tail segment, which is full.
-    Append { tail: u32, new: u32 },
-    /// Into a new segment; its head goes into the view at `place`.
-    Begin { place: usize, new: u32 },
+/// Pushes a run of values to queue `q`; the value is its last one, 0 for none.
+pub fn push(m: &mut [u32], t: u32, q: u32, run: &[u32]) -> Answer {
+    whole(m, |m| try_push(m, t, q, run))
 }
 
-/// Pushes `value` to queue `q`; the value is `value`.
-pub fn push(m: &mut [u32], t: u32, q: u32, value: u32) -> Answer {
-    whole(m, |m| try_push(m, t, q, value))
-}
-
-pub(crate) fn try_push(m: &mut [u32], t: u32, q: u32, value: u32) -> Tried {
+pub(crate) fn try_push(m: &mut [u32], t: u32, q: u32, run: &[u32]) -> Tried {
     task_unfinished(m, t)?;
     queue_exists(q)?;
     right_held(m, t, push_right(q))?;
     no_older_popper(m, t)?;
-    match plan_push(m, t, q)? {
-        PushPlan::Store(s) => pools::store(m, s, value),
-        PushPlan::Append { tail, new } => {
-            pools::take_segment(m, new, value);
-            put(m, segment(tail) + NEXT, new);
-            put(m, user_view(t, q) + TAIL_FROM_HEAD, new);
-        }
-        PushPlan::Begin { place, new } => {
-            pools::take_segment(m, new, value);
-            let user = views::View {
-                head: NL,
-                tail: new,
-            };
-            views::write(m, user_view(t, q), user);
-            put_head(m, place, new);
-        }
-    }
-    Ok(Answer::Moved(value))
-}
-
-/// Refusal 9 goes before the late refusal 2. A user view that is not empty and
-/// has a non-local tail asks for no segment, so it gets 2 in any case.
-fn plan_push(m: &[u32], t: u32, q: u32) -> Result<PushPlan, Answer> {
-    let user = views::read(m, user_view(t, q));
-    let free = pools::next_free_segment(m).ok_or(NO_SEGMENT);
-    if user.is_empty() {
-        let new = free?;
-        let place = views::place_before_user(m, t, q);
-        refuse_if(views::read(m, place).tail == NL, RULES_FAIL)?;
-        return Ok(PushPlan::Begin { place, new });
-    }
-    refuse_if(user.tail == NL, RULES_FAIL)?;
-    if count(m, user.tail) < length(m) {
-        return Ok(PushPlan::Store(user.tail));
-    }
-    let (tail, new) = (user.tail, free?);
-    Ok(PushPlan::Append { tail, new })
-}
-
-/// Reduces the view at `place` with the head of the new segment.
-fn put_head(m: &mut [u32], place: usize, new: u32) {
-    let before = views::read(m, place);
-    if before.is_empty() {
-        put(m, place, new);
-    } else {
-        views::link(m, before.tail, new);
-    }
-    put(m, place + TAIL_FROM_HEAD, NL);
+    let Some(last) = run.last() else {
+        return Ok(Answer::Moved(0));
+    };
+    let place = push::place(m, t, q, run.len())?;
+    push::write(m, t, q, run, place);
+    Ok(Answer::Moved(*last))
 }
 
 /// What pop and test find.

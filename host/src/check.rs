@@ -8,6 +8,8 @@ use crate::order::Order;
 use crate::{fast, pools, rules, views};
 
 pub struct Pair {
+    /// Makes a call on the memory: the model, or in a test a program that errs.
+    pub program: fn(&Call, &mut [u32]) -> Answer,
     pub memory: Vec<u32>,
     pub order: Order,
     /// The memory before the next call.
@@ -21,6 +23,7 @@ impl Pair {
     /// Memory with any words in it; the first call has to be an opening.
     pub fn new(memory: Vec<u32>, slow_every: u64) -> Pair {
         Pair {
+            program: Call::make,
             before: memory.clone(),
             memory,
             order: Order::new(),
@@ -30,10 +33,10 @@ impl Pair {
     }
 
     /// Makes the call on both; says what differs.
-    pub fn make(&mut self, call: Call) -> Result<Answer, String> {
+    pub fn make(&mut self, call: &Call) -> Result<Answer, String> {
         let due = self.order.answer(call);
         let want_of_segment = due.moved() && self.wants_segment(call);
-        let answer = call.make(&mut self.memory);
+        let answer = (self.program)(call, &mut self.memory);
         let due = if want_of_segment { NO_SEGMENT } else { due };
         if answer != due {
             return Err(format!("{call}: {answer:?}, by program order {due:?}"));
@@ -51,18 +54,40 @@ impl Pair {
         Ok(answer)
     }
 
-    /// Does this push need a segment while none is free?
-    fn wants_segment(&self, call: Call) -> bool {
-        let Call::Push { task, queue, .. } = call else {
+    /// Does this push, value by value, come to need a segment while none is free?
+    fn wants_segment(&self, call: &Call) -> bool {
+        let Some((task, queue, values)) = call.as_push() else {
             return false;
         };
         let m = &self.memory;
         let user = views::read(m, user_view(task, queue));
-        let needs = user.is_empty() || count(m, user.tail) == length(m);
-        needs && get(m, FREE_SEGMENTS) == 0
+        let mut room = match user.is_empty() {
+            true => 0,
+            false => length(m) - count(m, user.tail),
+        };
+        let mut free = get(m, FREE_SEGMENTS);
+        // The first new segment of an empty user view may free another one.
+        let mut frees = user.is_empty() && self.link_frees(task, queue);
+        for _ in values {
+            if room == 0 {
+                if free == 0 {
+                    return true;
+                }
+                free = free - 1 + u32::from(std::mem::take(&mut frees));
+                room = length(m);
+            }
+            room -= 1;
+        }
+        false
     }
 
-    fn compare_memory(&self, call: Call) -> Result<(), String> {
+    /// Is the view just before the user view not empty, and its tail segment empty?
+    fn link_frees(&self, t: u32, q: u32) -> bool {
+        let before = views::read(&self.memory, views::place_before_user(&self.memory, t, q));
+        !before.is_empty() && count(&self.memory, before.tail) == 0
+    }
+
+    fn compare_memory(&self, call: &Call) -> Result<(), String> {
         if !fast::hold(&self.memory) {
             let broken = rules::first_broken(&self.memory);
             return Err(format!("{call}: memory breaks {broken:?}"));

@@ -75,6 +75,13 @@ pub fn put(m: &mut [u32], a: usize, word: u32) {
     }
 }
 
+/// Sets the words from `a` on; if there are fewer nothing happens.
+pub fn put_all(m: &mut [u32], a: usize, words: &[u32]) {
+    if let Some(places) = m.get_mut(a..a + words.len()) {
+        places.copy_from_slice(words);
+    }
+}
+
 /// Place `i` of the stack of free segments.
 pub fn segment_place(i: u32) -> usize {
     SEGMENT_STACK + i as usize
@@ -197,5 +204,9 @@ mod tests {
         let mut m = [7, 8];
         put(&mut m, 2, 9);
         assert_eq!((get(&m, 1), get(&m, 2), m), (8, 0, [7, 8]));
+        put_all(&mut m, 1, &[5, 6]);
+        assert_eq!(m, [7, 8]);
+        put_all(&mut m, 0, &[5, 6]);
+        assert_eq!(m, [5, 6]);
     }
 }

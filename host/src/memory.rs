@@ -11,34 +11,39 @@ pub use crate::answer::Answer::{Empty, Moved, NotEmpty, Refused, Waits};
 
 /// Short names for the calls, by what makes a call.
 pub trait Calls {
-    fn make(&mut self, call: Call) -> Answer;
+    fn make(&mut self, call: &Call) -> Answer;
 
     fn spawn(&mut self, task: u32, rights: u32) -> Answer {
-        self.make(Call::Spawn { task, rights })
+        self.make(&Call::Spawn { task, rights })
     }
 
+    /// A run of one.
     fn push(&mut self, task: u32, queue: u32, value: u32) -> Answer {
-        self.make(Call::Push { task, queue, value })
+        self.push_run(task, queue, &[value])
+    }
+
+    fn push_run(&mut self, task: u32, queue: u32, values: &[u32]) -> Answer {
+        self.make(&Call::push(task, queue, values))
     }
 
     fn pop(&mut self, task: u32, queue: u32) -> Answer {
-        self.make(Call::Pop { task, queue })
+        self.make(&Call::Pop { task, queue })
     }
 
     fn test(&mut self, task: u32, queue: u32) -> Answer {
-        self.make(Call::Test { task, queue })
+        self.make(&Call::Test { task, queue })
     }
 
     fn sync(&mut self, task: u32) -> Answer {
-        self.make(Call::Sync { task })
+        self.make(&Call::Sync { task })
     }
 
     fn finish(&mut self, task: u32) -> Answer {
-        self.make(Call::Finish { task })
+        self.make(&Call::Finish { task })
     }
 
     fn left(&mut self, queue: u32, index: u32) -> Answer {
-        self.make(Call::Left { queue, index })
+        self.make(&Call::Left { queue, index })
     }
 }
 
@@ -51,7 +56,7 @@ impl Core {
     /// Opened over words that are not zero.
     pub fn open(length: u32, segments: u32) -> Core {
         let mut core = Core(vec![7; WORDS]);
-        let answer = core.make(Call::Open { length, segments });
+        let answer = core.make(&Call::Open { length, segments });
         assert_eq!(answer, Moved(0));
         core
     }
@@ -120,7 +125,7 @@ impl Core {
 }
 
 impl Calls for Core {
-    fn make(&mut self, call: Call) -> Answer {
+    fn make(&mut self, call: &Call) -> Answer {
         let before = self.0.clone();
         let answer = call.make(&mut self.0);
         if !answer.moved() {

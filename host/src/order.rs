@@ -20,7 +20,8 @@ enum Item {
     Pop {
         queue: u32,
     },
-    /// A spawn, test, sync or finish: it moved, and no queue changed.
+    /// A spawn, test, sync or finish, or a run of none: it moved, and no queue
+    /// changed.
     Other,
     /// Where the next step of this unfinished task would stand.
     Spot(u32),
@@ -154,11 +155,15 @@ impl Order {
 
     /// What the call answers, a want of segments and the state of the memory
     /// aside.
-    pub fn answer(&self, call: Call) -> Answer {
-        let tried = match call {
+    pub fn answer(&self, call: &Call) -> Answer {
+        let tried = match *call {
             Call::Open { .. } => Ok(Answer::Moved(0)),
             Call::Spawn { task, rights } => self.spawn(task, rights),
-            Call::Push { task, queue, value } => self.push(task, queue, value),
+            Call::Push {
+                task,
+                queue,
+                ref values,
+            } => self.push(task, queue, values),
             Call::Pop { task, queue } => self.pop(task, queue),
             Call::Test { task, queue } => self.test(task, queue),
             Call::Sync { task } | Call::Finish { task } => self.end(task),
@@ -190,12 +195,12 @@ impl Order {
         Ok(Answer::Moved(number.unwrap_or(0)))
     }
 
-    fn push(&self, t: u32, q: u32, value: u32) -> Result<Answer, Answer> {
+    fn push(&self, t: u32, q: u32, values: &[u32]) -> Result<Answer, Answer> {
         let task = self.unfinished(t)?;
         Order::unless(q >= QUEUES, NO_SUCH_QUEUE)?;
         Order::unless(task.rights & push_right(q) == 0, NO_RIGHT)?;
         Order::unless(self.waits_for_sibling(t), Answer::Waits)?;
-        Ok(Answer::Moved(value))
+        Ok(Answer::Moved(values.last().copied().unwrap_or(0)))
     }
 
     /// The tests that pop and test share.
@@ -241,12 +246,16 @@ impl Order {
     }
 
     /// Writes down a call that moved.
-    pub fn note(&mut self, call: Call) {
-        match call {
+    pub fn note(&mut self, call: &Call) {
+        match *call {
             Call::Open { .. } => *self = Order::new(),
             Call::Left { .. } => {}
             Call::Spawn { task, rights } => self.note_spawn(task, rights),
-            Call::Push { task, queue, value } => self.note_step(task, Item::Push { queue, value }),
+            Call::Push {
+                task,
+                queue,
+                ref values,
+            } => self.note_run(task, queue, values),
             Call::Pop { task, queue } => self.note_step(task, Item::Pop { queue }),
             Call::Test { task, .. } | Call::Sync { task } => self.note_step(task, Item::Other),
             Call::Finish { task } => self.note_finish(task),
@@ -264,6 +273,19 @@ impl Order {
     fn note_step(&mut self, t: u32, step: Item) {
         let spot = self.spot(t);
         self.items.insert(spot, step);
+    }
+
+    /// A run is its values one after another.
+    fn note_run(&mut self, t: u32, queue: u32, values: &[u32]) {
+        if values.is_empty() {
+            return self.note_step(t, Item::Other);
+        }
+        let steps = values.iter().map(|value| Item::Push {
+            queue,
+            value: *value,
+        });
+        let spot = self.spot(t);
+        self.items.splice(spot..spot, steps);
     }
 
     /// The child's spot stands after the spawn and before the spawner's.

@@ -125,6 +125,8 @@ pub struct Player {
     last: u32,
     /// The most pushes or pops in a row.
     row: u32,
+    /// The most values of a run.
+    longest: u32,
     /// The call that is made again, and how often.
     again: (Call, u32),
     value: u32,
@@ -147,6 +149,7 @@ impl Player {
             first: random.pick(&[0, 10, 40, 80]),
             last: random.pick(&[0, 10, 30, 60]),
             row: random.pick(&[1, 2, 6, 20]),
+            longest: random.pick(&[1, 10, 40, 300]),
             again: (Call::Sync { task: 0 }, 0),
             value: 0,
             calls: 0,
@@ -187,7 +190,8 @@ impl Player {
         }
         if self.again.1 > 0 {
             self.again.1 -= 1;
-            return self.renewed(self.again.0);
+            let call = self.again.0.clone();
+            return self.renewed(call);
         }
         let weights = if self.calls > self.ending {
             ENDING
@@ -303,26 +307,33 @@ impl Player {
             let pushers: Vec<u32> = order.spots().filter(pushes).collect();
             task = self.random.pick(&pushers);
         }
-        self.in_a_row(Call::Push {
-            task,
-            queue,
-            value: 0,
-        })
+        self.in_a_row(Call::push(task, queue, &[]))
     }
 
     fn in_a_row(&mut self, call: Call) -> Call {
-        self.again = (call, self.random.below(self.row));
+        self.again = (call.clone(), self.random.below(self.row));
         self.renewed(call)
     }
 
-    /// Each value pushed is another one, so that no exchange stays hidden.
-    fn renewed(&mut self, call: Call) -> Call {
-        let Call::Push { task, queue, .. } = call else {
-            return call;
-        };
-        let value = self.value;
-        self.value = value.wrapping_add(1);
-        Call::Push { task, queue, value }
+    /// A push gets its values. Each is another one, so that no exchange stays
+    /// hidden.
+    fn renewed(&mut self, mut call: Call) -> Call {
+        if let Call::Push { values, .. } = &mut call {
+            let number = self.run_length();
+            *values = (0..number).map(|i| self.value.wrapping_add(i)).collect();
+            self.value = self.value.wrapping_add(number);
+        }
+        call
+    }
+
+    /// Mostly one value, now and then none or many.
+    fn run_length(&mut self) -> u32 {
+        match self.random.below(20) {
+            0 => 0,
+            1..=13 => 1,
+            14..=17 => self.random.within(2, 6),
+            _ => self.random.within(1, self.longest),
+        }
     }
 
     fn stray(&mut self) -> Call {
@@ -332,11 +343,7 @@ impl Player {
         let rights = r.pick(&[0, ALL_RIGHTS, 256, u32::MAX]);
         match r.below(7) {
             0 => Call::Spawn { task, rights },
-            1 => Call::Push {
-                task,
-                queue,
-                value: 7,
-            },
+            1 => Call::push(task, queue, &[7, 8][..r.below(3) as usize]),
             2 => Call::Pop { task, queue },
             3 => Call::Test { task, queue },
             4 => Call::Sync { task },

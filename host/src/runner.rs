@@ -240,7 +240,7 @@ fn perform(
 }
 
 fn push(m: &mut [u32], t: u32, q: u32, value: u32) -> Tried<Reply> {
-    let pushed = calls::try_push(m, t, q, value);
+    let pushed = calls::try_push(m, t, q, &[value]);
     pushed.map(|_| Reply::Pushed(value)).map_err(turned_down)
 }
 

@@ -46,25 +46,50 @@ pub fn any_word(r: &mut Random) -> u32 {
     }
 }
 
-/// A call with any arguments.
-pub fn hostile_call(r: &mut Random) -> Call {
-    let (a, b, c) = (any_word(r), any_word(r), any_word(r));
-    call_of(r.below(8), a, b, c)
+/// The most values of a random run.
+const MOST_RUN: u32 = 300;
+
+fn run_of(r: &mut Random, number: u32) -> Vec<u32> {
+    (0..number).map(|_| r.word()).collect()
 }
 
-/// The call of this kind with these arguments.
-pub fn call_of(kind: u32, a: u32, b: u32, c: u32) -> Call {
+/// Any run, mostly a short one.
+pub fn any_run(r: &mut Random) -> Vec<u32> {
+    let most = r.pick(&[0, 1, 1, 1, 1, 3, 10, 40, MOST_RUN]);
+    let number = r.within(most.min(1), most);
+    run_of(r, number)
+}
+
+/// Often a run that the free segments hold, or nearly hold, if these are few.
+fn likely_run(r: &mut Random, m: &[u32]) -> Vec<u32> {
+    let length = length(m);
+    let least = get(m, FREE_SEGMENTS).saturating_mul(length);
+    let most = least.saturating_add(length).saturating_add(1);
+    if most > MOST_RUN || r.chance(60) {
+        return any_run(r);
+    }
+    let number = r.within(least, most);
+    run_of(r, number)
+}
+
+/// Kinds of calls, for `call_of` and `likely_call`.
+pub const CALL_KINDS: u32 = 8;
+
+/// A call with any arguments.
+pub fn hostile_call(r: &mut Random) -> Call {
+    let (kind, a, b) = (r.below(CALL_KINDS), any_word(r), any_word(r));
+    call_of(r, kind, a, b)
+}
+
+/// The call of this kind with these arguments; a push of any run.
+pub fn call_of(r: &mut Random, kind: u32, a: u32, b: u32) -> Call {
     match kind {
         0 => Call::Open {
             length: a,
             segments: b,
         },
         1 => Call::Spawn { task: a, rights: b },
-        2 => Call::Push {
-            task: a,
-            queue: b,
-            value: c,
-        },
+        2 => Call::push(a, b, &any_run(r)),
         3 => Call::Pop { task: a, queue: b },
         4 => Call::Test { task: a, queue: b },
         5 => Call::Sync { task: a },
@@ -77,13 +102,15 @@ pub fn call_of(kind: u32, a: u32, b: u32, c: u32) -> Call {
 pub fn likely_call(r: &mut Random, m: &[u32], kind: u32) -> Call {
     let task = likely_task(r, m, kind);
     let queue = if r.chance(2) { 4 } else { r.below(QUEUES) };
-    match kind {
-        0 => call_of(0, r.within(1, 8), r.within(4, 100), 0),
-        1 if r.chance(90) && task < TASKS => call_of(1, task, rights(m, task) & r.word(), 0),
-        1 => call_of(1, task, r.word(), 0),
-        7 => call_of(7, queue, r.below(12), 0),
-        _ => call_of(kind, task, queue, r.word()),
-    }
+    let (a, b) = match kind {
+        0 => (r.within(1, 8), r.within(4, 100)),
+        1 if r.chance(90) && task < TASKS => (task, rights(m, task) & r.word()),
+        1 => (task, r.word()),
+        2 => return Call::push(task, queue, &likely_run(r, m)),
+        7 => (queue, r.below(12)),
+        _ => (task, queue),
+    };
+    call_of(r, kind, a, b)
 }
 
 /// An unfinished task; for sync and finish mostly one without children.
@@ -107,7 +134,7 @@ pub fn reached(r: &mut Random) -> Vec<u32> {
     while player.calls < calls && !player.ended() {
         let call = player.next(&order);
         if call.make(&mut m).moved() {
-            order.note(call);
+            order.note(&call);
         }
     }
     m

@@ -10,10 +10,10 @@ use host::random::Random;
 fn play(pair: &mut Pair, seed: u64, most: u32) {
     let mut player = Player::new(Random::new(seed));
     let opening = player.opening();
-    pair.make(opening).expect("opens");
+    pair.make(&opening).expect("opens");
     while player.calls < most && !player.ended() {
         let call = player.next(&pair.order);
-        if let Err(what) = pair.make(call) {
+        if let Err(what) = pair.make(&call) {
             panic!("program {seed}: {what}");
         }
     }
@@ -41,7 +41,7 @@ fn long_programs() {
 fn deep_and_wide() {
     for deep in [true, false] {
         let mut pair = Pair::new(vec![0; WORDS], 64);
-        let mut make = |call| pair.make(call).unwrap_or_else(|what| panic!("{what}"));
+        let mut make = |call: Call| pair.make(&call).unwrap_or_else(|what| panic!("{what}"));
         make(Call::Open {
             length: 2,
             segments: 256,
@@ -52,16 +52,8 @@ fn deep_and_wide() {
                 task,
                 rights: 0b0101_0101,
             });
-            make(Call::Push {
-                task: number,
-                queue: number % 4,
-                value: number,
-            });
-            make(Call::Push {
-                task,
-                queue: number % 4,
-                value: 1_000 + number,
-            });
+            make(Call::push(number, number % 4, &[number]));
+            make(Call::push(task, number % 4, &[1_000 + number]));
         }
         for task in (0..128).rev() {
             make(Call::Finish { task });

@@ -5,19 +5,16 @@ use host::call::Call;
 use host::layout::WORDS;
 use host::memory::*;
 
-/// One call of each kind.
-fn all_calls() -> [Call; 8] {
+/// One call of each kind, of push also a run of none.
+fn all_calls() -> [Call; 9] {
     [
         Call::Open {
             length: 4,
             segments: 8,
         },
         Call::Spawn { task: 0, rights: 1 },
-        Call::Push {
-            task: 0,
-            queue: 0,
-            value: 5,
-        },
+        Call::push(0, 0, &[5, 6]),
+        Call::push(0, 0, &[]),
         Call::Pop { task: 0, queue: 0 },
         Call::Test { task: 0, queue: 0 },
         Call::Sync { task: 0 },
@@ -67,7 +64,7 @@ fn opening_numbers_out_of_range_get_3() {
     ];
     for (length, segments) in bad {
         let mut core = Core::open(4, 8);
-        assert_eq!(core.make(Call::Open { length, segments }), Refused(3));
+        assert_eq!(core.make(&Call::Open { length, segments }), Refused(3));
     }
     for (length, segments) in [(1, 4), (1, 256), (32, 256), (33, 248), (64, 4), (64, 128)] {
         Core::open(length, segments);

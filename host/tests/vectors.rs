@@ -1,7 +1,9 @@
 //! The model against models that were written apart from it.
 
+use host::core_vectors::core_3;
 use host::job::Job;
 use host::layout::WORDS;
+use host::memory::{Calls, Core};
 use host::overlap_text;
 use host::replay::{replay, replay_by_text};
 use host::runner::RUNNER;
@@ -13,6 +15,9 @@ fn all_are_there() {
     let vectors = level_1();
     let replays: usize = vectors.iter().map(|vector| vector.replays.len()).sum();
     assert_eq!((vectors.len(), replays), (120, 555));
+    let cores = core_3();
+    let calls: usize = cores.iter().map(|core| core.len() - 1).sum();
+    assert_eq!((cores.len(), calls), (60, 7_200));
 }
 
 #[test]
@@ -52,6 +57,17 @@ fn replays() {
             let given = replay(&vector.job, trace, &mut [7; WORDS], &mut [7; RUNNER]);
             assert_eq!(given, due);
             assert_eq!(replay_by_text(&vector.job, trace), due);
+        }
+    }
+}
+
+#[test]
+fn calls_of_the_core() {
+    for calls in core_3() {
+        let mut core = Core(vec![7; WORDS]);
+        for (call, due) in calls {
+            let answer = core.make(&call);
+            assert_eq!((answer.number(), answer.value()), due, "{call}");
         }
     }
 }

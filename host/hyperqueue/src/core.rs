@@ -29,8 +29,11 @@ pub fn spawn(words: &mut [u32], task: u32, rights: u32) -> Answer {
     Answer::of(unsafe { hq_spawn(words.as_mut_ptr(), words.len(), task, rights) })
 }
 
-pub fn push(words: &mut [u32], task: u32, queue: u32, value: u32) -> Answer {
-    Answer::of(unsafe { hq_push(words.as_mut_ptr(), words.len(), task, queue, value) })
+/// A run of values, all of them or none; the value is the last one, 0 for a run
+/// of none.
+pub fn push(words: &mut [u32], task: u32, queue: u32, values: &[u32]) -> Answer {
+    let (words, len) = (words.as_mut_ptr(), words.len());
+    Answer::of(unsafe { hq_push(words, len, task, queue, values.as_ptr(), values.len()) })
 }
 
 pub fn pop(words: &mut [u32], task: u32, queue: u32) -> Answer {

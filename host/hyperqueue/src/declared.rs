@@ -4,7 +4,14 @@
 extern "C" {
     pub fn hq_open(words: *mut u32, len: usize, length: u32, segments: u32) -> u64;
     pub fn hq_spawn(words: *mut u32, len: usize, task: u32, rights: u32) -> u64;
-    pub fn hq_push(words: *mut u32, len: usize, task: u32, queue: u32, value: u32) -> u64;
+    pub fn hq_push(
+        words: *mut u32,
+        len: usize,
+        task: u32,
+        queue: u32,
+        values: *const u32,
+        count: usize,
+    ) -> u64;
     pub fn hq_pop(words: *mut u32, len: usize, task: u32, queue: u32) -> u64;
     pub fn hq_test(words: *mut u32, len: usize, task: u32, queue: u32) -> u64;
     pub fn hq_sync(words: *mut u32, len: usize, task: u32) -> u64;

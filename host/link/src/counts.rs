@@ -5,14 +5,26 @@ use host::call::Call;
 use std::collections::BTreeMap;
 use std::fmt;
 
-pub const KINDS: [&str; 8] = [
-    "open", "spawn", "push", "pop", "test", "sync", "finish", "left",
+/// The kinds of calls; a push of a run of one, of none and of several.
+pub const KINDS: [&str; 10] = [
+    "open",
+    "spawn",
+    "push",
+    "push of none",
+    "push of several",
+    "pop",
+    "test",
+    "sync",
+    "finish",
+    "left",
 ];
 
 /// The answers that each kind of call can get, `KINDS` in order.
-const REACHED: [&[u32]; 8] = [
+const REACHED: [&[u32]; 10] = [
     &[0, 1, 3],
     &[0, 1, 2, 4, 6, 8, 32],
+    &[0, 1, 2, 4, 5, 6, 9, 32],
+    &[0, 1, 2, 4, 5, 6, 32],
     &[0, 1, 2, 4, 5, 6, 9, 32],
     &[0, 1, 2, 4, 5, 6, 7, 32],
     &[1, 2, 4, 5, 6, 32, 33, 34],
@@ -22,7 +34,7 @@ const REACHED: [&[u32]; 8] = [
 ];
 
 /// The kinds of calls that can get 2 on memory that passes.
-const LATE: [usize; 3] = [2, 5, 6];
+const LATE: [usize; 4] = [2, 4, 7, 8];
 
 /// A kind of call, the number of its answer, and whether the 2 was a late one.
 type Case = (usize, u32, bool);
@@ -33,21 +45,25 @@ pub struct Counts {
     pub calls: u64,
 }
 
-pub fn kind(call: Call) -> usize {
+pub fn kind(call: &Call) -> usize {
     match call {
         Call::Open { .. } => 0,
         Call::Spawn { .. } => 1,
-        Call::Push { .. } => 2,
-        Call::Pop { .. } => 3,
-        Call::Test { .. } => 4,
-        Call::Sync { .. } => 5,
-        Call::Finish { .. } => 6,
-        Call::Left { .. } => 7,
+        Call::Push { values, .. } => match values.len() {
+            1 => 2,
+            0 => 3,
+            _ => 4,
+        },
+        Call::Pop { .. } => 5,
+        Call::Test { .. } => 6,
+        Call::Sync { .. } => 7,
+        Call::Finish { .. } => 8,
+        Call::Left { .. } => 9,
     }
 }
 
 impl Counts {
-    pub fn add(&mut self, call: Call, answer: Answer, late: bool) {
+    pub fn add(&mut self, call: &Call, answer: Answer, late: bool) {
         let case = (kind(call), answer.number(), late);
         *self.cases.entry(case).or_default() += 1;
         self.calls += 1;

@@ -26,7 +26,7 @@ fn flip(m: &mut [u32], address: usize) {
     put(m, address, word ^ 1);
 }
 
-fn other_word(call: Call, m: &mut [u32]) -> u64 {
+fn other_word(call: &Call, m: &mut [u32]) -> u64 {
     let errs = strange(m) && matches!(call, Call::Pop { .. });
     let answer = linked::make(call, m);
     if errs {
@@ -35,7 +35,7 @@ fn other_word(call: Call, m: &mut [u32]) -> u64 {
     answer
 }
 
-fn other_answer(call: Call, m: &mut [u32]) -> u64 {
+fn other_answer(call: &Call, m: &mut [u32]) -> u64 {
     let errs = strange(m) && matches!(call, Call::Sync { .. });
     linked::make(call, m) ^ u64::from(errs)
 }
@@ -49,7 +49,7 @@ fn twice_free(m: &[u32]) -> bool {
     m.len() == WORDS && free.len() < height
 }
 
-fn wrong_stack_taken(call: Call, m: &mut [u32]) -> u64 {
+fn wrong_stack_taken(call: &Call, m: &mut [u32]) -> u64 {
     if twice_free(m) && matches!(call, Call::Sync { .. }) {
         return 0;
     }
@@ -72,7 +72,7 @@ fn other_map(job: &[u8], m: &[u32], runner: &[u32], map: &mut Map) -> u64 {
 }
 
 /// The first failure, which a fresh fuzzer finds again in that round alone.
-fn found(fuzzer: fn() -> Fuzzer) -> Failure {
+pub(crate) fn found(fuzzer: impl Fn() -> Fuzzer) -> Failure {
     let mut first = fuzzer();
     for round in 0..2_000 {
         if let Err(failure) = first.round(&mut random_of(SEED, 0, round)) {
@@ -97,7 +97,7 @@ fn brought_to_one_word(failure: &Failure) {
     assert!(text.contains("core word 1473 (task 0, rights): "), "{text}");
 }
 
-fn with_core(library: Library) -> Fuzzer {
+pub(crate) fn with_core(library: Library) -> Fuzzer {
     let mut fuzzer = Fuzzer::default();
     fuzzer.core.library = library;
     fuzzer

@@ -5,13 +5,13 @@ use crate::counts::{Counts, KINDS};
 use crate::ground::{unfinished, Ground};
 use crate::pair::Pair;
 use crate::runner_pair::RunnerPair;
-use crate::shrink::{changes, shrunk, Change};
+use crate::shrink::{changes, shortened, shrunk, Change};
 use host::call::Call;
 use host::fast;
 use host::layout::TASKS;
 use host::random::Random;
 use host::runner::RUNNER;
-use host::sample::{any_word, call_of, likely_call};
+use host::sample::{any_word, call_of, likely_call, CALL_KINDS};
 use std::collections::BTreeMap;
 use std::fmt;
 
@@ -31,7 +31,7 @@ const REACHED: [&[u32]; 3] = [
 ];
 
 /// A call of the core or of the runner.
-#[derive(Clone, Copy, Debug, PartialEq, Eq)]
+#[derive(Clone, Debug, PartialEq, Eq)]
 pub enum Made {
     Core(Call),
     Open,
@@ -66,13 +66,13 @@ pub fn calls(r: &mut Random, ground: &Ground) -> Vec<Made> {
         list.push(Made::Step(r.pick(&[near, near, near, near, any])));
     }
     list.push(Made::Step(any_word(r)));
-    for kind in 0..KINDS.len() as u32 {
+    for kind in 0..CALL_KINDS {
         let times = if kind == 0 { 1 } else { likely };
         for _ in 0..times {
             list.push(Made::Core(likely_call(r, &ground.core, kind)));
         }
-        let any = call_of(kind, any_word(r), any_word(r), any_word(r));
-        list.push(Made::Core(any));
+        let (a, b) = (any_word(r), any_word(r));
+        list.push(Made::Core(call_of(r, kind, a, b)));
     }
     list
 }
@@ -204,7 +204,7 @@ impl Fuzzer {
 
     /// Makes the call on this ground, which is set before and again afterwards.
     /// The number of the answer, or what differs.
-    pub fn make(&mut self, ground: &Ground, call: Made) -> Result<u32, String> {
+    pub fn make(&mut self, ground: &Ground, call: &Made) -> Result<u32, String> {
         let Made::Core(call) = call else {
             return self.make_runner(ground, call);
         };
@@ -218,16 +218,16 @@ impl Fuzzer {
         Ok(answer.number())
     }
 
-    fn make_runner(&mut self, ground: &Ground, call: Made) -> Result<u32, String> {
+    fn make_runner(&mut self, ground: &Ground, call: &Made) -> Result<u32, String> {
         let (kind, answer) = match call {
             Made::Open => (0, self.runner.open()?),
-            Made::Step(task) => (1, self.runner.step(task)?),
+            Made::Step(task) => (1, self.runner.step(*task)?),
             _ => (2, self.runner.ready()?),
         };
         let case = (kind, answer.status());
         *self.runner_counts.0.entry(case).or_default() += 1;
         if self.runner.model_core != ground.core || self.runner.model_runner != ground.runner {
-            if !answer.moved() || call == Made::Ready {
+            if !answer.moved() || *call == Made::Ready {
                 return Err(format!("{call}: {answer:?}, and words changed"));
             }
             self.set_runner(ground);
@@ -239,7 +239,7 @@ impl Fuzzer {
     fn every_call(&mut self, r: &mut Random, from: &Ground, ground: &Ground) -> Tried {
         self.set(ground);
         for call in calls(r, ground) {
-            let Ok(number) = self.make(ground, call) else {
+            let Ok(number) = self.make(ground, &call) else {
                 return Err(self.failure(from, ground, call));
             };
             self.passed_both += u64::from(call == Made::Ready && number == DONE);
@@ -251,20 +251,22 @@ impl Fuzzer {
     }
 
     /// What differs in one call on this ground.
-    fn difference(&mut self, ground: &Ground, call: Made) -> Option<String> {
+    fn difference(&mut self, ground: &Ground, call: &Made) -> Option<String> {
         self.set(ground);
         self.make(ground, call).err()
     }
 
     fn failure(&mut self, from: &Ground, ground: &Ground, call: Made) -> Box<Failure> {
-        let differs = |ground: &Ground| self.difference(ground, call).is_some();
+        let differs = |call: &Made| self.difference(ground, call).is_some();
+        let call = shortened(call, differs);
+        let differs = |ground: &Ground| self.difference(ground, &call).is_some();
         let least = shrunk(from, ground, differs);
         Box::new(Failure {
             number: self.grounds,
+            what: self.difference(&least, &call).unwrap_or_default(),
             call,
             changes: changes(from, &least),
             lengths: (least.core.len(), least.runner.len()),
-            what: self.difference(&least, call).unwrap_or_default(),
         })
     }
 

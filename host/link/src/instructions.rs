@@ -6,6 +6,7 @@
 
 use crate::large_job::{large, BODIES, BODY};
 use crate::proved_run::printed;
+use crate::run_scenes::{self, RunScene};
 use crate::{linked, linked_replay, linked_runner};
 use host::asm::assemble;
 use host::call::Call;
@@ -137,7 +138,7 @@ fn core_tests(memory: impl Fn() -> Vec<u32> + 'static) -> Part {
         run: Box::new(move || {
             let (mut core, call) = (memory(), Call::Sync { task: 128 });
             for _ in 0..TIMES {
-                linked::make(call, &mut core);
+                linked::make(&call, &mut core);
             }
         }),
     }
@@ -166,6 +167,44 @@ fn memory_tests() -> Vec<Scene> {
         }
     }
     all
+}
+
+/// The push of a run, on the same memory over and over.
+fn pushed(scene: &RunScene) -> Part {
+    let (memory, push) = (scene.memory.clone(), scene.push());
+    Part {
+        call: "hq_push",
+        run: Box::new(move || {
+            let mut core = memory.clone();
+            for _ in 0..TIMES {
+                core.copy_from_slice(&memory);
+                linked::make(&push, &mut core);
+            }
+        }),
+    }
+}
+
+/// The whole push of a run; and what it takes beyond the memory test.
+fn run_of_values(scene: RunScene) -> [Scene; 2] {
+    let (part, again) = (pushed(&scene), pushed(&scene));
+    let units = TIMES * scene.values.len() as u64;
+    let memory = scene.memory;
+    [
+        Scene {
+            name: format!("push of {}", scene.name),
+            part,
+            less: vec![],
+            unit: "a call",
+            units: TIMES,
+        },
+        Scene {
+            name: format!("push of {}, beyond the test", scene.name),
+            part: again,
+            less: vec![core_tests(move || memory.clone())],
+            unit: "a value",
+            units,
+        },
+    ]
 }
 
 /// The runner's tests without those of the core and of the job: its words, all
@@ -332,6 +371,9 @@ pub fn scenes() -> Vec<Scene> {
     }
     all.extend([2, 17, 33, 65, 128].map(ready));
     all.extend(memory_tests());
+    for scene in [run_scenes::one(), run_scenes::block(), run_scenes::long()] {
+        all.extend(run_of_values(scene));
+    }
     all
 }
 

@@ -20,6 +20,7 @@ pub mod long_job;
 pub mod on_off;
 #[cfg(test)]
 mod outcomes;
+pub mod page_guarded;
 pub mod pair;
 pub mod picture;
 pub mod proved_run;
@@ -29,6 +30,9 @@ mod replay_outcomes;
 pub mod replay_pair;
 pub mod replay_scenes;
 pub mod rounds;
+#[cfg(test)]
+mod run_faults;
+pub mod run_scenes;
 pub mod runner_pair;
 pub mod scenes;
 pub mod serial_pair;

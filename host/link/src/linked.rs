@@ -1,16 +1,21 @@
 //! The eight calls of the library as the model's, each with its answer in one
 //! number.
 
+use crate::page_guarded::PageGuarded;
 use host::answer::Answer;
 use host::call::Call;
 use hyperqueue::core;
 
 /// Makes the call on the library.
-pub fn make(call: Call, words: &mut [u32]) -> u64 {
-    let answer = match call {
+pub fn make(call: &Call, words: &mut [u32]) -> u64 {
+    let answer = match *call {
         Call::Open { length, segments } => core::open(words, length, segments),
         Call::Spawn { task, rights } => core::spawn(words, task, rights),
-        Call::Push { task, queue, value } => core::push(words, task, queue, value),
+        Call::Push {
+            task,
+            queue,
+            ref values,
+        } => core::push(words, task, queue, values),
         Call::Pop { task, queue } => core::pop(words, task, queue),
         Call::Test { task, queue } => core::test(words, task, queue),
         Call::Sync { task } => core::sync(words, task),
@@ -18,6 +23,17 @@ pub fn make(call: Call, words: &mut [u32]) -> u64 {
         Call::Left { queue, index } => core::left(words, queue, index),
     };
     answer.packed()
+}
+
+/// The same, with the values of a run lent so that nothing outside them can be
+/// read, and none of them written.
+pub fn make_guarded(call: &Call, words: &mut [u32]) -> u64 {
+    match call.as_push() {
+        Some((task, queue, values)) => {
+            core::push(words, task, queue, PageGuarded::at_end(values).values()).packed()
+        }
+        None => make(call, words),
+    }
 }
 
 /// The model's answer as the library gives it.

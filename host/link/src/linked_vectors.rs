@@ -4,7 +4,8 @@
 use crate::linked_jobs::{queues, ANSWERS, WORKING};
 use crate::linked_replay::packed;
 use crate::proved_run::printed;
-use crate::{linked_jobs, linked_replay};
+use crate::{linked, linked_jobs, linked_replay};
+use host::core_vectors::core_3;
 use host::layout::WORDS;
 use host::runner::RUNNER;
 use host::vectors::level_1;
@@ -43,6 +44,18 @@ fn replays() {
             let trace = trace.as_bytes();
             let given = linked_replay::replay(&vector.job, trace, &mut core, &mut runner);
             assert_eq!(given, packed(*due));
+        }
+    }
+}
+
+#[test]
+fn calls_of_the_core() {
+    for calls in core_3() {
+        let mut words = vec![7; WORDS];
+        for (call, (status, value)) in calls {
+            let given = linked::make_guarded(&call, &mut words);
+            let due = u64::from(status) << 32 | u64::from(value);
+            assert_eq!(given, due, "{call}");
         }
     }
 }

@@ -2,6 +2,7 @@
 //! few calls lead to each, made on the linked library and on the model, and the
 //! answer has to be the one named here.
 
+use crate::page_guarded::PageGuarded;
 use crate::pair::Pair;
 use host::answer::Answer;
 use host::call::Call;
@@ -10,7 +11,7 @@ use host::layout::*;
 use host::memory::*;
 
 impl Calls for Pair {
-    fn make(&mut self, call: Call) -> Answer {
+    fn make(&mut self, call: &Call) -> Answer {
         Pair::make(self, call).unwrap_or_else(|what| panic!("{what}"))
     }
 }
@@ -24,7 +25,7 @@ fn on(words: &[u32]) -> Pair {
 fn opened(length: u32, segments: u32) -> Pair {
     let mut core = on(&[7; WORDS]);
     let open = Call::Open { length, segments };
-    assert_eq!(Calls::make(&mut core, open), Moved(0));
+    assert_eq!(Calls::make(&mut core, &open), Moved(0));
     core
 }
 
@@ -38,7 +39,7 @@ fn spawned(all: &[u32]) -> Pair {
 }
 
 /// The call gets 1 on one word too few or too many, and 2 on zeros.
-fn tests_memory(call: Call) {
+fn tests_memory(call: &Call) {
     for (number, due) in [(WORDS - 1, 1), (WORDS + 1, 1), (WORDS, 2)] {
         let mut core = on(&vec![0; number]);
         assert_eq!(Calls::make(&mut core, call), Refused(due), "{call}");
@@ -90,13 +91,13 @@ fn open() {
     ] {
         let mut core = on(&vec![7; number]);
         let call = Call::Open { length, segments };
-        assert_eq!(Calls::make(&mut core, call), due, "{call}");
+        assert_eq!(Calls::make(&mut core, &call), due, "{call}");
     }
 }
 
 #[test]
 fn spawn() {
-    tests_memory(Call::Spawn { task: 0, rights: 0 });
+    tests_memory(&Call::Spawn { task: 0, rights: 0 });
     let mut core = opened(4, 8);
     assert_eq!(core.spawn(128, 0), Refused(4));
     assert_eq!(core.spawn(1, 0), Refused(4));
@@ -113,11 +114,7 @@ fn spawn() {
 
 #[test]
 fn push() {
-    tests_memory(Call::Push {
-        task: 0,
-        queue: 0,
-        value: 5,
-    });
+    tests_memory(&Call::push(0, 0, &[5]));
     let mut core = spawned(&[2, 3]);
     assert_eq!(core.push(3, 0, 5), Refused(4));
     assert_eq!(core.push(0, 4, 5), Refused(5));
@@ -167,6 +164,106 @@ fn push_of_a_new_segment() {
     assert_eq!([core.pop(0, 0), core.pop(0, 0)], [Moved(6), Moved(7)]);
 }
 
+/// A run of none is tested as any other, and needs no segment.
+#[test]
+fn push_of_none() {
+    tests_memory(&Call::push(0, 0, &[]));
+    let mut core = spawned(&[2, 3]);
+    assert_eq!(core.push_run(3, 0, &[]), Refused(4));
+    assert_eq!(core.push_run(0, 4, &[]), Refused(5));
+    assert_eq!(core.push_run(1, 0, &[]), Refused(6));
+    assert_eq!(core.push_run(2, 0, &[]), Waits);
+    // The user view is empty and no segment is free; it ends non-locally; so
+    // does the view just before it.
+    let mut full = opened(1, 4);
+    full.spawn(0, 1);
+    let late = [hand::nonlocal_user_tail(4).0, hand::nonlocal_tail(5).0];
+    for words in [vec![full.model], late.to_vec()].concat() {
+        let mut core = on(&words);
+        assert_eq!(core.push_run(0, 0, &[]), Moved(0));
+        assert!(core.model == words);
+    }
+}
+
+/// Into the tail segment, around its end, and on into new segments; all or none.
+#[test]
+fn push_of_a_run() {
+    let mut core = opened(3, 6);
+    assert_eq!(core.push_run(0, 0, &[1, 2]), Moved(2));
+    core.pop(0, 0);
+    core.pop(0, 0);
+    let run: Vec<u32> = (3..13).collect();
+    assert_eq!(core.push_run(0, 0, &run), Refused(9));
+    assert_eq!(core.push_run(0, 0, &run[..9]), Moved(11));
+    assert_eq!(view(&core, user_view(0, 0)), (NL, 5));
+    assert_eq!(free_segments(&core), []);
+    for value in 3..12 {
+        assert_eq!(core.pop(0, 0), Moved(value));
+    }
+    assert_eq!(core.pop(0, 0), Refused(7));
+    let mut core = opened(4, 4);
+    assert_eq!(core.push_run(0, 0, &[1, 2, 3, 4, 5]), Refused(9));
+    assert_eq!(core.pop(0, 0), Refused(7));
+}
+
+/// The segment that the first link frees is taken next; it is not there for the
+/// first value.
+#[test]
+fn push_of_a_run_that_frees_a_segment() {
+    let after_an_idle_child = |segments| {
+        let mut core = opened(1, segments);
+        core.spawn(0, 1);
+        core.finish(1);
+        core
+    };
+    let mut core = after_an_idle_child(5);
+    assert_eq!(core.push_run(0, 0, &[5, 6, 7]), Refused(9));
+    assert_eq!(core.push_run(0, 0, &[5, 6]), Moved(6));
+    assert_eq!(get(&core.model, queue_head(0, 0)), 4);
+    assert_eq!([next(&core.model, 4), next(&core.model, 0)], [0, NONE]);
+    assert_eq!([core.pop(0, 0), core.pop(0, 0)], [Moved(5), Moved(6)]);
+    assert_eq!(after_an_idle_child(4).push_run(0, 0, &[5]), Refused(9));
+}
+
+/// 9 by the whole run goes before the late 2 of its first link, and behind that
+/// of the user view. One segment, of four places, is free.
+#[test]
+fn push_of_a_run_and_the_late_2() {
+    let just_before = hand::nonlocal_tail(6).0;
+    let own = hand::nonlocal_user_tail(5).0;
+    for (words, number, due) in [
+        (&just_before, 4, 2),
+        (&just_before, 5, 9),
+        (&own, 4, 2),
+        (&own, 5, 2),
+    ] {
+        let run = vec![5; number];
+        assert_eq!(on(words).push_run(0, 0, &run), Refused(due), "{number}");
+    }
+    // The first link leaves memory that breaks a rule, and the run goes on.
+    let mut core = on(&hand::only_right().0);
+    let run: Vec<u32> = (0..10).collect();
+    assert_eq!(core.push_run(0, 0, &run), Moved(9));
+    assert_eq!(view(&core, user_view(0, 0)), (NL, 6));
+    assert_eq!(core.push_run(0, 0, &[]), Refused(2));
+}
+
+/// More values than a word can count are too many, and none of them is read. The
+/// low half of their number is one that fits.
+#[test]
+fn push_of_very_many() {
+    for number in [70_000, 1 << 32, (1 << 32) + 1, (1 << 33) + 4] {
+        let values = PageGuarded::zeros(number);
+        let mut words = opened(4, 8).model;
+        let before = words.clone();
+        assert_eq!(
+            hyperqueue::core::push(&mut words, 0, 0, values.values()).status,
+            9
+        );
+        assert!(words == before);
+    }
+}
+
 /// The tests of pop and test, which both make.
 fn finding(make: fn(&mut Pair, u32, u32) -> Answer) {
     let mut core = spawned(&[1, 2]);
@@ -181,7 +278,7 @@ fn finding(make: fn(&mut Pair, u32, u32) -> Answer) {
 
 #[test]
 fn pop() {
-    tests_memory(Call::Pop { task: 0, queue: 0 });
+    tests_memory(&Call::Pop { task: 0, queue: 0 });
     finding(Calls::pop);
     let mut core = opened(2, 8);
     for value in 5..8 {
@@ -197,7 +294,7 @@ fn pop() {
 
 #[test]
 fn test() {
-    tests_memory(Call::Test { task: 0, queue: 0 });
+    tests_memory(&Call::Test { task: 0, queue: 0 });
     finding(Calls::test);
     let mut core = opened(4, 8);
     assert_eq!(core.test(0, 0), Empty);
@@ -218,7 +315,7 @@ fn ending(make: fn(&mut Pair, u32) -> Answer) {
 
 #[test]
 fn sync() {
-    tests_memory(Call::Sync { task: 0 });
+    tests_memory(&Call::Sync { task: 0 });
     ending(Calls::sync);
     let mut core = spawned(&[1]);
     core.finish(1);
@@ -230,7 +327,7 @@ fn sync() {
 
 #[test]
 fn finish() {
-    tests_memory(Call::Finish { task: 0 });
+    tests_memory(&Call::Finish { task: 0 });
     ending(Calls::finish);
     assert_eq!(on(&hand::finish_to_itself().0).finish(1), Refused(2));
     let mut core = opened(4, 8);
@@ -288,7 +385,7 @@ fn finish_of_a_popper() {
 
 #[test]
 fn left() {
-    tests_memory(Call::Left { queue: 0, index: 0 });
+    tests_memory(&Call::Left { queue: 0, index: 0 });
     let mut core = opened(2, 8);
     for value in 5..8 {
         core.push(0, 0, value);

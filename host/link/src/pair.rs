@@ -14,7 +14,7 @@ use std::fmt::Write;
 const SHOWN: usize = 40;
 
 /// How the library makes a call.
-pub type Library = fn(Call, &mut [u32]) -> u64;
+pub type Library = fn(&Call, &mut [u32]) -> u64;
 
 pub struct Pair {
     /// The linked library; a test puts one that errs in its place.
@@ -27,7 +27,7 @@ pub struct Pair {
 impl Default for Pair {
     fn default() -> Pair {
         let mut pair = Pair {
-            library: linked::make,
+            library: linked::make_guarded,
             linked: Guarded::new(&[]),
             model: Vec::new(),
             counts: Counts::default(),
@@ -46,7 +46,7 @@ impl Pair {
     }
 
     /// Makes the call on both; says what differs.
-    pub fn make(&mut self, call: Call) -> Result<Answer, String> {
+    pub fn make(&mut self, call: &Call) -> Result<Answer, String> {
         let due = call.make(&mut self.model);
         let given = (self.library)(call, self.linked.lend());
         if given != linked::packed(due) || self.linked.words() != &self.model[..] {
@@ -60,7 +60,7 @@ impl Pair {
         Ok(due)
     }
 
-    fn difference(&self, call: Call, given: u64, due: Answer) -> String {
+    fn difference(&self, call: &Call, given: u64, due: Answer) -> String {
         let (status, value) = (given >> 32, given & 0xFFFF_FFFF);
         let (due_status, due_value) = (due.number(), due.value());
         let mut text = format!(

@@ -63,8 +63,7 @@ fn spawn(task: u32, rights: u32) -> Call {
 }
 
 fn push(task: u32, queue: u32) -> Call {
-    let value = 1_000 + task;
-    Call::Push { task, queue, value }
+    Call::push(task, queue, &[1_000 + task])
 }
 
 fn pop(task: u32, queue: u32) -> Call {
@@ -94,7 +93,7 @@ fn hold(start: &mut Vec<Call>, pushes: &[Call], due: u32) {
             return;
         }
         assert!(matches!(call.make(&mut m), Answer::Moved(_)));
-        start.push(*call);
+        start.push(call.clone());
     }
 }
 
@@ -205,7 +204,7 @@ fn levels(number: u32) -> Scene {
 fn held(number: u32) -> Scene {
     let pushes = [push(0, 0), push(0, 1), push(0, 2), push(0, 3)];
     let mut start = vec![open(8, number)];
-    start.extend(pushes);
+    start.extend(pushes.clone());
     hold(&mut start, &pushes, number);
     let mut again = Vec::new();
     for (call, queue) in pushes.into_iter().zip(0..) {

@@ -1,7 +1,9 @@
 //! A ground on which a call differs, brought back word by word to the one it
-//! was made from.
+//! was made from; and a run of values brought to fewer.
 
+use crate::fuzzing::Made;
 use crate::ground::Ground;
+use host::call::Call;
 use host::names;
 
 /// A word that stays changed.
@@ -73,4 +75,24 @@ pub fn shrunk(from: &Ground, to: &Ground, mut differs: impl FnMut(&Ground) -> bo
             return ground;
         }
     }
+}
+
+/// Takes values off the end of a run, then off its beginning, as long as the push
+/// still differs.
+pub fn shortened(call: Made, mut differs: impl FnMut(&Made) -> bool) -> Made {
+    let Made::Core(push) = &call else {
+        return call;
+    };
+    let Some((task, queue, values)) = push.as_push() else {
+        return call;
+    };
+    let of = |values: &[u32]| Made::Core(Call::push(task, queue, values));
+    let mut least = values;
+    while let Some((_, fewer)) = least.split_last().filter(|(_, fewer)| differs(&of(fewer))) {
+        least = fewer;
+    }
+    while let Some((_, fewer)) = least.split_first().filter(|(_, fewer)| differs(&of(fewer))) {
+        least = fewer;
+    }
+    of(least)
 }

@@ -5,35 +5,29 @@ use host::call::Call;
 use host::layout::WORDS;
 
 /// The calls of document 01's run, the opening first.
-const RUN: [Call; 13] = [
-    Call::Open {
-        length: 4,
-        segments: 256,
-    },
-    Call::Spawn { task: 0, rights: 1 },
-    Call::Spawn { task: 0, rights: 2 },
-    Call::Spawn { task: 0, rights: 1 },
-    Call::Push {
-        task: 3,
-        queue: 0,
-        value: 20,
-    },
-    Call::Pop { task: 2, queue: 0 },
-    Call::Push {
-        task: 1,
-        queue: 0,
-        value: 10,
-    },
-    Call::Pop { task: 2, queue: 0 },
-    Call::Finish { task: 1 },
-    Call::Finish { task: 2 },
-    Call::Finish { task: 3 },
-    Call::Sync { task: 0 },
-    Call::Finish { task: 0 },
-];
+fn run() -> [Call; 13] {
+    [
+        Call::Open {
+            length: 4,
+            segments: 256,
+        },
+        Call::Spawn { task: 0, rights: 1 },
+        Call::Spawn { task: 0, rights: 2 },
+        Call::Spawn { task: 0, rights: 1 },
+        Call::push(3, 0, &[20]),
+        Call::Pop { task: 2, queue: 0 },
+        Call::push(1, 0, &[10]),
+        Call::Pop { task: 2, queue: 0 },
+        Call::Finish { task: 1 },
+        Call::Finish { task: 2 },
+        Call::Finish { task: 3 },
+        Call::Sync { task: 0 },
+        Call::Finish { task: 0 },
+    ]
+}
 
 /// The answer in the words of document 01's run.
-fn words(call: Call, answer: Answer) -> String {
+fn words(call: &Call, answer: Answer) -> String {
     let moved = match call {
         Call::Open { .. } => "opened",
         Call::Spawn { .. } => "spawned task",
@@ -60,19 +54,19 @@ fn words(call: Call, answer: Answer) -> String {
 fn main() {
     let mut memory = vec![0; WORDS];
     let mut number = 0;
-    let mut make = |call: Call| {
+    let mut make = |call: &Call| {
         let answer = call.make(&mut memory);
         number += 1;
         println!("{number:2}  {call:32}  {}", words(call, answer));
         answer
     };
-    for call in RUN {
+    for call in &run() {
         make(call);
     }
     // What is left in each queue, up to the refusal that ends it.
     for queue in 0..4 {
         let mut index = 0;
-        while make(Call::Left { queue, index }).moved() {
+        while make(&Call::Left { queue, index }).moved() {
             index += 1;
         }
     }

@@ -21,11 +21,15 @@ struct Stats {
     tops_finished: u64,
 }
 
-fn kind(call: Call) -> &'static str {
+fn kind(call: &Call) -> &'static str {
     match call {
         Call::Open { .. } => "open",
         Call::Spawn { .. } => "spawn",
-        Call::Push { .. } => "push",
+        Call::Push { values, .. } => match values.len() {
+            0 => "push of none",
+            1 => "push",
+            _ => "push of several",
+        },
         Call::Pop { .. } => "pop",
         Call::Test { .. } => "test",
         Call::Sync { .. } => "sync",
@@ -34,7 +38,7 @@ fn kind(call: Call) -> &'static str {
     }
 }
 
-fn make(pair: &mut Pair, call: Call, stats: &mut Stats) -> Result<(), String> {
+fn make(pair: &mut Pair, call: &Call, stats: &mut Stats) -> Result<(), String> {
     let answer = pair.make(call)?;
     *stats
         .answers
@@ -46,10 +50,10 @@ fn make(pair: &mut Pair, call: Call, stats: &mut Stats) -> Result<(), String> {
 /// One program; the number of its calls.
 fn program(pair: &mut Pair, seed: u64, stats: &mut Stats) -> Result<u64, String> {
     let mut player = Player::new(Random::new(seed));
-    make(pair, player.opening(), stats)?;
+    make(pair, &player.opening(), stats)?;
     while !player.ended() {
         let call = player.next(&pair.order);
-        make(pair, call, stats)?;
+        make(pair, &call, stats)?;
         stats.most_tasks = stats.most_tasks.max(pair.order.spots().count());
     }
     stats.most_items = stats.most_items.max(pair.order.size());

@@ -4,13 +4,13 @@
 //! `bench growth` makes calls on the linked core alone, and asks it for the ready
 //! map, on memories of growing size. `bench serial` runs a job of 60,000 steps
 //! without overlap on both, `bench overlap` the same job under a random order of
-//! its tasks. `bench replay` replays traces of 65,535 lines. `bench counts` counts
-//! instructions instead, with valgrind.
+//! its tasks. `bench replay` replays traces of 65,535 lines. `bench runs` pushes
+//! runs of values. `bench counts` counts instructions instead, with valgrind.
 
 use host::asm::assemble;
 use host::call::Call;
 use host::job::Job;
-use host::layout::WORDS;
+use host::layout::{TASKS, VALUES, WORDS};
 use host::replay::{self, Judged};
 use host::runner::{self, RUNNER};
 use host::serial::{self, End};
@@ -23,6 +23,7 @@ use link::linked_runner;
 use link::long_job;
 use link::ready_scenes::{self, ReadyScene};
 use link::replay_scenes::{self, ReplayScene};
+use link::run_scenes;
 use link::scenes::{self, held_segments, unfinished_tasks, Scene};
 use std::process::ExitCode;
 use std::time::Instant;
@@ -33,9 +34,9 @@ const ROUNDS: u32 = 301;
 const CALLS: usize = 400;
 
 /// How a call is made, with the answer in one number.
-type Make = fn(Call, &mut [u32]) -> u64;
+type Make = fn(&Call, &mut [u32]) -> u64;
 
-fn model(call: Call, words: &mut [u32]) -> u64 {
+fn model(call: &Call, words: &mut [u32]) -> u64 {
     linked::packed(call.make(words))
 }
 
@@ -59,13 +60,13 @@ impl Side {
     fn round(&mut self, scene: &Scene) {
         let mut words = vec![0; WORDS];
         for call in &scene.start {
-            (self.make)(*call, &mut words);
+            (self.make)(call, &mut words);
         }
         let times = CALLS.div_ceil(scene.again.len());
         let begin = Instant::now();
         for _ in 0..times {
             for call in &scene.again {
-                self.add((self.make)(*call, &mut words));
+                self.add((self.make)(call, &mut words));
             }
         }
         let nanoseconds = begin.elapsed().as_nanos() as f64;
@@ -275,6 +276,66 @@ fn replays() {
     }
 }
 
+/// Memories of one timing, so that the clock's own time counts for little.
+const COPIES: usize = 4;
+
+type Work<'a> = &'a dyn Fn(&mut [u32]);
+
+/// Best nanoseconds of each work, in turn, on copies of the memory.
+fn best_of<const N: usize>(memory: &[u32], works: [Work; N]) -> [f64; N] {
+    let mut copies = vec![memory.to_vec(); COPIES];
+    let mut best = [f64::INFINITY; N];
+    for _ in 0..ROUNDS {
+        for (work, best) in works.iter().zip(&mut best) {
+            copies.iter_mut().for_each(|m| m.copy_from_slice(memory));
+            let (time, ()) = timed(|| copies.iter_mut().for_each(|m| work(m)));
+            *best = best.min(time / COPIES as f64);
+        }
+    }
+    best
+}
+
+/// The words after this work.
+fn after(memory: &[u32], work: Work) -> Vec<u32> {
+    let mut words = memory.to_vec();
+    work(&mut words);
+    words
+}
+
+/// Runs of values on the library, beside single pushes of the library, beside the
+/// model, and beside copying the values and testing the memory once.
+fn runs() {
+    println!("{:40}{:>10}{:>10}{:>10}", "", "run", "beside", "ratio");
+    for scene in [run_scenes::block(), run_scenes::long()] {
+        let (run, single) = (scene.push(), scene.pushes());
+        let linked = |m: &mut [u32]| assert_eq!(linked::make(&run, m) >> 32, 0);
+        let model = |m: &mut [u32]| assert!(run.make(m).moved());
+        let singly = |m: &mut [u32]| {
+            for call in &single {
+                assert_eq!(linked::make(call, m) >> 32, 0);
+            }
+        };
+        // A sync of no task is refused behind the memory test.
+        let sync = Call::Sync { task: TASKS };
+        let copied = |m: &mut [u32]| {
+            m[VALUES..][..scene.values.len()].copy_from_slice(&scene.values);
+            assert_eq!(linked::make(&sync, m) >> 32, 4);
+        };
+        let due = after(&scene.memory, &linked);
+        assert!(due == after(&scene.memory, &model), "words of the model");
+        assert!(
+            due == after(&scene.memory, &singly),
+            "words of single pushes"
+        );
+        let best = best_of(&scene.memory, [&linked, &singly, &model, &copied]);
+        let names = ["single pushes", "the model", "copied, one memory test"];
+        for (beside, name) in best[1..].iter().zip(names) {
+            let (run, name) = (best[0], format!("{}; {name}", scene.name));
+            println!("{name:40}{run:>10.0}{beside:>10.0}{:>10.3}", run / beside);
+        }
+    }
+}
+
 /// The instructions of each scene.
 fn counts() -> ExitCode {
     println!("{:40}{:>14}", "", "instructions");
@@ -299,6 +360,7 @@ fn main() -> ExitCode {
         ["serial"] => (without_overlap, ROUNDS),
         ["overlap"] => (with_overlap, RUNS),
         ["replay"] => (replays, RUNS),
+        ["runs"] => (runs, ROUNDS),
         ["counts"] => return counts(),
         ["scene", scene, part] => {
             let number = |word: &str| word.parse().expect("a number");
@@ -306,7 +368,7 @@ fn main() -> ExitCode {
             return ExitCode::SUCCESS;
         }
         _ => {
-            eprintln!("bench [growth | serial | overlap | replay | counts]");
+            eprintln!("bench [growth | serial | overlap | replay | runs | counts]");
             return ExitCode::FAILURE;
         }
     };

@@ -60,13 +60,13 @@ const fn part(
 fn openings(pair: &mut Pair, r: &mut Random, length: u32) -> Outcome {
     pair.set(&noise(r, WORDS as u32));
     for segments in 0..=258 {
-        if !pair.make(Call::Open { length, segments })?.moved() {
+        if !pair.make(&Call::Open { length, segments })?.moved() {
             continue;
         }
         for _ in 0..8 {
             let kind = r.pick(&[1, 2, 2, 2, 3, 4, 6]);
             let call = likely_call(r, &pair.model, kind);
-            pair.make(call)?;
+            pair.make(&call)?;
         }
     }
     Ok(())
@@ -76,7 +76,7 @@ fn openings(pair: &mut Pair, r: &mut Random, length: u32) -> Outcome {
 fn programs(pair: &mut Pair, r: &mut Random, _: u32) -> Outcome {
     pair.set(&noise(r, WORDS as u32));
     let mut player = Player::new(Random::new(u64::from(r.word())));
-    pair.make(player.opening())?;
+    pair.make(&player.opening())?;
     play(pair, r, Order::new(), &mut player, 5_000)
 }
 
@@ -94,8 +94,8 @@ fn play(
         } else {
             player.next(&order)
         };
-        if pair.make(call)?.moved() {
-            order.note(call);
+        if pair.make(&call)?.moved() {
+            order.note(&call);
         }
     }
     Ok(())
@@ -108,13 +108,15 @@ fn big_programs(pair: &mut Pair, r: &mut Random, round: u32) -> Outcome {
         Some(scene) => [&scene.start[..], &scene.again].concat(),
         None => tall_or_broad(r),
     };
-    calls
-        .extend((0..r.pick(&[0, 30, 600])).map(|_| call_of(2, r.below(128), r.below(4), r.word())));
+    for _ in 0..r.pick(&[0, 30, 600]) {
+        let (task, queue) = (r.below(128), r.below(4));
+        calls.push(call_of(r, 2, task, queue));
+    }
     pair.set(&noise(r, WORDS as u32));
     let mut order = Order::new();
     for call in calls {
-        if pair.make(call)?.moved() {
-            order.note(call);
+        if pair.make(&call)?.moved() {
+            order.note(&call);
         }
     }
     let mut player = Player::new(Random::new(u64::from(r.word())));
@@ -152,7 +154,7 @@ fn hand_made(pair: &mut Pair, r: &mut Random, round: u32) -> Outcome {
         for _ in 0..12 {
             let kind = r.within(1, 7);
             let call = likely_call(r, &pair.model, kind);
-            pair.make(call).map_err(|what| format!("{name}: {what}"))?;
+            pair.make(&call).map_err(|what| format!("{name}: {what}"))?;
         }
     }
     damaged_copies(pair, r, m, 4)
@@ -164,7 +166,7 @@ fn every_call(pair: &mut Pair, r: &mut Random, m: &[u32]) -> Outcome {
         for a in [0, 1, 2, 3, 4, 127, 128, NONE] {
             for b in [0, 1, 2, 3, 4, 255, NONE] {
                 pair.set(m);
-                pair.make(call_of(kind, a, b, r.word()))?;
+                pair.make(&call_of(r, kind, a, b))?;
             }
         }
     }
@@ -197,12 +199,12 @@ fn a_call_of_each_kind(pair: &mut Pair, r: &mut Random) -> Outcome {
     r.shuffle(&mut kinds);
     for kind in kinds {
         let call = likely_call(r, &pair.model, kind);
-        pair.make(call)?;
+        pair.make(&call)?;
     }
     if r.chance(10) {
-        pair.make(likely_call(r, &[], 0))?;
+        pair.make(&likely_call(r, &[], 0))?;
     }
-    pair.make(hostile_call(r)).map(|_| ())
+    pair.make(&hostile_call(r)).map(|_| ())
 }
 
 /// Random memory that passes, whole and damaged.
@@ -227,7 +229,7 @@ fn each_word(pair: &mut Pair, r: &mut Random, round: u32) -> Outcome {
         put(&mut copy, address, word);
         pair.set(&copy);
         let kind = r.within(1, 7);
-        pair.make(likely_call(r, &copy, kind))?;
+        pair.make(&likely_call(r, &copy, kind))?;
     }
     Ok(())
 }
@@ -251,8 +253,8 @@ fn noisy(pair: &mut Pair, r: &mut Random, _: u32) -> Outcome {
     ]);
     pair.set(&noise(r, number));
     for kind in 0..8 {
-        pair.make(likely_call(r, &[], kind))?;
-        pair.make(hostile_call(r))?;
+        pair.make(&likely_call(r, &[], kind))?;
+        pair.make(&hostile_call(r))?;
     }
     Ok(())
 }

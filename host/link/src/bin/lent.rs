@@ -3,9 +3,11 @@
 //! outside those lent is an error there, and so is reading one never written.
 //!
 //! `lent SEED MEMORIES` makes every call on so many memories, half of them
-//! mutated. Two errors on purpose: `lent beyond` claims one word more than it
-//! lends, `lent unset` makes a call on words that nobody has written.
+//! mutated. Three errors on purpose: `lent beyond` claims one word more than it
+//! lends, `lent values` one value more of a run, `lent unset` makes a call on
+//! words that nobody has written.
 
+use host::call::Call;
 use host::layout::WORDS;
 use host::random::Random;
 use host::random_jobs::accepted;
@@ -44,7 +46,7 @@ impl Lent {
     }
 
     /// The number of the answer.
-    fn make(&mut self, call: Made) -> u64 {
+    fn make(&mut self, call: &Made) -> u64 {
         let Lent {
             job,
             core,
@@ -52,13 +54,22 @@ impl Lent {
             map,
         } = self;
         let answer = match call {
-            Made::Core(call) => linked::make(call, core),
+            Made::Core(call) => core_call(call, core),
             Made::Open => linked_runner::open(job, core, runner),
-            Made::Step(task) => linked_runner::step(job, core, runner, task),
+            Made::Step(task) => linked_runner::step(job, core, runner, *task),
             Made::Ready => linked_runner::ready(job, core, runner, map),
         };
         answer >> 32
     }
+}
+
+/// A call of the core; the values of a run in a block of exactly their size.
+fn core_call(call: &Call, core: &mut [u32]) -> u64 {
+    let Some((task, queue, values)) = call.as_push() else {
+        return linked::make(call, core);
+    };
+    let values: Box<[u32]> = Box::from(values);
+    hyperqueue::core::push(core, task, queue, &values).packed()
 }
 
 /// Every call of core and runner on a ground, and the test of its job.
@@ -66,7 +77,7 @@ fn every_call(r: &mut Random, ground: &Ground, made: &mut [u64; 2]) {
     let mut lent = Lent::new(ground);
     job_test(&lent.job);
     for call in calls(r, ground) {
-        let number = lent.make(call);
+        let number = lent.make(&call);
         made[0] += 1;
         // Only these leave the words as they were for certain.
         if !(1..=32).contains(&number) {
@@ -162,6 +173,17 @@ fn beyond() {
     println!("answer {}", hyperqueue::core::open(words, 4, 64).status);
 }
 
+/// Pushes a run from a block that is one value too short.
+fn values() {
+    let block: Box<[u32]> = Box::new([5; 40]);
+    // The error is the purpose: the checker has to see it.
+    let run = unsafe { std::slice::from_raw_parts(block.as_ptr(), block.len() + 1) };
+    let mut words = vec![0; WORDS];
+    let opened = hyperqueue::core::open(&mut words, 4, 64).status;
+    let pushed = hyperqueue::core::push(&mut words, 0, 0, run).status;
+    println!("answers {opened} {pushed}");
+}
+
 fn main() -> ExitCode {
     let words: Vec<String> = std::env::args().skip(1).collect();
     let words: Vec<&str> = words.iter().map(String::as_str).collect();
@@ -169,9 +191,10 @@ fn main() -> ExitCode {
     match (&words[..], &numbers[..]) {
         (["beyond"], _) => beyond(),
         (["unset"], _) => unset(),
+        (["values"], _) => values(),
         ([_, _], [seed, memories]) => run(*seed, *memories),
         _ => {
-            eprintln!("lent SEED MEMORIES, lent beyond or lent unset");
+            eprintln!("lent SEED MEMORIES, lent beyond, lent unset or lent values");
             return ExitCode::from(2);
         }
     }
