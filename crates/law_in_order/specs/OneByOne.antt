@@ -2,25 +2,24 @@
 -- a refusal and a wait included, and the same words; where one of them does not move the words are those that the first found.
 use mathlib.Core.Path.{_≡_, refl, ap, sym, _∙_, subst}
 use mathlib.Core.Bool.{Bool, true, false, not}
-use mathlib.Core.List.{List, [], _∷_, _++_, append-assoc}
+use mathlib.Core.List.{List, [], _∷_, _++_}
 use mathlib.Core.Logic.{inl, inr}
 use Prim.Native.Nat.{ℕ, _<_}
 use native.Mathlib.Omega.{arith}
 use lib.Dec.{leb}
 use borrow.Author.Tests.{leb-false, lt-leb}
-use Rattle.spec_words.specs.Words.{pick, pass, halt, both}
+use Rattle.spec_words.specs.Words.{pass, halt}
 use Rattle.spec_tree.specs.Rights.{pushes as mayPush}
 use Rattle.spec_answers.specs.declared.Answer.{Answer}
 use Rattle.spec_answers.specs.declared.Answer.the-variants.{Moved, Waits, Refused}
 use Rattle.spec_answers.specs.Answers.{Outcome, outcome, answerOf, wordsOf, whenMoved}
 use Rattle.spec_answers.specs.Calls.{Call, push-call}
-use Rattle.spec_outcomes.specs.Segments.{noneFree}
-use Rattle.spec_outcomes.specs.Push.{needsSegment, pushed, pushedAll, pushedRun, pushTested, pushOutcome}
+use Rattle.spec_outcomes.specs.Push.{pushed, pushedAll, pushedRun, pushTested, pushOutcome}
 use Rattle.spec_outcomes.specs.RunOfOne.{run-of-one}
 use Rattle.spec_outcomes.specs.Open.{openOutcome}
 use Rattle.spec_outcomes.specs.Outcomes.{outcomeOf, wordsAfter}
 use Rattle.spec_outcomes.specs.Keeps.{Keeps, keeps}
-use Rattle.spec_order.specs.Steps.{Task, Item, begin, step, spot, pushes, nameOf, numberOf, rightsOf, advance, pushesAll, pushesRun, counted, noted}
+use Rattle.spec_order.specs.Steps.{Task, Item, begin, step, spot, pushes, nameOf, numberOf, rightsOf}
 use Rattle.spec_order.specs.Waits.{unfinished, blocked}
 use Rattle.spec_order.specs.Ordered.{rightsAt, forTask, forQueue, ordered}
 use Rattle.law_order.specs.Items.{in-split}
@@ -30,11 +29,10 @@ use Rattle.law_links.specs.Waits.{same-unfinished}
 use Rattle.law_invariant.specs.Represents.{Represents}
 use Rattle.law_invariant.specs.At.{mine-spot}
 use Rattle.law_in_order.specs.Answered.{answered}
-use Rattle.law_in_order.specs.Yields.{Yields}
 use Rattle.law_in_order.specs.Refusals.{rights-are, rights-same, blocked-same}
 use Rattle.law_in_order.specs.State.{State}
 use Rattle.law_in_order.specs.Open.{opens}
-use Rattle.law_in_order.specs.Run.{by-answer, still-free, stepped, one-value, pushable, same-run}
+use Rattle.law_in_order.specs.Run.{by-answer, After, Ways, either-way, pushable, same-run}
 use Rattle.law_in_order.specs.InOrder.{tested-is, call-does, calls-do}
 
 -- pushes of one value each, from the words m on; o are the words that the first found, w the last value pushed
@@ -80,25 +78,18 @@ module _ (zs : List Item) (s : Task) (q : ℕ) (small : q < 4) (may : mayPush (r
   all-are [] o m w ys r free = refl
   all-are (v ∷ vs) o m w ys r free =
       ap (λ (x : Outcome). whenMoved o x (λ y n. oneByOne o n t q y vs)) (one-is m ys r free v)
-      ∙ by-need (both (needsSegment m t q) (noneFree m q)) refl (one-value zs s q small may m ys r v free)
-      (λ n h. all-are vs o n v (ys ++ step (nameOf s) (pushes q v) ∷ []) (subst (Represents n) (stepped m ys zs s r q v) h)
-      (ap (blocked t) (append-assoc ys (step (nameOf s) (pushes q v) ∷ []) (spot s ∷ zs)) ∙ still-free t ys (spot s ∷ zs) (nameOf s) (pushes q v) ∙ free))
+      ∙ go (either-way zs s q small may m ys r v free) (λ n. all-are vs o n v (ys ++ step (nameOf s) (pushes q v) ∷ []))
     where
-      by-need : (b : Bool) → both (needsSegment m t q) (noneFree m q) ≡ b
-          → Yields Represents (ys ++ spot s ∷ zs) (push-call t q (v ∷ [])) (pushed m t q v)
-          (pick (both (needsSegment m t q) (noneFree m q)) (Refused 9) (Moved v))
-          → ((n : List ℕ) → Represents n (advance t (pushes q v) (ys ++ spot s ∷ zs)) → oneByOne o n t q v vs ≡ pushedAll o n t q v vs)
+      same : {a : Answer} {n : List ℕ} → pushed m t q v ≡ outcome a n
+          → whenMoved o (outcome a n) (λ y l. oneByOne o l t q y vs) ≡ whenMoved o (outcome a n) (λ y l. pushedAll o l t q y vs)
+          → whenMoved o (pushed m t q v) (λ y l. oneByOne o l t q y vs) ≡ whenMoved o (pushed m t q v) (λ y l. pushedAll o l t q y vs)
+      same is e = subst (λ (x : Outcome). whenMoved o x (λ y l. oneByOne o l t q y vs) ≡ whenMoved o x (λ y l. pushedAll o l t q y vs)) (sym is) e
+
+      go : Ways zs s q small may m ys v
+          → ((n : List ℕ) → Represents n (After zs s q small may ys v) → blocked t (After zs s q small may ys v) ≡ false → oneByOne o n t q v vs ≡ pushedAll o n t q v vs)
           → whenMoved o (pushed m t q v) (λ y n. oneByOne o n t q y vs) ≡ whenMoved o (pushed m t q v) (λ y n. pushedAll o n t q y vs)
-      by-need true e d more = unfold whenMoved in
-          let is = by-answer (pushed m t q v) (d .answer ∙ halt _ _ e) in
-          ap (λ (x : Outcome). whenMoved o x (λ y n. oneByOne o n t q y vs)) is ∙ sym (ap (λ (x : Outcome). whenMoved o x (λ y n. pushedAll o n t q y vs)) is)
-      by-need false e d more = unfold whenMoved noted counted pushesRun pushesAll in
-          let a = pass (Refused 9) e refl in
-          let n = wordsOf (pushed m t q v) in
-          let is : pushed m t q v ≡ outcome (Moved v) n = by-answer (pushed m t q v) (d .answer ∙ a) in
-          let h = subst (λ (x : Answer). Represents n (noted (push-call t q (v ∷ [])) x (ys ++ spot s ∷ zs))) a (d .holds) in
-          ap (λ (x : Outcome). whenMoved o x (λ y l. oneByOne o l t q y vs)) is ∙ more n h
-          ∙ sym (ap (λ (x : Outcome). whenMoved o x (λ y l. pushedAll o l t q y vs)) is)
+      go (inl c) more = unfold whenMoved in same (c .1) refl
+      go (inr c) more = unfold whenMoved in same (c .1) (more (wordsOf (pushed m t q v)) (c .2) (c .3))
 
   passed : (m : List ℕ) (ys : List Item) (r : Represents m (ys ++ spot s ∷ zs)) (free : blocked t (ys ++ spot s ∷ zs) ≡ false) (vs : List ℕ)
       → outcomeOf (push-call t q vs) m ≡ oneByOne m m t q 0 vs

@@ -2,7 +2,7 @@
 use mathlib.Core.Path.{_≡_, refl, ap, sym, _∙_, subst, fun-ext}
 use mathlib.Core.Bool.{Bool, true, false, not, false≢true}
 use mathlib.Core.List.{List, [], _∷_, _++_, append-assoc}
-use mathlib.Core.Logic.{⊎-elim}
+use mathlib.Core.Logic.{_⊎_, inl, inr, ⊎-elim}
 use Prim.Native.Nat.{ℕ, _<_}
 use native.Mathlib.Omega.{arith}
 use lib.Dec.{leb, eqb}
@@ -75,6 +75,35 @@ module _ (zs : List Item) (s : Task) (q : ℕ) (small : q < 4) (may : mayPush (r
       (pick (both (needsSegment m t q) (noneFree m q)) (Refused 9) (Moved v))
   one-value m ys r v free = pushes-well Represents (λ n xs h. h) m ys zs s r q v small may free
 
+  -- the same as two ways: refused, or the value is stored, the step stands before the spot, and the task is still free
+  abbrev pub After : List Item → ℕ → List Item
+  After ys v = (ys ++ step (nameOf s) (pushes q v) ∷ []) ++ spot s ∷ zs
+
+  abbrev pub Ways : List ℕ → List Item → ℕ → Type 0
+  Ways m ys v =
+      ((both (needsSegment m t q) (noneFree m q) ≡ true) × (pushed m t q v ≡ outcome (Refused 9) (wordsOf (pushed m t q v))))
+      ⊎ ((both (needsSegment m t q) (noneFree m q) ≡ false) × (pushed m t q v ≡ outcome (Moved v) (wordsOf (pushed m t q v)))
+      × (Represents (wordsOf (pushed m t q v)) (After ys v)) × (blocked t (After ys v) ≡ false))
+
+  pub either-way : (m : List ℕ) (ys : List Item) (r : Represents m (ys ++ spot s ∷ zs)) (v : ℕ) → blocked t (ys ++ spot s ∷ zs) ≡ false → Ways m ys v
+  either-way m ys r v free = go (both (needsSegment m t q) (noneFree m q)) refl (one-value m ys r v free)
+    where
+      go : (b : Bool) → both (needsSegment m t q) (noneFree m q) ≡ b
+          → Yields Represents (ys ++ spot s ∷ zs) (push-call t q (v ∷ [])) (pushed m t q v)
+          (pick (both (needsSegment m t q) (noneFree m q)) (Refused 9) (Moved v))
+          → Ways m ys v
+      go true e d = inl (e, by-answer (pushed m t q v) (d .answer ∙ halt _ _ e))
+      go false e d = unfold noted counted pushesRun pushesAll in
+          let a = pass (Refused 9) e refl in
+          let n = wordsOf (pushed m t q v) in
+          let h = subst (λ (x : Answer). Represents n (noted (push-call t q (v ∷ [])) x (ys ++ spot s ∷ zs))) a (d .holds) in
+          inr (
+            e,
+            by-answer (pushed m t q v) (d .answer ∙ a),
+            subst (Represents n) (stepped m ys zs s r q v) h,
+            ap (blocked t) (append-assoc ys (step (nameOf s) (pushes q v) ∷ []) (spot s ∷ zs)) ∙ still-free t ys (spot s ∷ zs) (nameOf s) (pushes q v) ∙ free,
+          )
+
   -- A RUN from the words m on; o are those that the run found
   pub record Runs (o m : List ℕ) (w : ℕ) (vs : List ℕ) (xs : List Item) : Type 0 where
     pub out : segmentsRunOut m t q vs ≡ true → pushedAll o m t q w vs ≡ outcome (Refused 9) o
@@ -85,34 +114,22 @@ module _ (zs : List Item) (s : Task) (q : ℕ) (small : q < 4) (may : mayPush (r
       → Runs o m w vs (ys ++ spot s ∷ zs)
   unfolding pushedAll segmentsRunOut pushesAll
   runs [] o m w ys r free = record { out = λ e. absurd (false≢true e); done = λ e. (m, refl, r) }
-  runs (v ∷ vs) o m w ys r free =
-      by-need (both (needsSegment m t q) (noneFree m q)) refl (one-value m ys r v free)
-      (λ n h. runs vs o n v (ys ++ step (nameOf s) (pushes q v) ∷ []) (subst (Represents n) (stepped m ys zs s r q v) h)
-      (ap (blocked t) (append-assoc ys (step (nameOf s) (pushes q v) ∷ []) (spot s ∷ zs)) ∙ still-free t ys (spot s ∷ zs) (nameOf s) (pushes q v) ∙ free))
+  runs (v ∷ vs) o m w ys r free = go (either-way m ys r v free) (λ n. runs vs o n v (ys ++ step (nameOf s) (pushes q v) ∷ []))
     where
-      New : List Item
-      New = (ys ++ step (nameOf s) (pushes q v) ∷ []) ++ spot s ∷ zs
-
-      by-need : (b : Bool) → both (needsSegment m t q) (noneFree m q) ≡ b
-          → Yields Represents (ys ++ spot s ∷ zs) (push-call t q (v ∷ [])) (pushed m t q v)
-          (pick (both (needsSegment m t q) (noneFree m q)) (Refused 9) (Moved v))
-          → ((n : List ℕ) → Represents n (advance t (pushes q v) (ys ++ spot s ∷ zs)) → Runs o n v vs New)
+      go : Ways m ys v → ((n : List ℕ) → Represents n (After ys v) → blocked t (After ys v) ≡ false → Runs o n v vs (After ys v))
           → Runs o m w (v ∷ vs) (ys ++ spot s ∷ zs)
-      by-need true e d more = unfold whenMoved in
+      go (inl c) more = unfold whenMoved in
           record {
-            out = λ f. ap (λ (x : Outcome). whenMoved o x (λ y n. pushedAll o n t q y vs)) (by-answer (pushed m t q v) (d .answer ∙ halt _ _ e));
-            done = λ f. absurd (false≢true (sym f ∙ true-left _ e));
+            out = λ f. ap (λ (x : Outcome). whenMoved o x (λ y n. pushedAll o n t q y vs)) (c .1);
+            done = λ f. absurd (false≢true (sym f ∙ true-left _ (c .0)));
           }
-      by-need false e d more = unfold whenMoved noted counted pushesRun pushesAll either in
-          let a = pass (Refused 9) e refl in
-          let n = wordsOf (pushed m t q v) in
-          let is : pushed m t q v ≡ outcome (Moved v) n = by-answer (pushed m t q v) (d .answer ∙ a) in
-          let h = more n (subst (λ (x : Answer). Represents n (noted (push-call t q (v ∷ [])) x (ys ++ spot s ∷ zs))) a (d .holds)) in
-          let on = ap (λ (x : Outcome). whenMoved o x (λ y l. pushedAll o l t q y vs)) is in
+      go (inr c) more = unfold whenMoved either in
+          let h = more (wordsOf (pushed m t q v)) (c .2) (c .3) in
+          let on = ap (λ (x : Outcome). whenMoved o x (λ y l. pushedAll o l t q y vs)) (c .1) in
           record {
-            out = λ f. on ∙ h .out (sym (pass true e refl) ∙ f);
+            out = λ f. on ∙ h .out (sym (pass true (c .0) refl) ∙ f);
             done = λ f.
-                let k = h .done (sym (pass true e refl) ∙ f) in
+                let k = h .done (sym (pass true (c .0) refl) ∙ f) in
                 (k .0, on ∙ k .1, subst (λ (l : List Item). Represents (k .0) (pushesAll t q vs l)) (sym (stepped m ys zs s r q v)) (k .2));
           }
 
