@@ -7,7 +7,7 @@ ghost use Rattle.spec_layout.specs.Layout.{freeHeight, rightsOf};
 ghost use Rattle.spec_tree.specs.Rights.{uses, eachQueue};
 ghost use Rattle.spec_outcomes.specs.Views.{justBefore};
 ghost use Rattle.spec_outcomes.specs.Finish.{finishes};
-ghost use Rattle.spec_runner.specs.Moves.{fitsApart, hasRoom, valueFits, pushMoves, spawnMoves, decided, findMoves, syncMoves, finishMoves};
+ghost use Rattle.spec_runner.specs.Moves.{fitsApart, hasRoom, valueFits, pushMoves, spawnMoves, decided, takeMoves, syncMoves, finishMoves};
 use layout::CHILDREN;
 use layout::NL;
 use layout::NONE;
@@ -136,9 +136,9 @@ fn decided(f: Finding) -> bool
     }
 }
 
-// A pop or a test.
-pub fn find_moves(m: &[u32], t: u32, q: u32) -> bool
-    ensures { λ b. ⌜ b ≡ findMoves (now (m .entry)) t q ⌝ }
+// A take, whether the value stays or not.
+pub fn take_moves(m: &[u32], t: u32, q: u32) -> bool
+    ensures { λ b. ⌜ b ≡ takeMoves (now (m .entry)) t q ⌝ }
 {
     if QUEUES <= q {
         return false;
@@ -146,7 +146,7 @@ pub fn find_moves(m: &[u32], t: u32, q: u32) -> bool
     if !rights::pops(memory::rights(m, t), q) {
         return false;
     }
-    decided(core_pop::find(m, t, q))
+    decided(core_take::find(m, t, q))
 }
 
 pub fn sync_moves(m: &[u32], t: u32) -> bool

@@ -9,7 +9,7 @@ use borrow.Author.Tests.{eqb-true, eq-eqb, ne-eqb, not-false}
 use Rattle.spec_words.specs.Words.{size, pick, halt, pass, rung}
 use Rattle.spec_layout.specs.Layout.{WORDS}
 use Rattle.spec_answers.specs.declared.Answer.{Answer}
-use Rattle.spec_answers.specs.declared.Answer.the-variants.{Moved, Empty, NotEmpty, Waits, Refused}
+use Rattle.spec_answers.specs.declared.Answer.the-variants.{Moved, Empty, Waits, Refused}
 use Rattle.spec_answers.specs.Answers.{Outcome, outcome, answerOf, wordsOf, statusOf, valueOf}
 use Rattle.spec_rules.specs.Test.{rulesHold}
 use Rattle.spec_outcomes.specs.Waits.{tested, test-passes}
@@ -18,7 +18,6 @@ use Rattle.spec_outcomes.specs.Waits.{tested, test-passes}
 abbrev pub packed : Answer → ℕ
 packed (Moved v) = v
 packed Empty = 33 * 4294967296
-packed NotEmpty = 34 * 4294967296
 packed Waits = 32 * 4294967296
 packed (Refused k) = k * 4294967296
 
@@ -26,7 +25,6 @@ pub packed-halves : (a : Answer) → packed a ≡ statusOf a * 4294967296 + valu
 unfolding statusOf valueOf
 packed-halves (Moved v) = let z : v ≡ 0 * 4294967296 + v = omega arith in z
 packed-halves Empty = refl
-packed-halves NotEmpty = refl
 packed-halves Waits = refl
 packed-halves (Refused k) = let z : k * 4294967296 ≡ k * 4294967296 + 0 = omega arith in z
 

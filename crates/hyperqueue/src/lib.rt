@@ -1,20 +1,21 @@
-// The eight calls of the core, on any words and with any arguments.
+// The seven calls of the core, on any words and with any arguments.
 pub mod jobs;
 pub mod replays;
 pub mod runs;
 
 ghost use mathlib.Core.Path.{_≡_};
+ghost use mathlib.Core.Bool.{not};
+ghost use lib.Dec.{eqb};
 ghost use Rattle.spec_answers.specs.Answers.Outcome.{outcome};
 ghost use Rattle.spec_outcomes.specs.Open.{openOutcome};
 ghost use Rattle.spec_outcomes.specs.Spawn.{spawnOutcome};
 ghost use Rattle.spec_outcomes.specs.Push.{pushOutcome};
-ghost use Rattle.spec_outcomes.specs.Find.{popOutcome, testOutcome};
+ghost use Rattle.spec_outcomes.specs.Take.{takeOutcome};
 ghost use Rattle.spec_outcomes.specs.Sync.{syncOutcome};
 ghost use Rattle.spec_outcomes.specs.Finish.{finishOutcome};
 ghost use Rattle.spec_outcomes.specs.Left.{leftOutcome};
 ghost use Rattle.hyperqueue.specs.Packed.{memoryRefusal, packed, Handed};
 use answer_numbers::EMPTY;
-use answer_numbers::NOT_EMPTY;
 use answer_numbers::WAITS;
 use spec_answers::Answer;
 
@@ -57,24 +58,14 @@ pub fn push(m: &mut [u32], t: u32, q: u32, vs: &[u32]) -> Answer
     core_push::push(m, t, q, vs)
 }
 
-pub fn pop(m: &mut [u32], t: u32, q: u32) -> Answer
-    ensures { λ a. ⌜ outcome a (now (m .exit)) ≡ popOutcome (now (m .entry)) t q ⌝ }
+pub fn take(m: &mut [u32], t: u32, q: u32, keep: bool) -> Answer
+    ensures { λ a. ⌜ outcome a (now (m .exit)) ≡ takeOutcome (now (m .entry)) t q keep ⌝ }
 {
     let k = refusal(m);
     if k != 0 {
         return Answer::Refused(k);
     }
-    core_pop::pop(m, t, q)
-}
-
-pub fn test(m: &mut [u32], t: u32, q: u32) -> Answer
-    ensures { λ a. ⌜ outcome a (now (m .exit)) ≡ testOutcome (now (m .entry)) t q ⌝ }
-{
-    let k = refusal(m);
-    if k != 0 {
-        return Answer::Refused(k);
-    }
-    core_pop::test(m, t, q)
+    core_take::take(m, t, q, keep)
 }
 
 pub fn sync(m: &mut [u32], t: u32) -> Answer
@@ -119,7 +110,6 @@ fn pack(a: Answer) -> u64
     match a {
         Answer::Moved(v) => packing::pack(MOVED, v),
         Answer::Empty => packing::pack(EMPTY, 0),
-        Answer::NotEmpty => packing::pack(NOT_EMPTY, 0),
         Answer::Waits => packing::pack(WAITS, 0),
         Answer::Refused(k) => packing::pack(k, 0),
     }
@@ -146,18 +136,12 @@ pub extern "C" fn hq_push(words: &mut [u32], task: u32, queue: u32, values: &[u3
     pack(push(words, task, queue, values))
 }
 
+// Any number but 0 keeps the value queued.
 #[no_mangle]
-pub extern "C" fn hq_pop(words: &mut [u32], task: u32, queue: u32) -> u64
-    ensures { λ r. ⌜ Handed r (now (words .exit)) (popOutcome (now (words .entry)) task queue) ⌝ }
+pub extern "C" fn hq_take(words: &mut [u32], task: u32, queue: u32, keep: u32) -> u64
+    ensures { λ r. ⌜ Handed r (now (words .exit)) (takeOutcome (now (words .entry)) task queue (not (eqb keep 0))) ⌝ }
 {
-    pack(pop(words, task, queue))
-}
-
-#[no_mangle]
-pub extern "C" fn hq_test(words: &mut [u32], task: u32, queue: u32) -> u64
-    ensures { λ r. ⌜ Handed r (now (words .exit)) (testOutcome (now (words .entry)) task queue) ⌝ }
-{
-    pack(test(words, task, queue))
+    pack(take(words, task, queue, keep != 0))
 }
 
 #[no_mangle]

@@ -62,15 +62,23 @@ module _ (x i r v : ℕ) (b : Bool) (e : Made) where
   unfolding operationAt operationOf rowOf effect coded numberOf
   syncs g = g
 
-  pub returns-done : {k : ℕ} → (k ≡ 0) ⊎ (10 ≤ k) → e ≡ gives FINISHED 0 r i → Does k
+  pub takes-or-goes : e ≡ pick b (gives TOOK v v (i + 1)) (gives EMPTY 0 r x) → Does 10
+  takes-or-goes g = g ∙ same b
+    where
+      same : (b : Bool) → pick b (gives TOOK v v (i + 1)) (gives EMPTY 0 r x) ≡ coded (effect (operationAt 10) i r x (foundWith b v))
+      same true = unfold pick operationAt operationOf rowOf effect coded numberOf foundWith in refl
+      same false = unfold pick operationAt operationOf rowOf effect coded numberOf foundWith in refl
+
+  pub returns-done : {k : ℕ} → (k ≡ 0) ⊎ (11 ≤ k) → e ≡ gives FINISHED 0 r i → Does k
   unfolding effect coded numberOf
   returns-done {k} h g = g ∙ ap (λ (o : Operation). coded (effect o i r x (foundWith b v))) (sym (returns-at k h))
 
--- what is left of the numbers once 1 to 9 are told apart
-pub others : (k : ℕ) → ((((((((Unit {0} × (k ≡ 1 → ⊥)) × (k ≡ 2 → ⊥)) × (k ≡ 3 → ⊥)) × (k ≡ 4 → ⊥)) × (k ≡ 5 → ⊥)) × (k ≡ 6 → ⊥)) × (k ≡ 7 → ⊥)) × (k ≡ 8 → ⊥))
-    × (k ≡ 9 → ⊥) → (k ≡ 0) ⊎ (10 ≤ k)
+-- what is left of the numbers once 1 to 10 are told apart
+pub others : (k : ℕ) → (((((((((Unit {0} × (k ≡ 1 → ⊥)) × (k ≡ 2 → ⊥)) × (k ≡ 3 → ⊥)) × (k ≡ 4 → ⊥)) × (k ≡ 5 → ⊥)) × (k ≡ 6 → ⊥)) × (k ≡ 7 → ⊥))
+    × (k ≡ 8 → ⊥)) × (k ≡ 9 → ⊥)) × (k ≡ 10 → ⊥) → (k ≡ 0) ⊎ (11 ≤ k)
 others zero n = inl refl
 others (suc k) n =
-    inr (above 9 (suc k) (above 8 (suc k) (above 7 (suc k) (above 6 (suc k) (above 5 (suc k) (above 4 (suc k) (above 3 (suc k) (above 2 (suc k) (above 1 (suc k)
-    (omega arith) (n .0 .0 .0 .0 .0 .0 .0 .0 .1)) (n .0 .0 .0 .0 .0 .0 .0 .1)) (n .0 .0 .0 .0 .0 .0 .1)) (n .0 .0 .0 .0 .0 .1)) (n .0 .0 .0 .0 .1)) (n .0 .0
-    .0 .1)) (n .0 .0 .1)) (n .0 .1)) (n .1))
+    let o = n .0 in
+    inr (above 10 (suc k) (above 9 (suc k) (above 8 (suc k) (above 7 (suc k) (above 6 (suc k) (above 5 (suc k) (above 4 (suc k) (above 3 (suc k)
+    (above 2 (suc k) (above 1 (suc k) (omega arith) (o .0 .0 .0 .0 .0 .0 .0 .0 .1)) (o .0 .0 .0 .0 .0 .0 .0 .1)) (o .0 .0 .0 .0 .0 .0 .1))
+    (o .0 .0 .0 .0 .0 .1)) (o .0 .0 .0 .0 .1)) (o .0 .0 .0 .1)) (o .0 .0 .1)) (o .0 .1)) (o .1)) (n .1))

@@ -35,14 +35,14 @@ fn gives(answer: u32, value: u32, register: u32, next: u32) -> Made
     }
 }
 
-// A pop that found value v, or nothing.
-fn pop_effect(r: u32, next: u32, found: bool, v: u32) -> Made
-    ensures { λ e. ⌜ e ≡ pick found (gives TOOK v v next) (gives EMPTY 0 r next) ⌝ }
+// Takes value v, or goes to instruction x where nothing was found.
+fn take_effect(x: u32, r: u32, next: u32, found: bool, v: u32) -> Made
+    ensures { λ e. ⌜ e ≡ pick found (gives TOOK v v next) (gives EMPTY 0 r x) ⌝ }
 {
     if found {
         gives(TOOK, v, v, next)
     } else {
-        gives(EMPTY, 0, r, next)
+        gives(EMPTY, 0, r, x)
     }
 }
 
@@ -78,13 +78,14 @@ pub fn effect(k: u32, x: u32, i: u32, r: u32, found: bool, v: u32) -> Made
     match k {
         1 => gives(PUSHED, x, r, next),
         2 => gives(PUSHED, sum, r, next),
-        3 => pop_effect(r, next, found, v),
+        3 => take_effect(next, r, next, found, v),
         4 => test_effect(x, r, next, found),
         5 => gives(MOVED, 0, r, x),
         6 => zero_effect(x, r, next),
         7 => gives(MOVED, 0, sum, next),
         8 => gives(SPAWNED, 0, r, next),
         9 => gives(MOVED, 0, r, next),
+        10 => take_effect(x, r, next, found, v),
         _ => gives(FINISHED, 0, r, i),
     }
 }

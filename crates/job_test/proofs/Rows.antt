@@ -46,9 +46,9 @@ module _ (j : List ℕ) (r n w v : ℕ) where
   unfolding whichHolds operandHolds rowOf
   popped e = rw e refl
 
-  pub tested : {k : ℕ} → k ≡ 4 → both (both (ltb w 4) (pops r w)) (ltb v n) ≡ fieldsHold k
+  pub tested : {k : ℕ} → (k ≡ 4) ⊎ (k ≡ 10) → both (both (ltb w 4) (pops r w)) (ltb v n) ≡ fieldsHold k
   unfolding whichHolds operandHolds rowOf
-  tested e = rw e refl
+  tested e = ⊎-elim (λ q. rw q refl) (λ q. rw q refl) e
 
   pub gone-to : (k : ℕ) → 5 ≤ k → k < 7 → both (eqb w 0) (ltb v n) ≡ fieldsHold k
   unfolding whichHolds operandHolds rowOf
@@ -62,7 +62,7 @@ module _ (j : List ℕ) (r n w v : ℕ) where
   unfolding whichHolds operandHolds rowOf
   spawned e = rw e (sym (both-right-on _ refl))
 
-  pub undefined : (k : ℕ) → 10 ≤ k → false ≡ fieldsHold k
+  pub undefined : (k : ℕ) → 11 ≤ k → false ≡ fieldsHold k
   unfolding whichHolds
   undefined k h = rw (row-past k h) (sym (both-off _ refl))
 

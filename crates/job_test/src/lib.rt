@@ -130,7 +130,7 @@ fn instruction_holds(job: &[u8], r: u32, n: u32, a: usize) -> bool
         0 | 9 => (w == 0) & (v == 0),
         1..=2 => pushed_queue(r, w),
         3 => popped_queue(r, w) & (v == 0),
-        4 => popped_queue(r, w) & (v < n),
+        4 | 10 => popped_queue(r, w) & (v < n),
         5..=6 => (w == 0) & (v < n),
         7 => w == 0,
         8 => spawned(job, r, w),

@@ -12,11 +12,11 @@ use Rattle.spec_tree.specs.Rights.{pushes as mayPush, pops as mayPop, subset}
 use Rattle.spec_answers.specs.declared.Answer.{Answer}
 use Rattle.spec_answers.specs.declared.Answer.the-variants.{Moved, Waits, Refused}
 use Rattle.spec_answers.specs.Answers.{statusOf, valueOf}
-use Rattle.spec_answers.specs.Calls.{spawn-call, push-call, pop-call, test-call, sync-call, finish-call}
+use Rattle.spec_answers.specs.Calls.{spawn-call, push-call, take-call, sync-call, finish-call}
 use Rattle.spec_order.specs.Steps.{Item}
 use Rattle.spec_order.specs.Waits.{unfinished, blocked, hasChild}
 use Rattle.spec_order.specs.Finding.{finding}
-use Rattle.spec_order.specs.Ordered.{rightsAt, spots, forTask, forQueue, popAnswer, testAnswer, ordered}
+use Rattle.spec_order.specs.Ordered.{rightsAt, spots, forTask, forQueue, takeAnswer, ordered}
 use Rattle.spec_outcomes.specs.Segments.{noneFree}
 use Rattle.spec_outcomes.specs.Push.{needsSegment}
 use Rattle.law_in_order.specs.Answered.{segmentsRunOut, nextTask, decided, answered}
@@ -48,13 +48,9 @@ module _ (m : List ℕ) (xs : List Item) (t : ℕ) (there : unfinished t xs ≡ 
           inr (is (Refused 9) (unfold decided in halt _ _ (out true d)) ∙ (unfold statusOf in halt _ _ refl), w .0, w .1)
       go false d = inl (is (Moved v) (unfold decided in pass _ (out false d) refl) ∙ (unfold statusOf in pass _ refl refl))
 
-  pub pop-answer : (q : ℕ) → q < 4 → mayPop (rightsAt t xs) q ≡ true → answered (pop-call t q) m xs ≡ popAnswer (finding t q xs)
+  pub take-answer : (q : ℕ) (keep : Bool) → q < 4 → mayPop (rightsAt t xs) q ≡ true → answered (take-call t q keep) m xs ≡ takeAnswer (finding t q xs)
   unfolding answered ordered
-  pop-answer q small e = queue-passes q _ _ small e
-
-  pub test-answer : (q : ℕ) → q < 4 → mayPop (rightsAt t xs) q ≡ true → answered (test-call t q) m xs ≡ testAnswer (finding t q xs)
-  unfolding answered ordered
-  test-answer q small e = queue-passes q _ _ small e
+  take-answer q keep small e = queue-passes q _ _ small e
 
   -- a spawn moves, or is refused with 8: 128 tasks are unfinished
   pub spawn-answer : (r : ℕ) → subset r (rightsAt t xs) ≡ true

@@ -7,7 +7,7 @@ use Prim.Native.Nat.{ℕ}
 use Rattle.spec_words.specs.Words.{pass, halt}
 use Rattle.spec_order.specs.Steps.{Item as Mark}
 use Rattle.law_in_order.specs.State.{State}
-use Rattle.spec_job.specs.Operations.{Operation, return, push, pushSum, pop, goIfEmpty, go, goIfZero, add, spawn, sync}
+use Rattle.spec_job.specs.Operations.{Operation, return, push, pushSum, pop, goIfEmpty, go, goIfZero, add, spawn, sync, takeOrGo}
 use Rattle.spec_job.specs.Effects.{Word, spawned, pushed, took, moved, finished, empty, notEmpty, waits, refused, effect}
 use Rattle.spec_plain.specs.Machine.{Event}
 use Rattle.spec_line.specs.Line.{Item}
@@ -58,6 +58,8 @@ same-value pop p x y none c = refl
 same-value pop p x y (some w) c = refl
 same-value goIfEmpty p x y none c = refl
 same-value goIfEmpty p x y (some w) c = refl
+same-value takeOrGo p x y none c = refl
+same-value takeOrGo p x y (some w) c = refl
 same-value go p x y f c = refl
 same-value goIfZero p x y f c = refl
 same-value add p x y f c = refl

@@ -9,7 +9,7 @@ use Rattle.spec_layout.specs.Layout.{freeTasks, freeTask, read}
 use Rattle.spec_answers.specs.declared.Answer.{Answer}
 use Rattle.spec_answers.specs.declared.Answer.the-variants.{Moved, Waits, Refused}
 use Rattle.spec_answers.specs.Answers.{wordsOf}
-use Rattle.spec_answers.specs.Calls.{Call, open-call, spawn-call, push-call, pop-call, test-call, sync-call, finish-call, left-call}
+use Rattle.spec_answers.specs.Calls.{Call, open-call, spawn-call, push-call, take-call, sync-call, finish-call, left-call}
 use Rattle.spec_rules.specs.Test.{inRange}
 use Rattle.spec_outcomes.specs.Segments.{noneFree}
 use Rattle.spec_outcomes.specs.Push.{needsSegment, pushed}
@@ -31,8 +31,7 @@ unfoldable pub decided : Call → List ℕ → Answer
 decided (open-call l n) m = pick (inRange l n) (Moved 0) (Refused 3)
 decided (spawn-call t r) m = Moved (nextTask m)
 decided (push-call t q vs) m = pick (segmentsRunOut m t q vs) (Refused 9) (Moved (lastOf 0 vs))
-decided (pop-call t q) m = Waits
-decided (test-call t q) m = Waits
+decided (take-call t q keep) m = Waits
 decided (sync-call t) m = Waits
 decided (finish-call t) m = Waits
 decided (left-call q i) m = Waits

@@ -10,7 +10,7 @@ use Rattle.spec_answers.specs.declared.Finding.the-variants as Finding
 use Rattle.spec_tree.specs.Rights.{pops as mayPop}
 use Rattle.spec_outcomes.specs.Segments.{valueAt}
 use Rattle.spec_outcomes.specs.Waits.{blocked as blockedIn, childPops as childPopsIn, pusherBefore}
-use Rattle.spec_outcomes.specs.Find.{hasValue, finding as findingIn}
+use Rattle.spec_outcomes.specs.Take.{hasValue, finding as findingIn}
 use Rattle.spec_order.specs.Steps.{Task, Item, spot, numberOf, rightsOf}
 use Rattle.spec_order.specs.Waits.{blocked, childPops}
 use Rattle.spec_order.specs.Finding.{before, run, runs, found, finding}

@@ -11,13 +11,13 @@ use Rattle.spec_lists.specs.Maps.{lastOf}
 use Rattle.spec_answers.specs.declared.Answer.{Answer}
 use Rattle.spec_answers.specs.declared.Answer.the-variants.{Moved, Waits, Refused}
 use Rattle.spec_answers.specs.Answers.{Outcome, answerOf, wordsOf, statusOf, valueOf}
-use Rattle.spec_answers.specs.Calls.{Call, open-call, spawn-call, push-call, pop-call, test-call, sync-call, finish-call, left-call}
+use Rattle.spec_answers.specs.Calls.{Call, open-call, spawn-call, push-call, take-call, sync-call, finish-call, left-call}
 use Rattle.spec_tree.specs.Rights.{pushes as mayPush}
 use Rattle.spec_outcomes.specs.Waits.{tested, test-passes}
 use Rattle.spec_outcomes.specs.Open.{openOutcome}
 use Rattle.spec_outcomes.specs.Spawn.{spawnTested, spawnOutcome}
 use Rattle.spec_outcomes.specs.Push.{pushTested, pushOutcome}
-use Rattle.spec_outcomes.specs.Find.{popAllowed, popTested, testTested, popOutcome, testOutcome}
+use Rattle.spec_outcomes.specs.Take.{popAllowed, takeTested, takeOutcome}
 use Rattle.spec_outcomes.specs.Sync.{whenReduced, syncTested, syncOutcome}
 use Rattle.spec_outcomes.specs.Finish.{finishTested, finishOutcome}
 use Rattle.spec_outcomes.specs.Left.{leftTested, leftOutcome}
@@ -32,7 +32,7 @@ use Rattle.law_in_order.specs.State.{Ended, State, state-rules, state-si
 use Rattle.law_in_order.specs.Open.{open-does, opens}
 use Rattle.law_in_order.specs.Spawn.{spawn-does, fresh-task}
 use Rattle.law_in_order.specs.Run.{push-does}
-use Rattle.law_in_order.specs.Pop.{pop-does, test-does}
+use Rattle.law_in_order.specs.Take.{take-does}
 use Rattle.law_in_order.specs.Sync.{sync-does}
 use Rattle.law_in_order.specs.Finish.{tested-is as finish-tested, finish-does}
 use Rattle.law_in_order.specs.Left.{left-waits, left-ended, ended-refuses}
@@ -66,13 +66,9 @@ module _ (m : List ℕ) (xs : List Item) (e : Ended m xs) where
   unfolding pushTested
   push-ended t q vs a = ended-refuses m xs e (push-call t q vs) _ a t
 
-  pop-ended : (t q : ℕ) → (a : Answer) → Yields State xs (pop-call t q) (popTested m t q) (forTask t xs a)
-  unfolding popTested popAllowed
-  pop-ended t q a = ended-refuses m xs e (pop-call t q) _ a t
-
-  test-ended : (t q : ℕ) → (a : Answer) → Yields State xs (test-call t q) (testTested m t q) (forTask t xs a)
-  unfolding testTested popAllowed
-  test-ended t q a = ended-refuses m xs e (test-call t q) _ a t
+  take-ended : (t q : ℕ) (keep : Bool) → (a : Answer) → Yields State xs (take-call t q keep) (takeTested m t q keep) (forTask t xs a)
+  unfolding takeTested popAllowed
+  take-ended t q keep a = ended-refuses m xs e (take-call t q keep) _ a t
 
   sync-ended : (t : ℕ) → (a : Answer) → Yields State xs (sync-call t) (syncTested m t) (forTask t xs a)
   unfolding syncTested whenReduced
@@ -84,7 +80,7 @@ module _ (m : List ℕ) (xs : List Item) (e : Ended m xs) where
 
 -- A CALL IN A STATE
 pub call-does : (c : Call) (m : List ℕ) (xs : List Item) → State m xs → Yields State xs c (outcomeOf c m) (answered c m xs)
-unfolding outcomeOf answered ordered decided valueOf spawnOutcome pushOutcome popOutcome testOutcome syncOutcome finishOutcome leftOutcome
+unfolding outcomeOf answered ordered decided valueOf spawnOutcome pushOutcome takeOutcome syncOutcome finishOutcome leftOutcome
 call-does (open-call l n) m xs st = open-does m xs l n (state-size m xs st) st
 call-does (spawn-call t u) m xs (inl r) = through m xs (inl r) (spawnTested m t u) (spawn-does State runs m xs t u r)
 call-does (spawn-call t u) m xs (inr e) = through m xs (inr e) (spawnTested m t u) (spawn-ended m xs e t u _)
@@ -95,10 +91,8 @@ call-does (push-call t q vs) m xs (inl r) =
     (nine (segmentsRunOut m t q vs) (lastOf 0 vs)))
     (push-does State runs m xs t q vs r))
 call-does (push-call t q vs) m xs (inr e) = through m xs (inr e) (pushTested m t q vs) (push-ended m xs e t q vs _)
-call-does (pop-call t q) m xs (inl r) = through m xs (inl r) (popTested m t q) (pop-does State runs m xs t q r)
-call-does (pop-call t q) m xs (inr e) = through m xs (inr e) (popTested m t q) (pop-ended m xs e t q _)
-call-does (test-call t q) m xs (inl r) = through m xs (inl r) (testTested m t q) (test-does State runs m xs t q r)
-call-does (test-call t q) m xs (inr e) = through m xs (inr e) (testTested m t q) (test-ended m xs e t q _)
+call-does (take-call t q keep) m xs (inl r) = through m xs (inl r) (takeTested m t q keep) (take-does State runs m xs t q keep r)
+call-does (take-call t q keep) m xs (inr e) = through m xs (inr e) (takeTested m t q keep) (take-ended m xs e t q keep _)
 call-does (sync-call t) m xs (inl r) = through m xs (inl r) (syncTested m t) (sync-does State runs m xs t r)
 call-does (sync-call t) m xs (inr e) = through m xs (inr e) (syncTested m t) (sync-ended m xs e t _)
 call-does (finish-call t) m xs (inl r) = through m xs (inl r) (finishTested m t) (finish-does m xs t r)

@@ -4,7 +4,7 @@ pub mod Refusals
 pub mod Push
 pub mod Run
 pub mod Finding
-pub mod Pop
+pub mod Take
 pub mod Sync
 pub mod Spawn
 pub mod Alone

@@ -11,9 +11,9 @@ use Rattle.spec_answers.specs.declared.Answer.the-variants.{Moved, Waits, Refus
 use Rattle.spec_answers.specs.declared.Finding.{Finding}
 use Rattle.spec_answers.specs.declared.Finding.the-variants as Finding
 use Rattle.spec_answers.specs.Answers.{statusOf}
-use Rattle.spec_answers.specs.Calls.{Call, open-call, spawn-call, push-call, pop-call, test-call, sync-call, finish-call, left-call}
+use Rattle.spec_answers.specs.Calls.{Call, open-call, spawn-call, push-call, take-call, sync-call, finish-call, left-call}
 use Rattle.spec_order.specs.Steps.{Item}
-use Rattle.spec_order.specs.Ordered.{forTask, forQueue, popAnswer, testAnswer, leftAnswer, ordered}
+use Rattle.spec_order.specs.Ordered.{forTask, forQueue, takeAnswer, leftAnswer, ordered}
 use Rattle.law_in_order.specs.Answered.{decided, answered}
 
 record NotTwo (a : Answer) : Type 0 where
@@ -44,17 +44,11 @@ for-queue : (q : ℕ) (held : Bool) {a : Answer} → NotTwo a → NotTwo (forQue
 unfolding forQueue
 for-queue q held f = choice _ (refused (λ e. omega (arith, e))) (choice held f (refused (λ e. omega (arith, e))))
 
-pop-answer : (f : Finding) → NotTwo (popAnswer f)
-unfolding popAnswer
-pop-answer (Finding.Value v) = moved
-pop-answer Finding.Empty = refused (λ e. omega (arith, e))
-pop-answer Finding.Waits = waits
-
-test-answer : (f : Finding) → NotTwo (testAnswer f)
-unfolding testAnswer statusOf
-test-answer (Finding.Value v) = record { no = λ e. omega (arith, e) }
-test-answer Finding.Empty = record { no = λ e. omega (arith, e) }
-test-answer Finding.Waits = waits
+take-answer : (f : Finding) → NotTwo (takeAnswer f)
+unfolding takeAnswer statusOf
+take-answer (Finding.Value v) = moved
+take-answer Finding.Empty = record { no = λ e. omega (arith, e) }
+take-answer Finding.Waits = waits
 
 left-answer : (o : Option ℕ) → NotTwo (leftAnswer o)
 unfolding leftAnswer
@@ -67,8 +61,7 @@ answers (open-call l n) m xs = choice _ moved (refused (λ e. omega (arith, e)))
 answers (spawn-call t r) m xs =
     for-task t xs (choice _ (choice _ waits (choice _ (refused (λ e. omega (arith, e))) moved)) (refused (λ e. omega (arith, e))))
 answers (push-call t q v) m xs = for-task t xs (for-queue q _ (choice _ waits (choice _ (refused (λ e. omega (arith, e))) moved)))
-answers (pop-call t q) m xs = for-task t xs (for-queue q _ (pop-answer _))
-answers (test-call t q) m xs = for-task t xs (for-queue q _ (test-answer _))
+answers (take-call t q keep) m xs = for-task t xs (for-queue q _ (take-answer _))
 answers (sync-call t) m xs = for-task t xs (choice _ waits moved)
 answers (finish-call t) m xs = for-task t xs (choice _ waits moved)
 answers (left-call q i) m xs = choice _ (refused (λ e. omega (arith, e))) (choice _ waits (left-answer _))

@@ -13,7 +13,7 @@ use Rattle.spec_tree.specs.Rights.{pops as mayPop}
 use Rattle.spec_answers.specs.declared.Finding.the-variants as Finding
 use Rattle.spec_outcomes.specs.Waits.{pusherBefore}
 use Rattle.spec_outcomes.specs.Segments.{valueAt}
-use Rattle.spec_outcomes.specs.Find.{hasValue, popped}
+use Rattle.spec_outcomes.specs.Take.{hasValue, popped}
 use Rattle.spec_order.specs.Steps.{Task, Item, step, spot, pops, numberOf, rightsOf, advance}
 use Rattle.spec_order.specs.Waits.{blocked, childPops}
 use Rattle.spec_order.specs.Finding.{run, runs, before, found}

@@ -5,7 +5,7 @@ use mathlib.Core.Option.{Option, none}
 use mathlib.Core.List.{List, [], _∷_, _++_, append-assoc, append-nil}
 use Prim.Native.Nat.{ℕ}
 use Rattle.spec_job.specs.declared.Instruction.{Instruction}
-use Rattle.spec_job.specs.Operations.{Operation, return, push, pushSum, pop, goIfEmpty, go, goIfZero, add, spawn, sync, operationAt}
+use Rattle.spec_job.specs.Operations.{Operation, return, push, pushSum, pop, goIfEmpty, go, goIfZero, add, spawn, sync, takeOrGo, operationAt}
 use Rattle.spec_plain.specs.Machine.{Task, Event, eventOf, advanced, parent}
 use Rattle.spec_line.specs.Line.{Item, Action, Every, acts-every}
 use Rattle.law_timed_line.specs.Answers.{On, unfinished, over, behind, Lasting}
@@ -50,6 +50,7 @@ acts-stay j go u s = (_, one-more u s none _ refl, unfinished)
 acts-stay j goIfZero u s = (_, one-more u s none _ refl, unfinished)
 acts-stay j add u s = (_, one-more u s none _ refl, unfinished)
 acts-stay j sync u s = (_, one-more u s none _ refl, unfinished)
+acts-stay j takeOrGo u s = by-test (Stays u) _ _ _ (λ e a. (_, one-more u s a _ refl, unfinished)) (_, now u, unfinished)
 acts-stay j spawn u s = by-test (Stays u) _ _ _ (λ e. (_, one-more u s none _ refl, behind unfinished)) (_, now u, unfinished)
 
 pub action-stays : (j : List ℕ) (u : Runner) → Stays u (action j u)

@@ -8,7 +8,7 @@ use Rattle.spec_words.specs.Words.{pass}
 use Rattle.spec_order.specs.Steps.{Name}
 use Rattle.law_order.specs.Names.{Under, under-self, under-parent, not-under-child, one-branch, same-no}
 use Rattle.spec_job.specs.Fields.{instructionAt}
-use Rattle.spec_job.specs.Operations.{Operation, return, push, pushSum, pop, goIfEmpty, go, goIfZero, add, spawn, sync, operationAt}
+use Rattle.spec_job.specs.Operations.{Operation, return, push, pushSum, pop, goIfEmpty, go, goIfZero, add, spawn, sync, takeOrGo, operationAt}
 use Rattle.spec_job.specs.Effects.{Effect}
 use Rattle.spec_job.specs.Accepted.{Accepted}
 use Rattle.spec_plain.specs.Machine.{Task, State, state, Event, begin, advanced, parent, child, stackAfter, effectOn, eventOf, does, step}
@@ -60,6 +60,7 @@ old-kept go t e w x ts p h = h
 old-kept goIfZero t e w x ts p h = h
 old-kept add t e w x ts p h = h
 old-kept sync t e w x ts p h = h
+old-kept takeOrGo t e w x ts p h = h
 
 next-old : (j : List ℕ) (s : State) (es : List Event) → Stack j (stackOf s) → AllOld (stackOf s) es → AllOld (stackOf (next j s)) (es ++ eventIn (step j s))
 unfolding stackOf next after eventIn step does eventOf

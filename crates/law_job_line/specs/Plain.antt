@@ -216,8 +216,9 @@ module _ (j : List ℕ) (W : Waits (jobTasks j)) (r : Fronts) (qs : List (List �
       (from Case 7 (λ w x e a. on-step e (_ ∷ []) refl refl refl)
       (from Case 8 (λ w x e a. on-step e (_ ∷ _ ∷ []) (halt _ _ (both-true _ _ a .1)) refl refl)
       (from Case 9 (λ w x e a. on-step e (_ ∷ []) refl refl refl)
+      (from Case 10 (λ w x e a. look-step e false w _ (ltb-true w 4 (both-true _ _ a .0)) (halt _ _ a) refl refl)
       (λ k past w x e a. absurd (false≢true (rw (row-past k past) at a)))
-      )))))))))
+      ))))))))))
 
   -- A STEP OF THE PLAIN MACHINE on an accepted job is a move of the first task.
   pub plain-step : Accepted j → Stands j (u .task) → Stepped j W r qs u us n l

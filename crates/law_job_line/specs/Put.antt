@@ -59,8 +59,9 @@ module _ (j : List ℕ) (u : Runner) where
       (from Case 7 (λ w x a st. goes _ (st none))
       (from Case 8 (λ w x a st. with-right (instruction 8 w x) _ _ (both-true _ _ a .1) (spawns w x _ (st none .1) (st none .0)))
       (from Case 9 (λ w x a st. goes _ (st none))
+      (from Case 10 (λ w x a st. with-right (instruction 10 w x) _ _ a (λ f. goes _ (st f)))
       (λ k past w x a st. absurd (false≢true (rw (row-past k past) at a)))
-      )))))))))
+      ))))))))))
 
   -- A TASK THAT STANDS puts one of these.
   pub puts-so : Accepted j → Stands j (u .task) → (m : Search) (xs : List (Item Runner)) → Acts m (action j u) xs → Put j u (eventWith j u (foundBy m)) xs

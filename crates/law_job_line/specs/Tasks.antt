@@ -10,7 +10,7 @@ use Rattle.spec_words.specs.Words.{pick, both}
 use Rattle.spec_tree.specs.Rights.{pushes as mayPush, pops as mayPop, subset}
 use Rattle.spec_job.specs.declared.Instruction.{Instruction}
 use Rattle.spec_job.specs.Fields.{rights, instructionAt}
-use Rattle.spec_job.specs.Operations.{Operation, return, push, pushSum, pop, goIfEmpty, go, goIfZero, add, spawn, sync, operationAt}
+use Rattle.spec_job.specs.Operations.{Operation, return, push, pushSum, pop, goIfEmpty, go, goIfZero, add, spawn, sync, takeOrGo, operationAt}
 use Rattle.spec_job.specs.Effects.{Effect, effect}
 use Rattle.spec_plain.specs.Machine.{Task, Event, eventOf, advanced, parent, child}
 use Rattle.spec_plain.specs.Stack.{rightsOf}
@@ -62,6 +62,7 @@ actionBy goIfZero j u s = puts (spot (goesOn u s none) ∷ [])
 actionBy add j u s = puts (spot (goesOn u s none) ∷ [])
 actionBy spawn j u s = pick (subset (rights j (s .which)) (rightsOf j (u .task))) (puts (spot (newTask u s) ∷ spot (afterSpawn u s) ∷ [])) (puts (spot u ∷ []))
 actionBy sync j u s = puts (spot (goesOn u s none) ∷ [])
+actionBy takeOrGo j u s = pick (canPop (rightsOf j (u .task)) (s .which)) (looks false (s .which) (λ f. spot (goesOn u s f) ∷ [])) (puts (spot u ∷ []))
 
 unfoldable pub instructionOf : List ℕ → Runner → Instruction
 instructionOf j u = instructionAt j (u .task .procedure) (u .task .position)

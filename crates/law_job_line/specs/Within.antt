@@ -9,7 +9,7 @@ use Rattle.spec_words.specs.Words.{both-true, true-both}
 use Rattle.spec_tree.specs.Rights.{subset}
 use Rattle.spec_job.specs.declared.Instruction.{Instruction}
 use Rattle.spec_job.specs.Fields.{rights}
-use Rattle.spec_job.specs.Operations.{Operation, return, push, pushSum, pop, goIfEmpty, go, goIfZero, add, spawn, sync, operationAt}
+use Rattle.spec_job.specs.Operations.{Operation, return, push, pushSum, pop, goIfEmpty, go, goIfZero, add, spawn, sync, takeOrGo, operationAt}
 use Rattle.spec_plain.specs.Machine.{advanced, parent, child}
 use Rattle.spec_plain.specs.Stack.{rightsOf}
 use Rattle.spec_line.specs.Line.{Item, spot}
@@ -36,6 +36,7 @@ module _ (j : List ℕ) where
   acts-within goIfZero u s = (itself u (goesOn u s none) refl, tt)
   acts-within add u s = (itself u (goesOn u s none) refl, tt)
   acts-within sync u s = (itself u (goesOn u s none) refl, tt)
+  acts-within takeOrGo u s = by-test (Within (Pushing j) (Popping j) u) _ _ _ (λ e. (e, λ f. (itself u (goesOn u s f) refl, tt))) (itself u u refl, tt)
   acts-within spawn u s = by-test (Within (Pushing j) (Popping j) u) _ _ _ (λ e. (fewer e, (itself u (afterSpawn u s) refl, tt))) (itself u u refl, tt)
     where
       fewer : subset (rights j (s .which)) (rightsOf j (u .task)) ≡ true → Below u (spot (newTask u s))

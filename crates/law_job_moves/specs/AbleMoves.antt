@@ -12,7 +12,7 @@ use Rattle.spec_order.specs.Steps.{Item as Mark, numberOf, rightsOf}
 use Rattle.spec_order.specs.Finding.{finding}
 use Rattle.law_order_waits.specs.Played.{Played}
 use Rattle.law_order_queue.specs.Finds.{finds}
-use Rattle.spec_job.specs.Operations.{operationAt, Operation, return, push, pushSum, pop, goIfEmpty, go, goIfZero, add, spawn, sync}
+use Rattle.spec_job.specs.Operations.{operationAt, Operation, return, push, pushSum, pop, goIfEmpty, go, goIfZero, add, spawn, sync, takeOrGo}
 use Rattle.spec_plain.specs.Stack.{rightsOf as jobRights}
 use Rattle.spec_line.specs.Line.{Item, value, spot, Action, puts, looks, returns}
 use Rattle.law_timed_line.specs.Times.{Timed, untimed}
@@ -42,6 +42,7 @@ none-returns push j u s = by-test NoReturn _ _ _ (λ e. tt) tt
 none-returns pushSum j u s = by-test NoReturn _ _ _ (λ e. tt) tt
 none-returns pop j u s = by-test NoReturn _ _ _ (λ e. tt) tt
 none-returns goIfEmpty j u s = by-test NoReturn _ _ _ (λ e. tt) tt
+none-returns takeOrGo j u s = by-test NoReturn _ _ _ (λ e. tt) tt
 none-returns go j u s = tt
 none-returns goIfZero j u s = tt
 none-returns add j u s = tt

@@ -1,4 +1,4 @@
--- MOVES THAT FIND: a pop and a test that need not wait move along the line and find what program order says.
+-- MOVES THAT FIND: a task that looks in a queue and need not wait moves along the line and finds what program order says.
 use mathlib.Core.Path.{_≡_, refl, ap, sym, _∙_, subst}
 use mathlib.Core.Logic.{⊎-elim}
 use mathlib.Core.Bool.{Bool, true, false}
@@ -7,7 +7,7 @@ use mathlib.Core.List.{List, [], _∷_, _++_}
 use Prim.Native.Nat.{ℕ, _<_}
 use native.Mathlib.Omega.{arith}
 use borrow.Author.Tests.{ltb-true, ne-eqb}
-use Rattle.spec_words.specs.Words.{halt, pass, both-true}
+use Rattle.spec_words.specs.Words.{pick, pass, both-true}
 use Rattle.spec_lists.specs.Counting.{equal?}
 use Rattle.spec_tree.specs.Rights.{pops as mayPop}
 use Rattle.spec_answers.specs.declared.Finding.the-variants.{Value, Empty}
@@ -18,18 +18,15 @@ use Rattle.law_order_waits.specs.Played.{Played, played-reached}
 use Rattle.law_order_queue.specs.Points.{added, takes, Timeline}
 use Rattle.law_order_queue.specs.Laws.{plain-line, pop-line}
 use Rattle.spec_lists.specs.Maps.{All}
-use Rattle.spec_job.specs.Operations.{rowOf, operationOf, operationAt}
-use Rattle.spec_job.specs.Test.{whichHolds}
-use Rattle.spec_job.specs.Accepted.{Accepted}
-use Rattle.spec_plain.specs.Stack.{Stands, rightsOf as jobRights}
+use Rattle.spec_plain.specs.Stack.{rightsOf as jobRights}
 use Rattle.spec_line.specs.Line.{Item, spot, looks}
-use Rattle.law_job_line.specs.Tasks.{canPop, Runner, goesOn, action, instructionOf}
+use Rattle.law_job_line.specs.Tasks.{canPop, Runner, goesOn, action}
 use Rattle.spec_tree.specs.Users.{pops-uses}
 use Rattle.law_job_order.specs.Beside.{Numbered, standing, taskOf, pointsOf, Beside}
 use Rattle.law_job_order.specs.After.{After}
 use Rattle.law_job_order.specs.Located.{located}
-use Rattle.law_job_order.specs.Steps.{points-same, same-beside, Old, single, time, stepped, plain-places, plain-beside}
-use Rattle.law_job_order.specs.Instructions.{instruction, action-by, which-holds}
+use Rattle.law_job_order.specs.Steps.{points-same, Old, single, time, stepped, plain-places, plain-beside}
+use Rattle.law_job_order.specs.Instructions.{instruction}
 use Rattle.law_job_order.specs.Searches.{NoPoint, FirstValue, first-value, first-nothing}
 use Rattle.law_job_order.specs.Kept.{kept, standing-kept, points-taken, points-other}
 use Rattle.law_job_order.specs.Found.{others, Meets, meets}
@@ -37,15 +34,11 @@ use Rattle.law_job_order.specs.Puts.{on, goes-same}
 use Rattle.law_job_order.specs.Looks.{nothing-after, value-after}
 
 -- A MOVE of task n that looks in queue w
-module _ (j : List ℕ) (acc : Accepted j) {xs : List Mark} (played : Played xs) (a b : List (Item Numbered)) (n : Numbered) (st : Stands j (n .runner .task))
-    (h : Beside j xs (a ++ spot n ∷ b)) (w x : ℕ) where
+module _ (j : List ℕ) {xs : List Mark} (played : Played xs) (a b : List (Item Numbered)) (n : Numbered) (h : Beside j xs (a ++ spot n ∷ b)) (w x : ℕ) where
   abbrev u : Runner
   u = n .runner
 
-  abbrev Is : ℕ → Type 0
-  Is k = instructionOf j u ≡ instruction k w x
-
-  -- the task after the instruction, where it found f
+  -- the task after instruction number k, where it found f
   abbrev next : ℕ → Option ℕ → Numbered
   next k f = on n (goesOn u (instruction k w x) f)
 
@@ -53,25 +46,9 @@ module _ (j : List ℕ) (acc : Accepted j) {xs : List Mark} (played : Played xs)
   abbrev Right : Type 0
   Right = (w < 4) × (mayPop (rightsOf (taskOf j n)) w ≡ true)
 
-  pop-right : Is 3 → canPop (jobRights j (u .task)) w ≡ true
-  unfolding rowOf operationOf whichHolds canPop
-  pop-right is = which-holds j u (instruction 3 w x) is acc st
-
-  test-right : Is 4 → canPop (jobRights j (u .task)) w ≡ true
-  unfolding rowOf operationOf whichHolds canPop
-  test-right is = which-holds j u (instruction 4 w x) is acc st
-
   right : canPop (jobRights j (u .task)) w ≡ true → Right
   unfolding canPop taskOf rightsOf
   right e = let d = both-true _ _ e in (ltb-true w 4 (d .0), d .1)
-
-  pop-does : Is 3 → action j u ≡ looks false w (λ f. spot (next 3 f .runner) ∷ [])
-  unfolding rowOf operationOf operationAt
-  pop-does is = action-by j u (instruction 3 w x) is ∙ halt _ _ (pop-right is)
-
-  test-does : Is 4 → action j u ≡ looks true w (λ f. spot (next 4 f .runner) ∷ [])
-  unfolding rowOf operationOf operationAt
-  test-does is = action-by j u (instruction 4 w x) is ∙ halt _ _ (test-right is)
 
   -- what is found
   value-found : (v : ℕ) → Right → finding (n .number) w xs ≡ Value v → Meets j played a b n h w (Value v)
@@ -123,31 +100,26 @@ module _ (j : List ℕ) (acc : Accepted j) {xs : List Mark} (played : Played xs)
           (plain-pop w) (unfold added in refl) (unfold takes in pass _ (ne-eqb w q d) refl)
           (subst (Timeline q Steps) (points q ∙ points-other w v (f .front) (f .back) j (spot m ∷ b) q d) (time j (played-reached played) a b n h q i))
 
-  pub pop-after : (v : ℕ) → Is 3 → finding (n .number) w xs ≡ Value v → After j (advance (n .number) (pops w) xs) a b n (next 3 (some v) ∷ []) (some v)
-  pop-after v is e =
-      let r = right (pop-right is) in
-      let m = value-found v r e in
-      let f = first-found v r m in
-      value-after j a b n false w (goesOn u (instruction 3 w x)) (pop-does is) v f (pop-beside v (next 3 (some v)) r m f (goes-same j n 3 w x (some v)))
+  -- OPERATION NUMBER k looks in queue w, and leaves the value queued or takes it.
+  module _ (k : ℕ) (keep : Bool) (held : canPop (jobRights j (u .task)) w ≡ true) (looking : action j u ≡ looks keep w (λ f. spot (next k f .runner) ∷ [])) where
+    unmoved : (f : Option ℕ) → Beside j (advance (n .number) (tests w) xs) (a ++ spot (next k f) ∷ b)
+    unfolding added takes
+    unmoved f = plain-beside j (played-reached played) a b n h (tests w) (next k f) (plain-test w) (λ q. (refl, refl)) (goes-same j n k w x f)
 
-  -- nothing is noted: the pop is refused
-  pub pop-empty-after : Is 3 → finding (n .number) w xs ≡ Empty → After j xs a b n (next 3 none ∷ []) none
-  pop-empty-after is e =
-      nothing-after j a b n false w (goesOn u (instruction 3 w x)) (pop-does is) (nothing-found (right (pop-right is)) e)
-      (same-beside j a b (next 3 none) n (goes-same j n 3 w x none) h)
+    left : (v : ℕ) → Meets j played a b n h w (Value v) → (f : FirstValue j w v a) (c : Bool)
+        → Beside j (advance (n .number) (pick c (tests w) (pops w)) xs) (kept w v (f .front) (f .back) c ++ spot (next k (some v)) ∷ b)
+    unfolding pick
+    left v m f true =
+        subst (λ (l : List (Item Numbered)). Beside j (advance (n .number) (tests w) xs) (l ++ spot (next k (some v)) ∷ b)) (f .parts) (unmoved (some v))
+    left v m f false = pop-beside v (next k (some v)) (right held) m f (goes-same j n k w x (some v))
 
-  test-beside : (f : Option ℕ) → Beside j (advance (n .number) (tests w) xs) (a ++ spot (next 4 f) ∷ b)
-  unfolding added takes
-  test-beside f =
-      plain-beside j (played-reached played) a b n h (tests w) (next 4 f) (plain-test w) (λ q. (refl, refl)) (goes-same j n 4 w x f)
+    pub value-found-after : (v : ℕ) → finding (n .number) w xs ≡ Value v
+        → After j (advance (n .number) (pick keep (tests w) (pops w)) xs) a b n (next k (some v) ∷ []) (some v)
+    value-found-after v e =
+        let m = value-found v (right held) e in
+        let f = first-found v (right held) m in
+        value-after j a b n keep w (goesOn u (instruction k w x)) looking v f (left v m f keep)
 
-  pub test-after : (v : ℕ) → Is 4 → finding (n .number) w xs ≡ Value v → After j (advance (n .number) (tests w) xs) a b n (next 4 (some v) ∷ []) (some v)
-  test-after v is e =
-      let r = right (test-right is) in
-      let f = first-found v r (value-found v r e) in
-      value-after j a b n true w (goesOn u (instruction 4 w x)) (test-does is) v f
-      (subst (λ (l : List (Item Numbered)). Beside j (advance (n .number) (tests w) xs) (l ++ spot (next 4 (some v)) ∷ b)) (f .parts) (test-beside (some v)))
-
-  pub test-empty-after : Is 4 → finding (n .number) w xs ≡ Empty → After j (advance (n .number) (tests w) xs) a b n (next 4 none ∷ []) none
-  test-empty-after is e =
-      nothing-after j a b n true w (goesOn u (instruction 4 w x)) (test-does is) (nothing-found (right (test-right is)) e) (test-beside none)
+    -- a step without effect on the queue
+    pub none-found-after : finding (n .number) w xs ≡ Empty → After j (advance (n .number) (tests w) xs) a b n (next k none ∷ []) none
+    none-found-after e = nothing-after j a b n keep w (goesOn u (instruction k w x)) looking (nothing-found (right held) e) (unmoved none)

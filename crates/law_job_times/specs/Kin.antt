@@ -8,7 +8,7 @@ use Rattle.spec_lists.specs.Maps.{All}
 use Rattle.spec_tree.specs.Rights.{sharesPop}
 use Rattle.spec_order.specs.Steps.{Name}
 use Rattle.spec_job.specs.declared.Instruction.{Instruction}
-use Rattle.spec_job.specs.Operations.{Operation, return, push, pushSum, pop, goIfEmpty, go, goIfZero, add, spawn, sync, operationAt}
+use Rattle.spec_job.specs.Operations.{Operation, return, push, pushSum, pop, goIfEmpty, go, goIfZero, add, spawn, sync, takeOrGo, operationAt}
 use Rattle.spec_plain.specs.Machine.{advanced, parent, child}
 use Rattle.spec_plain.specs.Stack.{rightsOf}
 use Rattle.spec_line.specs.Line.{Item, value, spot, finished, Action, Search, Acts, Every, acts-every}
@@ -24,6 +24,7 @@ awaits push = Bool.false
 awaits pushSum = Bool.false
 awaits pop = Bool.false
 awaits goIfEmpty = Bool.false
+awaits takeOrGo = Bool.false
 awaits go = Bool.false
 awaits goIfZero = Bool.false
 awaits add = Bool.false
@@ -103,6 +104,7 @@ module _ (j : List ℕ) where
   keeps pushSum u s = by-test (Keeps u) _ _ _ (λ e. pushed u _ refl refl _ _) (goes u _ refl refl)
   keeps pop u s = by-test (Keeps u) _ _ _ (λ e o. goes u _ refl refl) (goes u _ refl refl)
   keeps goIfEmpty u s = by-test (Keeps u) _ _ _ (λ e o. goes u _ refl refl) (goes u _ refl refl)
+  keeps takeOrGo u s = by-test (Keeps u) _ _ _ (λ e o. goes u _ refl refl) (goes u _ refl refl)
   keeps go u s = goes u _ refl refl
   keeps goIfZero u s = goes u _ refl refl
   keeps add u s = goes u _ refl refl

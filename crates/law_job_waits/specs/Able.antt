@@ -12,7 +12,7 @@ use Rattle.spec_order.specs.Steps.{Item as Mark}
 use Rattle.spec_order.specs.Waits.{blocked, hasChild}
 use Rattle.spec_order.specs.Finding.{finding}
 use Rattle.spec_job.specs.declared.Instruction.{Instruction}
-use Rattle.spec_job.specs.Operations.{Operation, return, push, pushSum, pop, goIfEmpty, go, goIfZero, add, spawn, sync, operationAt}
+use Rattle.spec_job.specs.Operations.{Operation, return, push, pushSum, pop, goIfEmpty, go, goIfZero, add, spawn, sync, takeOrGo, operationAt}
 use Rattle.spec_plain.specs.Stack.{rightsOf}
 use Rattle.spec_line.specs.Line.{Action, puts, looks, returns}
 use Rattle.spec_line.specs.Rights.{Within}
@@ -42,6 +42,7 @@ pub record Able (j : List ℕ) (xs : List Mark) (n : Numbered) : Type 0 where
 unfoldable pub searches : Operation → Bool
 searches pop = true
 searches goIfEmpty = true
+searches takeOrGo = true
 searches return = false
 searches push = false
 searches pushSum = false
@@ -59,6 +60,7 @@ module _ (j : List ℕ) (u : Runner) (s : Instruction) (q : ℕ) where
   unfolding searches
   only pop = by-test (Only pop) _ _ _ (λ e l. (refl, l)) (λ l. absurd l)
   only goIfEmpty = by-test (Only goIfEmpty) _ _ _ (λ e l. (refl, l)) (λ l. absurd l)
+  only takeOrGo = by-test (Only takeOrGo) _ _ _ (λ e l. (refl, l)) (λ l. absurd l)
   only return = λ l. absurd l
   only push = by-test (Only push) _ _ _ (λ e l. absurd l) (λ l. absurd l)
   only pushSum = by-test (Only pushSum) _ _ _ (λ e l. absurd l) (λ l. absurd l)

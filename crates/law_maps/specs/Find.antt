@@ -13,7 +13,7 @@ use Rattle.spec_layout.specs.Layout.{NL, CHILDREN, count, Opened, rightsOf, que
 use Rattle.spec_tree.specs.Rights.{uses}
 use Rattle.spec_outcomes.specs.Segments.{valueAt}
 use Rattle.spec_outcomes.specs.Views.{viewOf, taskAt, takesPart, standsAt}
-use Rattle.spec_outcomes.specs.Find.{hasValue}
+use Rattle.spec_outcomes.specs.Take.{hasValue}
 use Rattle.law_gaps.specs.Search.{occupied, taskAt as markedTask, takesPart as partTaken, standsAt as viewStands}
 use Rattle.law_maps.specs.Meaning.{contentsIn, headsIn, viewIn, Sized}
 use Rattle.law_maps.specs.Reads.{head-at, view-at}

@@ -11,7 +11,7 @@ use borrow.Author.Tests.{eq-eqb, ne-eqb}
 use Rattle.spec_words.specs.Words.{pick, either, true-left, true-right, pass, halt, neither}
 use Rattle.spec_layout.specs.Layout.{NONE, count, next, Opened, segmentsOf, queueHead, read, write}
 use Rattle.spec_outcomes.specs.Segments.{dropped, released}
-use Rattle.spec_outcomes.specs.Find.{popped}
+use Rattle.spec_outcomes.specs.Take.{popped}
 use Rattle.spec_lists.specs.Maps.{put, put-same}
 use Rattle.law_gaps.specs.Moves.{poppedTo, popped as memoryPopped}
 use Rattle.law_maps.specs.Meaning.{Meaning, optional, nextIn, contentsIn, freeIn, headsIn, meaningOf, storeOf, memoryOf, Sized}

@@ -5,7 +5,7 @@ use mathlib.Core.List.{List, [], _∷_}
 use mathlib.Core.Logic.{_⊎_, inl, inr, ⊎-elim}
 use Prim.Native.Nat.{ℕ}
 use Rattle.spec_job.specs.declared.Instruction.{Instruction}
-use Rattle.spec_job.specs.Operations.{Operation, return, push, pushSum, pop, goIfEmpty, go, goIfZero, add, spawn, sync, operationAt}
+use Rattle.spec_job.specs.Operations.{Operation, return, push, pushSum, pop, goIfEmpty, go, goIfZero, add, spawn, sync, takeOrGo, operationAt}
 use Rattle.spec_line.specs.Line.{Item, value, spot, finished, gave, Action, Search, Acts, Every, acts-every}
 use Rattle.law_job_line.specs.Tasks.{Runner, actionBy, action, instructionOf, by-test}
 use Rattle.law_job_times.specs.Kin.{awaits, awaitsOf}
@@ -30,6 +30,7 @@ module _ (j : List ℕ) where
   ends-await pushSum u s = inr (by-test NoEnd _ _ _ (λ e. tt) tt)
   ends-await pop u s = inr (by-test NoEnd _ _ _ (λ e o. tt) tt)
   ends-await goIfEmpty u s = inr (by-test NoEnd _ _ _ (λ e o. tt) tt)
+  ends-await takeOrGo u s = inr (by-test NoEnd _ _ _ (λ e o. tt) tt)
   ends-await go u s = inr tt
   ends-await goIfZero u s = inr tt
   ends-await add u s = inr tt

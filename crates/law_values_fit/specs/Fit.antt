@@ -15,20 +15,17 @@ use Rattle.spec_lists.specs.Maps.{All}
 use Rattle.spec_layout.specs.Layout.{WORDS, freeTasks, read}
 use Rattle.spec_answers.specs.declared.Answer.{Answer}
 use Rattle.spec_answers.specs.declared.Answer.the-variants as Answer
-use Rattle.spec_answers.specs.declared.Finding.{Finding}
-use Rattle.spec_answers.specs.declared.Finding.the-variants as Finding
 use Rattle.spec_answers.specs.Answers.{Outcome as CoreOutcome, outcome as core-outcome, answerOf as coreAnswer}
-use Rattle.spec_answers.specs.Calls.{Call, push-call, pop-call, test-call, sync-call, finish-call, left-call}
+use Rattle.spec_answers.specs.Calls.{Call, push-call, take-call, sync-call, finish-call, left-call}
 use Rattle.spec_outcomes.specs.Spawn.{spawned, spawnTested}
-use Rattle.spec_order.specs.Steps.{Item as Mark, spawns, pushes, pops, tests, syncs, finishes, pushesAll, pushesRun, counted}
-use Rattle.spec_order.specs.Finding.{finding}
-use Rattle.spec_order.specs.Ordered.{forTask, forQueue, testAnswer, ordered}
+use Rattle.spec_order.specs.Steps.{Act, Item as Mark, spawns, pushes, pops, tests, syncs, finishes, advance, pushesAll, pushesRun, counted}
+use Rattle.spec_order.specs.Ordered.{forTask, forQueue, ordered}
 use Rattle.law_in_order.specs.Answered.{answered}
 use Rattle.law_in_order.specs.State.{State, state-size, state-rules}
 use Rattle.law_in_order.specs.InOrder.{call-does}
 use Rattle.spec_job.specs.declared.Instruction.{Instruction}
 use Rattle.spec_job.specs.Fields.{bytes2, bytes4, instructionFrom, instructionAt}
-use Rattle.spec_job.specs.Operations.{Operation, return, push, pushSum, pop, goIfEmpty, go, goIfZero, add, spawn, sync, operationAt}
+use Rattle.spec_job.specs.Operations.{Operation, return, push, pushSum, pop, goIfEmpty, go, goIfZero, add, spawn, sync, takeOrGo, operationAt}
 use Rattle.spec_job.specs.Effects.{sum, effect}
 use Rattle.spec_job.specs.Test.{jobAnswer}
 use Rattle.spec_line.specs.Line.{Item, spot}
@@ -36,7 +33,7 @@ use Rattle.spec_runner.specs.declared.StepAnswer.{StepAnswer}
 use Rattle.spec_runner.specs.Words.{RUNNER, instructionFor}
 use Rattle.spec_runner.specs.Answers.{answerWith, valueOf, statusOf, Outcome, answerOf, coreOf, runnerOf}
 use Rattle.spec_runner.specs.Open.{openOutcome}
-use Rattle.spec_runner.specs.Step.{callOf, Reply, replyOf, done, replied, coreOutcome, repliedTo, makes, stepTested, stepOutcome}
+use Rattle.spec_runner.specs.Step.{callOf, replyOf, done, replied, coreOutcome, repliedTo, makes, stepTested, stepOutcome}
 use Rattle.spec_runner.specs.Run.{stepsFrom}
 use Rattle.law_job_order.specs.Beside.{Numbered}
 use Rattle.law_job_order.specs.Located.{topNumbered}
@@ -51,8 +48,8 @@ use Rattle.law_any_order.specs.Fold.{same-words}
 use Rattle.law_in_range.specs.Sound.{rules-sound}
 use Rattle.overlap_text.specs.Whole.{leftAt, given, valueIn}
 use Rattle.law_timed_line.specs.Times.{picked}
-use Rattle.law_values_fit.specs.Order.{IsWord, AnswerFits, OrderFits, begin-fits, advance-fits, noted-fits, pop-fits}
-use Rattle.law_values_fit.specs.Order.{left-fits as over-fits}
+use Rattle.law_values_fit.specs.Order.{IsWord, AnswerFits, OrderFits, begin-fits, advance-fits, noted-fits}
+use Rattle.law_values_fit.specs.Order.{take-fits as answer-fits, left-fits as over-fits}
 
 -- a job is bytes
 abbrev pub Bytes : List ℕ → Type 0
@@ -100,19 +97,14 @@ effect-fits goIfZero i r x f c hx hf hc = omega arith
 effect-fits add i r x f c hx hf hc = omega arith
 effect-fits spawn i r x f c hx hf hc = omega arith
 effect-fits sync i r x f c hx hf hc = omega arith
+effect-fits takeOrGo i r x none c hx hf hc = omega arith
+effect-fits takeOrGo i r x (some v) c hx hf hc = omega arith
 
 -- THE CORE'S CALLS
-test-fits : (f : Finding) → AnswerFits (testAnswer f)
-unfolding testAnswer
-test-fits (Finding.Value v) = tt
-test-fits Finding.Empty = tt
-test-fits Finding.Waits = tt
-
 given-fits : (a : Answer) → AnswerFits a → OptionFits (given a)
 unfolding given
 given-fits (Answer.Moved v) h = h
 given-fits Answer.Empty h = tt
-given-fits Answer.NotEmpty h = tt
 given-fits Answer.Waits h = tt
 given-fits (Answer.Refused k) h = tt
 
@@ -159,6 +151,13 @@ module _ (m : List ℕ) (xs : List Mark) (st : State m xs) (small : OrderFits xs
     λ _. advance-fits t (pushes q v) xs h small,
   )
 
+  take-fits : (t q : ℕ) (keep : Bool) → CallFits (take-call t q keep)
+  unfolding answered ordered counted
+  take-fits t q keep = (
+    said (take-call t q keep) (queue-fits t q _ _ (answer-fits t q xs small)),
+    λ _. picked (λ (a : Act). OrderFits (advance t a xs)) keep (advance-fits t (tests q) xs tt small) (advance-fits t (pops q) xs tt small),
+  )
+
   left-said : (q i : ℕ) → AnswerFits (coreAnswer (coreOutcome (left-call q i) m))
   unfolding answered ordered
   left-said q i = said (left-call q i) (picked AnswerFits _ (omega arith) (picked AnswerFits _ tt (over-fits q i xs small)))
@@ -169,15 +168,14 @@ module _ (m : List ℕ) (xs : List Mark) (st : State m xs) (small : OrderFits xs
   call-fits return j t x s h = (said (finish-call t) (task-fits t _ (picked AnswerFits _ tt (omega arith))), λ _. advance-fits t finishes xs tt small)
   call-fits push j t x s h = push-fits t (s .which) (s .operand) h
   call-fits pushSum j t x s h = push-fits t (s .which) (sum x (s .operand)) (sum-fits x (s .operand))
-  call-fits pop j t x s h =
-      (said (pop-call t (s .which)) (queue-fits t _ _ _ (pop-fits t (s .which) xs small)), λ _. advance-fits t (pops (s .which)) xs tt small)
-  call-fits goIfEmpty j t x s h =
-      (said (test-call t (s .which)) (queue-fits t _ _ _ (test-fits (finding t (s .which) xs))), λ _. advance-fits t (tests (s .which)) xs tt small)
+  call-fits pop j t x s h = take-fits t (s .which) false
+  call-fits goIfEmpty j t x s h = take-fits t (s .which) true
   call-fits go j t x s h = tt
   call-fits goIfZero j t x s h = tt
   call-fits add j t x s h = tt
   call-fits spawn j t x s h = (unfold coreOutcome in spawn-fits t _, λ v. advance-fits t (spawns v _) xs tt small)
   call-fits sync j t x s h = (said (sync-call t) (task-fits t _ (picked AnswerFits _ tt (omega arith))), λ _. advance-fits t syncs xs tt small)
+  call-fits takeOrGo j t x s h = take-fits t (s .which) false
 
 module _ (j : List ℕ) (bytes : Bytes j) (e : jobAnswer j ≡ Answer.Moved 0) where
   -- ONE STEP
@@ -199,10 +197,8 @@ module _ (j : List ℕ) (bytes : Bytes j) (e : jobAnswer j ≡ Answer.Moved 0) w
     unfolding repliedTo replied replyOf coreAnswer answerOf valueOf statusOf
     told-fits (core-outcome (Answer.Moved v) n) h = done-fits (some v) v n h h
     told-fits (core-outcome Answer.Empty n) h = done-fits none 0 n tt (omega arith)
-    told-fits (core-outcome Answer.NotEmpty n) h = done-fits (some 0) 0 n (omega arith) (omega arith)
     told-fits (core-outcome Answer.Waits n) h = omega arith
-    told-fits (core-outcome (Answer.Refused k) n) h =
-        picked (λ (x : Reply). StepFits (answerOf (replied t i x n (s .core) (s .runner)))) (eqb k 7) (done-fits none 0 n tt (omega arith)) (omega arith)
+    told-fits (core-outcome (Answer.Refused k) n) h = omega arith
 
     makes-fits : (c : Option Call) → Asked c → StepFits (answerOf (makes t i c (s .core) (s .runner)))
     unfolding makes

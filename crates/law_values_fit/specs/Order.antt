@@ -6,14 +6,14 @@ use native.Mathlib.Omega.{arith}
 use lib.Dec.{eqb}
 use Rattle.spec_lists.specs.Maps.{All, all-append}
 use Rattle.spec_answers.specs.declared.Answer.{Answer}
-use Rattle.spec_answers.specs.declared.Answer.the-variants.{Moved, Empty, NotEmpty, Waits, Refused}
+use Rattle.spec_answers.specs.declared.Answer.the-variants.{Moved, Empty, Waits, Refused}
 use Rattle.spec_answers.specs.declared.Finding.{Finding}
-use Rattle.spec_answers.specs.Calls.{Call}
+use Rattle.spec_answers.specs.Calls.{Call, open-call, spawn-call, push-call, take-call, sync-call, finish-call, left-call}
 use Rattle.law_timed_line.specs.Times.{picked}
 use Rattle.spec_order.specs.Steps.{Task, task, Act, spawns, pushes, pops, tests, syncs, finishes, Item, step, spot, numberOf}
-use Rattle.spec_order.specs.Steps.{begin, made, moved, advance, counted, noted}
+use Rattle.spec_order.specs.Steps.{begin, made, moved, advance, counted, foundNone, noted}
 use Rattle.spec_order.specs.Finding.{before, Pending, pending, Run, run, later, stepped, passes, runs, found, finding, valueNumber, pendingOf, leftOver}
-use Rattle.spec_order.specs.Ordered.{popAnswer, leftAnswer}
+use Rattle.spec_order.specs.Ordered.{takeAnswer, leftAnswer}
 
 -- "words of 32 bits"
 abbrev pub IsWord : ℕ → Type 0
@@ -22,7 +22,6 @@ IsWord v = v < 4294967296
 abbrev pub AnswerFits : Answer → Type 0
 AnswerFits (Moved v) = IsWord v
 AnswerFits Empty = Unit {0}
-AnswerFits NotEmpty = Unit {0}
 AnswerFits Waits = Unit {0}
 AnswerFits (Refused k) = IsWord k
 
@@ -66,11 +65,20 @@ unfolding advance
 advance-fits t a [] h k = tt
 advance-fits t a (x ∷ xs) h k = all-append ItemFits (moved t a x) (advance t a xs) (moved-fits t a x h (k .0)) (advance-fits t a xs h (k .1))
 
+none-fits : (c : Call) (xs : List Item) → OrderFits xs → OrderFits (foundNone c xs)
+unfolding foundNone
+none-fits (open-call l n) xs h = h
+none-fits (spawn-call t r) xs h = h
+none-fits (push-call t q vs) xs h = h
+none-fits (take-call t q keep) xs h = advance-fits t (tests q) xs tt h
+none-fits (sync-call t) xs h = h
+none-fits (finish-call t) xs h = h
+none-fits (left-call q i) xs h = h
+
 pub noted-fits : (c : Call) (a : Answer) (xs : List Item) → ((v : ℕ) → OrderFits (counted c v xs)) → OrderFits xs → OrderFits (noted c a xs)
 unfolding noted
 noted-fits c (Moved v) xs h k = h v
-noted-fits c Empty xs h k = h 0
-noted-fits c NotEmpty xs h k = h 0
+noted-fits c Empty xs h k = none-fits c xs k
 noted-fits c Waits xs h k = k
 noted-fits c (Refused n) xs h k = k
 
@@ -101,24 +109,24 @@ runs-fits q [] r h k = k
 runs-fits q (step p a ∷ xs) r h k = runs-fits q xs (stepped q a r) (h .1) (stepped-fits q a r (h .0) k)
 runs-fits q (spot s ∷ xs) (run b vs) h k = runs-fits q xs (passes q s (run b vs)) (h .1) k
 
--- WHAT A POP FINDS
+-- WHAT A TAKE FINDS
 before-fits : (t : ℕ) (xs : List Item) → OrderFits xs → OrderFits (before t xs)
 unfolding before
 before-fits t [] h = tt
 before-fits t (step p a ∷ xs) h = (h .0, before-fits t xs (h .1))
 before-fits t (spot s ∷ xs) h = picked OrderFits (eqb (numberOf s) t) tt (tt, before-fits t xs (h .1))
 
-found-fits : (r : Run) → RunFits r → AnswerFits (popAnswer (found r))
-unfolding found popAnswer pendingOf
+found-fits : (r : Run) → RunFits r → AnswerFits (takeAnswer (found r))
+unfolding found takeAnswer pendingOf
 found-fits (run b (pending v false ∷ vs)) h = h .0
 found-fits (run b (pending v true ∷ vs)) h = tt
-found-fits (run false []) h = omega arith
+found-fits (run false []) h = tt
 found-fits (run true []) h = tt
 
-pub pop-fits : (t q : ℕ) (xs : List Item) → OrderFits xs → AnswerFits (popAnswer (finding t q xs))
-unfolding finding popAnswer pendingOf
-pop-fits t q xs h =
-    picked (λ (f : Finding). AnswerFits (popAnswer f)) _ tt (found-fits _ (runs-fits q (before t xs) (run false []) (before-fits t xs h) tt))
+pub take-fits : (t q : ℕ) (xs : List Item) → OrderFits xs → AnswerFits (takeAnswer (finding t q xs))
+unfolding finding takeAnswer pendingOf
+take-fits t q xs h =
+    picked (λ (f : Finding). AnswerFits (takeAnswer f)) _ tt (found-fits _ (runs-fits q (before t xs) (run false []) (before-fits t xs h) tt))
 
 -- WHAT IS LEFT
 number-fits : (i : ℕ) (vs : List Pending) → All PendingFits vs → AnswerFits (leftAnswer (valueNumber i vs))

@@ -12,19 +12,18 @@ use types.Run.{OneOf}
 use denote.Enum.Declared.{tagOf}
 use Rattle.spec_answers.proofs.Answer.{the-type}
 use Rattle.spec_answers.specs.declared.Answer.{Answer}
-use Rattle.spec_answers.specs.declared.Answer.the-variants.{Moved, Empty, NotEmpty, Waits, Refused}
+use Rattle.spec_answers.specs.declared.Answer.the-variants.{Moved, Empty, Waits, Refused}
 use Rattle.spec_answers.specs.Answers.{outcome, answerOf}
 use Rattle.spec_outcomes.specs.Left.{leftTested}
 use Rattle.overlap_text.specs.Whole.{leftAt, given, valueIn}
 
 -- an answer that is not the first of the enum's
-none-of : (a : Answer) → OneOf (1 ∷ 2 ∷ 3 ∷ 4 ∷ []) (tagOf the-type a) → given a ≡ none
+none-of : (a : Answer) → OneOf (1 ∷ 2 ∷ 3 ∷ []) (tagOf the-type a) → given a ≡ none
 unfolding given
 none-of (Moved v) k =
     let no : (n : ℕ) → 0 ≡ suc n → ⊥ = λ n e. omega (arith, e) in
-    absurd (⊎-elim (no 0) (⊎-elim (no 1) (⊎-elim (no 2) (no 3))) k)
+    absurd (⊎-elim (no 0) (⊎-elim (no 1) (no 2)) k)
 none-of Empty k = refl
-none-of NotEmpty k = refl
 none-of Waits k = refl
 none-of (Refused n) k = refl
 
@@ -37,7 +36,7 @@ module _ (m : List ℕ) (q i : ℕ) {w : List ℕ} (a : Answer) (e : outcome a w
   unfolding valueIn given
   value-given h = ap given (says ∙ h)
 
-  pub none-given : OneOf (1 ∷ 2 ∷ 3 ∷ 4 ∷ []) (tagOf the-type a) → valueIn m q i ≡ none
+  pub none-given : OneOf (1 ∷ 2 ∷ 3 ∷ []) (tagOf the-type a) → valueIn m q i ≡ none
   unfolding valueIn
   none-given k = ap given says ∙ none-of a k
 

@@ -8,7 +8,7 @@ use Rattle.spec_words.specs.Words.{pick}
 use Rattle.spec_lists.specs.Counting.{one, total}
 use Rattle.spec_layout.specs.Layout.{WORDS}
 use Rattle.spec_answers.specs.declared.Answer.{Answer}
-use Rattle.spec_answers.specs.declared.Answer.the-variants.{Moved, Empty, NotEmpty, Waits, Refused}
+use Rattle.spec_answers.specs.declared.Answer.the-variants.{Moved, Empty, Waits, Refused}
 use Rattle.spec_answers.specs.Answers.{answerOf as coreAnswer}
 use Rattle.spec_outcomes.specs.Waits.{unfinished}
 use Rattle.spec_outcomes.specs.Left.{leftTested}
@@ -35,7 +35,6 @@ leftAt m q i = coreAnswer (leftTested m q i)
 unfoldable pub given : Answer → Option ℕ
 given (Moved v) = some v
 given Empty = none
-given NotEmpty = none
 given Waits = none
 given (Refused k) = none
 

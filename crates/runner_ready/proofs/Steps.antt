@@ -19,7 +19,7 @@ use Rattle.spec_job.specs.Rows.{from, row-past}
 use Rattle.core_return.proofs.Deciding.{stop, on}
 use Rattle.core_blocked.specs.Told.{Tell}
 use Rattle.spec_runner.specs.Words.{instructionFor}
-use Rattle.spec_runner.specs.Moves.{pushMoves, spawnMoves, findMoves, syncMoves, finishMoves, instructionMoves, stepMoves}
+use Rattle.spec_runner.specs.Moves.{pushMoves, spawnMoves, takeMoves, syncMoves, finishMoves, instructionMoves, stepMoves}
 
 module _ (j m : List ℕ) (t : ℕ) (s : Instruction) where
   abbrev Says : Bool → ℕ → Type 0
@@ -31,11 +31,15 @@ module _ (j m : List ℕ) (t : ℕ) (s : Instruction) where
       from (λ k. k < 3 → Says (pushMoves m t (s .which)) k) 1 (λ l. refl)
       (from (λ k. k < 3 → Says (pushMoves m t (s .which)) k) 2 (λ l. refl) (λ k h l. let z : ⊥ = omega arith in absurd z))
 
-  pub finding : (k : ℕ) → 3 ≤ k → k < 5 → Says (findMoves m t (s .which)) k
+  low-taking : (k : ℕ) → 3 ≤ k → k < 5 → Says (takeMoves m t (s .which)) k
   unfolding instructionMoves operationAt operationOf rowOf
-  finding =
-      from (λ k. k < 5 → Says (findMoves m t (s .which)) k) 3 (λ l. refl)
-      (from (λ k. k < 5 → Says (findMoves m t (s .which)) k) 4 (λ l. refl) (λ k h l. let z : ⊥ = omega arith in absurd z))
+  low-taking =
+      from (λ k. k < 5 → Says (takeMoves m t (s .which)) k) 3 (λ l. refl)
+      (from (λ k. k < 5 → Says (takeMoves m t (s .which)) k) 4 (λ l. refl) (λ k h l. let z : ⊥ = omega arith in absurd z))
+
+  pub taking : (k : ℕ) → ((3 ≤ k) × (k < 5)) ⊎ (k ≡ 10) → Says (takeMoves m t (s .which)) k
+  unfolding instructionMoves operationAt operationOf rowOf
+  taking k h = ⊎-elim (λ l. low-taking k (l .0) (l .1)) (λ e. rw e refl) h
 
   pub going : (k : ℕ) → 5 ≤ k → k < 8 → Says true k
   unfolding instructionMoves operationAt operationOf rowOf
@@ -52,7 +56,7 @@ module _ (j m : List ℕ) (t : ℕ) (s : Instruction) where
   unfolding instructionMoves operationAt operationOf rowOf
   syncing e = rw e refl
 
-  finish-past : (k : ℕ) → 10 ≤ k → Says (finishMoves m t) k
+  finish-past : (k : ℕ) → 11 ≤ k → Says (finishMoves m t) k
   unfolding instructionMoves operationAt operationOf
   finish-past k h = rw (row-past k h) refl
 
@@ -60,8 +64,8 @@ module _ (j m : List ℕ) (t : ℕ) (s : Instruction) where
   unfolding instructionMoves operationAt operationOf rowOf
   finish-first k h = let e : k ≡ 0 = omega arith in rw e refl
 
-  pub finishing : (k : ℕ) → (k ≡ 8 → ⊥) → (k ≡ 9 → ⊥) → (k < 1) ⊎ (8 ≤ k) → Says (finishMoves m t) k
-  finishing k n8 n9 c = ⊎-elim (λ h. finish-first k h) (λ h. finish-past k (omega (arith, h, n8, n9))) c
+  pub finishing : (k : ℕ) → (k ≡ 8 → ⊥) → (k ≡ 9 → ⊥) → (k ≡ 10 → ⊥) → (k < 1) ⊎ (8 ≤ k) → Says (finishMoves m t) k
+  finishing k n8 n9 n10 c = ⊎-elim (λ h. finish-first k h) (λ h. finish-past k (omega (arith, h, n8, n9, n10))) c
 
 -- ALL OF THE WORDS, lent as a part
 module _ (m : List ℕ) (l : length m ≡ 16384) where

@@ -27,7 +27,7 @@ fn instruction_moves(job: &[u8], m: &[u32], t: u32, s: Instruction) -> bool
     let q = s.which;
     match k {
         1..=2 => core_would_move::push_moves(m, t, q),
-        3..=4 => core_would_move::find_moves(m, t, q),
+        3..=4 | 10 => core_would_move::take_moves(m, t, q),
         5..=7 => true,
         8 => core_would_move::spawn_moves(m, t, job_fields::rights(job, q)),
         9 => core_would_move::sync_moves(m, t),

@@ -5,10 +5,9 @@ use mathlib.Core.Bool.{true, false}
 use mathlib.Core.Option.{Option, none, some}
 use Prim.Native.Nat.{ℕ}
 use lib.ListN.{length}
-use borrow.Author.Tests.{eq-eqb, ne-eqb}
-use Rattle.spec_words.specs.Words.{size, halt, pass}
+use Rattle.spec_words.specs.Words.{size}
 use Rattle.spec_answers.specs.declared.Answer.{Answer}
-use Rattle.spec_answers.specs.declared.Answer.the-variants.{Moved, Empty, NotEmpty, Waits, Refused}
+use Rattle.spec_answers.specs.declared.Answer.the-variants.{Moved, Empty, Waits, Refused}
 use Rattle.spec_answers.specs.Answers.{Outcome, outcome as answered}
 use Rattle.spec_answers.specs.Calls.{Call}
 use Rattle.spec_rules.specs.Test.{rulesHold}
@@ -20,7 +19,7 @@ use Rattle.spec_runner.specs.declared.StepAnswer.the-variants as Step
 use Rattle.spec_runner.specs.Words.{registerOf, instructionFor}
 use Rattle.spec_runner.specs.Answers.{outcome}
 use Rattle.spec_runner.specs.Laws.{core-outcome}
-use Rattle.spec_runner.specs.Step.{Reply, goes, stops, callOf, replyOf, replied, coreOutcome, repliedTo, makes}
+use Rattle.spec_runner.specs.Step.{callOf, replyOf, replied, coreOutcome, repliedTo, makes}
 use Rattle.job_effect.specs.Made.{foundWith}
 use Rattle.runner_step.specs.Parts.{called, acted, Makes}
 
@@ -63,19 +62,6 @@ module _ (j m n r : List ℕ) (t : ℕ) {s : Instruction} {x : ℕ} (es : s ≡ 
     unfolding replyOf replied foundWith
     nothing h d = d .does n ∙ ap (λ (a : Answer). replied t s (replyOf a) n m r) (sym h) ∙ replied-is
 
-    pub something : a ≡ NotEmpty → Makes t s (foundWith true 0) 0 r b u → outcome b n u ≡ acted j m r t
-    unfolding replyOf replied foundWith
-    something h d = d .does n ∙ ap (λ (a : Answer). replied t s (replyOf a) n m r) (sym h) ∙ replied-is
-
-    -- 7 is no refusal of the step
-    pub popped-none : {k : ℕ} → a ≡ Refused k → k ≡ 7 → Makes t s (foundWith false 0) 0 r b u → outcome b n u ≡ acted j m r t
-    unfolding replyOf replied foundWith
-    popped-none {k} h z d =
-        d .does n
-        ∙ ap (λ (y : Reply). replied t s y n m r) (sym (halt (goes none 0) (stops (Step.Refused k)) (eq-eqb k 7 z)))
-        ∙ ap (λ (a : Answer). replied t s (replyOf a) n m r) (sym h)
-        ∙ replied-is
-
   -- IT DOES NOT
   module _ (em : length m ≡ 16384) (rules : rulesHold m ≡ true) where
     kept : Keeps m (answered a n)
@@ -88,10 +74,9 @@ module _ (j m n r : List ℕ) (t : ℕ) {s : Instruction} {x : ℕ} (es : s ≡ 
         ∙ ap (λ (a : Answer). replied t s (replyOf a) n m r) (sym h)
         ∙ replied-is
 
-    pub turned-down : {k : ℕ} → a ≡ Refused k → (k ≡ 7 → ⊥) → outcome (Step.Refused k) n r ≡ acted j m r t
+    pub turned-down : {k : ℕ} → a ≡ Refused k → outcome (Step.Refused k) n r ≡ acted j m r t
     unfolding replyOf replied
-    turned-down {k} h z =
+    turned-down {k} h =
         ap (λ (l : List ℕ). outcome (Step.Refused k) l r) (subst (λ (a : Answer). Keeps m (answered a n)) h kept)
-        ∙ ap (λ (y : Reply). replied t s y n m r) (sym (pass (goes none 0) (ne-eqb k 7 z) refl))
         ∙ ap (λ (a : Answer). replied t s (replyOf a) n m r) (sym h)
         ∙ replied-is

@@ -36,14 +36,10 @@ module _ (t : ℕ) (s : Instruction) (c i x : ℕ) (r : List ℕ) {p : ℕ} (ep 
       }
 
   module _ (u : List ℕ) (eu : u ≡ put r t p i x) where
-    pub goes-writes : 1 ≤ s .operation → s .operation < 8 → Writes t s c i x r u
-    goes-writes a b = record { writes = λ e ei ex. eu ∙ on e ei ex ∙ goes-at t c s e r (s .operation) a b }
+    pub goes-writes : 1 ≤ s .operation → s .operation < 11 → (s .operation ≡ 8 → ⊥) → Writes t s c i x r u
+    goes-writes a b n = record { writes = λ e ei ex. eu ∙ on e ei ex ∙ goes-at t c s e r (s .operation) a b n }
 
-    pub sync-writes : s .operation ≡ 9 → Writes t s c i x r u
-    unfolding operationAt operationOf rowOf runnerAfter
-    sync-writes k = record { writes = λ e ei ex. eu ∙ on e ei ex ∙ ap (λ (k : ℕ). runnerAfter (operationAt k) t c s e r) (sym k) }
-
-pub finish-writes : (t : ℕ) (s : Instruction) (c i x : ℕ) (r u : List ℕ) → (s .operation ≡ 0) ⊎ (10 ≤ s .operation) → u ≡ put r t 0 0 0 → Writes t s c i x r u
+pub finish-writes : (t : ℕ) (s : Instruction) (c i x : ℕ) (r u : List ℕ) → (s .operation ≡ 0) ⊎ (11 ≤ s .operation) → u ≡ put r t 0 0 0 → Writes t s c i x r u
 unfolding runnerAfter
 finish-writes t s c i x r u h eu =
     record { writes = λ e ei ex. eu ∙ ap (λ (o : Operation). runnerAfter o t c s e r) (sym (returns-at (s .operation) h)) }

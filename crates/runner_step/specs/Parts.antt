@@ -1,8 +1,9 @@
 -- What each part of a step has to give.
 use mathlib.Core.Path.{_≡_}
 use mathlib.Core.List.{List}
+use mathlib.Core.Logic.{_⊎_}
 use mathlib.Core.Option.{Option, none, some}
-use Prim.Native.Nat.{ℕ}
+use Prim.Native.Nat.{ℕ, _<_, _≤_}
 use Rattle.spec_answers.specs.declared.Answer.the-variants.{Empty}
 use Rattle.spec_answers.specs.Answers.{Outcome as CoreOutcome, outcome as answered}
 use Rattle.spec_answers.specs.Calls.{Call}
@@ -13,6 +14,10 @@ use Rattle.spec_runner.specs.declared.StepAnswer.{StepAnswer}
 use Rattle.spec_runner.specs.Words.{registerOf, instructionFor}
 use Rattle.spec_runner.specs.Answers.{Outcome, outcome}
 use Rattle.spec_runner.specs.Step.{callOf, runnerAfter, done, coreOutcome, makes}
+
+-- operation number k pushes to a queue or looks in one
+abbrev pub UsesQueue : ℕ → Type 0
+UsesQueue k = ((1 ≤ k) × (k < 5)) ⊎ (k ≡ 10)
 
 -- What the core gives. A step without a call goes on as one that found nothing.
 unfoldable pub called : Option Call → List ℕ → CoreOutcome

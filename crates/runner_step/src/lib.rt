@@ -2,7 +2,7 @@
 ghost use mathlib.Core.Path.{_≡_};
 ghost use mathlib.Core.Bool.{true};
 ghost use mathlib.Core.List.{[], _∷_};
-ghost use Prim.Native.Nat.{_^_, _<_, _≤_};
+ghost use Prim.Native.Nat.{_^_, _<_};
 ghost use lib.ListN.{length};
 ghost use Rattle.spec_rules.specs.Test.{rulesHold};
 ghost use Rattle.spec_answers.specs.Answers.{outcome as answered};
@@ -14,7 +14,7 @@ ghost use Rattle.spec_runner.specs.Words.{positionOf};
 ghost use Rattle.spec_runner.specs.Answers.{answerWith, outcome};
 ghost use Rattle.spec_runner.specs.Step.{callOf, stepTested, stepOutcome};
 ghost use Rattle.job_effect.specs.Made.{foundWith};
-ghost use Rattle.runner_step.specs.Parts.{called, acted, Writes, Makes};
+ghost use Rattle.runner_step.specs.Parts.{UsesQueue, called, acted, Writes, Makes};
 use answer_numbers::EMPTY;
 use answer_numbers::FINISHED;
 use answer_numbers::MOVED;
@@ -56,7 +56,7 @@ fn write(r: &mut [u32], t: u32, s: Instruction, v: u32, i: u32, x: u32)
             runner_words::put(r, t, p, i, x);
             runner_words::put(r, v, s.which, 0, y);
         }
-        1..=9 => {
+        1..=10 => {
             runner_words::put(r, t, p, i, x);
         }
         _ => {
@@ -88,7 +88,7 @@ fn push_one(m: &mut [u32], t: u32, q: u32, v: u32) -> Answer
 
 // The core call of an instruction s that uses a queue. No job has a part in it, so the contract has the empty one.
 fn queue_call(m: &mut [u32], t: u32, s: Instruction, x: u32) -> Answer
-    requires { ⌜ (length (now m) ≡ 16384) × (rulesHold (now m) ≡ true) × (1 ≤ s .operation) × (s .operation ≤ 4) ⌝ }
+    requires { ⌜ (length (now m) ≡ 16384) × (rulesHold (now m) ≡ true) × UsesQueue (s .operation) ⌝ }
     ensures { λ a. ⌜ answered a (now (m .exit)) ≡ called (callOf (operationAt (s .operation)) [] t x s) (now (m .entry)) ⌝ }
 {
     let k = s.operation;
@@ -96,8 +96,8 @@ fn queue_call(m: &mut [u32], t: u32, s: Instruction, x: u32) -> Answer
     match k {
         1 => push_one(m, t, q, s.operand),
         2 => push_one(m, t, q, std::num::wrapping_add_u32(x, s.operand)),
-        3 => core_pop::pop(m, t, q),
-        _ => core_pop::test(m, t, q),
+        4 => core_take::take(m, t, q, true),
+        _ => core_take::take(m, t, q, false),
     }
 }
 
@@ -108,7 +108,7 @@ fn core_call(job: &[u8], m: &mut [u32], t: u32, s: Instruction, x: u32) -> Answe
 {
     let k = s.operation;
     match k {
-        1..=4 => queue_call(m, t, s, x),
+        1..=4 | 10 => queue_call(m, t, s, x),
         5..=7 => Answer::Empty,
         8 => core_spawn::spawn(m, t, job_fields::rights(job, s.which)),
         9 => core_finish::sync(m, t),
@@ -126,14 +126,8 @@ fn act(job: &[u8], m: &mut [u32], r: &mut [u32], t: u32) -> StepAnswer
     match a {
         Answer::Moved(v) => done(r, t, s, true, v),
         Answer::Empty => done(r, t, s, false, 0),
-        Answer::NotEmpty => done(r, t, s, true, 0),
         Answer::Waits => StepAnswer::Waits,
-        Answer::Refused(k) => {
-            if k == 7 {
-                return done(r, t, s, false, 0);
-            }
-            StepAnswer::Refused(k)
-        }
+        Answer::Refused(k) => StepAnswer::Refused(k),
     }
 }
 

@@ -9,7 +9,7 @@ use borrow.Author.Tests.{eqb-true, not-false}
 use Rattle.spec_words.specs.Words.{size, pick}
 use Rattle.spec_layout.specs.Layout.{WORDS}
 use Rattle.spec_answers.specs.declared.Answer.{Answer}
-use Rattle.spec_answers.specs.declared.Answer.the-variants.{Moved, Empty, NotEmpty, Waits, Refused}
+use Rattle.spec_answers.specs.declared.Answer.the-variants.{Moved, Empty, Waits, Refused}
 use Rattle.spec_job.specs.Test.{refusal10, refusal11, refusal12, jobAnswer}
 use Rattle.spec_runner.specs.Words.{RUNNER}
 use Rattle.spec_runner.specs.Answers.{Outcome}
@@ -20,7 +20,6 @@ unfoldable pub refusalIn : Answer → ℕ
 refusalIn (Refused k) = k
 refusalIn (Moved v) = 0
 refusalIn Empty = 0
-refusalIn NotEmpty = 0
 refusalIn Waits = 0
 
 -- 1 for both memories, 10, 11, 12; 0 where a call goes on

@@ -178,7 +178,6 @@ fn refusal_in(a: Answer) -> u32
         Answer::Refused(k) => k,
         Answer::Moved(_) => 0,
         Answer::Empty => 0,
-        Answer::NotEmpty => 0,
         Answer::Waits => 0,
     }
 }

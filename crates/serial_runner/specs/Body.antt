@@ -90,7 +90,7 @@ module _ (j : List ℕ) (m p d r n c : ℕ) (qs : List (List ℕ)) (a : List ℕ
           ≡ onward j (suc (n' - 1)) c' (m ∷ ms) (state us (task name p i r' ch ∷ ts) (STEPS - n')) b
       one-on name ch ts ms = ap (λ (y : ℕ). onward j y c' (m ∷ ms) (state us (task name p i r' ch ∷ ts) (STEPS - n')) b) (one-less n' some)
 
-      pub body-returns : {b' : List ℕ} → (s .operation ≡ 0) ⊎ (10 ≤ s .operation) → b' ≡ storeAll b ((STEPS - n') * 3) (m ∷ FINISHED ∷ 0 ∷ [])
+      pub body-returns : {b' : List ℕ} → (s .operation ≡ 0) ⊎ (11 ≤ s .operation) → b' ≡ storeAll b ((STEPS - n') * 3) (m ∷ FINISHED ∷ 0 ∷ [])
           → BodyRuns j m p r d n c qs a (record { end = Ended; left = n' - 1; made = c' }) us b'
       unfolding resumed
       body-returns e eb = ends _ us _ (omega arith) (omega arith) (λ name ch ts ms l.

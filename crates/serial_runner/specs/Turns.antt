@@ -15,7 +15,7 @@ use Rattle.spec_words.specs.Blocks.{storeAll}
 use Rattle.spec_order.specs.Steps.{Name}
 use Rattle.spec_job.specs.declared.Instruction.{Instruction}
 use Rattle.spec_job.specs.Fields.{instructionAt}
-use Rattle.spec_job.specs.Operations.{Operation, return, push, pushSum, pop, goIfEmpty, go, goIfZero, add, spawn, sync, rowOf, operationOf, operationAt}
+use Rattle.spec_job.specs.Operations.{Operation, return, push, pushSum, pop, goIfEmpty, go, goIfZero, add, spawn, sync, takeOrGo, rowOf, operationOf, operationAt}
 use Rattle.spec_job.specs.Rows.{from, returns-at}
 use Rattle.spec_job.specs.Effects.{Effect, sum, effect}
 use Rattle.spec_job.specs.Test.{between}
@@ -48,6 +48,7 @@ Stays go = Unit {0}
 Stays goIfZero = Unit {0}
 Stays add = Unit {0}
 Stays sync = Unit {0}
+Stays takeOrGo = Unit {0}
 
 staying : (o : Operation) → Stays o → (t : Task) (e : Effect) (w x : ℕ) (ts : List Task) (i r y : ℕ) (f : Option ℕ)
     → (stackAfter o t e w x ts ≡ advanced t e ∷ ts) × (eqb (numberOf (effect o i r y f .word)) SPAWNED ≡ false)
@@ -65,6 +66,8 @@ staying go h t e w x ts i r y f = (refl, refl, refl)
 staying goIfZero h t e w x ts i r y f = (refl, refl, refl)
 staying add h t e w x ts i r y f = (refl, refl, refl)
 staying sync h t e w x ts i r y f = (refl, refl, refl)
+staying takeOrGo h t e w x ts i r y none = (refl, refl, refl)
+staying takeOrGo h t e w x ts i r y (some v) = (refl, refl, refl)
 
 abbrev InnerStays : ℕ → Type 0
 InnerStays k = Inner k → Stays (operationAt k)
@@ -76,8 +79,8 @@ inner-stays =
     (from InnerStays 1 (λ h. tt) (from InnerStays 2 (λ h. tt) (from InnerStays 3 (λ h. tt) (from InnerStays 4 (λ h. tt)
     (from InnerStays 5 (λ h. tt) (from InnerStays 6 (λ h. tt) (from InnerStays 7 (λ h. tt)
     (from InnerStays 8 (λ h. h .inside refl)
-    (from InnerStays 9 (λ h. tt)
-    (λ k past h. let y = h .few in let z : ⊥ = omega (arith, y, past) in absurd z))))))))))
+    (from InnerStays 9 (λ h. tt) (from InnerStays 10 (λ h. tt)
+    (λ k past h. let y = h .few in let z : ⊥ = omega (arith, y, past) in absurd z)))))))))))
 
 both-false : (x y : Bool) → (x ≡ true → y ≡ true → ⊥) → both x y ≡ false
 unfolding both pick
@@ -212,7 +215,7 @@ module _ (j : List ℕ) (name : Name) (p i r ch : ℕ) (ts : List Task) (k c m :
       stacks = unfold effect madeAfter numbersAfter queuesAfter stackAfter row numberOf pick child parent advanced in refl
 
   -- a return unstacks the task
-  pub return-turn : (n : ℕ) → (s .operation ≡ 0) ⊎ (10 ≤ s .operation)
+  pub return-turn : (n : ℕ) → (s .operation ≡ 0) ⊎ (11 ≤ s .operation)
       → onward j (suc n) c (m ∷ ms) here a ≡ onward j n c ms (state qs ts (k + 1)) (storeAll a (k * 3) (m ∷ FINISHED ∷ 0 ∷ []))
   return-turn n e =
       goes n (not-deep (λ x. ⊎-elim (λ y. omega (arith, x, y)) (λ y. omega (arith, x, y)) e))

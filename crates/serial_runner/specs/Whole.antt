@@ -12,7 +12,7 @@ use borrow.Author.Tests.{eqb-true, not-false, eq-eqb, ne-eqb}
 use Rattle.spec_words.specs.Words.{load, size, pick, halt, pass, both-true}
 use Rattle.spec_lists.specs.Marks.{zeros}
 use Rattle.spec_answers.specs.declared.Answer.{Answer}
-use Rattle.spec_answers.specs.declared.Answer.the-variants.{Moved, Empty, NotEmpty, Waits, Refused}
+use Rattle.spec_answers.specs.declared.Answer.the-variants.{Moved, Empty, Waits, Refused}
 use Rattle.spec_answers.proofs.Answer.{the-type}
 use Rattle.spec_job.specs.Fields.{procedures, entryAt, count}
 use Rattle.spec_job.specs.Test.{refusal10, refusal11, refusal12, entriesHold, contentsHold, jobAnswer}
@@ -36,12 +36,8 @@ pick-ap f true x y = refl
 pick-ap f false x y = refl
 
 -- an answer that is no refusal
-refused-none : OneOf (0 ∷ 1 ∷ 2 ∷ 3 ∷ []) 4 → ⊥
-refused-none o =
-    ⊎-elim
-    (λ x. omega (arith, x))
-    (λ p. ⊎-elim (λ x. omega (arith, x)) (λ q. ⊎-elim (λ x. omega (arith, x)) (λ x. omega (arith, x)) q) p)
-    o
+refused-none : OneOf (0 ∷ 1 ∷ 2 ∷ []) 3 → ⊥
+refused-none o = ⊎-elim (λ x. omega (arith, x)) (λ p. ⊎-elim (λ x. omega (arith, x)) (λ x. omega (arith, x)) p) o
 
 module _ (j w a : List ℕ) where
   -- the outcome by the job test's answer, which is never any but a refusal and Moved
@@ -49,7 +45,6 @@ module _ (j w a : List ℕ) where
   said (Refused k) = turnedDown k w a
   said (Moved v) = shown 0 1 (0 ∷ []) a (serial j)
   said Empty = shown 0 1 (0 ∷ []) a (serial j)
-  said NotEmpty = shown 0 1 (0 ∷ []) a (serial j)
   said Waits = shown 0 1 (0 ∷ []) a (serial j)
 
   abbrev ladder : Outcome
@@ -84,22 +79,21 @@ module _ (j w a : List ℕ) where
     unfolding said
     job-refused k e = ap said (sym e) ∙ whole
 
-    pub job-accepted : OneOf (0 ∷ 1 ∷ 2 ∷ 3 ∷ []) (tagOf the-type t) → shown 0 1 (0 ∷ []) a (serial j) ≡ serialOutcome j w a
+    pub job-accepted : OneOf (0 ∷ 1 ∷ 2 ∷ []) (tagOf the-type t) → shown 0 1 (0 ∷ []) a (serial j) ≡ serialOutcome j w a
     job-accepted k = other t k ∙ whole
       where
-        other : (x : Answer) → OneOf (0 ∷ 1 ∷ 2 ∷ 3 ∷ []) (tagOf the-type x) → shown 0 1 (0 ∷ []) a (serial j) ≡ said x
+        other : (x : Answer) → OneOf (0 ∷ 1 ∷ 2 ∷ []) (tagOf the-type x) → shown 0 1 (0 ∷ []) a (serial j) ≡ said x
         other (Refused k) o = absurd (refused-none o)
         other (Moved v) o = unfold said in refl
         other Empty o = unfold said in refl
-        other NotEmpty o = unfold said in refl
         other Waits o = unfold said in refl
 
 -- AN ACCEPTED JOB IS SHORT: at most 64 bodies of at most 128 instructions.
 module _ (j : List ℕ) {t : Answer} (et : t ≡ jobAnswer j) where
-  not-refused : (k : ℕ) → t ≡ Refused k → OneOf (0 ∷ 1 ∷ 2 ∷ 3 ∷ []) (tagOf the-type t) → ⊥
-  not-refused k e o = refused-none (subst (λ (x : Answer). OneOf (0 ∷ 1 ∷ 2 ∷ 3 ∷ []) (tagOf the-type x)) e o)
+  not-refused : (k : ℕ) → t ≡ Refused k → OneOf (0 ∷ 1 ∷ 2 ∷ []) (tagOf the-type t) → ⊥
+  not-refused k e o = refused-none (subst (λ (x : Answer). OneOf (0 ∷ 1 ∷ 2 ∷ []) (tagOf the-type x)) e o)
 
-  passes : (x y z : Bool) → t ≡ pick x (Refused 10) (pick y (Refused 11) (pick z (Refused 12) (Moved 0))) → OneOf (0 ∷ 1 ∷ 2 ∷ 3 ∷ []) (tagOf the-type t)
+  passes : (x y z : Bool) → t ≡ pick x (Refused 10) (pick y (Refused 11) (pick z (Refused 12) (Moved 0))) → OneOf (0 ∷ 1 ∷ 2 ∷ []) (tagOf the-type t)
       → (x ≡ false) × (y ≡ false) × (z ≡ false)
   unfolding pick
   passes true y z e o = absurd (not-refused 10 e o)
@@ -116,7 +110,7 @@ module _ (j : List ℕ) {t : Answer} (et : t ≡ jobAnswer j) where
       let l = entries-length n (p + 1) (b + count j p * 6) (w .1) in
       omega (arith, s, l)
 
-  pub job-short : OneOf (0 ∷ 1 ∷ 2 ∷ 3 ∷ []) (tagOf the-type t) → size j < 2147483648
+  pub job-short : OneOf (0 ∷ 1 ∷ 2 ∷ []) (tagOf the-type t) → size j < 2147483648
   unfolding jobAnswer refusal11 contentsHold
   job-short o =
       let f = passes (refusal10 j) (refusal11 j) (refusal12 j) et o in

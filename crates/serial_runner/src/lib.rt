@@ -64,7 +64,7 @@ fn run_body(
                 left = child.left;
                 made = child.made;
             }
-            1..=7 | 9 => {
+            1..=10 => {
                 if serial_steps::is_full(w, s) {
                     let end = End::Refused(9);
                     return Ran { end, left, made };

@@ -10,7 +10,7 @@ ghost use Rattle.spec_words.specs.Blocks.{storeAll};
 ghost use Rattle.spec_plain.specs.Machine.{queue};
 ghost use Rattle.spec_serial.specs.Serial.{VALUES, full};
 ghost use Rattle.spec_serial.specs.Working.{WORKING, lists};
-ghost use Rattle.serial_steps.specs.Steps.{Inner, Gives};
+ghost use Rattle.serial_steps.specs.Steps.{Inner, Takes, Gives};
 use job_effect::Made;
 use serial_queues::Found;
 use serial_queues::VALUES;
@@ -47,16 +47,16 @@ fn push_step(w: &mut [u32], k: u32, q: u32, x: u32, i: u32, r: u32) -> Made
     e
 }
 
-// Pops from queue q into the register.
-fn pop_step(w: &mut [u32], q: u32, x: u32, i: u32, r: u32) -> Made
-    requires { ⌜ (size (now w) ≡ WORKING) × (i < 2 ^ 31) ⌝ }
-    ensures { λ e. ⌜ Gives 3 q x i r (lists (now (w .entry))) e (lists (now (w .exit))) ⌝ }
+// Operation k, which takes the front of queue q into the register: whether there is one, and then a pop.
+fn take_step(w: &mut [u32], k: u32, q: u32, x: u32, i: u32, r: u32) -> Made
+    requires { ⌜ (size (now w) ≡ WORKING) × Takes k × (i < 2 ^ 31) ⌝ }
+    ensures { λ e. ⌜ Gives k q x i r (lists (now (w .entry))) e (lists (now (w .exit))) ⌝ }
 {
     let f = serial_queues::value(w, q, 0);
     serial_queues::pop(w, q);
     match f {
-        Found::Value(v) => job_effect::effect(3, x, i, r, true, v),
-        Found::Nothing => job_effect::effect(3, x, i, r, false, 0),
+        Found::Value(v) => job_effect::effect(k, x, i, r, true, v),
+        Found::Nothing => job_effect::effect(k, x, i, r, false, 0),
     }
 }
 
@@ -80,8 +80,9 @@ pub fn step(w: &mut [u32], s: Instruction, i: u32, r: u32) -> Made
     match k {
         1 => push_step(w, 1, q, x, i, r),
         2 => push_step(w, 2, q, x, i, r),
-        3 => pop_step(w, q, x, i, r),
+        3 => take_step(w, 3, q, x, i, r),
         4 => test_step(w, q, x, i, r),
+        10 => take_step(w, 10, q, x, i, r),
         _ => job_effect::effect(k, x, i, r, false, 0),
     }
 }

@@ -2,16 +2,14 @@
 pub enum Answer {
     // The call moved; with it the value that it returns.
     Moved(u32),
-    // Test found the queue empty.
+    // A take found the queue empty; it moved all the same.
     Empty,
-    // Test found a value.
-    NotEmpty,
     Waits,
     // The call is turned down, with the number of the reason.
     Refused(u32),
 }
 
-// What pop and test find.
+// What a take finds.
 pub enum Finding {
     Value(u32),
     Empty,

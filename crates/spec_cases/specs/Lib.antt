@@ -5,3 +5,4 @@ pub mod Waiting
 pub mod Refused
 pub mod Joining
 pub mod Runs
+pub mod Takes

@@ -12,11 +12,11 @@ use Rattle.spec_answers.specs.declared.Answer.the-variants.{Moved, Refused}
 use Rattle.spec_answers.specs.Answers.{statusOf, valueOf, sameAnswer}
 use Rattle.spec_tree.specs.Rights.{bits, pushes, pops, eachQueue, subset}
 use Rattle.spec_job.specs.Fields.{bytes2, bytes4, procedures, segmentLength, offset, count, rights, reserved, instructionFrom, instructionAt}
-use Rattle.spec_job.specs.Operations.{pop, rowOf}
+use Rattle.spec_job.specs.Operations.{pop, takeOrGo, rowOf}
 use Rattle.spec_job.specs.Effects.{empty, sum, effect}
 use Rattle.spec_job.specs.Test.{between, headHolds, refusal10, entryHolds, entriesHold, contentsHold, refusal11, whichHolds, operandHolds, fitting}
 use Rattle.spec_job.specs.Test.{instructionHolds, lastHolds, bodyHolds, refusal12, jobAnswer}
-use Rattle.spec_job.specs.Examples.{head, entry, ins, fullRun, alone, withChild, wrapping, wrappedSpawn, emptyPop, tested, counted}
+use Rattle.spec_job.specs.Examples.{head, entry, ins, fullRun, alone, withChild, wrapping, wrappedSpawn, emptyPop, tested, takenOrGone, counted}
 
 -- a list of bytes with the answer that it must get
 pub data Case : Type 0 where
@@ -33,10 +33,11 @@ accepted =
     -- an endless loop, a top that spawns itself, every operation
     ∷ gives (alone 1 (ins 5 0 0 [])) (Moved 0)
     ∷ gives (alone 2 (ins 8 0 4294967295 (ins 0 0 0 []))) (Moved 0)
-    ∷ gives (alone 9 (ins 1 0 1 (ins 2 3 2 (ins 3 1 0 (ins 4 2 8 (ins 6 0 0 (ins 7 0 9 (ins 8 0 3 (ins 9 0 0 (ins 5 0 8 [])))))))))) (Moved 0)
+    ∷ gives (alone 10 (ins 1 0 1 (ins 2 3 2 (ins 3 1 0 (ins 4 2 8 (ins 6 0 0 (ins 7 0 9 (ins 8 0 3 (ins 9 0 0 (ins 10 3 9 (ins 5 0 8 []))))))))))) (Moved 0)
     ∷ gives (withChild 1 2 (ins 1 0 7 (ins 0 0 0 []))) (Moved 0)
     -- the jobs of the plain machine's cases
-    ∷ gives wrapping (Moved 0) ∷ gives wrappedSpawn (Moved 0) ∷ gives emptyPop (Moved 0) ∷ gives tested (Moved 0) ∷ gives counted (Moved 0)
+    ∷ gives wrapping (Moved 0) ∷ gives wrappedSpawn (Moved 0) ∷ gives emptyPop (Moved 0) ∷ gives tested (Moved 0) ∷ gives takenOrGone (Moved 0)
+    ∷ gives counted (Moved 0)
     ∷ []
 
 -- 10: 3 bytes; no byte; no procedure; 65 procedures; L = 0; L = 65; an entry cut short
@@ -64,11 +65,11 @@ elevens =
     ∷ gives (take 93 fullRun) (Refused 11)
     ∷ []
 
--- 12: operation 10; unused fields that are not zero; queue 4; a right that is not held; a target one past the body; a
--- procedure that does not exist; one with more rights than its spawner; a last instruction that is neither 0 nor 5
+-- 12: operation 11; unused fields that are not zero; queue 4; a right that is not held; a target one past the body; a
+-- procedure that does not exist; one with more rights than its spawner; a last instruction that is neither 0 nor 5. The same for operation 10
 abbrev pub twelves : List Case
 twelves =
-    gives (alone 2 (ins 10 0 0 (ins 0 0 0 []))) (Refused 12)
+    gives (alone 2 (ins 11 0 0 (ins 0 0 0 []))) (Refused 12)
     ∷ gives (alone 1 (ins 0 1 0 [])) (Refused 12)
     ∷ gives (alone 2 (ins 9 0 1 (ins 0 0 0 []))) (Refused 12)
     ∷ gives (alone 2 (ins 3 0 1 (ins 0 0 0 []))) (Refused 12)
@@ -82,13 +83,17 @@ twelves =
     ∷ gives (alone 2 (ins 8 1 0 (ins 0 0 0 []))) (Refused 12)
     ∷ gives (withChild 1 2 (ins 8 0 0 (ins 0 0 0 []))) (Refused 12)
     ∷ gives (alone 2 (ins 0 0 0 (ins 9 0 0 []))) (Refused 12)
+    ∷ gives (alone 2 (ins 10 4 0 (ins 0 0 0 []))) (Refused 12)
+    ∷ gives (withChild 1 2 (ins 10 0 0 (ins 0 0 0 []))) (Refused 12)
+    ∷ gives (alone 2 (ins 10 0 2 (ins 0 0 0 []))) (Refused 12)
+    ∷ gives (alone 2 (ins 0 0 0 (ins 10 0 0 []))) (Refused 12)
     ∷ []
 
 -- "Order as listed": 10 before 11, 11 before 12
 abbrev pub orders : List Case
 orders =
-    gives (head 1 0 (entry 10 1 3 (ins 10 0 0 []))) (Refused 10)
-    ∷ gives (head 1 1 (entry 10 1 3 (ins 10 0 0 []))) (Refused 11)
+    gives (head 1 0 (entry 10 1 3 (ins 11 0 0 []))) (Refused 10)
+    ∷ gives (head 1 1 (entry 10 1 3 (ins 11 0 0 []))) (Refused 11)
     ∷ []
 
 pub full-run-bytes : length fullRun ≡ 94
@@ -109,3 +114,8 @@ register-wraps = refl
 pub empty-pop : (i r : ℕ) → effect pop i r 0 none ≡ record { word = empty; value = 0; register = r; next = i + 1 }
 unfolding effect
 empty-pop i r = refl
+
+-- "or go to operand if queue which is empty": the register stays
+pub gone : (i r x : ℕ) → effect takeOrGo i r x none ≡ record { word = empty; value = 0; register = r; next = x }
+unfolding effect
+gone i r x = refl

@@ -6,7 +6,7 @@ use mathlib.Core.Option.{Option, none, some}
 use Prim.Native.Nat.{ℕ, _+_, _%_}
 use lib.Dec.{eqb}
 use Rattle.spec_words.specs.Words.{pick}
-use Rattle.spec_job.specs.Operations.{Operation, return, push, pushSum, pop, goIfEmpty, go, goIfZero, add, spawn, sync}
+use Rattle.spec_job.specs.Operations.{Operation, return, push, pushSum, pop, goIfEmpty, go, goIfZero, add, spawn, sync, takeOrGo}
 
 -- "Sums drop what exceeds 32 bits."
 unfoldable pub sum : ℕ → ℕ → ℕ
@@ -42,6 +42,8 @@ effect goIfZero i r x f = gives moved 0 r (pick (eqb r 0) x (i + 1))
 effect add i r x f = gives moved 0 (sum r x) (i + 1)
 effect spawn i r x f = gives spawned 0 r (i + 1)
 effect sync i r x f = gives moved 0 r (i + 1)
+effect takeOrGo i r x (some v) = gives took v v (i + 1)
+effect takeOrGo i r x none = gives empty 0 r x
 
 -- The plain machine "never waits or refuses": no step that is made is answered so.
 unfoldable pub moves : Word → Bool
@@ -69,3 +71,5 @@ always-moves goIfZero i r x f = refl
 always-moves add i r x f = refl
 always-moves spawn i r x f = refl
 always-moves sync i r x f = refl
+always-moves takeOrGo i r x none = refl
+always-moves takeOrGo i r x (some v) = refl

@@ -5,7 +5,7 @@ use Prim.Native.Nat.{ℕ}
 use lib.Dec.{eqb}
 use borrow.Author.Tests.{ne-eqb}
 use Rattle.spec_words.specs.Words.{pick, pass}
-use Rattle.spec_answers.specs.declared.Answer.the-variants.{Empty, NotEmpty, Waits}
+use Rattle.spec_answers.specs.declared.Answer.the-variants.{Empty, Waits}
 use Rattle.spec_answers.specs.Answers.{statusOf}
 use Rattle.spec_job.specs.Effects.{Word, spawned, pushed, took, moved, finished, empty, notEmpty, waits, refused}
 
@@ -34,9 +34,9 @@ abbrev pub MOVED : ℕ
 MOVED = 44
 
 -- what the core answers too has the core's number
-pub core-numbers : (statusOf Waits ≡ WAITS) × (statusOf Empty ≡ EMPTY) × (statusOf NotEmpty ≡ NOT-EMPTY)
+pub core-numbers : (statusOf Waits ≡ WAITS) × (statusOf Empty ≡ EMPTY)
 unfolding statusOf
-core-numbers = (refl, refl, refl)
+core-numbers = (refl, refl)
 
 -- "refused" has no number of its own
 unfoldable pub numberOf : Word → ℕ

@@ -5,7 +5,7 @@ use Prim.Native.Nat.{ℕ}
 use lib.ListN.{getD}
 
 pub data Operation : Type 0 where
-  return push pushSum pop goIfEmpty go goIfZero add spawn sync : Operation
+  return push pushSum pop goIfEmpty go goIfZero add spawn sync takeOrGo : Operation
 
 -- What the byte "which" names: nothing, so that it is zero; a queue, and the right to it that is needed; a procedure.
 pub data Which : Type 0 where
@@ -21,7 +21,8 @@ pub data Row : Type 0 where
 
 -- "0 return; 1 push operand to queue which; 2 push register plus operand to queue which; 3 pop from queue which into the
 -- register; 4 go to instruction operand .. if queue which is empty; 5 go to operand; 6 go to operand if the register is
--- zero; 7 add operand to the register; 8 spawn procedure which, its register being the spawner's plus operand; 9 sync."
+-- zero; 7 add operand to the register; 8 spawn procedure which, its register being the spawner's plus operand; 9 sync." By document 02, No. 4,
+-- "operation 10: take into the register, or go to operand if queue which is empty".
 abbrev pub table : List Row
 table =
     row return noWhich noOperand
@@ -34,6 +35,7 @@ table =
     ∷ row add noWhich number
     ∷ row spawn procedure number
     ∷ row sync noWhich noOperand
+    ∷ row takeOrGo poppedQueue target
     ∷ []
 
 -- the row of operation number k

@@ -15,12 +15,12 @@ above a k h n = omega (arith, n)
 pub from : (P : ℕ → Type 0) (a : ℕ) → P a → ((k : ℕ) → a + 1 ≤ k → P k) → (k : ℕ) → a ≤ k → P k
 from P a here more k h = ⊎-elim (λ e. subst P e here) (λ n. more k (omega (arith, n))) (equal? a k)
 
--- no operation has a number from 10 on
-pub row-past : (k : ℕ) → 10 ≤ k → rowOf k ≡ undefined
+-- no operation has a number from 11 on
+pub row-past : (k : ℕ) → 11 ≤ k → rowOf k ≡ undefined
 unfolding rowOf
 row-past k h = List·getD-eq-default table undefined h
 
 -- an instruction with such a number returns, as operation 0 does
-pub returns-at : (k : ℕ) → (k ≡ 0) ⊎ (10 ≤ k) → operationAt k ≡ return
+pub returns-at : (k : ℕ) → (k ≡ 0) ⊎ (11 ≤ k) → operationAt k ≡ return
 unfolding operationAt rowOf operationOf
 returns-at k h = ⊎-elim (λ e. ap operationAt e) (λ l. ap operationOf (row-past k l)) h

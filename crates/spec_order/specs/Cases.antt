@@ -9,13 +9,14 @@ use Rattle.spec_cases.specs.Rows.{Case, row}
 use Rattle.spec_cases.specs.Starred.{oneSegment, longest, children, manyChildren, newQueue, fullRun, noPush, laterPush, moreRights}
 use Rattle.spec_cases.specs.Traps.{parentPush, reachable, hidden}
 use Rattle.spec_cases.specs.Waiting.{olderSibling, waitBeforeNine, childPopping, pushersBefore, farPusher, leftLater}
-use Rattle.spec_cases.specs.Refused.{notAllowed}
+use Rattle.spec_cases.specs.Refused.{notAllowed, nothingLeft}
 use Rattle.spec_cases.specs.Joining.{ring, localHead, emptyFreed, stillNine, queueView, numbers, lastFreed}
 use Rattle.spec_cases.specs.Runs.{runOn, partWay, freedOnTheWay, freedTooLate, runOfNone, runsInOrder}
-use Rattle.spec_order.specs.Steps.{Item, nameOf, numberOf, rightsOf, begin, made, moved, advance, pushesAll, pushesRun, counted, noted}
+use Rattle.spec_cases.specs.Takes.{keptValue, emptyBefore}
+use Rattle.spec_order.specs.Steps.{Item, nameOf, numberOf, rightsOf, begin, made, moved, advance, pushesAll, pushesRun, counted, foundNone, noted}
 use Rattle.spec_order.specs.Waits.{sameName, isChild, isOlder, someSpot, unfinished, somePair, blocked, childPops, hasChild}
 use Rattle.spec_order.specs.Finding.{before, later, stepped, passes, runs, found, finding, valueNumber, pendingOf, leftOver}
-use Rattle.spec_order.specs.Ordered.{rightsAt, spots, forTask, forQueue, popAnswer, testAnswer, leftAnswer, ordered}
+use Rattle.spec_order.specs.Ordered.{rightsAt, spots, forTask, forQueue, takeAnswer, leftAnswer, ordered}
 
 -- each answer is the one that program order gives after the calls before it
 unfoldable pub follows : Case → List Item → Bool
@@ -29,12 +30,12 @@ allFollow (c ∷ cs) = let more = allFollow cs in both (follows c begin) more
 abbrev pub table : List Case
 table =
     oneSegment ∷ longest ∷ manyChildren ∷ newQueue ∷ fullRun ∷ noPush ∷ laterPush ∷ moreRights ∷ parentPush ∷ reachable ∷ hidden
-    ∷ olderSibling ∷ waitBeforeNine ∷ childPopping ∷ pushersBefore ∷ farPusher ∷ leftLater ∷ notAllowed
+    ∷ olderSibling ∷ waitBeforeNine ∷ childPopping ∷ pushersBefore ∷ farPusher ∷ leftLater ∷ notAllowed ∷ nothingLeft
     ∷ ring ∷ localHead ∷ emptyFreed ∷ stillNine ∷ queueView ∷ numbers ∷ lastFreed
-    ∷ runOn ∷ partWay ∷ freedOnTheWay ∷ freedTooLate ∷ runOfNone ∷ runsInOrder ∷ []
+    ∷ runOn ∷ partWay ∷ freedOnTheWay ∷ freedTooLate ∷ runOfNone ∷ runsInOrder ∷ keptValue ∷ emptyBefore ∷ []
 
 pub table-follows : allFollow table ≡ true
 unfolding pick both either statusOf valueOf sameAnswer bits pushes pops eachQueue someQueue sharesPop subset nameOf numberOf rightsOf begin made moved advance
-    pushesAll pushesRun counted noted sameName isChild isOlder someSpot unfinished somePair blocked childPops hasChild before later stepped passes runs found finding
-    valueNumber pendingOf leftOver rightsAt spots forTask forQueue popAnswer testAnswer leftAnswer ordered follows allFollow children
+    pushesAll pushesRun counted foundNone noted sameName isChild isOlder someSpot unfinished somePair blocked childPops hasChild before later stepped passes runs found finding
+    valueNumber pendingOf leftOver rightsAt spots forTask forQueue takeAnswer leftAnswer ordered follows allFollow children
 table-follows = refl

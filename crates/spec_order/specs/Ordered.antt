@@ -7,11 +7,11 @@ use lib.Dec.{leb, eqb}
 use Rattle.spec_words.specs.Words.{pick, either}
 use Rattle.spec_lists.specs.Maps.{lastOf}
 use Rattle.spec_answers.specs.declared.Answer.{Answer}
-use Rattle.spec_answers.specs.declared.Answer.the-variants.{Moved, Empty, NotEmpty, Waits, Refused}
+use Rattle.spec_answers.specs.declared.Answer.the-variants.{Moved, Empty, Waits, Refused}
 use Rattle.spec_answers.specs.declared.Finding.{Finding}
 use Rattle.spec_answers.specs.declared.Finding.the-variants as Finding
 use Rattle.spec_answers.specs.Answers.{statusOf, valueOf}
-use Rattle.spec_answers.specs.Calls.{Call, open-call, spawn-call, push-call, pop-call, test-call, sync-call, finish-call, left-call}
+use Rattle.spec_answers.specs.Calls.{Call, open-call, spawn-call, push-call, take-call, sync-call, finish-call, left-call}
 use Rattle.spec_tree.specs.Rights.{pushes as mayPush, pops as mayPop, subset}
 use Rattle.spec_order.specs.Steps.{Item, step, spot, numberOf, rightsOf}
 use Rattle.spec_order.specs.Waits.{unfinished, blocked, hasChild}
@@ -37,18 +37,13 @@ forTask t xs a = pick (unfinished t xs) a (Refused 4)
 unfoldable pub forQueue : ℕ → Bool → Answer → Answer
 forQueue q held a = pick (leb 4 q) (Refused 5) (pick held a (Refused 6))
 
--- "Pop takes it"; "pop is refused with 7"
-unfoldable pub popAnswer : Finding → Answer
-popAnswer (Finding.Value v) = Moved v
-popAnswer Finding.Empty = Refused 7
-popAnswer Finding.Waits = Waits
+-- "It answers a value, empty or waits", whether the value stays queued or not.
+unfoldable pub takeAnswer : Finding → Answer
+takeAnswer (Finding.Value v) = Moved v
+takeAnswer Finding.Empty = Empty
+takeAnswer Finding.Waits = Waits
 
--- "test says "not empty""; "Test says "empty""
-unfoldable pub testAnswer : Finding → Answer
-testAnswer (Finding.Value v) = NotEmpty
-testAnswer Finding.Empty = Empty
-testAnswer Finding.Waits = Waits
-
+-- "7 is now given by "left" alone"
 unfoldable pub leftAnswer : Option ℕ → Answer
 leftAnswer (some v) = Moved v
 leftAnswer none = Refused 7
@@ -62,8 +57,7 @@ ordered (spawn-call t r) xs a =
     forTask t xs (pick (subset r (rightsAt t xs)) (pick (blocked t xs) Waits (pick (eqb (spots xs) 128) (Refused 8) (Moved (valueOf a)))) (Refused 6))
 ordered (push-call t q vs) xs a =
     forTask t xs (forQueue q (mayPush (rightsAt t xs) q) (pick (blocked t xs) Waits (pick (eqb (statusOf a) 9) (Refused 9) (Moved (lastOf 0 vs)))))
-ordered (pop-call t q) xs a = forTask t xs (forQueue q (mayPop (rightsAt t xs) q) (popAnswer (finding t q xs)))
-ordered (test-call t q) xs a = forTask t xs (forQueue q (mayPop (rightsAt t xs) q) (testAnswer (finding t q xs)))
+ordered (take-call t q keep) xs a = forTask t xs (forQueue q (mayPop (rightsAt t xs) q) (takeAnswer (finding t q xs)))
 ordered (sync-call t) xs a = forTask t xs (pick (either (blocked t xs) (hasChild t xs)) Waits (Moved 0))
 ordered (finish-call t) xs a = forTask t xs (pick (either (blocked t xs) (hasChild t xs)) Waits (Moved 0))
 ordered (left-call q i) xs a = pick (leb 4 q) (Refused 5) (pick (unfinished 0 xs) Waits (leftAnswer (leftOver q i xs)))

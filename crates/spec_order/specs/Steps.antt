@@ -5,8 +5,8 @@ use Prim.Native.Nat.{ℕ, _+_}
 use lib.Dec.{eqb}
 use Rattle.spec_words.specs.Words.{pick}
 use Rattle.spec_answers.specs.declared.Answer.{Answer}
-use Rattle.spec_answers.specs.declared.Answer.the-variants.{Moved, Empty, NotEmpty, Waits, Refused}
-use Rattle.spec_answers.specs.Calls.{Call, open-call, spawn-call, push-call, pop-call, test-call, sync-call, finish-call, left-call}
+use Rattle.spec_answers.specs.declared.Answer.the-variants.{Moved, Empty, Waits, Refused}
+use Rattle.spec_answers.specs.Calls.{Call, open-call, spawn-call, push-call, take-call, sync-call, finish-call, left-call}
 
 -- The name of a task: the top's is [], that of child number k (from 0) of the task named p is k ∷ p. A task's number is
 -- used again once it has finished, a name never.
@@ -26,7 +26,8 @@ numberOf (task p t r k) = t
 unfoldable pub rightsOf : Task → ℕ
 rightsOf (task p t r k) = r
 
--- What a step did; for a spawn the child's number and rights, for the others document 01's arguments.
+-- What a step did; for a spawn the child's number and rights, for the others document 01's arguments. A step that tests a queue is without
+-- effect on it: a take that leaves the value queued or finds none, and a run of none.
 pub data Act : Type 0 where
   spawns : ℕ → ℕ → Act
   pushes : ℕ → ℕ → Act
@@ -70,7 +71,7 @@ unfoldable pub pushesAll : ℕ → ℕ → List ℕ → List Item → List Item
 pushesAll t q [] xs = xs
 pushesAll t q (v ∷ vs) xs = pushesAll t q vs (advance t (pushes q v) xs)
 
--- "A run of none moves and stores nothing": a step without effect on the queue, as a test is.
+-- "A run of none moves and stores nothing."
 unfoldable pub pushesRun : ℕ → ℕ → List ℕ → List Item → List Item
 pushesRun t q [] xs = advance t (tests q) xs
 pushesRun t q (v ∷ vs) xs = pushesAll t q (v ∷ vs) xs
@@ -80,16 +81,24 @@ unfoldable pub counted : Call → ℕ → List Item → List Item
 counted (open-call l n) v xs = begin
 counted (spawn-call t r) v xs = advance t (spawns v r) xs
 counted (push-call t q vs) v xs = pushesRun t q vs xs
-counted (pop-call t q) v xs = advance t (pops q) xs
-counted (test-call t q) v xs = advance t (tests q) xs
+counted (take-call t q keep) v xs = advance t (pick keep (tests q) (pops q)) xs
 counted (sync-call t) v xs = advance t syncs xs
 counted (finish-call t) v xs = advance t finishes xs
 counted (left-call q i) v xs = xs
 
+-- A take that is answered "empty" has moved, and has taken nothing. No other call is answered so.
+unfoldable pub foundNone : Call → List Item → List Item
+foundNone (open-call l n) xs = xs
+foundNone (spawn-call t r) xs = xs
+foundNone (push-call t q vs) xs = xs
+foundNone (take-call t q keep) xs = advance t (tests q) xs
+foundNone (sync-call t) xs = xs
+foundNone (finish-call t) xs = xs
+foundNone (left-call q i) xs = xs
+
 -- the list after a call and its answer
 unfoldable pub noted : Call → Answer → List Item → List Item
 noted c (Moved v) xs = counted c v xs
-noted c Empty xs = counted c 0 xs
-noted c NotEmpty xs = counted c 0 xs
+noted c Empty xs = foundNone c xs
 noted c Waits xs = xs
 noted c (Refused k) xs = xs

@@ -1,4 +1,4 @@
--- Cases that show what opens, where views go, when left answers, in which order calls are turned down and what a run finds. The whole table is a crate
+-- Cases that show what opens, where views go, when left answers, in which order calls are turned down, what a run finds and what a kept take leaves. The whole table is a crate
 -- of its own.
 use mathlib.Core.Path.{_≡_, refl}
 use mathlib.Core.Bool.{true}
@@ -9,6 +9,7 @@ use Rattle.spec_cases.specs.Waiting.{leftLater}
 use Rattle.spec_cases.specs.Refused.{notAllowed}
 use Rattle.spec_cases.specs.Joining.{localHead, lastFreed}
 use Rattle.spec_cases.specs.Runs.{partWay, freedOnTheWay}
+use Rattle.spec_cases.specs.Takes.{keptValue}
 use Rattle.spec_outcomes.specs.Table.{lent, right, Placed, placed, leaves}
 
 pub parent-push-right : right lent parentPush ≡ true
@@ -55,3 +56,7 @@ freed-on-the-way-right = refl
 pub part-way-right : right lent partWay ≡ true
 unfolding right
 part-way-right = refl
+
+pub kept-value-right : right lent keptValue ≡ true
+unfolding right
+kept-value-right = refl

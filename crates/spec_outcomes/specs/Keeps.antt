@@ -1,4 +1,4 @@
--- "no refused or waiting call changes a word": only a call that moves leaves other words, and a test or a left never does.
+-- "no refused or waiting call changes a word": only a call that moves leaves other words, and a kept take or a left never does.
 use mathlib.Core.Path.{_≡_, refl}
 use mathlib.Core.Bool.{Bool, true, false}
 use mathlib.Core.List.{List, [], _∷_}
@@ -6,16 +6,16 @@ use Prim.Native.Nat.{ℕ}
 use Rattle.spec_words.specs.Words.{pick}
 use Rattle.spec_layout.specs.Layout.{queueHead, read}
 use Rattle.spec_answers.specs.declared.Answer.{Answer}
-use Rattle.spec_answers.specs.declared.Answer.the-variants.{Moved, Empty, NotEmpty, Waits, Refused}
+use Rattle.spec_answers.specs.declared.Answer.the-variants.{Moved, Empty, Waits, Refused}
 use Rattle.spec_answers.specs.declared.Finding.{Finding}
 use Rattle.spec_answers.specs.declared.Finding.the-variants as Finding
 use Rattle.spec_answers.specs.Answers.{Outcome, outcome, wordsOf, whenMoved}
-use Rattle.spec_answers.specs.Calls.{Call, open-call, spawn-call, push-call, pop-call, test-call, sync-call, finish-call, left-call}
+use Rattle.spec_answers.specs.Calls.{Call, open-call, spawn-call, push-call, take-call, sync-call, finish-call, left-call}
 use Rattle.spec_outcomes.specs.Waits.{tested}
 use Rattle.spec_outcomes.specs.Open.{openOutcome}
 use Rattle.spec_outcomes.specs.Spawn.{spawned, spawnTested, spawnOutcome}
 use Rattle.spec_outcomes.specs.Push.{pushedApart, pushedBehind, pushed, pushedAll, pushedRun, pushTested, pushOutcome}
-use Rattle.spec_outcomes.specs.Find.{popGives, testGives, popAllowed, popTested, testTested, popOutcome, testOutcome}
+use Rattle.spec_outcomes.specs.Take.{takeGives, popAllowed, takeTested, takeOutcome}
 use Rattle.spec_outcomes.specs.Sync.{whenReduced, syncTested, syncOutcome}
 use Rattle.spec_outcomes.specs.Finish.{finishTested, finishOutcome}
 use Rattle.spec_outcomes.specs.Left.{queued, leftTested, leftOutcome}
@@ -25,7 +25,6 @@ use Rattle.spec_outcomes.specs.Outcomes.{outcomeOf}
 abbrev pub Keeps : List ℕ → Outcome → Type 0
 Keeps m (outcome (Moved v) n) = Unit
 Keeps m (outcome Empty n) = n ≡ m
-Keeps m (outcome NotEmpty n) = n ≡ m
 Keeps m (outcome Waits n) = n ≡ m
 Keeps m (outcome (Refused k) n) = n ≡ m
 
@@ -37,7 +36,6 @@ keeps-pick m false x y p q = q
 keeps-any : (m : List ℕ) (a : Answer) → Keeps m (outcome a m)
 keeps-any m (Moved v) = tt
 keeps-any m Empty = refl
-keeps-any m NotEmpty = refl
 keeps-any m Waits = refl
 keeps-any m (Refused k) = refl
 
@@ -77,7 +75,6 @@ keeps-moved : (m : List ℕ) (o : Outcome) (f : ℕ → List ℕ → Outcome) �
 unfolding whenMoved
 keeps-moved m (outcome (Moved v) n) f p = p v n
 keeps-moved m (outcome Empty n) f p = refl
-keeps-moved m (outcome NotEmpty n) f p = refl
 keeps-moved m (outcome Waits n) f p = refl
 keeps-moved m (outcome (Refused k) n) f p = refl
 
@@ -96,29 +93,22 @@ keeps-allowed : (m : List ℕ) (t q : ℕ) (o : Outcome) → Keeps m o → Keeps
 unfolding popAllowed
 keeps-allowed m t q o p = keeps-pick m _ _ _ refl (keeps-pick m _ _ _ refl (keeps-pick m _ _ _ refl p))
 
-keeps-popped : (m : List ℕ) (t q : ℕ) (f : Finding) → Keeps m (popGives m t q f)
-unfolding popGives
-keeps-popped m t q (Finding.Value v) = tt
-keeps-popped m t q Finding.Empty = refl
-keeps-popped m t q Finding.Waits = refl
-
-keeps-found : (m : List ℕ) (f : Finding) → Keeps m (testGives m f)
-unfolding testGives
-keeps-found m (Finding.Value v) = refl
-keeps-found m Finding.Empty = refl
-keeps-found m Finding.Waits = refl
+keeps-found : (m : List ℕ) (t q : ℕ) (keep : Bool) (f : Finding) → Keeps m (takeGives m t q keep f)
+unfolding takeGives
+keeps-found m t q keep (Finding.Value v) = tt
+keeps-found m t q keep Finding.Empty = refl
+keeps-found m t q keep Finding.Waits = refl
 
 keeps-reduced : (m : List ℕ) (t : ℕ) (b : Bool) (o : Outcome) → Keeps m o → Keeps m (whenReduced m t b o)
 unfolding whenReduced
 keeps-reduced m t b o p = keeps-pick m _ _ _ refl (keeps-pick m _ _ _ refl (keeps-pick m _ _ _ refl p))
 
 pub keeps : (c : Call) (m : List ℕ) → Keeps m (outcomeOf c m)
-unfolding outcomeOf popOutcome popTested testOutcome testTested syncOutcome syncTested finishOutcome finishTested leftOutcome leftTested
+unfolding outcomeOf takeOutcome takeTested syncOutcome syncTested finishOutcome finishTested leftOutcome leftTested
 keeps (open-call l n) m = keeps-open m l n
 keeps (spawn-call t r) m = keeps-spawn m t r
 keeps (push-call t q vs) m = keeps-push m t q vs
-keeps (pop-call t q) m = keeps-tested m _ (keeps-allowed m t q _ (keeps-popped m t q _))
-keeps (test-call t q) m = keeps-tested m _ (keeps-allowed m t q _ (keeps-found m _))
+keeps (take-call t q keep) m = keeps-tested m _ (keeps-allowed m t q _ (keeps-found m t q keep _))
 keeps (sync-call t) m = keeps-tested m _ (keeps-reduced m t _ _ tt)
 keeps (finish-call t) m = keeps-tested m _ (keeps-pick m _ _ _ (keeps-reduced m t _ _ tt) (keeps-reduced m t _ _ tt))
 keeps (left-call q i) m = keeps-tested m _ (keeps-pick m _ _ _ refl (keeps-pick m _ _ _ refl (keeps-any m (queued 256 m (read m (queueHead 0 q)) i))))
@@ -133,16 +123,16 @@ same-tested : (m : List ℕ) (o : Outcome) → wordsOf o ≡ m → wordsOf (test
 unfolding tested wordsOf
 same-tested m o p = same-pick m _ _ _ refl (same-pick m _ _ _ refl p)
 
-same-found : (m : List ℕ) (f : Finding) → wordsOf (testGives m f) ≡ m
-unfolding testGives wordsOf
-same-found m (Finding.Value v) = refl
-same-found m Finding.Empty = refl
-same-found m Finding.Waits = refl
+same-found : (m : List ℕ) (t q : ℕ) (f : Finding) → wordsOf (takeGives m t q true f) ≡ m
+unfolding takeGives wordsOf pick
+same-found m t q (Finding.Value v) = refl
+same-found m t q Finding.Empty = refl
+same-found m t q Finding.Waits = refl
 
--- "Pop takes it; test says "not empty"": a test takes nothing, so it changes no word, whatever it finds.
-pub test-keeps : (t q : ℕ) (m : List ℕ) → wordsOf (outcomeOf (test-call t q) m) ≡ m
-unfolding outcomeOf testOutcome testTested popAllowed wordsOf
-test-keeps t q m = same-tested m _ (same-pick m _ _ _ refl (same-pick m _ _ _ refl (same-pick m _ _ _ refl (same-found m _))))
+-- "told whether the value stays queued": where it stays no word changes, whatever the take finds.
+pub kept-take-keeps : (t q : ℕ) (m : List ℕ) → wordsOf (outcomeOf (take-call t q true) m) ≡ m
+unfolding outcomeOf takeOutcome takeTested popAllowed wordsOf
+kept-take-keeps t q m = same-tested m _ (same-pick m _ _ _ refl (same-pick m _ _ _ refl (same-pick m _ _ _ refl (same-found m t q _))))
 
 -- "Left answers value number index (from 0) still queued": the value stays queued, so no word changes, although the call moves.
 pub left-keeps : (q i : ℕ) (m : List ℕ) → wordsOf (outcomeOf (left-call q i) m) ≡ m

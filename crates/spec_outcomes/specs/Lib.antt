@@ -5,7 +5,7 @@ pub mod Views
 pub mod Waits
 pub mod Spawn
 pub mod Push
-pub mod Find
+pub mod Take
 pub mod Sync
 pub mod Finish
 pub mod Left

@@ -2,11 +2,11 @@
 use mathlib.Core.List.{List, [], _∷_}
 use Prim.Native.Nat.{ℕ}
 use Rattle.spec_answers.specs.Answers.{Outcome, wordsOf}
-use Rattle.spec_answers.specs.Calls.{Call, open-call, spawn-call, push-call, pop-call, test-call, sync-call, finish-call, left-call}
+use Rattle.spec_answers.specs.Calls.{Call, open-call, spawn-call, push-call, take-call, sync-call, finish-call, left-call}
 use Rattle.spec_outcomes.specs.Open.{openOutcome}
 use Rattle.spec_outcomes.specs.Spawn.{spawnOutcome}
 use Rattle.spec_outcomes.specs.Push.{pushOutcome}
-use Rattle.spec_outcomes.specs.Find.{popOutcome, testOutcome}
+use Rattle.spec_outcomes.specs.Take.{takeOutcome}
 use Rattle.spec_outcomes.specs.Sync.{syncOutcome}
 use Rattle.spec_outcomes.specs.Finish.{finishOutcome}
 use Rattle.spec_outcomes.specs.Left.{leftOutcome}
@@ -16,8 +16,7 @@ unfoldable pub outcomeOf : Call → List ℕ → Outcome
 outcomeOf (open-call l n) m = openOutcome m l n
 outcomeOf (spawn-call t r) m = spawnOutcome m t r
 outcomeOf (push-call t q vs) m = pushOutcome m t q vs
-outcomeOf (pop-call t q) m = popOutcome m t q
-outcomeOf (test-call t q) m = testOutcome m t q
+outcomeOf (take-call t q keep) m = takeOutcome m t q keep
 outcomeOf (sync-call t) m = syncOutcome m t
 outcomeOf (finish-call t) m = finishOutcome m t
 outcomeOf (left-call q i) m = leftOutcome m q i

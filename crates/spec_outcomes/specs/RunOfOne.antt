@@ -11,7 +11,7 @@ use borrow.Author.Tests.{eqb-true, eqb-false, lt-ltb, le-ltb, not-true}
 use Rattle.spec_words.specs.Words.{pick, pass, halt, both, both-true, both-on, both-right-on, both-right-off, true-both, either, true-left}
 use Rattle.spec_lists.specs.Counting.{one, below?}
 use Rattle.spec_layout.specs.Layout.{USER, count, lengthOf, freeHeight, read}
-use Rattle.spec_answers.specs.declared.Answer.the-variants.{Moved, Empty, NotEmpty, Waits, Refused}
+use Rattle.spec_answers.specs.declared.Answer.the-variants.{Moved, Empty, Waits, Refused}
 use Rattle.spec_answers.specs.Answers.{Outcome, outcome, whenMoved}
 use Rattle.spec_outcomes.specs.Segments.{noneFree, nextFree}
 use Rattle.spec_outcomes.specs.Views.{viewOf, isEmpty, tailOf}
@@ -69,7 +69,6 @@ module _ (m : List ℕ) (t q : ℕ) where
   unfolding whenMoved
   settled (outcome (Moved v) n) k = refl
   settled (outcome Empty n) k = ap (outcome Empty) (sym k)
-  settled (outcome NotEmpty n) k = ap (outcome NotEmpty) (sym k)
   settled (outcome Waits n) k = ap (outcome Waits) (sym k)
   settled (outcome (Refused j) n) k = ap (outcome (Refused j)) (sym k)
 

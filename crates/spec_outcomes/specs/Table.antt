@@ -27,7 +27,7 @@ use Rattle.spec_outcomes.specs.Spawn.{forQueues, passedUser, passedQueue
 use Rattle.spec_outcomes.specs.Spawn.{spawnOutcome}
 use Rattle.spec_outcomes.specs.Push.{pushedApart, pushedBehind, pushed, pushedAll, linkFrees, capacity, endsAway, runsOut, pushedRun}
 use Rattle.spec_outcomes.specs.Push.{pushTested, pushOutcome}
-use Rattle.spec_outcomes.specs.Find.{hasValue, finding, popped, popGives, testGives, popAllowed, popTested, testTested, popOutcome, testOutcome}
+use Rattle.spec_outcomes.specs.Take.{hasValue, finding, popped, takeGives, popAllowed, takeTested, takeOutcome}
 use Rattle.spec_outcomes.specs.Sync.{syncs, syncedQueue, synced, whenReduced, syncTested, syncOutcome}
 use Rattle.spec_outcomes.specs.Finish.{returned, finishes, viewsReturned, heir, queueReturned, finishedQueue, unlinked, recordFreed, finished, topFinished}
 use Rattle.spec_outcomes.specs.Finish.{finishTested, finishOutcome}
@@ -73,7 +73,7 @@ unfolding load store size pick both either storeAll rows one occurrences each up
     valueAt stored dropped noneFree nextFree taken released indexOf headIndex linkedBy renamed linked viewOf isEmpty headOf tailOf reducible frees behind
     reduced setView joined merged taskAt kindAt takesPart standsAt justBefore returnedTo tested unfinished blocked childPops hasChild pusherBefore
     forQueues passedUser passedQueue keptUser keptQueue childViews passedOn childMade spawned spawnTested spawnOutcome pushedApart pushedBehind pushed
-    pushedAll linkFrees capacity endsAway runsOut pushedRun pushTested pushOutcome hasValue finding popped popGives testGives popAllowed popTested testTested popOutcome testOutcome syncs syncedQueue synced
+    pushedAll linkFrees capacity endsAway runsOut pushedRun pushTested pushOutcome hasValue finding popped takeGives popAllowed takeTested takeOutcome syncs syncedQueue synced
     whenReduced syncTested syncOutcome returned finishes viewsReturned heir queueReturned finishedQueue unlinked recordFreed finished topFinished finishTested
     finishOutcome queued leftTested leftOutcome outcomeOf tried
 computed c m = tried c m

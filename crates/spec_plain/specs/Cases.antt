@@ -6,9 +6,9 @@ use Rattle.spec_words.specs.Words.{load, pick, both}
 use Rattle.spec_order.specs.Steps.{Name}
 use Rattle.spec_order.specs.Waits.{sameName}
 use Rattle.spec_job.specs.Fields.{bytes2, bytes4, offset, instructionFrom, instructionAt}
-use Rattle.spec_job.specs.Operations.{Operation, return, push, pushSum, pop, goIfEmpty, go, goIfZero, add, spawn, sync, rowOf, operationOf, operationAt}
+use Rattle.spec_job.specs.Operations.{Operation, return, push, pushSum, pop, goIfEmpty, go, goIfZero, add, spawn, sync, takeOrGo, rowOf, operationOf, operationAt}
 use Rattle.spec_job.specs.Effects.{Word, spawned, pushed, took, moved, finished, empty, notEmpty, sum, effect}
-use Rattle.spec_job.specs.Examples.{fullRun, wrapping, wrappedSpawn, emptyPop, tested, counted, alone, ins}
+use Rattle.spec_job.specs.Examples.{fullRun, wrapping, wrappedSpawn, emptyPop, tested, takenOrGone, counted, alone, ins}
 use Rattle.spec_plain.specs.Machine.{State, state, Event, begin, queue, front, queuesAfter, advanced, parent, child, stackAfter, effectOn, eventOf, does, step}
 use Rattle.spec_plain.specs.Run.{after, eventIn, next, runFrom, eventsFrom, run, events, answersOf}
 
@@ -46,6 +46,11 @@ pub record Cases : Type 0 where
   -- "(operation 4 "empty" or "not")"
   pub testedEvents : events 4 tested ≡
       did [] goIfEmpty 0 empty 0 ∷ did [] push 0 pushed 7 ∷ did [] goIfEmpty 0 notEmpty 0 ∷ did [] return 0 finished 0 ∷ []
+  -- "answered "took" or "empty"", and each is one step
+  pub takenOrGoneEvents : events 6 takenOrGone ≡
+      did [] push 0 pushed 9 ∷ did [] takeOrGo 0 took 9 ∷ did [] pushSum 1 pushed 9 ∷ did [] takeOrGo 0 empty 0
+      ∷ did [] pushSum 1 pushed 9 ∷ did [] return 0 finished 0 ∷ []
+  pub takenOrGoneEnd : run 6 takenOrGone ≡ state ([] ∷ (9 ∷ 9 ∷ []) ∷ [] ∷ [] ∷ []) [] 6
   pub countedEvents : events 7 counted ≡
       did [] add 0 moved 0 ∷ did [] add 0 moved 0 ∷ did [] goIfZero 0 moved 0 ∷ did [] go 0 moved 0
       ∷ did [] add 0 moved 0 ∷ did [] goIfZero 0 moved 0 ∷ did [] return 0 finished 0 ∷ []
@@ -65,5 +70,7 @@ cases =
       emptyPopEvents = refl;
       emptyPopEnd = refl;
       testedEvents = refl;
+      takenOrGoneEvents = refl;
+      takenOrGoneEnd = refl;
       countedEvents = refl;
     }

@@ -8,7 +8,7 @@ use native.Mathlib.Omega.{arith}
 use Rattle.spec_words.specs.Words.{size}
 use Rattle.spec_answers.specs.declared.Answer.the-variants.{Moved}
 use Rattle.spec_job.specs.Fields.{offset, instructionAt}
-use Rattle.spec_job.specs.Operations.{Operation, return, push, pushSum, pop, goIfEmpty, go, goIfZero, add, spawn, sync, operationAt}
+use Rattle.spec_job.specs.Operations.{Operation, return, push, pushSum, pop, goIfEmpty, go, goIfZero, add, spawn, sync, takeOrGo, operationAt}
 use Rattle.spec_job.specs.Effects.{Effect}
 use Rattle.spec_job.specs.Test.{instructionHolds, jobAnswer}
 use Rattle.spec_job.specs.Accepted.{Accepted, accepted}
@@ -33,6 +33,7 @@ module _ (j : List ℕ) (t : Task) (ts : List Task) (h : Stack j (t ∷ ts)) whe
   stack-after goIfZero e w x st = goes e st
   stack-after add e w x st = goes e st
   stack-after sync e w x st = goes e st
+  stack-after takeOrGo e w x st = goes e st
   stack-after spawn e w x st = (
     st .1,
     record { number = t .children; youngest = refl; name = refl; within = st .2 },

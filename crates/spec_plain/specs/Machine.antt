@@ -8,7 +8,7 @@ use lib.ListN.{getD, set, drop}
 use Rattle.spec_order.specs.Steps.{Name}
 use Rattle.spec_job.specs.declared.Instruction.{Instruction}
 use Rattle.spec_job.specs.Fields.{instructionAt}
-use Rattle.spec_job.specs.Operations.{Operation, return, push, pushSum, pop, goIfEmpty, go, goIfZero, add, spawn, sync, operationAt}
+use Rattle.spec_job.specs.Operations.{Operation, return, push, pushSum, pop, goIfEmpty, go, goIfZero, add, spawn, sync, takeOrGo, operationAt}
 use Rattle.spec_job.specs.Effects.{Word, Effect, sum, effect}
 
 -- A task of the stack: its name in the tree of spawns, its procedure, its next instruction, its register, and how many
@@ -54,6 +54,7 @@ unfoldable pub queuesAfter : Operation → ℕ → ℕ → List (List ℕ) → L
 queuesAfter push q v qs = set qs q (queue qs q ++ (v ∷ []))
 queuesAfter pushSum q v qs = set qs q (queue qs q ++ (v ∷ []))
 queuesAfter pop q v qs = set qs q (drop 1 (queue qs q))
+queuesAfter takeOrGo q v qs = set qs q (drop 1 (queue qs q))
 queuesAfter return q v qs = qs
 queuesAfter goIfEmpty q v qs = qs
 queuesAfter go q v qs = qs
@@ -87,6 +88,7 @@ stackAfter go t e w x ts = advanced t e ∷ ts
 stackAfter goIfZero t e w x ts = advanced t e ∷ ts
 stackAfter add t e w x ts = advanced t e ∷ ts
 stackAfter sync t e w x ts = advanced t e ∷ ts
+stackAfter takeOrGo t e w x ts = advanced t e ∷ ts
 
 -- the effect of instruction s on task t
 unfoldable pub effectOn : List (List ℕ) → Task → Instruction → Effect

@@ -13,7 +13,7 @@ use borrow.Author.Tests.{ltb-true, eqb-true, eqb-false}
 use Rattle.spec_words.specs.Words.{pick, either, either-true, both-true}
 use Rattle.spec_tree.specs.Rights.{subset}
 use Rattle.spec_job.specs.Fields.{procedures, count, rights, instructionAt}
-use Rattle.spec_job.specs.Operations.{Operation, return, push, pushSum, pop, goIfEmpty, go, goIfZero, add, spawn, sync, rowOf, operationOf, operationAt}
+use Rattle.spec_job.specs.Operations.{Operation, return, push, pushSum, pop, goIfEmpty, go, goIfZero, add, spawn, sync, takeOrGo, rowOf, operationOf, operationAt}
 use Rattle.spec_job.specs.Rows.{from, row-past}
 use Rattle.spec_job.specs.Effects.{Effect, effect}
 use Rattle.spec_job.specs.Test.{whichHolds, operandHolds, fitting, instructionHolds, lastHolds}
@@ -40,6 +40,11 @@ module _ (i n r x : ℕ) (l : i + 1 < n) where
   empty-next m none = m
   empty-next m (some v) = l
 
+  gone-next : x < n → (f : Option ℕ) → effect takeOrGo i r x f .next < n
+  unfolding effect
+  gone-next m none = m
+  gone-next m (some v) = l
+
   zero-next : x < n → (b : Bool) → pick b x (i + 1) < n
   unfolding pick
   zero-next m true = m
@@ -56,6 +61,7 @@ StandsAfter j t go e w x = Stands j (advanced t e)
 StandsAfter j t goIfZero e w x = Stands j (advanced t e)
 StandsAfter j t add e w x = Stands j (advanced t e)
 StandsAfter j t sync e w x = Stands j (advanced t e)
+StandsAfter j t takeOrGo e w x = Stands j (advanced t e)
 StandsAfter j t spawn e w x = Stands j (parent (advanced t e)) × Stands j (child t w x) × (subset (rights j w) (rightsOf j t) ≡ true)
 
 module _ (j : List ℕ) (acc : Accepted j) (t : Task) (here : Stands j t) where
@@ -98,8 +104,9 @@ module _ (j : List ℕ) (acc : Accepted j) (t : Task) (here : Stands j t) where
       let p = spawns _ w x (onwards 8 refl refl l) (ltb-true _ _ (s .0)) in
       (p .0, p .1, s .1))
       (from Onward 9 (λ w x f a b l. goes _ (onwards 9 refl refl l))
+      (from Onward 10 (λ w x f a b l. goes _ (gone-next _ _ _ _ (onwards 10 refl refl l) (ltb-true _ _ b) f))
       (λ k past w x f a b l. absurd (false≢true (rw (row-past k past) at a)))
-      )))))))))
+      ))))))))))
 
   -- the instruction of the task passes the job test
   fits : fitting j (rightsOf j t) (count j (t .procedure)) (instructionAt j (t .procedure) (t .position)) ≡ true

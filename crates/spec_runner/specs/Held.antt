@@ -13,7 +13,7 @@ use Rattle.spec_answers.specs.declared.Answer.the-variants.{Moved, Waits, Refus
 use Rattle.spec_answers.specs.Answers.{Outcome, outcome}
 use Rattle.spec_outcomes.specs.Waits.{unfinished, blocked}
 use Rattle.spec_outcomes.specs.Push.{pushedRun, pushTested}
-use Rattle.spec_outcomes.specs.Find.{popAllowed}
+use Rattle.spec_outcomes.specs.Take.{popAllowed}
 use Rattle.spec_outcomes.specs.Spawn.{spawned, spawnTested}
 use Rattle.spec_layout.specs.Layout.{freeTasks, rightsOf, read}
 use lib.Dec.{eqb}

@@ -9,12 +9,12 @@ use Rattle.spec_words.specs.Words.{size, pick, pass, halt, both-right-off}
 use Rattle.spec_layout.specs.Layout.{WORDS}
 use Rattle.spec_answers.specs.declared.Answer.the-variants.{Moved, Waits}
 use Rattle.spec_answers.specs.Answers.{Outcome as CoreOutcome, outcome as answered}
-use Rattle.spec_answers.specs.Calls.{Call, open-call, spawn-call, push-call, pop-call, test-call, sync-call, finish-call, left-call}
+use Rattle.spec_answers.specs.Calls.{Call, open-call, spawn-call, push-call, take-call, sync-call, finish-call, left-call}
 use Rattle.spec_rules.specs.Test.{rulesHold}
 use Rattle.spec_outcomes.specs.Waits.{unfinished, blocked, test-passes}
 use Rattle.spec_outcomes.specs.Spawn.{spawnTested, spawnOutcome}
 use Rattle.spec_outcomes.specs.Push.{pushTested, pushOutcome}
-use Rattle.spec_outcomes.specs.Find.{popTested, testTested, popOutcome, testOutcome}
+use Rattle.spec_outcomes.specs.Take.{takeTested, takeOutcome}
 use Rattle.spec_outcomes.specs.Sync.{syncTested, syncOutcome}
 use Rattle.spec_outcomes.specs.Finish.{finishTested, finishOutcome}
 use Rattle.spec_outcomes.specs.Left.{leftTested, leftOutcome}
@@ -50,12 +50,11 @@ has-moved o p x y f v c = word-moved _ v c ∙ always-moves o p x y f
 -- behind the memory test, where it passes, a core call gives what it gives with the test
 module _ (m : List ℕ) (s : size m ≡ WORDS) (h : rulesHold m ≡ true) where
   pub core-outcome : (c : Call) → coreOutcome c m ≡ outcomeOf c m
-  unfolding coreOutcome outcomeOf spawnOutcome pushOutcome popOutcome testOutcome syncOutcome finishOutcome leftOutcome
+  unfolding coreOutcome outcomeOf spawnOutcome pushOutcome takeOutcome syncOutcome finishOutcome leftOutcome
   core-outcome (open-call l n) = refl
   core-outcome (spawn-call t u) = sym (test-passes m s h (spawnTested m t u))
   core-outcome (push-call t q vs) = sym (test-passes m s h (pushTested m t q vs))
-  core-outcome (pop-call t q) = sym (test-passes m s h (popTested m t q))
-  core-outcome (test-call t q) = sym (test-passes m s h (testTested m t q))
+  core-outcome (take-call t q keep) = sym (test-passes m s h (takeTested m t q keep))
   core-outcome (sync-call t) = sym (test-passes m s h (syncTested m t))
   core-outcome (finish-call t) = sym (test-passes m s h (finishTested m t))
   core-outcome (left-call q i) = sym (test-passes m s h (leftTested m q i))

@@ -7,7 +7,7 @@ use lib.Dec.{leb, ltb, eqb}
 use Rattle.spec_words.specs.Words.{pick, both, either}
 use Rattle.spec_layout.specs.Layout.{NL, USER, freeTasks, count, lengthOf, rightsOf, read}
 use Rattle.spec_answers.specs.declared.Answer.{Answer}
-use Rattle.spec_answers.specs.declared.Answer.the-variants.{Moved, Empty, NotEmpty, Waits, Refused}
+use Rattle.spec_answers.specs.declared.Answer.the-variants.{Moved, Empty, Waits, Refused}
 use Rattle.spec_answers.specs.declared.Finding.{Finding}
 use Rattle.spec_answers.specs.declared.Finding.the-variants as Finding
 use Rattle.spec_tree.specs.Rights.{pushes, pops, subset, eachQueue}
@@ -15,21 +15,20 @@ use Rattle.spec_rules.specs.Views.{view}
 use Rattle.spec_outcomes.specs.Segments.{noneFree, nextFree}
 use Rattle.spec_outcomes.specs.Views.{viewOf, isEmpty, tailOf, reducible, taskAt, kindAt, justBefore}
 use Rattle.spec_outcomes.specs.Waits.{unfinished, blocked, hasChild}
-use Rattle.spec_outcomes.specs.Find.{finding}
+use Rattle.spec_outcomes.specs.Take.{finding}
 use Rattle.spec_outcomes.specs.Sync.{syncs}
 use Rattle.spec_outcomes.specs.Finish.{finishes}
 use Rattle.spec_job.specs.declared.Instruction.{Instruction}
 use Rattle.spec_job.specs.Fields.{rights}
-use Rattle.spec_job.specs.Operations.{Operation, return, push, pushSum, pop, goIfEmpty, go, goIfZero, add, spawn, sync, operationAt}
+use Rattle.spec_job.specs.Operations.{Operation, return, push, pushSum, pop, goIfEmpty, go, goIfZero, add, spawn, sync, takeOrGo, operationAt}
 use Rattle.spec_runner.specs.Words.{instructionFor}
 
--- the step goes on where the core answers so; 7 is no refusal of the step
+-- the step goes on where the core answers so
 unfoldable pub moves : Answer → Bool
 moves (Moved v) = true
 moves Empty = true
-moves NotEmpty = true
 moves Waits = false
-moves (Refused k) = eqb k 7
+moves (Refused k) = false
 
 -- a new segment's head can be reduced into the view at mark x
 unfoldable pub fitsApart : List ℕ → ℕ → ℕ → Bool
@@ -56,9 +55,8 @@ decided (Finding.Value v) = true
 decided Finding.Empty = true
 decided Finding.Waits = false
 
--- pop and test
-unfoldable pub findMoves : List ℕ → ℕ → ℕ → Bool
-findMoves m t q = both (not (leb 4 q)) (both (pops (rightsOf m t) q) (decided (finding m t q)))
+unfoldable pub takeMoves : List ℕ → ℕ → ℕ → Bool
+takeMoves m t q = both (not (leb 4 q)) (both (pops (rightsOf m t) q) (decided (finding m t q)))
 
 unfoldable pub syncMoves : List ℕ → ℕ → Bool
 syncMoves m t = both (not (hasChild m t)) (eachQueue (syncs m t))
@@ -71,13 +69,14 @@ unfoldable pub instructionMoves : Operation → List ℕ → List ℕ → ℕ �
 instructionMoves return j m t s = finishMoves m t
 instructionMoves push j m t s = pushMoves m t (s .which)
 instructionMoves pushSum j m t s = pushMoves m t (s .which)
-instructionMoves pop j m t s = findMoves m t (s .which)
-instructionMoves goIfEmpty j m t s = findMoves m t (s .which)
+instructionMoves pop j m t s = takeMoves m t (s .which)
+instructionMoves goIfEmpty j m t s = takeMoves m t (s .which)
 instructionMoves go j m t s = true
 instructionMoves goIfZero j m t s = true
 instructionMoves add j m t s = true
 instructionMoves spawn j m t s = spawnMoves m t (rights j (s .which))
 instructionMoves sync j m t s = syncMoves m t
+instructionMoves takeOrGo j m t s = takeMoves m t (s .which)
 
 unfoldable pub stepMoves : List ℕ → List ℕ → List ℕ → ℕ → Bool
 stepMoves j m r t =

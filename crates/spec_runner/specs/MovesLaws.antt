@@ -8,7 +8,7 @@ use lib.Dec.{leb, ltb, eqb}
 use Rattle.spec_words.specs.Words.{pick, both, both-right-on, either, pass}
 use Rattle.spec_layout.specs.Layout.{NL, USER, count, lengthOf, rightsOf, read}
 use Rattle.spec_answers.specs.declared.Answer.{Answer}
-use Rattle.spec_answers.specs.declared.Answer.the-variants.{Moved, Empty, NotEmpty, Waits, Refused}
+use Rattle.spec_answers.specs.declared.Answer.the-variants.{Moved, Empty, Waits, Refused}
 use Rattle.spec_answers.specs.declared.Finding.{Finding}
 use Rattle.spec_answers.specs.declared.Finding.the-variants as Finding
 use Rattle.spec_answers.specs.Answers.{Outcome as CoreOutcome, outcome as answered, answerOf as coreAnswer}
@@ -19,20 +19,20 @@ use Rattle.spec_outcomes.specs.Waits.{unfinished, blocked, hasChild}
 use Rattle.spec_outcomes.specs.Push.{pushedApart, pushedBehind, pushed, pushTested}
 use Rattle.spec_outcomes.specs.RunOfOne.{run-of-one}
 use Rattle.spec_outcomes.specs.Spawn.{spawned, spawnTested}
-use Rattle.spec_outcomes.specs.Find.{finding, popGives, testGives, popAllowed, popTested, testTested}
+use Rattle.spec_outcomes.specs.Take.{finding, takeGives, popAllowed, takeTested}
 use Rattle.spec_outcomes.specs.Sync.{whenReduced, syncTested}
 use Rattle.spec_outcomes.specs.Finish.{finishTested}
 use Rattle.spec_job.specs.declared.Instruction.{Instruction}
 use Rattle.spec_job.specs.Fields.{rights}
-use Rattle.spec_job.specs.Operations.{Operation, return, push, pushSum, pop, goIfEmpty, go, goIfZero, add, spawn, sync, operationAt}
+use Rattle.spec_job.specs.Operations.{Operation, return, push, pushSum, pop, goIfEmpty, go, goIfZero, add, spawn, sync, takeOrGo, operationAt}
 use Rattle.spec_runner.specs.declared.StepAnswer.the-variants as Step
 use Rattle.spec_runner.specs.Words.{instructionFor, registerOf}
 use Rattle.spec_runner.specs.Answers.{hasMoved, Outcome, outcome, answerOf}
 use Rattle.spec_runner.specs.Rules.{tested}
-use Rattle.spec_runner.specs.Step.{callOf, goes, stops, replyOf, done, replied, coreOutcome, repliedTo, makes, stepTested, stepOutcome}
+use Rattle.spec_runner.specs.Step.{callOf, replyOf, done, replied, coreOutcome, repliedTo, makes, stepTested, stepOutcome}
 use Rattle.spec_runner.specs.Laws.{has-moved}
 use Rattle.spec_runner.specs.Ready.{readyBit}
-use Rattle.spec_runner.specs.Moves.{moves, fitsApart, hasRoom, valueFits, pushMoves, spawnMoves, decided, findMoves, syncMoves, finishMoves}
+use Rattle.spec_runner.specs.Moves.{moves, fitsApart, hasRoom, valueFits, pushMoves, spawnMoves, decided, takeMoves, syncMoves, finishMoves}
 use Rattle.spec_runner.specs.Moves.{instructionMoves, stepMoves}
 
 -- what an outcome says of the step
@@ -48,16 +48,16 @@ unfolding pick
 chosen true x y = refl
 chosen false x y = refl
 
--- a rung of a ladder of refusals, which are not 7, and one that waits
-turned : (b : Bool) (k : ℕ) (w : List ℕ) (o : CoreOutcome) → eqb k 7 ≡ false → goesOn (pick b (answered (Refused k) w) o) ≡ both (not b) (goesOn o)
+-- a rung of a ladder of refusals, and one that waits
+turned : (b : Bool) (k : ℕ) (w : List ℕ) (o : CoreOutcome) → goesOn (pick b (answered (Refused k) w) o) ≡ both (not b) (goesOn o)
 unfolding goesOn moves coreAnswer pick both
-turned true k w o e = e
-turned false k w o e = refl
+turned true k w o = refl
+turned false k w o = refl
 
-lacking : (b : Bool) (k : ℕ) (w : List ℕ) (o : CoreOutcome) → eqb k 7 ≡ false → goesOn (pick (not b) (answered (Refused k) w) o) ≡ both b (goesOn o)
+lacking : (b : Bool) (k : ℕ) (w : List ℕ) (o : CoreOutcome) → goesOn (pick (not b) (answered (Refused k) w) o) ≡ both b (goesOn o)
 unfolding goesOn moves coreAnswer pick both
-lacking true k w o e = refl
-lacking false k w o e = e
+lacking true k w o = refl
+lacking false k w o = refl
 
 waiting : (b : Bool) (w : List ℕ) (o : CoreOutcome) → goesOn (pick b (answered Waits w) o) ≡ both (not b) (goesOn o)
 unfolding goesOn moves coreAnswer pick both
@@ -68,7 +68,7 @@ waiting false w o = refl
 module _ (m : List ℕ) (t : ℕ) (alive : unfinished m t ≡ true) (free : blocked m t ≡ false) where
   apart : (q v x : ℕ) → goesOn (pushedApart m t q v x) ≡ fitsApart m q x
   unfolding pushedApart fitsApart
-  apart q v x = lacking _ 2 _ _ refl ∙ both-right-on _ (gives v _)
+  apart q v x = lacking _ 2 _ _ ∙ both-right-on _ (gives v _)
 
   behind : (q v e : ℕ) → goesOn (pushedBehind m t q v e) ≡ true
   unfolding pushedBehind
@@ -79,61 +79,48 @@ module _ (m : List ℕ) (t : ℕ) (alive : unfinished m t ≡ true) (free : bloc
   fits q v =
       chosen _ _ _
       ∙ ap₂ (pick (isEmpty (viewOf m q t USER)))
-      (turned _ 9 _ _ refl ∙ ap (both (not (noneFree m q))) (apart q v (justBefore m q t)))
-      (turned _ 2 _ _ refl
+      (turned _ 9 _ _ ∙ ap (both (not (noneFree m q))) (apart q v (justBefore m q t)))
+      (turned _ 2 _ _
       ∙ ap (both (not (leb NL (tailOf (viewOf m q t USER)))))
       (chosen _ _ _
       ∙ ap₂ (pick (ltb (read m (count (tailOf (viewOf m q t USER)))) (lengthOf m (tailOf (viewOf m q t USER)))))
       (gives v _)
-      (turned _ 9 _ _ refl ∙ both-right-on _ (behind q v _))))
+      (turned _ 9 _ _ ∙ both-right-on _ (behind q v _))))
 
   -- a run of one, in segments that have a place
   pub push-moves : ((s : ℕ) → 0 < lengthOf m s) → (q v : ℕ) → moves (coreAnswer (pushTested m t q (v ∷ []))) ≡ pushMoves m t q
   unfolding goesOn pushTested pushMoves
   push-moves wide q v =
       ap goesOn (pass _ (ap not alive) refl)
-      ∙ turned _ 5 _ _ refl
+      ∙ turned _ 5 _ _
       ∙ ap (both (not (leb 4 q)))
-      (lacking _ 6 _ _ refl ∙ ap (both (pushes (rightsOf m t) q)) (ap goesOn (pass _ free (run-of-one m t q wide v)) ∙ fits q v))
+      (lacking _ 6 _ _ ∙ ap (both (pushes (rightsOf m t) q)) (ap goesOn (pass _ free (run-of-one m t q wide v)) ∙ fits q v))
 
   pub spawn-moves : (a : ℕ) → moves (coreAnswer (spawnTested m t a)) ≡ spawnMoves m t a
   unfolding goesOn spawnTested spawned spawnMoves
   spawn-moves a =
       ap goesOn (pass _ (ap not alive) refl)
-      ∙ lacking _ 6 _ _ refl
-      ∙ ap (both (subset a (rightsOf m t))) (ap goesOn (pass _ free refl) ∙ turned _ 8 _ _ refl ∙ both-right-on _ (gives _ _))
+      ∙ lacking _ 6 _ _
+      ∙ ap (both (subset a (rightsOf m t))) (ap goesOn (pass _ free refl) ∙ turned _ 8 _ _ ∙ both-right-on _ (gives _ _))
 
-  allowed : (q : ℕ) (o : CoreOutcome) → goesOn o ≡ decided (finding m t q) → goesOn (popAllowed m t q o) ≡ findMoves m t q
-  unfolding popAllowed findMoves
-  allowed q o e =
+  pub take-moves : (q : ℕ) (keep : Bool) → moves (coreAnswer (takeTested m t q keep)) ≡ takeMoves m t q
+  unfolding goesOn takeTested popAllowed takeMoves
+  take-moves q keep =
       ap goesOn (pass _ (ap not alive) refl)
-      ∙ turned _ 5 _ _ refl
-      ∙ ap (both (not (leb 4 q))) (lacking _ 6 _ _ refl ∙ ap (both (pops (rightsOf m t) q)) e)
-
-  pub pop-moves : (q : ℕ) → moves (coreAnswer (popTested m t q)) ≡ findMoves m t q
-  unfolding goesOn popTested
-  pop-moves q = allowed q _ (go (finding m t q))
+      ∙ turned _ 5 _ _
+      ∙ ap (both (not (leb 4 q))) (lacking _ 6 _ _ ∙ ap (both (pops (rightsOf m t) q)) (found (finding m t q)))
     where
-      go : (f : Finding) → goesOn (popGives m t q f) ≡ decided f
-      go (Finding.Value v) = unfold goesOn in unfold popGives in unfold moves in unfold coreAnswer in unfold decided in refl
-      go Finding.Empty = unfold goesOn in unfold popGives in unfold moves in unfold coreAnswer in unfold decided in refl
-      go Finding.Waits = unfold goesOn in unfold popGives in unfold moves in unfold coreAnswer in unfold decided in refl
-
-  pub test-moves : (q : ℕ) → moves (coreAnswer (testTested m t q)) ≡ findMoves m t q
-  unfolding goesOn testTested
-  test-moves q = allowed q _ (go (finding m t q))
-    where
-      go : (f : Finding) → goesOn (testGives m f) ≡ decided f
-      go (Finding.Value v) = unfold goesOn in unfold testGives in unfold moves in unfold coreAnswer in unfold decided in refl
-      go Finding.Empty = unfold goesOn in unfold testGives in unfold moves in unfold coreAnswer in unfold decided in refl
-      go Finding.Waits = unfold goesOn in unfold testGives in unfold moves in unfold coreAnswer in unfold decided in refl
+      found : (f : Finding) → goesOn (takeGives m t q keep f) ≡ decided f
+      found (Finding.Value v) = unfold goesOn takeGives moves coreAnswer decided in refl
+      found Finding.Empty = unfold goesOn takeGives moves coreAnswer decided in refl
+      found Finding.Waits = unfold goesOn takeGives moves coreAnswer decided in refl
 
   reduces : (a : Bool) (v : ℕ) (w : List ℕ) → goesOn (whenReduced m t a (answered (Moved v) w)) ≡ both (not (hasChild m t)) a
   unfolding whenReduced either
   reduces a v w =
       ap goesOn (pass _ (ap not alive) refl)
       ∙ waiting _ _ _
-      ∙ ap₂ (λ (x y : Bool). both (not x) y) (pass _ free refl) (lacking a 2 _ _ refl ∙ both-right-on _ (gives v w))
+      ∙ ap₂ (λ (x y : Bool). both (not x) y) (pass _ free refl) (lacking a 2 _ _ ∙ both-right-on _ (gives v w))
 
   pub sync-moves : moves (coreAnswer (syncTested m t)) ≡ syncMoves m t
   unfolding goesOn syncTested syncMoves
@@ -156,13 +143,8 @@ replied-moves : (t : ℕ) (s : Instruction) (a : Answer) (n m r : List ℕ) → 
 unfolding replied replyOf moves
 replied-moves t s (Moved v) n m r = done-moves t s (some v) v n r
 replied-moves t s Empty n m r = done-moves t s none 0 n r
-replied-moves t s NotEmpty n m r = done-moves t s (some 0) 0 n r
 replied-moves t s Waits n m r = unfold answerOf in unfold hasMoved in refl
-replied-moves t s (Refused k) n m r = turn (eqb k 7)
-  where
-    turn : (b : Bool) → hasMoved (answerOf (replied t s (pick b (goes none 0) (stops (Step.Refused k))) n m r)) ≡ b
-    turn true = unfold pick in done-moves t s none 0 n r
-    turn false = unfold pick in unfold answerOf in unfold hasMoved in refl
+replied-moves t s (Refused k) n m r = unfold answerOf in unfold hasMoved in refl
 
 module _ (j m r : List ℕ) (t : ℕ) (wide : (s : ℕ) → 0 < lengthOf m s) where
   called : (s : Instruction) (o : CoreOutcome) (b : Bool) → moves (coreAnswer o) ≡ b → hasMoved (answerOf (repliedTo t s o m r)) ≡ b
@@ -175,13 +157,14 @@ module _ (j m r : List ℕ) (t : ℕ) (wide : (s : ℕ) → 0 < lengthOf m s) wh
   made alive free return x s = called s _ _ (finish-moves m t alive free)
   made alive free push x s = called s _ _ (push-moves m t alive free wide (s .which) _)
   made alive free pushSum x s = called s _ _ (push-moves m t alive free wide (s .which) _)
-  made alive free pop x s = called s _ _ (pop-moves m t alive free (s .which))
-  made alive free goIfEmpty x s = called s _ _ (test-moves m t alive free (s .which))
+  made alive free pop x s = called s _ _ (take-moves m t alive free (s .which) false)
+  made alive free goIfEmpty x s = called s _ _ (take-moves m t alive free (s .which) true)
   made alive free go x s = done-moves t s none 0 m r
   made alive free goIfZero x s = done-moves t s none 0 m r
   made alive free add x s = done-moves t s none 0 m r
   made alive free spawn x s = called s _ _ (spawn-moves m t alive free (rights j (s .which)))
   made alive free sync x s = called s _ _ (sync-moves m t alive free)
+  made alive free takeOrGo x s = called s _ _ (take-moves m t alive free (s .which) false)
 
   pub step-moves : hasMoved (answerOf (stepTested j m r t)) ≡ stepMoves j m r t
   unfolding stepTested stepMoves

@@ -1,25 +1,24 @@
 -- A STEP OF TASK t: the instruction that it is at, by a call of the core where the operation has one.
-use mathlib.Core.Bool.{not}
+use mathlib.Core.Bool.{true, false, not}
 use mathlib.Core.List.{List, [], _∷_}
 use mathlib.Core.Option.{Option, none, some}
 use Prim.Native.Nat.{ℕ}
-use lib.Dec.{eqb}
 use Rattle.spec_words.specs.Words.{pick}
 use Rattle.spec_answers.specs.declared.Answer.{Answer}
-use Rattle.spec_answers.specs.declared.Answer.the-variants.{Moved, Empty, NotEmpty, Waits, Refused}
+use Rattle.spec_answers.specs.declared.Answer.the-variants.{Moved, Empty, Waits, Refused}
 use Rattle.spec_answers.specs.Answers.{Outcome as CoreOutcome, outcome as answered}
-use Rattle.spec_answers.specs.Calls.{Call, open-call, spawn-call, push-call, pop-call, test-call, sync-call, finish-call, left-call}
+use Rattle.spec_answers.specs.Calls.{Call, open-call, spawn-call, push-call, take-call, sync-call, finish-call, left-call}
 use Rattle.spec_outcomes.specs.Waits.{unfinished, blocked}
 use Rattle.spec_outcomes.specs.Open.{openOutcome}
 use Rattle.spec_outcomes.specs.Spawn.{spawnTested}
 use Rattle.spec_outcomes.specs.Push.{pushTested}
-use Rattle.spec_outcomes.specs.Find.{popTested, testTested}
+use Rattle.spec_outcomes.specs.Take.{takeTested}
 use Rattle.spec_outcomes.specs.Sync.{syncTested}
 use Rattle.spec_outcomes.specs.Finish.{finishTested}
 use Rattle.spec_outcomes.specs.Left.{leftTested}
 use Rattle.spec_job.specs.declared.Instruction.{Instruction}
 use Rattle.spec_job.specs.Fields.{rights}
-use Rattle.spec_job.specs.Operations.{Operation, return, push, pushSum, pop, goIfEmpty, go, goIfZero, add, spawn, sync, operationAt}
+use Rattle.spec_job.specs.Operations.{Operation, return, push, pushSum, pop, goIfEmpty, go, goIfZero, add, spawn, sync, takeOrGo, operationAt}
 use Rattle.spec_job.specs.Effects.{Effect, sum, effect}
 use Rattle.spec_runner.specs.declared.StepAnswer.{StepAnswer}
 use Rattle.spec_runner.specs.declared.StepAnswer.the-variants as Step
@@ -27,21 +26,23 @@ use Rattle.spec_runner.specs.Words.{procedureOf, positionOf, registerOf,
 use Rattle.spec_runner.specs.Answers.{answerWith, Outcome, outcome}
 use Rattle.spec_runner.specs.Rules.{tested}
 
--- The core call that instruction s makes for task t with register x: a push is of one value. Operations 5, 6 and 7 make none.
+-- The core call that instruction s makes for task t with register x: a push is of one value, and operation 4 leaves the value queued.
+-- Operations 5, 6 and 7 make none.
 unfoldable pub callOf : Operation → List ℕ → ℕ → ℕ → Instruction → Option Call
 callOf return j t x s = some (finish-call t)
 callOf push j t x s = some (push-call t (s .which) (s .operand ∷ []))
 callOf pushSum j t x s = some (push-call t (s .which) (sum x (s .operand) ∷ []))
-callOf pop j t x s = some (pop-call t (s .which))
-callOf goIfEmpty j t x s = some (test-call t (s .which))
+callOf pop j t x s = some (take-call t (s .which) false)
+callOf goIfEmpty j t x s = some (take-call t (s .which) true)
 callOf go j t x s = none
 callOf goIfZero j t x s = none
 callOf add j t x s = none
 callOf spawn j t x s = some (spawn-call t (rights j (s .which)))
 callOf sync j t x s = some (sync-call t)
+callOf takeOrGo j t x s = some (take-call t (s .which) false)
 
 -- What the core's answer means for the step: it goes on, with what was found and with the value that the call returned; or it
--- does not. "A pop on an empty queue .. moves on": 7 is no refusal of the step.
+-- does not.
 pub data Reply : Type 0 where
   goes : Option ℕ → ℕ → Reply
   stops : StepAnswer → Reply
@@ -49,9 +50,8 @@ pub data Reply : Type 0 where
 unfoldable pub replyOf : Answer → Reply
 replyOf (Moved v) = goes (some v) v
 replyOf Empty = goes none 0
-replyOf NotEmpty = goes (some 0) 0
 replyOf Waits = stops Step.Waits
-replyOf (Refused k) = pick (eqb k 7) (goes none 0) (stops (Step.Refused k))
+replyOf (Refused k) = stops (Step.Refused k)
 
 -- task t goes on with effect e
 abbrev pub goesOn : ℕ → Effect → List ℕ → List ℕ
@@ -69,6 +69,7 @@ runnerAfter go t c s e r = goesOn t e r
 runnerAfter goIfZero t c s e r = goesOn t e r
 runnerAfter add t c s e r = goesOn t e r
 runnerAfter sync t c s e r = goesOn t e r
+runnerAfter takeOrGo t c s e r = goesOn t e r
 
 -- Task t does instruction s: f is what it found, c the number of a new task, n the core's words from then on.
 unfoldable pub done : ℕ → Instruction → Option ℕ → ℕ → List ℕ → List ℕ → Outcome
@@ -85,8 +86,7 @@ replied t s (stops a) n m r = outcome a m r
 unfoldable pub coreOutcome : Call → List ℕ → CoreOutcome
 coreOutcome (spawn-call t u) m = spawnTested m t u
 coreOutcome (push-call t q vs) m = pushTested m t q vs
-coreOutcome (pop-call t q) m = popTested m t q
-coreOutcome (test-call t q) m = testTested m t q
+coreOutcome (take-call t q keep) m = takeTested m t q keep
 coreOutcome (sync-call t) m = syncTested m t
 coreOutcome (finish-call t) m = finishTested m t
 coreOutcome (open-call l n) m = openOutcome m l n

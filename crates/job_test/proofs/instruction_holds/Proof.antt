@@ -36,14 +36,15 @@ returns-7 : tie.Need-returns-7
 returns-7 c =
     fits _ _ _ (c .before .before .before .instruction-inside .ensures)
     (and-both _ _ ∙ gone-to _ _ _ _ _ _
-    (above 4 _ (above 3 _ (c .before .if1 .left) (c .before .before .match .rest .0 .0 .0 .1)) (c .before .before .match .rest .0 .0 .1)) (c .if2 .taken))
+    (above 4 _ (above 3 _ (c .before .if1 .left) (c .before .before .match .rest .0 .0 .0 .1)) (λ e. c .before .before .match .rest .0 .0 .1 (inl e)))
+    (c .if2 .taken))
 
 returns-8 : tie.Need-returns-8
 returns-8 c =
     fits _ _ _ (c .before .before .before .instruction-inside .ensures)
     (undefined _ _ _ _ _ _
-    (above 9 _ (above 8 _ (above 7 _ (c .if2 .left) (c .before .before .match .rest .0 .1)) (c .before .before .match .rest .1))
-    (λ e. c .before .before .match .rest .0 .0 .0 .0 .1 (inr e))))
+    (above 10 _ (above 9 _ (above 8 _ (above 7 _ (c .if2 .left) (c .before .before .match .rest .0 .1)) (c .before .before .match .rest .1))
+    (λ e. c .before .before .match .rest .0 .0 .0 .0 .1 (inr e))) (λ e. c .before .before .match .rest .0 .0 .1 (inr e))))
 
 pub instruction-holds-spec : {M : Type 1} → statement M
 instruction-holds-spec =

@@ -1,5 +1,5 @@
-use Rattle.runner_step.proofs.Calls.{push-made, sum-made, pop-made, test-made}
-use Rattle.runner_step.proofs.Numbers.{last-of-four}
+use Rattle.runner_step.proofs.Calls.{push-made, sum-made, kept-made, take-made}
+use Rattle.runner_step.proofs.Numbers.{three-or-ten}
 use borrow.Author.Needs.{needs}
 use Rattle.runner_step.proofs.queue_call.Statement.{statement}
 use Rattle.runner_step.proofs.queue_call.Tie as tie
@@ -13,12 +13,10 @@ returns-2 c =
     (c .before .before .push-one2 .ensures)
 
 returns-3 : tie.Need-returns-3
-returns-3 c = pop-made _ _ _ _ _ (c .before .before .before .before .match .keys3) (c .before .before .pop .ensures)
+returns-3 c = kept-made _ _ _ _ _ (c .before .before .before .before .match .keys3) (c .before .before .take .ensures)
 
 returns-4 : tie.Need-returns-4
-returns-4 c =
-    test-made _ _ _ _ _ (last-of-four _ (c .before .before .before .before .before .before .pre .2) (c .before .before .before .before .before .before .pre .3)
-    (c .before .before .before .before .match .rest)) (c .before .before .test .ensures)
+returns-4 c = take-made _ _ _ _ _ (three-or-ten _ (c .before .before .before .before .before .before .pre .2) (c .before .before .before .before .match .rest)) (c .before .before .take2 .ensures)
 
 pub queue-call-spec : {M : Type 1} → statement M
 queue-call-spec =

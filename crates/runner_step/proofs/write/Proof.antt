@@ -1,6 +1,5 @@
 -- Each arm has the numbers of the operations after which the runner's words are alike.
-use Rattle.runner_step.proofs.Writes.{spawn-writes, goes-writes, sync-writes, finish-writes}
-use Rattle.spec_job.specs.Rows.{above}
+use Rattle.runner_step.proofs.Writes.{spawn-writes, goes-writes, finish-writes}
 use native.Mathlib.Omega.{arith}
 use mathlib.Core.Logic.{inl, inr, ⊎-elim}
 use borrow.Author.Needs.{needs}
@@ -16,17 +15,10 @@ returns c =
     (c .before .before .put2 .ensures)
 
 returns-2 : tie.Need-returns-2
-returns-2 c =
-    finish-writes _ _ _ _ _ _ _ (⊎-elim (λ s. inl (omega (arith, s .taken)))
-    (λ s. inr (above 9 _ (above 8 _ (s .1 .left) (c .before .before .before .before .before .match .rest .0 .1))
-    (c .before .before .before .before .before .match .rest .1))) (c .before .before .before .before .if1 .came)) (c .before .before .put3 .ensures)
+returns-2 c = goes-writes _ _ _ _ _ _ (c .before .before .before .before .before .before .before .before .before .before .procedure .ensures) _ (c .before .before .put3 .ensures) (c .before .before .before .before .before .if1 .left) (c .before .before .before .before .if2 .taken) (c .before .before .before .before .before .before .match .rest .1)
 
 returns-3 : tie.Need-returns-3
-returns-3 c =
-    ⊎-elim (λ s. sync-writes _ _ _ _ _ _ (c .before .before .before .before .before .before .before .before .procedure .ensures) _
-    (c .before .before .put4 .ensures) (s .keys2))
-    (λ s. goes-writes _ _ _ _ _ _ (c .before .before .before .before .before .before .before .before .procedure .ensures) _ (c .before .before .put4 .ensures)
-    (s .1 .left) (s .2 .taken)) (c .before .before .before .before .match .came)
+returns-3 c = finish-writes _ _ _ _ _ _ _ (⊎-elim (λ s. inl (omega (arith, s .taken))) (λ s. inr (s .1 .left)) (c .before .before .before .before .if1 .came)) (c .before .before .put4 .ensures)
 
 pub write-spec : {M : Type 1} → statement M
 write-spec =

@@ -6,6 +6,5 @@ use Rattle.runner_words.proofs.refusal_in.Tie as tie
 pub refusal-in-spec : {M : Type 1} → statement M
 refusal-in-spec =
     tie.close
-    (tie.spec (λ c. search needs) (λ c. search needs) (λ c. search needs) (λ c. search needs) (λ c. search needs)
-    (λ c. unfold refusalIn in search needs) (λ c. unfold refusalIn in search needs) (λ c. unfold refusalIn in search needs)
-    (λ c. unfold refusalIn in search needs) (λ c. unfold refusalIn in search needs))
+    (tie.spec (λ c. search needs) (λ c. search needs) (λ c. search needs) (λ c. search needs) (λ c. unfold refusalIn in search needs)
+    (λ c. unfold refusalIn in search needs) (λ c. unfold refusalIn in search needs) (λ c. unfold refusalIn in search needs))

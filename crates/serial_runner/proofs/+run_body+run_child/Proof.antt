@@ -1,12 +1,12 @@
 -- The loop's invariant, `Goes`: the run from the start of the body is the run from instruction i on. A step, a child and a return each keep it.
-use Rattle.serial_runner.proofs.Arms.{inner-nine, inner-low, inner-some, eight-some, none-low, none-high}
+use Rattle.serial_runner.proofs.Arms.{inner, inner-some, eight-some, none-low}
 use Rattle.serial_runner.proofs.Measures.{body-falls, child-falls, size-kept}
 use Rattle.serial_runner.specs.Child.{child-too-deep, child-runs}
 use Rattle.serial_runner.specs.Body.{position-small, Goes, goes-start, body-spent, body-full, body-returns, body-stops, goes-inner, child-less}
 use Rattle.serial_runner.specs.Body.{goes-child}
 use Rattle.spec_serial.specs.Working.{lists}
 use mathlib.Core.Path.{_≡_, refl, sym, _∙_}
-use mathlib.Core.Logic.{⊎-elim}
+use mathlib.Core.Logic.{inr, ⊎-elim}
 use lib.ListN.{length}
 use native.Mathlib.Omega.{arith}
 use borrow.Author.Needs.{needs}
@@ -57,12 +57,12 @@ body-claims t = (
   wrapping-add-u32-reads.Learnt,
   run-child-below t,
   run-child.Post,
-  write-answer-reads.Asked,
-  write-answer-reads.Learnt,
   is-full-reads.Asked,
   is-full-reads.Learnt,
   step-reads.Asked,
   step-reads.Learnt,
+  write-answer-reads.Asked,
+  write-answer-reads.Learnt,
 )
 
 abbrev child-claims : ℕ → run-child-lts.Claims
@@ -169,97 +169,70 @@ run-body-loop-again t c =
           (c .before .before .before .before .before .before .run-child .ensures) (c .before .match2 .keys1),
     )
 
-run-body-sub-write-answer : (t : ℕ) → run-body-lts.Need-sub-write-answer (body-claims t) (run-body-at t) run-body.Post run-body-Inv-loop run-body-μ-loop
-run-body-sub-write-answer t c =
-    let f = c .before .before .before .before .before .loop .inv .4 .fewer in
-    omega (arith, f, c .before .before .before .before .before .before .before .before .before .pre .1 .3)
-
-run-body-write-answer-requires : (t : ℕ) → run-body-lts.Need-write-answer-requires (body-claims t) (run-body-at t) run-body.Post run-body-Inv-loop
-    run-body-μ-loop
-run-body-write-answer-requires t c κs = search needs
-
-run-body-sub-left : (t : ℕ) → run-body-lts.Need-sub-left (body-claims t) (run-body-at t) run-body.Post run-body-Inv-loop run-body-μ-loop
-run-body-sub-left t c = c .before .before .before .before .before .before .before .loop-test .taken
+run-body-is-full-requires : (t : ℕ) → run-body-lts.Need-is-full-requires (body-claims t) (run-body-at t) run-body.Post run-body-Inv-loop run-body-μ-loop
+run-body-is-full-requires t c κs = search needs
 
 run-body-same-length-3 : (t : ℕ) → run-body-lts.Need-same-length-3 (body-claims t) (run-body-at t) run-body.Post run-body-Inv-loop run-body-μ-loop
 run-body-same-length-3 t c = c .before .before .before .before .before .before .before .before .loop .inv .0
 
 run-body-same-length-4 : (t : ℕ) → run-body-lts.Need-same-length-4 (body-claims t) (run-body-at t) run-body.Post run-body-Inv-loop run-body-μ-loop
-run-body-same-length-4 t c = c .before .before .write-answer .kept .0 ∙ c .before .before .before .before .before .before .before .before .loop .inv .1
+run-body-same-length-4 t c = c .before .before .before .before .before .before .before .before .loop .inv .1
 
 run-body-returns-2 : (t : ℕ) → run-body-lts.Need-returns-2 (body-claims t) (run-body-at t) run-body.Post run-body-Inv-loop run-body-μ-loop
 run-body-returns-2 t c =
-    body-returns _ _ _ _ _ _ _ _ _ (c .before .before .before .before .before .before .before .before .loop .inv .4)
-    (c .before .before .before .before .before .before .before .before .before .before .before .before .pre .1 .3) _
-    (c .before .before .before .before .before .before .instruction-at .ensures) (c .before .before .before .before .before .before .before .loop-test .taken)
-    (⊎-elim (λ s. none-low _ (s .taken))
-    (λ s. none-high _ (s .1 .left) (c .before .before .before .before .before .match .rest .0 .1) (c .before .before .before .before .before .match .rest .1))
-    (c .before .before .before .before .if1 .came)) (c .before .before .write-answer .ensures)
-
-run-body-is-full-requires : (t : ℕ) → run-body-lts.Need-is-full-requires (body-claims t) (run-body-at t) run-body.Post run-body-Inv-loop run-body-μ-loop
-run-body-is-full-requires t c κs = search needs
-
-run-body-same-length-5 : (t : ℕ) → run-body-lts.Need-same-length-5 (body-claims t) (run-body-at t) run-body.Post run-body-Inv-loop run-body-μ-loop
-run-body-same-length-5 t c = c .before .before .before .before .before .before .loop .inv .0
-
-run-body-same-length-6 : (t : ℕ) → run-body-lts.Need-same-length-6 (body-claims t) (run-body-at t) run-body.Post run-body-Inv-loop run-body-μ-loop
-run-body-same-length-6 t c = c .before .before .before .before .before .before .loop .inv .1
-
-run-body-returns-3 : (t : ℕ) → run-body-lts.Need-returns-3 (body-claims t) (run-body-at t) run-body.Post run-body-Inv-loop run-body-μ-loop
-run-body-returns-3 t c =
-    body-full _ _ _ _ _ _ _ _ _ (c .before .before .before .before .before .before .loop .inv .4)
-    (c .before .before .before .before .before .before .before .before .before .before .pre .1 .3) _
-    (c .before .before .before .before .instruction-at .ensures) (c .before .before .before .before .before .loop-test .taken)
-    ((⊎-elim (λ s. inner-nine _ (s .keys2)) (λ s. inner-low _ (s .1 .left) (s .2 .taken)) (c .before .before .before .match .came)) .inside)
+    body-full _ _ _ _ _ _ _ _ _ (c .before .before .before .before .before .before .before .before .loop .inv .4) (c .before .before .before .before .before .before .before .before .before .before .before .before .pre .1 .3) _ (c .before .before .before .before .before .before .instruction-at .ensures) (c .before .before .before .before .before .before .before .loop-test .taken) (c .before .before .before .before .before .match .rest .1)
     (sym (c .before .is-full .ensures) ∙ c .if3 .taken)
 
 run-body-step-requires : (t : ℕ) → run-body-lts.Need-step-requires (body-claims t) (run-body-at t) run-body.Post run-body-Inv-loop run-body-μ-loop
 run-body-step-requires t c κs =
-    let h = ⊎-elim (λ s. inner-nine _ (s .keys2)) (λ s. inner-low _ (s .1 .left) (s .2 .taken)) (c .before .before .before .before .match .came) in (
-      size-kept _ _ _ (c .before .before .before .before .before .before .before .loop .inv .0)
-          (c .before .before .before .before .before .before .before .before .before .before .before .pre .1 .0),
+    let h = inner _ (c .before .before .before .before .before .if1 .left) (c .before .before .before .before .if2 .taken) (c .before .before .before .before .before .before .match .rest .1) in (
+      size-kept _ _ _ (c .before .before .before .before .before .before .before .before .before .loop .inv .0) (c .before .before .before .before .before .before .before .before .before .before .before .before .before .pre .1 .0),
       h,
-      sym (c .before .before .is-full .ensures)
-          ∙ c .before .if3 .left,
-      position-small _ _ _ _ _ (c .before .before .before .before .before .instruction-at .ensures) (inner-some _ h)
-          (c .before .before .before .before .before .before .before .before .before .before .before .pre .1 .1),
+      sym (c .before .before .is-full .ensures) ∙ c .before .if3 .left,
+      position-small _ _ _ _ _ (c .before .before .before .before .before .before .before .instruction-at .ensures) (inner-some _ h) (c .before .before .before .before .before .before .before .before .before .before .before .before .before .pre .1 .1),
     )
 
-run-body-sub-write-answer-2 : (t : ℕ) → run-body-lts.Need-sub-write-answer-2 (body-claims t) (run-body-at t) run-body.Post run-body-Inv-loop run-body-μ-loop
-run-body-sub-write-answer-2 t c =
-    let f = c .before .before .before .before .before .before .before .before .before .before .before .loop .inv .4 .fewer in
-    omega (arith, f, c .before .before .before .before .before .before .before .before .before .before .before .before .before .before .before .pre .1 .3)
+run-body-sub-write-answer : (t : ℕ) → run-body-lts.Need-sub-write-answer (body-claims t) (run-body-at t) run-body.Post run-body-Inv-loop run-body-μ-loop
+run-body-sub-write-answer t c = let f = c .before .before .before .before .before .before .before .before .before .before .before .before .before .loop .inv .4 .fewer in omega (arith, f, c .before .before .before .before .before .before .before .before .before .before .before .before .before .before .before .before .before .pre .1 .3)
 
-run-body-write-answer-requires-2 : (t : ℕ) → run-body-lts.Need-write-answer-requires-2 (body-claims t) (run-body-at t) run-body.Post run-body-Inv-loop
-    run-body-μ-loop
-run-body-write-answer-requires-2 t c κs = search needs
+run-body-write-answer-requires : (t : ℕ) → run-body-lts.Need-write-answer-requires (body-claims t) (run-body-at t) run-body.Post run-body-Inv-loop run-body-μ-loop
+run-body-write-answer-requires t c κs = search needs
 
-run-body-sub-left-2 : (t : ℕ) → run-body-lts.Need-sub-left-2 (body-claims t) (run-body-at t) run-body.Post run-body-Inv-loop run-body-μ-loop
-run-body-sub-left-2 t c = c .before .before .before .before .before .before .before .before .before .before .before .before .before .loop-test .taken
+run-body-sub-left : (t : ℕ) → run-body-lts.Need-sub-left (body-claims t) (run-body-at t) run-body.Post run-body-Inv-loop run-body-μ-loop
+run-body-sub-left t c = c .before .before .before .before .before .before .before .before .before .before .before .before .before .before .before .loop-test .taken
 
 run-body-loop-less-2 : (t : ℕ) → run-body-lts.Need-loop-less-2 (body-claims t) (run-body-at t) run-body.Post run-body-Inv-loop run-body-μ-loop
-run-body-loop-less-2 t c =
-    omega (arith, c .before .before .before .before .before .before .before .before .before .before .before .before .before .loop-test .taken)
+run-body-loop-less-2 t c = omega (arith, c .before .before .before .before .before .before .before .before .before .before .before .before .before .before .before .loop-test .taken)
 
 run-body-loop-again-2 : (t : ℕ) → run-body-lts.Need-loop-again-2 (body-claims t) (run-body-at t) run-body.Post run-body-Inv-loop run-body-μ-loop
 run-body-loop-again-2 t c = (
-  c .before .before .before .before .before .before .step .kept .0
-      ∙ c .before .before .before .before .before .before .before .before .before .before .before .before .before .before .loop .inv .0,
-  c .before .before .write-answer2 .kept .0
-      ∙ c .before .before .before .before .before .before .before .before .before .before .before .before .before .before .loop .inv .1,
+  c .before .before .before .before .before .before .step .kept .0 ∙ c .before .before .before .before .before .before .before .before .before .before .before .before .before .before .before .before .loop .inv .0,
+  c .before .before .write-answer .kept .0 ∙ c .before .before .before .before .before .before .before .before .before .before .before .before .before .before .before .before .loop .inv .1,
   search needs,
   search needs,
-  goes-inner _ _ _ _ _ _ _ _ _
-      (c .before .before .before .before .before .before .before .before .before .before .before .before .before .before .loop .inv .4)
-      (c .before .before .before .before .before .before .before .before .before .before .before .before .before .before .before .before .before .before .pre .1
-      .3) _ (c .before .before .before .before .before .before .before .before .before .before .before .before .instruction-at .ensures)
-      (c .before .before .before .before .before .before .before .before .before .before .before .before .before .loop-test .taken) _ _
-      (⊎-elim (λ s. inner-nine _ (s .keys2)) (λ s. inner-low _ (s .1 .left) (s .2 .taken))
-      (c .before .before .before .before .before .before .before .before .before .before .before .match .came))
-      (sym (c .before .before .before .before .before .before .before .before .before .is-full .ensures)
-      ∙ c .before .before .before .before .before .before .before .before .if3 .left) (c .before .before .before .before .before .before .step .ensures)
-      (c .before .before .write-answer2 .ensures),
+  goes-inner _ _ _ _ _ _ _ _ _ (c .before .before .before .before .before .before .before .before .before .before .before .before .before .before .before .before .loop .inv .4) (c .before .before .before .before .before .before .before .before .before .before .before .before .before .before .before .before .before .before .before .before .pre .1 .3) _ (c .before .before .before .before .before .before .before .before .before .before .before .before .before .before .instruction-at .ensures) (c .before .before .before .before .before .before .before .before .before .before .before .before .before .before .before .loop-test .taken) _ _
+      (inner _ (c .before .before .before .before .before .before .before .before .before .before .before .before .if1 .left) (c .before .before .before .before .before .before .before .before .before .before .before .if2 .taken) (c .before .before .before .before .before .before .before .before .before .before .before .before .before .match .rest .1)) (sym (c .before .before .before .before .before .before .before .before .before .is-full .ensures) ∙ c .before .before .before .before .before .before .before .before .if3 .left) (c .before .before .before .before .before .before .step .ensures) (c .before .before .write-answer .ensures),
 )
+
+run-body-sub-write-answer-2 : (t : ℕ) → run-body-lts.Need-sub-write-answer-2 (body-claims t) (run-body-at t) run-body.Post run-body-Inv-loop run-body-μ-loop
+run-body-sub-write-answer-2 t c = let f = c .before .before .before .before .before .loop .inv .4 .fewer in omega (arith, f, c .before .before .before .before .before .before .before .before .before .pre .1 .3)
+
+run-body-write-answer-requires-2 : (t : ℕ) → run-body-lts.Need-write-answer-requires-2 (body-claims t) (run-body-at t) run-body.Post run-body-Inv-loop run-body-μ-loop
+run-body-write-answer-requires-2 t c κs = search needs
+
+run-body-sub-left-2 : (t : ℕ) → run-body-lts.Need-sub-left-2 (body-claims t) (run-body-at t) run-body.Post run-body-Inv-loop run-body-μ-loop
+run-body-sub-left-2 t c = c .before .before .before .before .before .before .before .loop-test .taken
+
+run-body-same-length-5 : (t : ℕ) → run-body-lts.Need-same-length-5 (body-claims t) (run-body-at t) run-body.Post run-body-Inv-loop run-body-μ-loop
+run-body-same-length-5 t c = c .before .before .before .before .before .before .before .before .loop .inv .0
+
+run-body-same-length-6 : (t : ℕ) → run-body-lts.Need-same-length-6 (body-claims t) (run-body-at t) run-body.Post run-body-Inv-loop run-body-μ-loop
+run-body-same-length-6 t c = c .before .before .write-answer2 .kept .0 ∙ c .before .before .before .before .before .before .before .before .loop .inv .1
+
+run-body-returns-3 : (t : ℕ) → run-body-lts.Need-returns-3 (body-claims t) (run-body-at t) run-body.Post run-body-Inv-loop run-body-μ-loop
+run-body-returns-3 t c =
+    body-returns _ _ _ _ _ _ _ _ _ (c .before .before .before .before .before .before .before .before .loop .inv .4) (c .before .before .before .before .before .before .before .before .before .before .before .before .pre .1 .3) _ (c .before .before .before .before .before .before .instruction-at .ensures) (c .before .before .before .before .before .before .before .loop-test .taken)
+    (⊎-elim (λ s. none-low _ (s .taken)) (λ s. inr (s .1 .left)) (c .before .before .before .before .if1 .came)) (c .before .before .write-answer2 .ensures)
 
 run-body-same-length-7 : (t : ℕ) → run-body-lts.Need-same-length-7 (body-claims t) (run-body-at t) run-body.Post run-body-Inv-loop run-body-μ-loop
 run-body-same-length-7 t c = c .before .loop .inv .0
@@ -339,22 +312,22 @@ pub +run-body+run-child-spec : {M : Type 1} → statement M
     (run-body-add-i t)
     (run-body-loop-less t)
     (run-body-loop-again t)
-    (run-body-sub-write-answer t)
-    (run-body-write-answer-requires t)
-    (run-body-sub-left t)
+    (run-body-is-full-requires t)
     (run-body-same-length-3 t)
     (run-body-same-length-4 t)
     (run-body-returns-2 t)
-    (run-body-is-full-requires t)
-    (run-body-same-length-5 t)
-    (run-body-same-length-6 t)
-    (run-body-returns-3 t)
     (run-body-step-requires t)
+    (run-body-sub-write-answer t)
+    (run-body-write-answer-requires t)
+    (run-body-sub-left t)
+    (run-body-loop-less-2 t)
+    (run-body-loop-again-2 t)
     (run-body-sub-write-answer-2 t)
     (run-body-write-answer-requires-2 t)
     (run-body-sub-left-2 t)
-    (run-body-loop-less-2 t)
-    (run-body-loop-again-2 t)
+    (run-body-same-length-5 t)
+    (run-body-same-length-6 t)
+    (run-body-returns-3 t)
     (run-body-same-length-7 t)
     (run-body-same-length-8 t)
     (run-body-returns-4 t))
