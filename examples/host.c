@@ -6,6 +6,9 @@
 
 #define WORDS words, HQ_WORDS
 #define BLOCK 40
+/* What hq_take does with the value. */
+#define TAKE 0
+#define KEEP 1
 
 static uint32_t words[HQ_WORDS];
 
@@ -35,7 +38,7 @@ static uint64_t cut_block(uint32_t task) {
 
 /* Check takes a piece, marks it and hands it on, if one is there. */
 static void check(uint32_t task) {
-    uint64_t taken = hq_pop(WORDS, task, 0);
+    uint64_t taken = hq_take(WORDS, task, 0, TAKE);
     if (HQ_STATUS(taken) == HQ_WAITS)
         printf("check waits\n");
     if (HQ_HAS_MOVED(taken)) {
@@ -48,12 +51,12 @@ static void check(uint32_t task) {
 
 /* Print takes a piece; false once none will come. */
 static int print(uint32_t task) {
-    uint64_t taken = hq_pop(WORDS, task, 1);
+    uint64_t taken = hq_take(WORDS, task, 1, TAKE);
     if (HQ_STATUS(taken) == HQ_WAITS)
         printf("print waits\n");
     if (HQ_HAS_MOVED(taken))
         printf("print shows %u\n", HQ_VALUE(taken));
-    return HQ_STATUS(taken) != HQ_PAST_THE_END;
+    return HQ_STATUS(taken) != HQ_EMPTY;
 }
 
 int main(void) {
@@ -71,7 +74,9 @@ int main(void) {
         print(printer);
         check(checker);
     }
-    /* Check ends early: the other pieces stay in queue 0. */
+    /* Check ends early: the other pieces stay in queue 0. It looks at the next
+     * one, which stays too. */
+    printf("check leaves %u\n", moved(hq_take(WORDS, checker, 0, KEEP)));
     moved(hq_finish(WORDS, cut));
     moved(hq_finish(WORDS, checker));
     while (print(printer)) {

@@ -1,14 +1,14 @@
 //! The bench of host.c: cut makes blocks of pieces, check marks pieces, print
 //! shows them. Queue 0 goes from cut to check, queue 1 from check to print.
 
-use hyperqueue::core::{finish, left, may_pop, may_push, open, pop, push, spawn, WORDS};
+use hyperqueue::core::{finish, left, may_pop, may_push, open, peek, push, spawn, take, WORDS};
 use hyperqueue::Answer;
 
 const BLOCK: u32 = 40;
 
 /// A stage takes a piece; nothing once none will come.
-fn take(words: &mut [u32], name: &str, task: u32, queue: u32) -> Option<u32> {
-    let answer = pop(words, task, queue);
+fn taken(words: &mut [u32], name: &str, task: u32, queue: u32) -> Option<u32> {
+    let answer = take(words, task, queue);
     if answer.status == Answer::WAITS {
         println!("{name} waits");
     }
@@ -22,10 +22,10 @@ fn moved(answer: Answer) -> u32 {
 
 /// Print shows a piece, then check marks one and hands it on, if they are there.
 fn turn(words: &mut [u32], check: u32, print: u32) {
-    take(words, "print", print, 1).inspect(|piece| println!("print shows {piece}"));
-    if let Some(taken) = take(words, "check", check, 0) {
-        println!("check takes {taken}");
-        moved(push(words, check, 1, &[taken + 100]));
+    taken(words, "print", print, 1).inspect(|piece| println!("print shows {piece}"));
+    if let Some(piece) = taken(words, "check", check, 0) {
+        println!("check takes {piece}");
+        moved(push(words, check, 1, &[piece + 100]));
     }
 }
 
@@ -53,10 +53,12 @@ fn main() {
     for _ in 0..3 {
         turn(&mut words, check, print);
     }
-    // Check ends early: the other pieces stay in queue 0.
+    // Check ends early: the other pieces stay in queue 0. It looks at the next
+    // one, which stays too.
+    println!("check leaves {}", moved(peek(&mut words, check, 0)));
     moved(finish(&mut words, cut));
     moved(finish(&mut words, check));
-    while let Some(piece) = take(&mut words, "print", print, 1) {
+    while let Some(piece) = taken(&mut words, "print", print, 1) {
         println!("print shows {piece}");
     }
     moved(finish(&mut words, print));

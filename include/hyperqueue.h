@@ -28,7 +28,7 @@ extern "C" {
 #endif
 
 /* The version of the library. */
-#define HQ_VERSION "0.4.0"
+#define HQ_VERSION "0.5.0"
 
 /* An answer that is not looked at is mostly an error: where the compiler can,
  * it says so. */
@@ -59,7 +59,7 @@ enum {
     HQ_NO_SUCH_TASK = 4,  /* no unfinished task has this number */
     HQ_NO_SUCH_QUEUE = 5, /* queues are 0 to 3 */
     HQ_NO_RIGHT = 6,      /* the task lacks the right */
-    HQ_PAST_THE_END = 7,  /* pop, left: no value is there */
+    HQ_PAST_THE_END = 7,  /* left: no value is there */
     HQ_NO_RECORD = 8,     /* spawn: 128 tasks are unfinished */
     HQ_NO_SEGMENT = 9,    /* push: too few segments are free for the run */
     HQ_JOB_HEAD = 10,     /* a job too short, or its first numbers wrong */
@@ -67,8 +67,8 @@ enum {
     HQ_JOB_BODY = 12,     /* an instruction of a job is wrong */
     HQ_TRACE_FORM = 13,   /* a line of a trace is none, or there are too many */
     HQ_WAITS = 32,
-    HQ_EMPTY = 33,     /* test: a pop would find no value */
-    HQ_NOT_EMPTY = 34, /* test: a pop would find a value */
+    HQ_EMPTY = 33,     /* take, or a step: no value is there, none will come */
+    HQ_NOT_EMPTY = 34, /* a step of operation 4: a value is there */
     HQ_SPENT = 35,     /* a run without overlap made 65,535 steps */
     HQ_DIFFERS = 36,   /* a trace: the value is the first line that differs */
     HQ_AGREES = 37,    /* a trace: no line of it differs */
@@ -140,12 +140,14 @@ HQ_ANSWER hq_spawn(uint32_t *words, size_t len, uint32_t task, uint32_t rights);
 HQ_ANSWER hq_push(uint32_t *words, size_t len, uint32_t task, uint32_t queue,
                  const uint32_t *values, size_t count);
 
-/* The value of the answer is the one taken: the next in the order of a run in
- * which every child ends before its parent goes on. */
-HQ_ANSWER hq_pop(uint32_t *words, size_t len, uint32_t task, uint32_t queue);
-
-/* HQ_EMPTY or HQ_NOT_EMPTY; no word changes. */
-HQ_ANSWER hq_test(uint32_t *words, size_t len, uint32_t task, uint32_t queue);
+/* Takes the next value, in the order of a run in which every child ends before
+ * its parent goes on; it asks for the right to pop. With keep 0 the value is
+ * taken; with any other number it stays queued and no word changes. The answer
+ * is HQ_MOVED with the value either way; HQ_EMPTY where no value is there and
+ * none will come, which changes no word; HQ_WAITS where one may still come; or
+ * a refusal. */
+HQ_ANSWER hq_take(uint32_t *words, size_t len, uint32_t task, uint32_t queue,
+                 uint32_t keep);
 
 /* Moves once `task` has no unfinished child. */
 HQ_ANSWER hq_sync(uint32_t *words, size_t len, uint32_t task);
@@ -180,8 +182,10 @@ HQ_ANSWER hq_job_open(const uint8_t *job, size_t job_len, uint32_t *words,
 
 /* The next instruction of an unfinished task: one of HQ_TASK_SPAWNED to
  * HQ_TASK_MOVED, HQ_EMPTY or HQ_NOT_EMPTY where it moved; HQ_WAITS, or a
- * refusal, and then no word has changed. A pop on an empty queue moves on with
- * HQ_EMPTY. Once the top has finished, hq_left gives the values left. */
+ * refusal, and then no word has changed. An empty queue is a move with HQ_EMPTY:
+ * operation 3 goes on to the next instruction, operations 4 and 10 go to their
+ * operand. HQ_NOT_EMPTY is an answer of operation 4 alone. Once the top has
+ * finished, hq_left gives the values left. */
 HQ_ANSWER hq_job_step(const uint8_t *job, size_t job_len, uint32_t *words,
                      size_t len, uint32_t *runner, size_t runner_len,
                      uint32_t task);

@@ -4,10 +4,8 @@
 pub enum Answer {
     /// The call moved, with its value.
     Moved(u32),
-    /// A test that moved and found the queue empty.
+    /// A take that moved and found the queue empty.
     Empty,
-    /// A test that moved and found a value.
-    NotEmpty,
     Waits,
     /// Turned down, with its number in document 01's table.
     Refused(u32),
@@ -24,14 +22,13 @@ pub const NO_RECORD: Answer = Answer::Refused(8);
 pub const NO_SEGMENT: Answer = Answer::Refused(9);
 
 impl Answer {
-    /// The number of the case: 0 moved, k refused with k, 32, 33, 34.
+    /// The number of the case: 0 moved, k refused with k, 32, 33.
     pub fn number(self) -> u32 {
         match self {
             Answer::Moved(_) => 0,
             Answer::Refused(k) => k,
             Answer::Waits => 32,
             Answer::Empty => 33,
-            Answer::NotEmpty => 34,
         }
     }
 

@@ -20,13 +20,11 @@ pub enum Call {
         queue: u32,
         values: Vec<u32>,
     },
-    Pop {
+    /// The first value of a queue, which stays queued with `keep`.
+    Take {
         task: u32,
         queue: u32,
-    },
-    Test {
-        task: u32,
-        queue: u32,
+        keep: bool,
     },
     Sync {
         task: u32,
@@ -75,8 +73,7 @@ impl Call {
                 queue,
                 ref values,
             } => calls::push(m, task, queue, values),
-            Call::Pop { task, queue } => calls::pop(m, task, queue),
-            Call::Test { task, queue } => calls::test(m, task, queue),
+            Call::Take { task, queue, keep } => calls::take(m, task, queue, keep),
             Call::Sync { task } => calls::sync(m, task),
             Call::Finish { task } => calls::finish(m, task),
             Call::Left { queue, index } => calls::left(m, queue, index),
@@ -109,8 +106,10 @@ impl fmt::Display for Call {
             } => {
                 format!("push(task {task}, queue {queue}, {})", run_text(values))
             }
-            Call::Pop { task, queue } => format!("pop(task {task}, queue {queue})"),
-            Call::Test { task, queue } => format!("test(task {task}, queue {queue})"),
+            Call::Take { task, queue, keep } => {
+                let kept = if *keep { ", keep" } else { "" };
+                format!("take(task {task}, queue {queue}{kept})")
+            }
             Call::Sync { task } => format!("sync(task {task})"),
             Call::Finish { task } => format!("finish(task {task})"),
             Call::Left { queue, index } => format!("left(queue {queue}, index {index})"),
@@ -136,6 +135,17 @@ mod tests {
             ),
         ] {
             assert_eq!(Call::push(3, 1, values).to_string(), due);
+        }
+    }
+
+    #[test]
+    fn takes_in_words() {
+        for (keep, due) in [
+            (false, "take(task 3, queue 1)"),
+            (true, "take(task 3, queue 1, keep)"),
+        ] {
+            let (task, queue) = (3, 1);
+            assert_eq!(Call::Take { task, queue, keep }.to_string(), due);
         }
     }
 }

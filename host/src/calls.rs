@@ -1,4 +1,4 @@
-//! The eight calls of the core, on any words of any number.
+//! The seven calls of the core, on any words of any number.
 //!
 //! Each call tests in the order of document 01's table, and writes only when
 //! nothing can turn it down any more. What follows the memory test stands in a
@@ -48,7 +48,7 @@ fn queue_exists(q: u32) -> Passed {
     refuse_if(q >= QUEUES, NO_SUCH_QUEUE)
 }
 
-/// Test 6 of push, pop and test.
+/// Test 6 of push and take.
 fn right_held(m: &[u32], t: u32, bit: u32) -> Passed {
     refuse_if(!tree::holds(m, t, bit), NO_RIGHT)
 }
@@ -192,17 +192,9 @@ pub(crate) fn try_push(m: &mut [u32], t: u32, q: u32, run: &[u32]) -> Tried {
     Ok(Answer::Moved(*last))
 }
 
-/// What pop and test find.
-#[derive(Clone, Copy, Debug, PartialEq, Eq)]
-enum Finding {
-    /// A value, the first of this segment.
-    Value(u32),
-    Empty,
-    Waits,
-}
-
-/// The tests of pop and test, and what they find.
-fn find(m: &[u32], t: u32, q: u32) -> Result<Finding, Answer> {
+/// The tests of a take; the segment that has the first value, none where the
+/// queue is empty.
+fn find(m: &[u32], t: u32, q: u32) -> Result<Option<u32>, Answer> {
     task_unfinished(m, t)?;
     queue_exists(q)?;
     right_held(m, t, pop_right(q))?;
@@ -210,47 +202,38 @@ fn find(m: &[u32], t: u32, q: u32) -> Result<Finding, Answer> {
     refuse_if(tree::waits_for_popping_child(m, t, q), Answer::Waits)?;
     let head = get(m, queue_head(t, q));
     // Only the last segment of a chain may be empty, so the first one tells.
-    Ok(if head != NONE && count(m, head) != 0 {
-        Finding::Value(head)
-    } else if tree::pusher_before(m, t, q) {
-        Finding::Waits
-    } else {
-        Finding::Empty
-    })
-}
-
-/// Pops from queue `q`; the value is the one taken.
-pub fn pop(m: &mut [u32], t: u32, q: u32) -> Answer {
-    whole(m, |m| try_pop(m, t, q))
-}
-
-pub(crate) fn try_pop(m: &mut [u32], t: u32, q: u32) -> Tried {
-    match find(m, t, q)? {
-        Finding::Empty => Err(PAST_THE_END),
-        Finding::Waits => Err(Answer::Waits),
-        Finding::Value(s) => {
-            let value = pools::value(m, s, 0);
-            pools::drop_first(m, s);
-            let after = next(m, s);
-            if count(m, s) == 0 && after != NONE {
-                put(m, queue_head(t, q), after);
-                pools::free_segment(m, s);
-            }
-            Ok(Answer::Moved(value))
-        }
+    if head != NONE && count(m, head) != 0 {
+        return Ok(Some(head));
     }
+    refuse_if(tree::pusher_before(m, t, q), Answer::Waits)?;
+    Ok(None)
 }
 
-/// Is queue `q` empty for `t`? No word changes.
-pub fn test(m: &mut [u32], t: u32, q: u32) -> Answer {
-    whole(m, |m| try_test(m, t, q))
+/// Takes the first value of queue `q`, or tells it with `keep`: then, and where
+/// the queue is empty, no word changes.
+pub fn take(m: &mut [u32], t: u32, q: u32, keep: bool) -> Answer {
+    whole(m, |m| try_take(m, t, q, keep))
 }
 
-pub(crate) fn try_test(m: &[u32], t: u32, q: u32) -> Tried {
-    match find(m, t, q)? {
-        Finding::Value(_) => Ok(Answer::NotEmpty),
-        Finding::Empty => Ok(Answer::Empty),
-        Finding::Waits => Err(Answer::Waits),
+pub(crate) fn try_take(m: &mut [u32], t: u32, q: u32, keep: bool) -> Tried {
+    let Some(s) = find(m, t, q)? else {
+        return Ok(Answer::Empty);
+    };
+    let value = pools::value(m, s, 0);
+    if !keep {
+        drop_value(m, t, q, s);
+    }
+    Ok(Answer::Moved(value))
+}
+
+/// The first value of the head segment `s` goes, and `s` with its last one if
+/// another follows.
+fn drop_value(m: &mut [u32], t: u32, q: u32, s: u32) {
+    pools::drop_first(m, s);
+    let after = next(m, s);
+    if count(m, s) == 0 && after != NONE {
+        put(m, queue_head(t, q), after);
+        pools::free_segment(m, s);
     }
 }
 

@@ -42,7 +42,7 @@ impl Pair {
             return Err(format!("{call}: {answer:?}, by program order {due:?}"));
         }
         if answer.moved() {
-            self.order.note(call);
+            self.order.note(call, answer);
         } else if self.memory != self.before {
             return Err(format!("{call}: {answer:?}, and words changed"));
         }

@@ -4,15 +4,15 @@
 use crate::call::Call;
 use std::fs;
 
-const CORE_3: &str = concat!(env!("CARGO_MANIFEST_DIR"), "/tests/vectors/core-3.txt");
+const CORE_4: &str = concat!(env!("CARGO_MANIFEST_DIR"), "/tests/vectors/core-4.txt");
 
 /// A call and its answer: status and value.
 pub type Answered = (Call, (u32, u32));
 
-/// The vectors that hold once request 3 is in: for each core its opening and the
+/// The vectors that hold once request 4 is in: for each core its opening and the
 /// calls on it.
-pub fn core_3() -> Vec<Vec<Answered>> {
-    let text = fs::read_to_string(CORE_3).expect("the file of the vectors");
+pub fn core_4() -> Vec<Vec<Answered>> {
+    let text = fs::read_to_string(CORE_4).expect("the file of the vectors");
     let mut cores: Vec<Vec<Answered>> = Vec::new();
     for line in text.lines().filter(|line| !line.starts_with('#')) {
         let words: Vec<&str> = line.split(' ').collect();
@@ -45,13 +45,10 @@ fn call(words: &[&str]) -> Call {
             rights: argument(2),
         },
         "push" => Call::push(argument(1), argument(2), &run(&words[3..])),
-        "pop" => Call::Pop {
+        "take" => Call::Take {
             task: argument(1),
             queue: argument(2),
-        },
-        "test" => Call::Test {
-            task: argument(1),
-            queue: argument(2),
+            keep: argument(3) != 0,
         },
         "sync" => Call::Sync { task: argument(1) },
         "finish" => Call::Finish { task: argument(1) },

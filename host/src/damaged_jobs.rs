@@ -6,7 +6,7 @@ use crate::operations::{OPERATIONS, QUEUES};
 use crate::random::Random;
 
 /// Bytes of limits and just past them.
-const LIMITS: [u8; 14] = [0, 1, 2, 3, 4, 5, 9, 10, 63, 64, 65, 128, 129, 255];
+const LIMITS: [u8; 14] = [0, 1, 2, 3, 4, 5, 10, 11, 63, 64, 65, 128, 129, 255];
 
 /// A job, damaged at random.
 pub fn damaged(r: &mut Random, job: &[u8]) -> Vec<u8> {

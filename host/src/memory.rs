@@ -7,7 +7,7 @@ use crate::layout::*;
 use crate::views::{self, View, EMPTY};
 use crate::{fast, rules};
 
-pub use crate::answer::Answer::{Empty, Moved, NotEmpty, Refused, Waits};
+pub use crate::answer::Answer::{Empty, Moved, Refused, Waits};
 
 /// Short names for the calls, by what makes a call.
 pub trait Calls {
@@ -26,12 +26,15 @@ pub trait Calls {
         self.make(&Call::push(task, queue, values))
     }
 
-    fn pop(&mut self, task: u32, queue: u32) -> Answer {
-        self.make(&Call::Pop { task, queue })
+    fn take(&mut self, task: u32, queue: u32) -> Answer {
+        let keep = false;
+        self.make(&Call::Take { task, queue, keep })
     }
 
-    fn test(&mut self, task: u32, queue: u32) -> Answer {
-        self.make(&Call::Test { task, queue })
+    /// A take whose value stays queued.
+    fn peek(&mut self, task: u32, queue: u32) -> Answer {
+        let keep = true;
+        self.make(&Call::Take { task, queue, keep })
     }
 
     fn sync(&mut self, task: u32) -> Answer {

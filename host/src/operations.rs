@@ -1,4 +1,4 @@
-//! The ten operations of a job in one table: what the two fields of an
+//! The eleven operations of a job in one table: what the two fields of an
 //! instruction mean, and which right it needs. The job test, the plain machine,
 //! the assembler and the random jobs all read this table.
 
@@ -68,8 +68,9 @@ pub const GO_IF_ZERO: u8 = 6;
 pub const ADD: u8 = 7;
 pub const SPAWN: u8 = 8;
 pub const SYNC: u8 = 9;
+pub const TAKE_OR_GO: u8 = 10;
 
-pub const OPERATIONS: [Operation; 10] = [
+pub const OPERATIONS: [Operation; 11] = [
     operation("return", Which::Unused, Operand::Unused),
     operation("push", Which::Queue(Right::Push), Operand::Value),
     operation("push-register", Which::Queue(Right::Push), Operand::Addend),
@@ -80,6 +81,7 @@ pub const OPERATIONS: [Operation; 10] = [
     operation("add", Which::Unused, Operand::Addend),
     operation("spawn", Which::Procedure, Operand::Addend),
     operation("sync", Which::Unused, Operand::Unused),
+    operation("take-or-go", Which::Queue(Right::Pop), Operand::Target),
 ];
 
 const fn operation(name: &'static str, which: Which, operand: Operand) -> Operation {

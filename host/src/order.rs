@@ -17,11 +17,11 @@ enum Item {
         queue: u32,
         value: u32,
     },
-    Pop {
+    Take {
         queue: u32,
     },
-    /// A spawn, test, sync or finish, or a run of none: it moved, and no queue
-    /// changed.
+    /// A spawn, sync or finish, a run of none, or a take that found nothing or
+    /// kept the value: it moved, and no queue changed.
     Other,
     /// Where the next step of this unfinished task would stand.
     Spot(u32),
@@ -33,7 +33,7 @@ struct Task {
     parent: Option<u32>,
 }
 
-/// What pop and test find.
+/// What a take finds.
 #[derive(Clone, Copy, Debug, PartialEq, Eq)]
 pub enum Finding {
     Value(u32),
@@ -125,7 +125,7 @@ impl Order {
                 Item::Push { queue, value } if queue == q => {
                     pending.push_back((value, pusher_before));
                 }
-                Item::Pop { queue } if queue == q => {
+                Item::Take { queue } if queue == q => {
                     pending.pop_front();
                 }
                 Item::Spot(t) if t == caller => break,
@@ -146,7 +146,7 @@ impl Order {
         for item in &self.items {
             match *item {
                 Item::Push { queue, value } if queue == q => list.push_back(value),
-                Item::Pop { queue } if queue == q => drop(list.pop_front()),
+                Item::Take { queue } if queue == q => drop(list.pop_front()),
                 _ => {}
             }
         }
@@ -164,8 +164,7 @@ impl Order {
                 queue,
                 ref values,
             } => self.push(task, queue, values),
-            Call::Pop { task, queue } => self.pop(task, queue),
-            Call::Test { task, queue } => self.test(task, queue),
+            Call::Take { task, queue, .. } => self.take(task, queue),
             Call::Sync { task } | Call::Finish { task } => self.end(task),
             Call::Left { queue, index } => self.left(queue, index),
         };
@@ -203,28 +202,16 @@ impl Order {
         Ok(Answer::Moved(values.last().copied().unwrap_or(0)))
     }
 
-    /// The tests that pop and test share.
-    fn look(&self, t: u32, q: u32) -> Result<Finding, Answer> {
+    /// Whether the value is kept does not matter to the answer.
+    fn take(&self, t: u32, q: u32) -> Result<Answer, Answer> {
         let task = self.unfinished(t)?;
         Order::unless(q >= QUEUES, NO_SUCH_QUEUE)?;
         Order::unless(task.rights & pop_right(q) == 0, NO_RIGHT)?;
         Order::unless(self.waits_for_sibling(t), Answer::Waits)?;
         let pops = |rights| rights & pop_right(q) != 0;
         Order::unless(self.has_child_with(t, pops), Answer::Waits)?;
-        Ok(self.finding(t, q))
-    }
-
-    fn pop(&self, t: u32, q: u32) -> Result<Answer, Answer> {
-        match self.look(t, q)? {
-            Finding::Value(value) => Ok(Answer::Moved(value)),
-            Finding::Empty => Err(PAST_THE_END),
-            Finding::Waits => Err(Answer::Waits),
-        }
-    }
-
-    fn test(&self, t: u32, q: u32) -> Result<Answer, Answer> {
-        Ok(match self.look(t, q)? {
-            Finding::Value(_) => Answer::NotEmpty,
+        Ok(match self.finding(t, q) {
+            Finding::Value(value) => Answer::Moved(value),
             Finding::Empty => Answer::Empty,
             Finding::Waits => Answer::Waits,
         })
@@ -245,8 +232,8 @@ impl Order {
         Ok(Answer::Moved(*value))
     }
 
-    /// Writes down a call that moved.
-    pub fn note(&mut self, call: &Call) {
+    /// Writes down a call that moved, with its answer.
+    pub fn note(&mut self, call: &Call, answer: Answer) {
         match *call {
             Call::Open { .. } => *self = Order::new(),
             Call::Left { .. } => {}
@@ -256,8 +243,16 @@ impl Order {
                 queue,
                 ref values,
             } => self.note_run(task, queue, values),
-            Call::Pop { task, queue } => self.note_step(task, Item::Pop { queue }),
-            Call::Test { task, .. } | Call::Sync { task } => self.note_step(task, Item::Other),
+            Call::Take { task, queue, keep } => {
+                let taken = !keep && answer != Answer::Empty;
+                let step = if taken {
+                    Item::Take { queue }
+                } else {
+                    Item::Other
+                };
+                self.note_step(task, step);
+            }
+            Call::Sync { task } => self.note_step(task, Item::Other),
             Call::Finish { task } => self.note_finish(task),
         }
     }

@@ -161,18 +161,19 @@ impl<'a> Machine<'a> {
             }
             PUSH => self.push(queue, i.operand),
             PUSH_REGISTER => self.push(queue, sum),
-            POP => match self.queues[queue].pop_front() {
+            // Operation 10 is this test and then a pop.
+            GO_IF_EMPTY | TAKE_OR_GO if self.queues[queue].is_empty() => {
+                task.instruction = target;
+                Reply::Empty
+            }
+            GO_IF_EMPTY => Reply::Not,
+            POP | TAKE_OR_GO => match self.queues[queue].pop_front() {
                 Some(value) => {
                     task.register = value;
                     Reply::Took(value)
                 }
                 None => Reply::Empty,
             },
-            GO_IF_EMPTY if self.queues[queue].is_empty() => {
-                task.instruction = target;
-                Reply::Empty
-            }
-            GO_IF_EMPTY => Reply::Not,
             GO => task.go(target),
             GO_IF_ZERO if task.register == 0 => task.go(target),
             ADD => {

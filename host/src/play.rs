@@ -10,8 +10,9 @@ use crate::random::Random;
 struct Weights {
     spawn: u32,
     push: u32,
-    pop: u32,
-    test: u32,
+    take: u32,
+    /// Takes whose value stays queued.
+    keep: u32,
     sync: u32,
     finish: u32,
     left: u32,
@@ -24,8 +25,8 @@ const KINDS: [Weights; 6] = [
     Weights {
         spawn: 20,
         push: 30,
-        pop: 30,
-        test: 8,
+        take: 30,
+        keep: 8,
         sync: 5,
         finish: 14,
         left: 1,
@@ -35,19 +36,19 @@ const KINDS: [Weights; 6] = [
     Weights {
         spawn: 60,
         push: 14,
-        pop: 10,
-        test: 4,
+        take: 10,
+        keep: 4,
         sync: 2,
         finish: 3,
         left: 1,
         stray: 1,
     },
-    // Long pushes and pops.
+    // Long pushes and takes.
     Weights {
         spawn: 6,
         push: 50,
-        pop: 50,
-        test: 6,
+        take: 50,
+        keep: 6,
         sync: 3,
         finish: 5,
         left: 0,
@@ -57,8 +58,8 @@ const KINDS: [Weights; 6] = [
     Weights {
         spawn: 30,
         push: 20,
-        pop: 10,
-        test: 3,
+        take: 10,
+        keep: 3,
         sync: 4,
         finish: 40,
         left: 0,
@@ -68,19 +69,19 @@ const KINDS: [Weights; 6] = [
     Weights {
         spawn: 12,
         push: 60,
-        pop: 6,
-        test: 2,
+        take: 6,
+        keep: 2,
         sync: 3,
         finish: 8,
         left: 0,
         stray: 1,
     },
-    // Tests and syncs.
+    // Kept takes and syncs.
     Weights {
         spawn: 16,
         push: 16,
-        pop: 10,
-        test: 30,
+        take: 10,
+        keep: 30,
         sync: 20,
         finish: 14,
         left: 2,
@@ -91,8 +92,8 @@ const KINDS: [Weights; 6] = [
 const ENDING: Weights = Weights {
     spawn: 0,
     push: 3,
-    pop: 6,
-    test: 1,
+    take: 6,
+    keep: 1,
     sync: 3,
     finish: 80,
     left: 1,
@@ -123,7 +124,7 @@ pub struct Player {
     /// trees, the last makes wide ones.
     first: u32,
     last: u32,
-    /// The most pushes or pops in a row.
+    /// The most pushes or takes in a row.
     row: u32,
     /// The most values of a run.
     longest: u32,
@@ -203,7 +204,7 @@ impl Player {
 
     fn weighted(&mut self, w: Weights, order: &Order) -> Call {
         let parts = [
-            w.spawn, w.push, w.pop, w.test, w.sync, w.finish, w.left, w.stray,
+            w.spawn, w.push, w.take, w.keep, w.sync, w.finish, w.left, w.stray,
         ];
         let mut at = self.random.below(parts.iter().sum());
         let mut kind = 0;
@@ -215,10 +216,10 @@ impl Player {
             0 => self.spawn(order),
             1 => self.first_push(order),
             2 => {
-                let pop = self.look(order, |task, queue| Call::Pop { task, queue });
-                self.in_a_row(pop)
+                let take = self.take(order, false);
+                self.in_a_row(take)
             }
-            3 => self.look(order, |task, queue| Call::Test { task, queue }),
+            3 => self.take(order, true),
             4 => Call::Sync {
                 task: self.some_task(order),
             },
@@ -243,17 +244,18 @@ impl Player {
         Call::Finish { task }
     }
 
-    /// A pop or a test. The first spot with the pop right waits for nobody but
-    /// pushers, so it is taken often.
-    fn look(&mut self, order: &Order, call: fn(u32, u32) -> Call) -> Call {
+    /// The first spot with the pop right waits for nobody but pushers, so it is
+    /// chosen often.
+    fn take(&mut self, order: &Order, keep: bool) -> Call {
         let queue = self.some_queue(ALL_RIGHTS);
         let pops = |t: &u32| order.rights(*t) & pop_right(queue) != 0;
         if self.random.chance(70) {
             let task = order.spots().find(pops).unwrap_or(0);
-            return call(task, queue);
+            return Call::Take { task, queue, keep };
         }
         let task = self.some_task(order);
-        call(task, self.some_queue(order.rights(task)))
+        let queue = self.some_queue(order.rights(task));
+        Call::Take { task, queue, keep }
     }
 
     fn some_task(&mut self, order: &Order) -> u32 {
@@ -344,8 +346,11 @@ impl Player {
         match r.below(7) {
             0 => Call::Spawn { task, rights },
             1 => Call::push(task, queue, &[7, 8][..r.below(3) as usize]),
-            2 => Call::Pop { task, queue },
-            3 => Call::Test { task, queue },
+            kind @ 2..=3 => Call::Take {
+                task,
+                queue,
+                keep: kind == 3,
+            },
             4 => Call::Sync { task },
             5 => Call::Finish { task },
             _ => Call::Left {

@@ -205,7 +205,10 @@ impl<'a> Writer<'a> {
     fn branch(&mut self) {
         let queue = self.queue(Right::Pop).filter(|_| self.r.chance(50));
         let skip = match queue {
-            Some(queue) => self.go_later(GO_IF_EMPTY, queue),
+            Some(queue) => {
+                let operation = self.r.pick(&[GO_IF_EMPTY, TAKE_OR_GO]);
+                self.go_later(operation, queue)
+            }
             None => self.go_later(GO_IF_ZERO, 0),
         };
         for _ in 0..self.r.within(1, 3) {
@@ -235,8 +238,11 @@ impl<'a> Writer<'a> {
             return;
         };
         let start = self.here();
-        let end = self.go_later(GO_IF_EMPTY, queue);
-        self.put(POP, queue, 0);
+        let operation = self.r.pick(&[GO_IF_EMPTY, TAKE_OR_GO]);
+        let end = self.go_later(operation, queue);
+        if operation == GO_IF_EMPTY {
+            self.put(POP, queue, 0);
+        }
         if self.r.chance(10) {
             self.branch();
             self.kept();

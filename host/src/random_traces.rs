@@ -34,13 +34,14 @@ impl Case {
 }
 
 /// The jobs of `jobs/`.
-const JOBS: [&str; 10] = [
+const JOBS: [&str; 11] = [
     include_str!("../../jobs/checker-fan.txt"),
     include_str!("../../jobs/counted-loop.txt"),
     include_str!("../../jobs/cut-check-print.txt"),
     include_str!("../../jobs/decode-alarm.txt"),
     include_str!("../../jobs/document-01.txt"),
     include_str!("../../jobs/download-bench.txt"),
+    include_str!("../../jobs/drain.txt"),
     include_str!("../../jobs/empty-pop.txt"),
     include_str!("../../jobs/stages-by-recursion.txt"),
     include_str!("../../jobs/too-deep.txt"),

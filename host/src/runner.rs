@@ -1,7 +1,7 @@
 //! The runner of written jobs over the core: opening a job, a step of a task, a
 //! list of steps, and the ready map; on any bytes, any words and any task number.
 
-use crate::answer::{self, Answer};
+use crate::answer::Answer;
 use crate::calls::{self, either};
 use crate::fast;
 use crate::job::{Instruction, Job, Procedure};
@@ -211,15 +211,9 @@ fn perform(
             .map_err(turned_down),
         PUSH => push(m, t, q, i.operand),
         PUSH_REGISTER => push(m, t, q, sum),
-        POP => pop(m, at, t, q),
-        GO_IF_EMPTY => match either(calls::try_test(m, t, q)) {
-            Answer::Empty => {
-                at.instruction = i.operand as usize;
-                Ok(Reply::Empty)
-            }
-            Answer::NotEmpty => Ok(Reply::Not),
-            other => Err(turned_down(other)),
-        },
+        POP => take(m, at, t, q, at.instruction),
+        TAKE_OR_GO => take(m, at, t, q, i.operand as usize),
+        GO_IF_EMPTY => go_if_empty(m, at, t, q, i.operand as usize),
         GO => go(at, i.operand),
         GO_IF_ZERO if at.register == 0 => go(at, i.operand),
         GO_IF_ZERO => Ok(Reply::Moved),
@@ -244,14 +238,30 @@ fn push(m: &mut [u32], t: u32, q: u32, value: u32) -> Tried<Reply> {
     pushed.map(|_| Reply::Pushed(value)).map_err(turned_down)
 }
 
-/// A pop on an empty queue leaves the register and moves on.
-fn pop(m: &mut [u32], at: &mut Place, t: u32, q: u32) -> Tried<Reply> {
-    match either(calls::try_pop(m, t, q)) {
+/// The value goes into the register. An empty queue leaves the register, and the
+/// task goes to `target`.
+fn take(m: &mut [u32], at: &mut Place, t: u32, q: u32, target: usize) -> Tried<Reply> {
+    match either(calls::try_take(m, t, q, false)) {
         Answer::Moved(value) => {
             at.register = value;
             Ok(Reply::Took(value))
         }
-        answer::PAST_THE_END => Ok(Reply::Empty),
+        Answer::Empty => {
+            at.instruction = target;
+            Ok(Reply::Empty)
+        }
+        other => Err(turned_down(other)),
+    }
+}
+
+/// The value stays queued, and the register as it is.
+fn go_if_empty(m: &mut [u32], at: &mut Place, t: u32, q: u32, target: usize) -> Tried<Reply> {
+    match either(calls::try_take(m, t, q, true)) {
+        Answer::Moved(_) => Ok(Reply::Not),
+        Answer::Empty => {
+            at.instruction = target;
+            Ok(Reply::Empty)
+        }
         other => Err(turned_down(other)),
     }
 }

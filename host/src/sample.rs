@@ -72,7 +72,7 @@ fn likely_run(r: &mut Random, m: &[u32]) -> Vec<u32> {
     run_of(r, number)
 }
 
-/// Kinds of calls, for `call_of` and `likely_call`.
+/// Kinds of calls, for `call_of` and `likely_call`; a kept take is one of them.
 pub const CALL_KINDS: u32 = 8;
 
 /// A call with any arguments.
@@ -90,8 +90,11 @@ pub fn call_of(r: &mut Random, kind: u32, a: u32, b: u32) -> Call {
         },
         1 => Call::Spawn { task: a, rights: b },
         2 => Call::push(a, b, &any_run(r)),
-        3 => Call::Pop { task: a, queue: b },
-        4 => Call::Test { task: a, queue: b },
+        3 | 4 => Call::Take {
+            task: a,
+            queue: b,
+            keep: kind == 4,
+        },
         5 => Call::Sync { task: a },
         6 => Call::Finish { task: a },
         _ => Call::Left { queue: a, index: b },
@@ -133,8 +136,9 @@ pub fn reached(r: &mut Random) -> Vec<u32> {
     let calls = r.pick(&[0, 3, 20, 80, 200]);
     while player.calls < calls && !player.ended() {
         let call = player.next(&order);
-        if call.make(&mut m).moved() {
-            order.note(&call);
+        let answer = call.make(&mut m);
+        if answer.moved() {
+            order.note(&call, answer);
         }
     }
     m

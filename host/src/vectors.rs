@@ -4,7 +4,7 @@
 use crate::replay::Judged;
 use std::fs;
 
-const LEVEL_1: &str = concat!(env!("CARGO_MANIFEST_DIR"), "/tests/vectors/level-1.txt");
+const LEVEL_4: &str = concat!(env!("CARGO_MANIFEST_DIR"), "/tests/vectors/level-4.txt");
 
 /// A job and what is answered.
 #[derive(Default)]
@@ -34,9 +34,9 @@ impl Vector {
     }
 }
 
-/// The vectors that hold once request 1 is in.
-pub fn level_1() -> Vec<Vector> {
-    let text = fs::read_to_string(LEVEL_1).expect("the file of the vectors");
+/// The vectors that hold once requests 1 to 4 are in.
+pub fn level_4() -> Vec<Vector> {
+    let text = fs::read_to_string(LEVEL_4).expect("the file of the vectors");
     let mut vectors: Vec<Vector> = Vec::new();
     for line in text.lines() {
         let (word, rest) = line.split_once(' ').unwrap_or((line, ""));

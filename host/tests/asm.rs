@@ -39,6 +39,7 @@ start2: pop 2
         add 7
         spawn poor 0
         sync
+        take-or-go alarm also
 end:    return
 procedure poor push blocks pop alarm push 1
 end: go end
@@ -58,12 +59,13 @@ fn every_form() {
         (1, 0, u32::MAX),
         (2, 3, u32::MAX),
         (3, 2, 0),
-        (4, 0, 9),
+        (4, 0, 10),
         (5, 0, 0),
         (6, 0, 2),
         (7, 0, 7),
         (8, 1, 0),
         (9, 0, 0),
+        (10, 3, 2),
         (0, 0, 0),
     ];
     assert_eq!(body, expected);
@@ -81,13 +83,14 @@ i0:
     push-register 3 -1
 i2:
     pop 2
-    go-if-empty 0 i9
+    go-if-empty 0 i10
     go i0
     go-if-zero i2
     add 7
     spawn p1 0
     sync
-i9:
+    take-or-go 3 i2
+i10:
     return
 
 procedure p1 push 0 push 1 pop 3
@@ -110,6 +113,7 @@ fn faults_of_words() {
         ("go", "the form is `go LABEL`"),
         ("spawn poor", "the form is `spawn PROCEDURE NUMBER`"),
         ("go-if-empty 1", "the form is `go-if-empty QUEUE LABEL`"),
+        ("take-or-go 1", "the form is `take-or-go QUEUE LABEL`"),
         ("push 4 1", "unknown queue `4`"),
         ("push blocks 1", "unknown queue `blocks`"),
         ("pop -1", "unknown queue `-1`"),
@@ -217,6 +221,7 @@ fn faults_of_rights() {
     };
     let lacking = "line 5: the procedure lacks that right on the queue";
     assert_eq!(poor("push 2", "pop 2"), lacking);
+    assert_eq!(poor("push 2", "end: take-or-go 2 end"), lacking);
     assert_eq!(poor("pop 2", "push 2 1"), lacking);
     assert_eq!(poor("pop 2", "push-register 2 1"), lacking);
     assert_eq!(

@@ -1,5 +1,5 @@
-//! The starred cases of document 01 that the core alone decides, its three
-//! traps, and its run in full.
+//! The starred cases of document 01 that the core alone decides, with what
+//! document 02 makes of those with 7; its three traps, and its run in full.
 
 use host::memory::*;
 
@@ -30,8 +30,8 @@ fn children_up_to_127() {
 fn new_queue_is_empty() {
     let mut core = Core::open(4, 8);
     for q in 0..4 {
-        assert_eq!(core.test(0, q), Empty);
-        assert_eq!(core.pop(0, q), Refused(7));
+        assert_eq!(core.peek(0, q), Empty);
+        assert_eq!(core.take(0, q), Empty);
     }
 }
 
@@ -40,9 +40,9 @@ fn popper_after_an_idle_pusher() {
     let mut core = Core::open(4, 8);
     assert_eq!(core.spawn(0, 1), Moved(1));
     assert_eq!(core.spawn(0, 2), Moved(2));
-    assert_eq!(core.pop(2, 0), Waits);
+    assert_eq!(core.take(2, 0), Waits);
     assert_eq!(core.finish(1), Moved(0));
-    assert_eq!(core.pop(2, 0), Refused(7));
+    assert_eq!(core.take(2, 0), Empty);
 }
 
 #[test]
@@ -51,10 +51,10 @@ fn popper_sees_what_was_pushed_before_it() {
     assert_eq!(core.push(0, 0, 5), Moved(5));
     assert_eq!(core.spawn(0, 2), Moved(1));
     assert_eq!(core.push(0, 0, 6), Moved(6));
-    assert_eq!(core.pop(1, 0), Moved(5));
-    assert_eq!(core.pop(1, 0), Refused(7));
+    assert_eq!(core.take(1, 0), Moved(5));
+    assert_eq!(core.take(1, 0), Empty);
     assert_eq!(core.finish(1), Moved(0));
-    assert_eq!(core.pop(0, 0), Moved(6));
+    assert_eq!(core.take(0, 0), Moved(6));
 }
 
 #[test]
@@ -74,9 +74,9 @@ fn parent_pushes_behind_its_child() {
     core.push(0, 0, 7);
     core.push(1, 0, 6);
     assert_eq!(core.finish(1), Moved(0));
-    assert_eq!(core.pop(0, 0), Moved(6));
-    assert_eq!(core.pop(0, 0), Moved(7));
-    assert_eq!(core.pop(0, 0), Refused(7));
+    assert_eq!(core.take(0, 0), Moved(6));
+    assert_eq!(core.take(0, 0), Moved(7));
+    assert_eq!(core.take(0, 0), Empty);
 }
 
 /// The same trap with a left sibling of the parent: 2 has the child 3.
@@ -90,10 +90,10 @@ fn nested_parent_pushes_behind_its_child() {
     core.push(3, 0, 8);
     core.push(1, 0, 7);
     core.finish(1);
-    assert_eq!(core.test(0, 0), NotEmpty);
+    assert_eq!(core.peek(0, 0), Moved(7));
     core.finish(3);
     core.finish(2);
-    let taken: Vec<u32> = (0..3).map(|_| core.pop(0, 0).value()).collect();
+    let taken: Vec<u32> = (0..3).map(|_| core.take(0, 0).value()).collect();
     assert_eq!(taken, [7, 8, 9]);
 }
 
@@ -103,11 +103,11 @@ fn pending_behind_a_pusher_is_not_empty() {
     let mut core = Core::open(4, 8);
     core.spawn(0, 1);
     core.push(0, 0, 9);
-    assert_eq!(core.test(0, 0), Waits);
-    assert_eq!(core.pop(0, 0), Waits);
+    assert_eq!(core.peek(0, 0), Waits);
+    assert_eq!(core.take(0, 0), Waits);
     assert_eq!(core.finish(1), Moved(0));
-    assert_eq!(core.test(0, 0), NotEmpty);
-    assert_eq!(core.pop(0, 0), Moved(9));
+    assert_eq!(core.peek(0, 0), Moved(9));
+    assert_eq!(core.take(0, 0), Moved(9));
 }
 
 /// Trap: letting a younger pusher fill the segment hidden with a popper.
@@ -118,11 +118,11 @@ fn younger_pusher_is_hidden_from_the_popper() {
     core.spawn(0, 2);
     core.spawn(0, 1);
     assert_eq!(core.push(2, 0, 6), Moved(6));
-    assert_eq!(core.pop(1, 0), Moved(5));
-    assert_eq!(core.pop(1, 0), Refused(7));
-    assert_eq!(core.test(1, 0), Empty);
+    assert_eq!(core.take(1, 0), Moved(5));
+    assert_eq!(core.take(1, 0), Empty);
+    assert_eq!(core.peek(1, 0), Empty);
     core.finish(1);
-    assert_eq!(core.pop(0, 0), Moved(6));
+    assert_eq!(core.take(0, 0), Moved(6));
 }
 
 /// The run in full, with the core calls that its job makes.
@@ -133,9 +133,9 @@ fn run_in_full() {
     assert_eq!(core.spawn(0, 2), Moved(2));
     assert_eq!(core.spawn(0, 1), Moved(3));
     assert_eq!(core.push(3, 0, 20), Moved(20));
-    assert_eq!(core.pop(2, 0), Waits);
+    assert_eq!(core.take(2, 0), Waits);
     assert_eq!(core.push(1, 0, 10), Moved(10));
-    assert_eq!(core.pop(2, 0), Moved(10));
+    assert_eq!(core.take(2, 0), Moved(10));
     assert_eq!(core.finish(1), Moved(0));
     assert_eq!(core.finish(2), Moved(0));
     assert_eq!(core.finish(3), Moved(0));

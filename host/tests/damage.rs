@@ -11,7 +11,9 @@ use host::{fast, foreign, rules};
 
 /// A call of each kind that may well move, and one with any arguments.
 fn some_calls(r: &mut Random, m: &[u32]) -> Vec<Call> {
-    let mut calls: Vec<Call> = (0..8).map(|kind| likely_call(r, m, kind)).collect();
+    let mut calls: Vec<Call> = (0..CALL_KINDS)
+        .map(|kind| likely_call(r, m, kind))
+        .collect();
     calls.push(hostile_call(r));
     calls
 }

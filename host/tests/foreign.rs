@@ -31,7 +31,7 @@ fn finish_that_closes_a_ring() {
         assert_eq!(core.finish(1), Moved(0));
         assert_eq!([next(&core.0, 4), next(&core.0, 5)], ring);
         assert_eq!(core.broken(), Some("no ring of nexts"));
-        assert_eq!(core.test(0, 0), Refused(2));
+        assert_eq!(core.peek(0, 0), Refused(2));
     }
 }
 
@@ -57,7 +57,7 @@ fn push_between_nonlocal_ends() {
     assert_eq!(core.push(0, 0, 9), Moved(9));
     assert_eq!(core.views(0, 0), [(4, NL), (NL, 4), (NL, 0)]);
     assert_eq!(core.broken(), Some("order of the views"));
-    assert_eq!(core.pop(0, 0), Refused(2));
+    assert_eq!(core.take(0, 0), Refused(2));
 }
 
 /// Queue 3 is left out: nothing of queue 0 is written.
@@ -109,24 +109,24 @@ fn finished_top_keeps_its_right_view() {
 fn chains_between_queues() {
     let mut core = hand::crossed();
     assert_eq!(core.push(0, 0, 9), Moved(9));
-    assert_eq!(core.pop(0, 0), Refused(7));
-    assert_eq!(core.pop(0, 1), Moved(9));
+    assert_eq!(core.take(0, 0), Empty);
+    assert_eq!(core.take(0, 1), Moved(9));
 }
 
 /// A popper without the queue view has nothing pending.
 #[test]
 fn popper_without_the_queue_view() {
     let mut core = hand::popper_without_view();
-    assert_eq!(core.pop(1, 0), Refused(7));
-    assert_eq!(core.test(1, 0), Empty);
+    assert_eq!(core.take(1, 0), Empty);
+    assert_eq!(core.peek(1, 0), Empty);
 }
 
 /// A value in the caller's chain is found with no regard to pushers.
 #[test]
 fn value_before_a_pusher() {
     let mut core = hand::value_before_pusher();
-    assert_eq!(core.pop(2, 0), Moved(5));
-    assert_eq!(core.pop(2, 0), Waits);
+    assert_eq!(core.take(2, 0), Moved(5));
+    assert_eq!(core.take(2, 0), Waits);
 }
 
 /// A task with the push right alone may hold the queue view, and returns it.

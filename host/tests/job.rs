@@ -135,7 +135,7 @@ fn top(instruction: Instruction) -> Vec<u8> {
 
 #[test]
 fn refusal_12_operation() {
-    for operation in 10..=255 {
+    for operation in 11..=255 {
         assert_eq!(breach(&top(ins(operation, 0, 0)), 12), NoSuchOperation);
     }
 }
@@ -156,7 +156,7 @@ fn refusal_12_unused_fields() {
 
 #[test]
 fn refusal_12_queues_and_rights() {
-    for operation in 1..=4 {
+    for operation in [1, 2, 3, 4, 10] {
         for queue in [4, 255] {
             assert_eq!(breach(&top(ins(operation, queue, 0)), 12), NoSuchQueue);
         }
@@ -177,7 +177,7 @@ fn refusal_12_queues_and_rights() {
 #[test]
 fn each_right_by_its_bit() {
     for bit in 0..8 {
-        for operation in 1..=4 {
+        for operation in [1, 2, 3, 4, 10] {
             for queue in 0..4 {
                 let body = [ins(operation, queue, 0), RETURN];
                 let bytes = write(1, &[procedure(255, &[RETURN]), procedure(1 << bit, &body)]);
@@ -212,7 +212,7 @@ fn refusal_12_spawns() {
 
 #[test]
 fn refusal_12_goes_nowhere() {
-    for operation in 4..=6 {
+    for operation in [4, 5, 6, 10] {
         for target in [2, 3, 256, 65_536, u32::MAX] {
             assert_eq!(breach(&top(ins(operation, 0, target)), 12), GoesNowhere);
         }
@@ -224,7 +224,7 @@ fn refusal_12_goes_nowhere() {
 
 #[test]
 fn refusal_12_last_instruction() {
-    for operation in 0..10 {
+    for operation in 0..11 {
         let bytes = write(4, &[procedure(255, &[ins(operation, 0, 0)])]);
         if operation == 0 || operation == 5 {
             assert!(Job::read(&bytes).is_ok());
@@ -237,7 +237,7 @@ fn refusal_12_last_instruction() {
 /// 10 goes before 11, and 11 before 12, wherever the breaches stand.
 #[test]
 fn order_of_refusals() {
-    let wrong_instruction = (28, 10);
+    let wrong_instruction = (28, 11);
     let wrong_entry = (27, 1);
     let wrong_head = (2, 65);
     assert_eq!(breach(&changed(&[wrong_instruction]), 12), NoSuchOperation);
@@ -256,7 +256,7 @@ fn order_of_refusals() {
 /// are tested too.
 #[test]
 fn unreached_instructions_are_tested() {
-    let unreached = [RETURN, ins(10, 0, 0), RETURN];
+    let unreached = [RETURN, ins(11, 0, 0), RETURN];
     assert_eq!(
         breach(&write(4, &[procedure(255, &unreached)]), 12),
         NoSuchOperation

@@ -102,6 +102,35 @@ fn goes() {
     assert_eq!(left, [const { Vec::new() }; 4]);
 }
 
+/// Operation 10 takes, or goes with the register as it is. A value of 0 is one.
+#[test]
+fn take_or_go() {
+    let text = "procedure top all
+        push 0 3
+        push 0 0
+        add 5
+    next:
+        take-or-go 0 end
+        push-register 1 0
+        go next
+    end:
+        take-or-go 2 on
+        return
+    on:
+        push-register 1 10
+        return";
+    let (replies, left) = outcome(text);
+    let took = |value| [Took(value), Pushed(value), Moved];
+    let due = [
+        &[Pushed(3), Pushed(0), Moved][..],
+        &took(3),
+        &took(0),
+        &[Empty, Empty, Pushed(10), Finished],
+    ];
+    assert_eq!(replies, due.concat());
+    assert_eq!(left, [vec![], vec![3, 0, 10], vec![], vec![]]);
+}
+
 #[test]
 fn sums_drop_what_exceeds_32_bits() {
     let text = "procedure top all

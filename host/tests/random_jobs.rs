@@ -55,7 +55,7 @@ fn random_jobs_are_varied() {
     ] {
         assert!(ends[end] >= least, "{ends:?}");
     }
-    assert_eq!(answers.len(), 12);
+    assert_eq!(answers.len(), 14);
     assert!(answers.values().all(|times| *times >= 1_000), "{answers:?}");
     assert!(with_ten_tasks >= 100, "{with_ten_tasks}");
 }

@@ -10,22 +10,22 @@ fn spots_follow_the_tree() {
     core.spawn(0, 255);
     core.spawn(1, 1);
     core.spawn(1, 2);
-    assert_eq!(core.test(1, 0), Waits);
-    assert_eq!(core.test(3, 0), Waits);
+    assert_eq!(core.peek(1, 0), Waits);
+    assert_eq!(core.peek(3, 0), Waits);
     core.finish(2);
-    assert_eq!(core.test(3, 0), Empty);
+    assert_eq!(core.peek(3, 0), Empty);
 }
 
 /// Any unfinished task with the right is a pusher, the caller aside.
 #[test]
 fn pushers() {
     let mut core = Core::open(4, 8);
-    assert_eq!(core.test(0, 0), Empty);
+    assert_eq!(core.peek(0, 0), Empty);
     core.spawn(0, 1);
-    assert_eq!(core.test(0, 0), Waits);
-    assert_eq!(core.test(0, 1), Empty);
+    assert_eq!(core.peek(0, 0), Waits);
+    assert_eq!(core.peek(0, 1), Empty);
     core.finish(1);
-    assert_eq!(core.test(0, 0), Empty);
+    assert_eq!(core.peek(0, 0), Empty);
 }
 
 /// A pusher counts wherever it stands before the caller, also behind a task without the right.
@@ -35,9 +35,9 @@ fn far_pusher() {
     core.spawn(0, 1);
     core.spawn(0, 8);
     core.spawn(0, 2);
-    assert_eq!(core.pop(3, 0), Waits);
+    assert_eq!(core.take(3, 0), Waits);
     core.finish(1);
-    assert_eq!(core.pop(3, 0), Refused(7));
+    assert_eq!(core.take(3, 0), Empty);
 }
 
 /// Pending is over steps in program order, not in time.
@@ -49,10 +49,10 @@ fn pending_in_program_order() {
     core.spawn(0, 1);
     core.push(3, 0, 20);
     core.push(1, 0, 10);
-    assert_eq!(core.pop(2, 0), Moved(10));
-    assert_eq!(core.pop(2, 0), Waits);
+    assert_eq!(core.take(2, 0), Moved(10));
+    assert_eq!(core.take(2, 0), Waits);
     core.finish(1);
-    assert_eq!(core.pop(2, 0), Refused(7));
+    assert_eq!(core.take(2, 0), Empty);
 }
 
 /// Any shared pop right makes every call wait.
@@ -67,18 +67,18 @@ fn older_sibling_with_a_shared_pop_right() {
     assert_eq!(core.push(2, 0, 5), Moved(5));
 }
 
-/// A popping child on this queue makes pop and test wait.
+/// A popping child on this queue makes a take wait.
 #[test]
 fn popping_child() {
     let mut core = Core::open(4, 8);
     core.push(0, 0, 5);
     core.spawn(0, 2);
-    assert_eq!(core.pop(0, 0), Waits);
-    assert_eq!(core.test(0, 0), Waits);
+    assert_eq!(core.take(0, 0), Waits);
+    assert_eq!(core.peek(0, 0), Waits);
     let mut other = Core::open(4, 8);
     other.push(0, 0, 5);
     other.spawn(0, 8);
-    assert_eq!(other.pop(0, 0), Moved(5));
+    assert_eq!(other.take(0, 0), Moved(5));
 }
 
 /// Values behind a sibling's queue view are found by the next popper.
@@ -90,13 +90,13 @@ fn second_popper_finds_the_rest() {
     }
     core.spawn(0, 2);
     core.spawn(0, 2);
-    assert_eq!(core.pop(1, 0), Moved(0));
-    assert_eq!(core.pop(2, 0), Waits);
+    assert_eq!(core.take(1, 0), Moved(0));
+    assert_eq!(core.take(2, 0), Waits);
     core.finish(1);
     for value in 1..5 {
-        assert_eq!(core.pop(2, 0), Moved(value));
+        assert_eq!(core.take(2, 0), Moved(value));
     }
-    assert_eq!(core.pop(2, 0), Refused(7));
+    assert_eq!(core.take(2, 0), Empty);
 }
 
 /// Fullness goes by the count: one segment serves for ever.
@@ -108,7 +108,7 @@ fn one_segment_is_used_again() {
     for value in 0..9 {
         assert_eq!(core.push(1, 0, value), Moved(value));
         assert_eq!(core.push(1, 0, value), Refused(9));
-        assert_eq!(core.pop(2, 0), Moved(value));
+        assert_eq!(core.take(2, 0), Moved(value));
     }
 }
 
@@ -131,8 +131,8 @@ fn left_counts_along_the_chain() {
     for value in 10..20 {
         core.push(0, 2, value);
     }
-    core.pop(0, 2);
-    core.pop(0, 2);
+    core.take(0, 2);
+    core.take(0, 2);
     core.finish(0);
     for index in 0..8 {
         assert_eq!(core.left(2, index), Moved(12 + index));

@@ -5,7 +5,12 @@ use host::call::Call;
 use host::layout::WORDS;
 use host::memory::*;
 
-/// One call of each kind, of push also a run of none.
+fn take(keep: bool) -> Call {
+    let (task, queue) = (0, 0);
+    Call::Take { task, queue, keep }
+}
+
+/// One call of each kind, of push also a run of none, of take also a kept one.
 fn all_calls() -> [Call; 9] {
     [
         Call::Open {
@@ -15,8 +20,8 @@ fn all_calls() -> [Call; 9] {
         Call::Spawn { task: 0, rights: 1 },
         Call::push(0, 0, &[5, 6]),
         Call::push(0, 0, &[]),
-        Call::Pop { task: 0, queue: 0 },
-        Call::Test { task: 0, queue: 0 },
+        take(false),
+        take(true),
         Call::Sync { task: 0 },
         Call::Finish { task: 0 },
         Call::Left { queue: 0, index: 0 },
@@ -83,8 +88,8 @@ fn no_such_task_gets_4() {
         let mut core = Core::open(4, 8);
         assert_eq!(core.spawn(task, 256), Refused(4));
         assert_eq!(core.push(task, 4, 5), Refused(4));
-        assert_eq!(core.pop(task, 4), Refused(4));
-        assert_eq!(core.test(task, 4), Refused(4));
+        assert_eq!(core.take(task, 4), Refused(4));
+        assert_eq!(core.peek(task, 4), Refused(4));
         assert_eq!(core.sync(task), Refused(4));
         assert_eq!(core.finish(task), Refused(4));
     }
@@ -121,8 +126,8 @@ fn no_such_queue_gets_5() {
         core.spawn(0, 0);
         for task in [0, 2, 3] {
             assert_eq!(core.push(task, queue, 5), Refused(5));
-            assert_eq!(core.pop(task, queue), Refused(5));
-            assert_eq!(core.test(task, queue), Refused(5));
+            assert_eq!(core.take(task, queue), Refused(5));
+            assert_eq!(core.peek(task, queue), Refused(5));
         }
         assert_eq!(core.left(queue, 0), Refused(5));
     }
@@ -134,8 +139,8 @@ fn no_right_gets_6() {
     core.spawn(0, 2);
     core.spawn(0, 1);
     assert_eq!(core.push(1, 0, 5), Refused(6));
-    assert_eq!(core.pop(2, 0), Refused(6));
-    assert_eq!(core.test(2, 0), Refused(6));
+    assert_eq!(core.take(2, 0), Refused(6));
+    assert_eq!(core.peek(2, 0), Refused(6));
     assert_eq!(core.push(2, 1, 5), Refused(6));
     assert_eq!(core.spawn(2, 3), Refused(6));
     assert_eq!(core.spawn(0, 256), Refused(6));
@@ -153,17 +158,13 @@ fn no_right_of_a_waiting_task() {
     assert_eq!(core.spawn(2, 8), Waits);
     assert_eq!(core.sync(2), Waits);
     assert_eq!(core.finish(2), Waits);
-    assert_eq!(core.pop(2, 1), Waits);
-    assert_eq!(core.test(2, 1), Waits);
+    assert_eq!(core.take(2, 1), Waits);
+    assert_eq!(core.peek(2, 1), Waits);
 }
 
 #[test]
-fn empty_queue_gets_7() {
+fn left_past_the_end_gets_7() {
     let mut core = Core::open(4, 8);
-    assert_eq!(core.pop(0, 0), Refused(7));
-    core.push(0, 0, 0);
-    assert_eq!(core.pop(0, 0), Moved(0));
-    assert_eq!(core.pop(0, 0), Refused(7));
     assert_eq!(core.left(0, u32::MAX), Waits);
     core.push(0, 3, 8);
     core.finish(0);
@@ -173,13 +174,23 @@ fn empty_queue_gets_7() {
     assert_eq!(core.left(3, 1), Refused(7));
 }
 
-/// The waits go before 7: an older pusher is unfinished.
+/// An empty queue is answered "empty", and a value of 0 is a value.
+#[test]
+fn empty_queue_gets_no_refusal() {
+    let mut core = Core::open(4, 8);
+    assert_eq!([core.peek(0, 0), core.take(0, 0)], [Empty; 2]);
+    core.push(0, 0, 0);
+    assert_eq!([core.peek(0, 0), core.take(0, 0)], [Moved(0); 2]);
+    assert_eq!([core.peek(0, 0), core.take(0, 0)], [Empty; 2]);
+}
+
+/// An older pusher is unfinished: it may still push.
 #[test]
 fn empty_queue_behind_a_pusher_waits() {
     let mut core = Core::open(4, 8);
     core.spawn(0, 1);
-    assert_eq!(core.pop(0, 0), Waits);
-    assert_eq!(core.pop(0, 1), Refused(7));
+    assert_eq!(core.take(0, 0), Waits);
+    assert_eq!(core.take(0, 1), Empty);
 }
 
 #[test]
@@ -214,7 +225,7 @@ fn no_segment_gets_9() {
     assert_eq!(core.push(0, 0, 4), Refused(9));
     assert_eq!(core.push(0, 1, 5), Moved(5));
     for value in 0..2 {
-        assert_eq!(core.pop(0, 0), Moved(value));
+        assert_eq!(core.take(0, 0), Moved(value));
     }
     assert_eq!(core.push(0, 0, 4), Moved(4));
 }
@@ -253,12 +264,7 @@ fn left_tests_the_queue_before_it_waits() {
 
 #[test]
 fn numbers_of_the_answers() {
-    let cases = [
-        (Moved(9), 0, 9),
-        (Empty, 33, 0),
-        (NotEmpty, 34, 0),
-        (Waits, 32, 0),
-    ];
+    let cases = [(Moved(9), 0, 9), (Empty, 33, 0), (Waits, 32, 0)];
     for (answer, number, value) in cases {
         assert_eq!((answer.number(), answer.value()), (number, value));
     }

@@ -40,6 +40,12 @@ impl Run {
         answer
     }
 
+    /// The bit of a task in the ready map.
+    fn ready(&self, t: u32) -> bool {
+        let map = ready(&self.job, &self.core, &self.runner).1;
+        map.words[(t / 32) as usize] >> (t % 32) & 1 == 1
+    }
+
     fn left(&mut self) -> [Vec<u32>; 4] {
         [0, 1, 2, 3].map(|q| {
             let values = (0..).map_while(|i| match calls::left(&mut self.core, q, i) {
@@ -74,13 +80,63 @@ fn the_run_of_document_01() {
         (0, Stepped::Moved(Finished)),
     ];
     for (t, answer) in due {
-        let map = ready(&run.job, &run.core, &run.runner).1;
-        let bit = map.words[(t / 32) as usize] >> (t % 32) & 1;
-        assert_eq!(bit == 1, answer.moved());
+        assert_eq!(run.ready(t), answer.moved());
         assert_eq!(run.step(t), answer);
     }
     assert_eq!(run.left(), [vec![20], vec![], vec![], vec![]]);
     assert!(run.runner.iter().all(|word| *word == 0));
+}
+
+const TAKERS: &str = "length 1
+    procedure top all
+    spawn pusher 0
+    spawn taker 7
+    spawn taker 7
+    return
+    procedure pusher push 0
+    push 0 5
+    return
+    procedure taker pop 0 push 1
+    spawn popper 0
+    take-or-go 0 end
+    push-register 1 0
+    end: push-register 1 100
+    return
+    procedure popper pop 0
+    return";
+
+/// Operation 10 waits as a pop does, for an older sibling, a pusher and a popping
+/// child, and moves with a value and without; the map says so before each step.
+#[test]
+fn operation_10() {
+    let mut run = Run::of(asm::assemble(TAKERS).expect("a job"));
+    let due = [
+        (0, Stepped::Moved(Spawned(1))),
+        (0, Stepped::Moved(Spawned(2))),
+        (0, Stepped::Moved(Spawned(3))),
+        (3, Stepped::Waits),
+        (2, Stepped::Moved(Spawned(4))),
+        (2, Stepped::Waits),
+        (4, Stepped::Moved(Finished)),
+        (2, Stepped::Waits),
+        (1, Stepped::Moved(Pushed(5))),
+        (2, Stepped::Moved(Took(5))),
+        (2, Stepped::Moved(Pushed(5))),
+        (2, Stepped::Moved(Pushed(105))),
+        (1, Stepped::Moved(Finished)),
+        (2, Stepped::Moved(Finished)),
+        (3, Stepped::Moved(Spawned(2))),
+        (2, Stepped::Moved(Finished)),
+        (3, Stepped::Moved(Empty)),
+        (3, Stepped::Moved(Pushed(107))),
+        (3, Stepped::Moved(Finished)),
+        (0, Stepped::Moved(Finished)),
+    ];
+    for (t, answer) in due {
+        assert_eq!(run.ready(t), answer.moved(), "the bit of task {t}");
+        assert_eq!(run.step(t), answer, "task {t}");
+    }
+    assert_eq!(run.left(), [vec![], vec![5, 105, 107], vec![], vec![]]);
 }
 
 #[test]

@@ -11,7 +11,7 @@ use host::sample::{likely_call, reached};
 
 /// The values that `task` can take from queue 0.
 fn taken(core: &mut Core, task: u32) -> Vec<u32> {
-    let values = std::iter::from_fn(|| match core.pop(task, 0) {
+    let values = std::iter::from_fn(|| match core.take(task, 0) {
         Moved(value) => Some(value),
         _ => None,
     });
@@ -68,7 +68,7 @@ fn nothing_freed_behind_values() {
 fn refused_run_stores_nothing() {
     let mut core = Core::open(2, 4);
     assert_eq!(core.push_run(0, 0, &[1, 2, 3]), Refused(9));
-    assert_eq!(core.pop(0, 0), Refused(7));
+    assert_eq!(core.take(0, 0), Empty);
     let mut core = Core::open(4, 4);
     assert_eq!(core.push_run(0, 0, &[1, 2, 3, 4, 5]), Refused(9));
     assert_eq!(core.push_run(0, 0, &[1, 2, 3, 4]), Moved(4));
@@ -159,8 +159,8 @@ fn run_goes_on_behind_its_first_link() {
 fn run_in_a_ring() {
     let mut core = Core::open(4, 8);
     core.push_run(0, 0, &[1, 2, 3]);
-    core.pop(0, 0);
-    core.pop(0, 0);
+    core.take(0, 0);
+    core.take(0, 0);
     assert_eq!(core.push_run(0, 0, &[4, 5, 6, 7, 8, 9, 10, 11]), Moved(11));
     assert_eq!(
         core.0[value_place(0, 4, 0)..value_place(1, 4, 0)],

@@ -26,7 +26,7 @@ fn refused_jobs() {
     job[8] = 3;
     assert_eq!(text(&job), "job refused 11\n");
     job[8] = 255;
-    job[10] = 10;
+    job[10] = 11;
     assert_eq!(text(&job), "job refused 12\n");
 }
 
@@ -76,9 +76,11 @@ fn steps() {
     assert!(text(&bytes(&one_more)).ends_with("\n65535 0 moved -\nspent\n"));
     let endless = "procedure top all\nhere: go here";
     assert_eq!(end_of(endless), (End::Spent, 65_535));
-    // A pop on an empty queue is a step.
+    // A pop on an empty queue is a step, and so is a take-or-go.
     let pops = "procedure top all\nhere: pop 0\n go here";
     assert_eq!(end_of(pops), (End::Spent, 65_535));
+    let takes = "procedure top all\nhere: take-or-go 0 here\nreturn";
+    assert_eq!(end_of(takes), (End::Spent, 65_535));
 }
 
 /// A chain of tasks, each the child of the one before it; the top counts as 1.
@@ -151,6 +153,17 @@ fn values() {
     assert_eq!(end_of(&pushes(4_096, "push 1 1\nreturn")).0, End::Ended);
     let room = pushes(4_096, "pop 2\npush 2 1\nreturn");
     assert_eq!(end_of(&room).0, End::Ended);
+}
+
+/// The test and the pop of operation 10 are one step, whatever they find: two
+/// steps a value, one that finds the queue empty, and the return.
+#[test]
+fn operation_10_is_one_step() {
+    let drain = "next: take-or-go 2 end\ngo next\nend: return";
+    for number in [0, 1, 4_096] {
+        let steps = 4 * number + 2 + 2 * number + 2;
+        assert_eq!(end_of(&pushes(number as u32, drain)), (End::Ended, steps));
+    }
 }
 
 /// With 4,096 values queued a push is step 65,536 or step 65,535. "Spent" is

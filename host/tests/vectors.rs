@@ -1,6 +1,6 @@
 //! The model against models that were written apart from it.
 
-use host::core_vectors::core_3;
+use host::core_vectors::core_4;
 use host::job::Job;
 use host::layout::WORDS;
 use host::memory::{Calls, Core};
@@ -8,21 +8,21 @@ use host::overlap_text;
 use host::replay::{replay, replay_by_text};
 use host::runner::RUNNER;
 use host::serial::{self, End};
-use host::vectors::level_1;
+use host::vectors::level_4;
 
 #[test]
 fn all_are_there() {
-    let vectors = level_1();
+    let vectors = level_4();
     let replays: usize = vectors.iter().map(|vector| vector.replays.len()).sum();
-    assert_eq!((vectors.len(), replays), (120, 555));
-    let cores = core_3();
+    assert_eq!((vectors.len(), replays), (120, 585));
+    let cores = core_4();
     let calls: usize = cores.iter().map(|core| core.len() - 1).sum();
     assert_eq!((cores.len(), calls), (60, 7_200));
 }
 
 #[test]
 fn job_tests_and_prints() {
-    for vector in level_1() {
+    for vector in level_4() {
         let test = Job::read(&vector.job).map_or_else(|refusal| refusal.number(), |_| 0);
         assert_eq!(test, vector.test);
         assert_eq!(
@@ -34,7 +34,7 @@ fn job_tests_and_prints() {
 
 #[test]
 fn runs_without_overlap() {
-    for vector in level_1() {
+    for vector in level_4() {
         let Some((end, steps)) = vector.serial else {
             continue;
         };
@@ -51,7 +51,7 @@ fn runs_without_overlap() {
 
 #[test]
 fn replays() {
-    for vector in level_1() {
+    for vector in level_4() {
         for (trace, due) in vector.replays {
             let trace = trace.as_bytes();
             let given = replay(&vector.job, trace, &mut [7; WORDS], &mut [7; RUNNER]);
@@ -63,7 +63,7 @@ fn replays() {
 
 #[test]
 fn calls_of_the_core() {
-    for calls in core_3() {
+    for calls in core_4() {
         let mut core = Core(vec![7; WORDS]);
         for (call, due) in calls {
             let answer = core.make(&call);

@@ -69,11 +69,11 @@ fn spawning_writes_the_child_and_its_links() {
 }
 
 #[test]
-fn pushes_and_pops_in_a_ring() {
+fn pushes_and_takes_in_a_ring() {
     let mut core = Core::open(2, 8);
     core.push(0, 0, 5);
     core.push(0, 0, 6);
-    core.pop(0, 0);
+    core.take(0, 0);
     let before = core.clone();
     core.push(0, 0, 7);
     let place = value_place(0, 2, 0);
@@ -82,10 +82,10 @@ fn pushes_and_pops_in_a_ring() {
         [(segment(0) + COUNT, 2), (place, 7)]
     );
     let before = core.clone();
-    assert_eq!(core.pop(0, 0), Moved(6));
+    assert_eq!(core.take(0, 0), Moved(6));
     let due = [(segment(0) + FIRST, 0), (segment(0) + COUNT, 1)];
     assert_eq!(changes(&before, &core), due);
-    core.pop(0, 0);
+    core.take(0, 0);
     assert_eq!((first(&core.0, 0), count(&core.0, 0)), (1, 0));
 }
 
@@ -105,7 +105,7 @@ fn full_tail_gets_a_next() {
     ];
     assert_eq!(changes(&before, &core), due);
     let before = core.clone();
-    core.pop(0, 0);
+    core.take(0, 0);
     due = vec![
         (FREE_SEGMENTS, 4),
         (segment_place(3), 0),
@@ -118,14 +118,18 @@ fn full_tail_gets_a_next() {
 }
 
 #[test]
-fn tests_change_no_word() {
+fn kept_and_empty_takes_change_no_word() {
     let mut core = Core::open(1, 8);
     let before = core.clone();
-    assert_eq!(core.test(0, 0), Empty);
-    core.push(0, 1, 5);
+    assert_eq!([core.peek(0, 0), core.take(0, 0)], [Empty; 2]);
+    assert!(core.0 == before.0);
+    // The second value stands in a segment of its own.
+    core.push_run(0, 1, &[5, 6]);
     let pushed = core.clone();
-    assert_eq!(core.test(0, 1), NotEmpty);
-    assert!(core.0 == pushed.0 && core.0 != before.0);
+    assert_eq!([core.peek(0, 1), core.peek(0, 1)], [Moved(5); 2]);
+    assert!(core.0 == pushed.0);
+    assert_eq!(core.take(0, 1), Moved(5));
+    assert_eq!(core.peek(0, 1), Moved(6));
 }
 
 #[test]
@@ -205,7 +209,7 @@ fn queue_view_elsewhere_is_renamed() {
     assert_eq!(core.queue_head(3, 0), 0);
     core.finish(1);
     assert_eq!(core.queue_head(3, 0), 4);
-    assert_eq!(core.test(3, 0), NotEmpty);
+    assert_eq!(core.peek(3, 0), Moved(7));
 }
 
 /// Nothing is linked over the place of a popper.
@@ -236,9 +240,9 @@ fn local_head_passes_an_empty_children_view() {
     core.finish(4);
     assert_eq!(core.views(2, 0)[0], E);
     assert_eq!(core.views(1, 0)[2], (4, NL));
-    assert_eq!(core.pop(3, 0), Waits);
+    assert_eq!(core.take(3, 0), Waits);
     core.finish(1);
-    assert_eq!(core.pop(3, 0), Moved(9));
+    assert_eq!(core.take(3, 0), Moved(9));
 }
 
 /// One with a non-local head stays in the parent's children view.

@@ -1,4 +1,4 @@
-//! The eight calls of the core.
+//! The seven calls of the core.
 
 use crate::declared::*;
 use crate::{lent, Answer};
@@ -36,12 +36,14 @@ pub fn push(words: &mut [u32], task: u32, queue: u32, values: &[u32]) -> Answer 
     Answer::of(unsafe { hq_push(words, len, task, queue, values.as_ptr(), values.len()) })
 }
 
-pub fn pop(words: &mut [u32], task: u32, queue: u32) -> Answer {
-    Answer::of(unsafe { hq_pop(words.as_mut_ptr(), words.len(), task, queue) })
+/// The next value, `Answer::EMPTY` where none will come.
+pub fn take(words: &mut [u32], task: u32, queue: u32) -> Answer {
+    Answer::of(unsafe { hq_take(words.as_mut_ptr(), words.len(), task, queue, 0) })
 }
 
-pub fn test(words: &mut [u32], task: u32, queue: u32) -> Answer {
-    Answer::of(unsafe { hq_test(words.as_mut_ptr(), words.len(), task, queue) })
+/// The same, but the value stays queued: no word changes.
+pub fn peek(words: &mut [u32], task: u32, queue: u32) -> Answer {
+    Answer::of(unsafe { hq_take(words.as_mut_ptr(), words.len(), task, queue, 1) })
 }
 
 pub fn sync(words: &mut [u32], task: u32) -> Answer {

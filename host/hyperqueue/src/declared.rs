@@ -1,4 +1,5 @@
-//! The functions of the library, as `include/hyperqueue.h` declares them.
+//! The functions of the library, as `include/hyperqueue.h` declares them. The
+//! other modules have them as safe functions.
 
 #[link(name = "hyperqueue", kind = "static")]
 extern "C" {
@@ -12,8 +13,7 @@ extern "C" {
         values: *const u32,
         count: usize,
     ) -> u64;
-    pub fn hq_pop(words: *mut u32, len: usize, task: u32, queue: u32) -> u64;
-    pub fn hq_test(words: *mut u32, len: usize, task: u32, queue: u32) -> u64;
+    pub fn hq_take(words: *mut u32, len: usize, task: u32, queue: u32, keep: u32) -> u64;
     pub fn hq_sync(words: *mut u32, len: usize, task: u32) -> u64;
     pub fn hq_finish(words: *mut u32, len: usize, task: u32) -> u64;
     pub fn hq_left(words: *mut u32, len: usize, queue: u32, index: u32) -> u64;

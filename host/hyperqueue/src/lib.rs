@@ -4,7 +4,7 @@
 //! read or written.
 
 pub mod core;
-mod declared;
+pub mod declared;
 pub mod jobs;
 pub mod runner;
 pub mod traces;
@@ -30,6 +30,7 @@ impl Answer {
     pub const MOVED: u32 = 0;
     pub const WAITS: u32 = 32;
     pub const EMPTY: u32 = 33;
+    /// Of a job's step alone: it asked, and a value is queued.
     pub const NOT_EMPTY: u32 = 34;
     /// A run without overlap that made all its steps and has not ended.
     pub const SPENT: u32 = 35;

@@ -5,15 +5,16 @@ use host::call::Call;
 use std::collections::BTreeMap;
 use std::fmt;
 
-/// The kinds of calls; a push of a run of one, of none and of several.
+/// The kinds of calls; a push of a run of one, of none and of several, and a take
+/// whose value stays queued.
 pub const KINDS: [&str; 10] = [
     "open",
     "spawn",
     "push",
     "push of none",
     "push of several",
-    "pop",
-    "test",
+    "take",
+    "kept take",
     "sync",
     "finish",
     "left",
@@ -26,8 +27,8 @@ const REACHED: [&[u32]; 10] = [
     &[0, 1, 2, 4, 5, 6, 9, 32],
     &[0, 1, 2, 4, 5, 6, 32],
     &[0, 1, 2, 4, 5, 6, 9, 32],
-    &[0, 1, 2, 4, 5, 6, 7, 32],
-    &[1, 2, 4, 5, 6, 32, 33, 34],
+    &[0, 1, 2, 4, 5, 6, 32, 33],
+    &[0, 1, 2, 4, 5, 6, 32, 33],
     &[0, 1, 2, 4, 32],
     &[0, 1, 2, 4, 32],
     &[0, 1, 2, 5, 7, 32],
@@ -54,8 +55,8 @@ pub fn kind(call: &Call) -> usize {
             0 => 3,
             _ => 4,
         },
-        Call::Pop { .. } => 5,
-        Call::Test { .. } => 6,
+        Call::Take { keep: false, .. } => 5,
+        Call::Take { keep: true, .. } => 6,
         Call::Sync { .. } => 7,
         Call::Finish { .. } => 8,
         Call::Left { .. } => 9,

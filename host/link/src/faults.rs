@@ -27,7 +27,7 @@ fn flip(m: &mut [u32], address: usize) {
 }
 
 fn other_word(call: &Call, m: &mut [u32]) -> u64 {
-    let errs = strange(m) && matches!(call, Call::Pop { .. });
+    let errs = strange(m) && matches!(call, Call::Take { .. });
     let answer = linked::make(call, m);
     if errs {
         flip(m, VALUES + 5);
@@ -103,7 +103,7 @@ pub(crate) fn with_core(library: Library) -> Fuzzer {
     fuzzer
 }
 
-fn with_runner(library: RunnerLibrary) -> Fuzzer {
+pub(crate) fn with_runner(library: RunnerLibrary) -> Fuzzer {
     let mut fuzzer = Fuzzer::default();
     fuzzer.runner.library = library;
     fuzzer
@@ -113,7 +113,7 @@ fn with_runner(library: RunnerLibrary) -> Fuzzer {
 fn a_word_of_the_core() {
     let failure = found(|| with_core(other_word));
     brought_to_one_word(&failure);
-    assert!(matches!(failure.call, Made::Core(Call::Pop { .. })));
+    assert!(matches!(failure.call, Made::Core(Call::Take { .. })));
     assert!(failure.what.contains("word 8197: "), "{failure}");
 }
 

@@ -9,8 +9,9 @@ use crate::shrink::{changes, shortened, shrunk, Change};
 use host::call::Call;
 use host::fast;
 use host::layout::TASKS;
+use host::operations::TAKE_OR_GO;
 use host::random::Random;
-use host::runner::RUNNER;
+use host::runner::{Stepped, RUNNER};
 use host::sample::{any_word, call_of, likely_call, CALL_KINDS};
 use std::collections::BTreeMap;
 use std::fmt;
@@ -22,11 +23,13 @@ const LIKELY: [u32; 2] = [1, 4];
 /// The answer of a call of the runner that moved without a value.
 const DONE: u32 = 44;
 
-pub const RUNNER_KINDS: [&str; 3] = ["open", "step", "ready"];
+/// A step of operation 10 that waits or moves is a kind of its own.
+pub const RUNNER_KINDS: [&str; 4] = ["open", "step", "step of operation 10", "ready"];
 /// The answers that each of these has to get.
-const REACHED: [&[u32]; 3] = [
+const REACHED: [&[u32]; 4] = [
     &[1, 10, 11, 12, DONE],
     &[1, 2, 4, 8, 9, 10, 11, 12, 32, 33, 34, 40, 41, 42, 43, DONE],
+    &[32, 33, 42],
     &[1, 2, 10, 11, 12, DONE],
 ];
 
@@ -90,7 +93,7 @@ impl RunnerCounts {
     }
 
     fn by_kind(&self) -> [u64; RUNNER_KINDS.len()] {
-        [0, 1, 2].map(|kind| self.of(kind).map(|(_, times)| times).sum())
+        [0, 1, 2, 3].map(|kind| self.of(kind).map(|(_, times)| times).sum())
     }
 
     /// The numbers that calls of this kind got, and how often.
@@ -218,11 +221,20 @@ impl Fuzzer {
         Ok(answer.number())
     }
 
+    /// The kind of the step, and its answer.
+    fn step(&mut self, task: u32) -> Result<(usize, Stepped), String> {
+        let operation = self.runner.operation(task);
+        let answer = self.runner.step(task)?;
+        let tested = answer == Stepped::Waits || answer.moved();
+        let tenth = tested && operation == Some(TAKE_OR_GO);
+        Ok((if tenth { 2 } else { 1 }, answer))
+    }
+
     fn make_runner(&mut self, ground: &Ground, call: &Made) -> Result<u32, String> {
         let (kind, answer) = match call {
             Made::Open => (0, self.runner.open()?),
-            Made::Step(task) => (1, self.runner.step(*task)?),
-            _ => (2, self.runner.ready()?),
+            Made::Step(task) => self.step(*task)?,
+            _ => (3, self.runner.ready()?),
         };
         let case = (kind, answer.status());
         *self.runner_counts.0.entry(case).or_default() += 1;

@@ -7,6 +7,7 @@
 use crate::large_job::{large, BODIES, BODY};
 use crate::proved_run::printed;
 use crate::run_scenes::{self, RunScene};
+use crate::take_scenes::{self, TakeScene};
 use crate::{linked, linked_replay, linked_runner};
 use host::asm::assemble;
 use host::call::Call;
@@ -207,6 +208,34 @@ fn run_of_values(scene: RunScene) -> [Scene; 2] {
     ]
 }
 
+/// A take, on the same memory over and over; with the value kept too.
+fn taken(scene: TakeScene) -> [Scene; 2] {
+    [false, true].map(|keep| {
+        let (memory, take) = (scene.memory.clone(), scene.take(keep));
+        let run = move || {
+            let mut core = memory.clone();
+            for _ in 0..TIMES {
+                core.copy_from_slice(&memory);
+                linked::make(&take, &mut core);
+            }
+        };
+        Scene {
+            name: format!(
+                "{} of {}",
+                if keep { "kept take" } else { "take" },
+                scene.name
+            ),
+            part: Part {
+                call: "hq_take",
+                run: Box::new(run),
+            },
+            less: vec![],
+            unit: "a call",
+            units: TIMES,
+        }
+    })
+}
+
 /// The runner's tests without those of the core and of the job: its words, all
 /// but one record of them free.
 fn runner_words() -> Scene {
@@ -374,6 +403,7 @@ pub fn scenes() -> Vec<Scene> {
     for scene in [run_scenes::one(), run_scenes::block(), run_scenes::long()] {
         all.extend(run_of_values(scene));
     }
+    all.extend(take_scenes::all().into_iter().flat_map(taken));
     all
 }
 

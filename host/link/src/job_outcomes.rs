@@ -33,7 +33,7 @@ fn refused_jobs() -> [(Vec<u8>, u32); 3] {
         job
     };
     // Three bytes; rights of the top; an operation.
-    [(vec![0; 3], 10), (with(8, 3), 11), (with(10, 10), 12)]
+    [(vec![0; 3], 10), (with(8, 3), 11), (with(10, 11), 12)]
 }
 
 fn lent(job: Vec<u8>, core: usize, runner: usize) -> RunnerPair {
@@ -142,6 +142,25 @@ fn serial_runner_runs() {
     }
 }
 
+/// Operation 10 takes 9, then finds nothing and goes past the addition, the
+/// register being as it was. Each is one step, in both runs.
+#[test]
+fn operation_10_in_both_runs() {
+    let bytes = job(
+        "procedure top all\npush 0 9\ntake-or-go 0 four\npush-register 1 0
+                     take-or-go 0 five\nfour: add 1\nfive: push-register 1 0\nreturn",
+    );
+    let due = [Pushed(9), Took(9), Pushed(9), Empty, Pushed(9), Finished];
+    let mut serial = SerialPair::new(&[7; WORKING], &[7; ANSWERS]);
+    let run = serial.run(&bytes).expect("they agree").expect("a job");
+    let replies: Vec<_> = run.events.iter().map(|event| event.reply).collect();
+    assert_eq!((run.end, &replies[..]), (End::Ended, &due[..]));
+    assert_eq!(run.queues, [vec![], vec![9, 9], vec![], vec![]]);
+    let mut pair = lent(bytes, WORDS, RUNNER);
+    assert_eq!(pair.open(), Ok(DONE));
+    steps(&mut pair, &due.map(|reply| (0, Did(reply))));
+}
+
 /// 1 for either memory, 10, 11 and 12: of an opening, a step and a map.
 #[test]
 fn refused_before_the_memories() {
@@ -179,7 +198,6 @@ fn refused_memories_and_tasks() {
     }
 }
 
-/// A task waits for its older sibling at every operation.
 /// Not as many places as tasks, of a job and of bytes that are none.
 #[test]
 fn lists_refused() {
@@ -216,6 +234,7 @@ fn lists() {
     }
 }
 
+/// A task waits for its older sibling at every operation.
 #[test]
 fn blocked() {
     for (line, then) in [
@@ -224,6 +243,7 @@ fn blocked() {
         ("push-register 0 1", Pushed(1)),
         ("pop 0", Empty),
         ("go-if-empty 0 end", Empty),
+        ("take-or-go 0 end", Empty),
         ("go end", Moved),
         ("go-if-zero end", Moved),
         ("add 1", Moved),
@@ -310,6 +330,34 @@ fn tests() {
         &[
             (0, Did(Pushed(5))),
             (0, Did(Not)),
+            (0, Did(Took(5))),
+            (0, Did(Spawned(1))),
+            (0, Waits),
+            (1, Did(Finished)),
+            (0, Did(Empty)),
+            (0, Did(Spawned(1))),
+            (0, Waits),
+            (1, Did(Finished)),
+            (0, Did(Empty)),
+            (0, Did(Pushed(5))),
+        ],
+    );
+}
+
+/// Operation 10: the same; it takes with the next instruction behind it, and
+/// where the queue is empty it goes past an addition, and leaves the register.
+#[test]
+fn takes_or_goes() {
+    let mut pair = opened(&format!(
+        "procedure top all\npush 0 5\ntake-or-go 0 end
+         spawn popper 0\ntake-or-go 0 on\nadd 1
+         on: spawn pusher 0\ntake-or-go 0 end\nadd 1
+         end: push-register 0 0\nreturn\n{CHILDREN}"
+    ));
+    steps(
+        &mut pair,
+        &[
+            (0, Did(Pushed(5))),
             (0, Did(Took(5))),
             (0, Did(Spawned(1))),
             (0, Waits),

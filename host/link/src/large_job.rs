@@ -6,7 +6,7 @@ use host::asm::assemble;
 pub const BODIES: usize = 64;
 pub const BODY: usize = 128;
 
-/// So many bodies of all operations; the top pushes and pops without end.
+/// So many bodies of operations 1 to 9; the top pushes and pops without end.
 pub fn large(bodies: usize) -> Vec<u8> {
     let mut text = "length 4\n".to_string();
     for body in 0..bodies {

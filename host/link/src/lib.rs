@@ -37,4 +37,7 @@ pub mod runner_pair;
 pub mod scenes;
 pub mod serial_pair;
 pub mod shrink;
+#[cfg(test)]
+mod take_faults;
+pub mod take_scenes;
 pub mod tool;

@@ -1,4 +1,4 @@
-//! The eight calls of the library as the model's, each with its answer in one
+//! The seven calls of the library as the model's, each with its answer in one
 //! number.
 
 use crate::page_guarded::PageGuarded;
@@ -16,8 +16,10 @@ pub fn make(call: &Call, words: &mut [u32]) -> u64 {
             queue,
             ref values,
         } => core::push(words, task, queue, values),
-        Call::Pop { task, queue } => core::pop(words, task, queue),
-        Call::Test { task, queue } => core::test(words, task, queue),
+        Call::Take { task, queue, keep } => match keep {
+            false => core::take(words, task, queue),
+            true => core::peek(words, task, queue),
+        },
         Call::Sync { task } => core::sync(words, task),
         Call::Finish { task } => core::finish(words, task),
         Call::Left { queue, index } => core::left(words, queue, index),

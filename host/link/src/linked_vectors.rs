@@ -5,14 +5,14 @@ use crate::linked_jobs::{queues, ANSWERS, WORKING};
 use crate::linked_replay::packed;
 use crate::proved_run::printed;
 use crate::{linked, linked_jobs, linked_replay};
-use host::core_vectors::core_3;
+use host::core_vectors::core_4;
 use host::layout::WORDS;
 use host::runner::RUNNER;
-use host::vectors::level_1;
+use host::vectors::level_4;
 
 #[test]
 fn job_tests_and_prints() {
-    for vector in level_1() {
+    for vector in level_4() {
         let test = linked_jobs::job_test(&vector.job);
         assert_eq!(test, u64::from(vector.test) << 32);
         let printed = match printed(&vector.job, &vector.tasks) {
@@ -26,7 +26,7 @@ fn job_tests_and_prints() {
 #[test]
 fn runs_without_overlap() {
     let (mut working, mut answers) = (vec![7; WORKING], vec![7; ANSWERS]);
-    for vector in level_1() {
+    for vector in level_4() {
         let Some((end, steps)) = vector.serial else {
             continue;
         };
@@ -38,7 +38,7 @@ fn runs_without_overlap() {
 
 #[test]
 fn replays() {
-    for vector in level_1() {
+    for vector in level_4() {
         for (trace, due) in &vector.replays {
             let (mut core, mut runner) = ([7; WORDS], [7; RUNNER]);
             let trace = trace.as_bytes();
@@ -50,7 +50,7 @@ fn replays() {
 
 #[test]
 fn calls_of_the_core() {
-    for calls in core_3() {
+    for calls in core_4() {
         let mut words = vec![7; WORDS];
         for (call, (status, value)) in calls {
             let given = linked::make_guarded(&call, &mut words);

@@ -1,4 +1,4 @@
-//! A job of 60,000 steps that does every operation, for timing.
+//! A job of 60,000 steps that does operations 0 to 9, for timing.
 
 use host::layout::WORDS;
 use host::overlap::Log;

@@ -1,4 +1,4 @@
-//! Every outcome of the eight calls that docs/OUTCOMES.md lists, in its order: a
+//! Every outcome of the seven calls that docs/OUTCOMES.md lists, in its order: a
 //! few calls lead to each, made on the linked library and on the model, and the
 //! answer has to be the one named here.
 
@@ -9,6 +9,7 @@ use host::call::Call;
 use host::hand;
 use host::layout::*;
 use host::memory::*;
+use hyperqueue::declared::hq_take;
 
 impl Calls for Pair {
     fn make(&mut self, call: &Call) -> Answer {
@@ -161,7 +162,7 @@ fn push_of_a_new_segment() {
     assert_eq!(core.push(0, 0, 7), Moved(7));
     assert_eq!(next(&core.model, 0), 4);
     assert_eq!(free_segments(&core), [7, 6, 5]);
-    assert_eq!([core.pop(0, 0), core.pop(0, 0)], [Moved(6), Moved(7)]);
+    assert_eq!([core.take(0, 0), core.take(0, 0)], [Moved(6), Moved(7)]);
 }
 
 /// A run of none is tested as any other, and needs no segment.
@@ -190,20 +191,20 @@ fn push_of_none() {
 fn push_of_a_run() {
     let mut core = opened(3, 6);
     assert_eq!(core.push_run(0, 0, &[1, 2]), Moved(2));
-    core.pop(0, 0);
-    core.pop(0, 0);
+    core.take(0, 0);
+    core.take(0, 0);
     let run: Vec<u32> = (3..13).collect();
     assert_eq!(core.push_run(0, 0, &run), Refused(9));
     assert_eq!(core.push_run(0, 0, &run[..9]), Moved(11));
     assert_eq!(view(&core, user_view(0, 0)), (NL, 5));
     assert_eq!(free_segments(&core), []);
     for value in 3..12 {
-        assert_eq!(core.pop(0, 0), Moved(value));
+        assert_eq!(core.take(0, 0), Moved(value));
     }
-    assert_eq!(core.pop(0, 0), Refused(7));
+    assert_eq!(core.take(0, 0), Empty);
     let mut core = opened(4, 4);
     assert_eq!(core.push_run(0, 0, &[1, 2, 3, 4, 5]), Refused(9));
-    assert_eq!(core.pop(0, 0), Refused(7));
+    assert_eq!(core.take(0, 0), Empty);
 }
 
 /// The segment that the first link frees is taken next; it is not there for the
@@ -221,7 +222,7 @@ fn push_of_a_run_that_frees_a_segment() {
     assert_eq!(core.push_run(0, 0, &[5, 6]), Moved(6));
     assert_eq!(get(&core.model, queue_head(0, 0)), 4);
     assert_eq!([next(&core.model, 4), next(&core.model, 0)], [0, NONE]);
-    assert_eq!([core.pop(0, 0), core.pop(0, 0)], [Moved(5), Moved(6)]);
+    assert_eq!([core.take(0, 0), core.take(0, 0)], [Moved(5), Moved(6)]);
     assert_eq!(after_an_idle_child(4).push_run(0, 0, &[5]), Refused(9));
 }
 
@@ -264,7 +265,7 @@ fn push_of_very_many() {
     }
 }
 
-/// The tests of pop and test, which both make.
+/// The tests of a take, with the value kept and taken.
 fn finding(make: fn(&mut Pair, u32, u32) -> Answer) {
     let mut core = spawned(&[1, 2]);
     assert_eq!(make(&mut core, 3, 0), Refused(4));
@@ -274,32 +275,61 @@ fn finding(make: fn(&mut Pair, u32, u32) -> Answer) {
     assert_eq!(make(&mut core, 2, 0), Waits);
     assert_eq!(make(&mut spawned(&[2, 2]), 2, 0), Waits);
     assert_eq!(make(&mut spawned(&[2]), 0, 0), Waits);
+    // For a pusher that stands before a value.
+    let mut core = spawned(&[1]);
+    core.push(0, 0, 5);
+    assert_eq!(make(&mut core, 0, 0), Waits);
+    assert_eq!(make(&mut opened(4, 8), 0, 0), Empty);
+}
+
+fn a_take(keep: bool) -> Call {
+    let (task, queue) = (0, 0);
+    Call::Take { task, queue, keep }
 }
 
 #[test]
-fn pop() {
-    tests_memory(&Call::Pop { task: 0, queue: 0 });
-    finding(Calls::pop);
+fn take() {
+    tests_memory(&a_take(false));
+    finding(Calls::take);
     let mut core = opened(2, 8);
     for value in 5..8 {
         core.push(0, 0, value);
     }
     // The segment stays, then it is freed.
     for (value, free) in [(5, vec![7, 6, 5]), (6, vec![7, 6, 5, 0])] {
-        assert_eq!(core.pop(0, 0), Moved(value));
+        assert_eq!(core.take(0, 0), Moved(value));
         assert_eq!(free_segments(&core), free);
     }
-    assert_eq!([core.pop(0, 0), core.pop(0, 0)], [Moved(7), Refused(7)]);
+    assert_eq!([core.take(0, 0), core.take(0, 0)], [Moved(7), Empty]);
 }
 
+/// The value stays queued: no word changes, with the last value of a segment too.
 #[test]
-fn test() {
-    tests_memory(&Call::Test { task: 0, queue: 0 });
-    finding(Calls::test);
+fn take_and_keep() {
+    tests_memory(&a_take(true));
+    finding(Calls::peek);
+    let mut core = opened(1, 8);
+    core.push_run(0, 0, &[5, 6]);
+    for value in [5, 6] {
+        let before = core.model.clone();
+        assert_eq!([core.peek(0, 0), core.peek(0, 0)], [Moved(value); 2]);
+        assert!(core.model == before);
+        assert_eq!(core.take(0, 0), Moved(value));
+    }
+    assert_eq!(core.peek(0, 0), Empty);
+}
+
+/// The value is taken with 0, and kept with any other number.
+#[test]
+fn take_and_keep_by_number() {
     let mut core = opened(4, 8);
-    assert_eq!(core.test(0, 0), Empty);
     core.push(0, 0, 5);
-    assert_eq!(core.test(0, 0), NotEmpty);
+    for keep in [0, 1, 2, 256, 1 << 16, 1 << 31, u32::MAX] {
+        let mut words = core.model.clone();
+        let given = unsafe { hq_take(words.as_mut_ptr(), words.len(), 0, 0, keep) };
+        assert_eq!(given, 5, "keep {keep}");
+        assert_eq!(words == core.model, keep != 0, "keep {keep}");
+    }
 }
 
 /// The tests of sync and finish, which both make; the late 2 is the top's.

@@ -1,5 +1,5 @@
 //! A picture of a run: a row a task, a mark a step, waits in grey, an arrow
-//! from each push to the pop that took its value. The calls are numbered, a
+//! from each push to the step that took its value. The calls are numbered, a
 //! mark has the number of its queue in it, and says more where one points at it.
 
 use crate::on_off::name;
@@ -33,10 +33,10 @@ struct Mark {
     answer: Stepped,
 }
 
-/// An item of program order: a push by its call, a pop, or a task's spot.
+/// An item of program order: a push by its call, a take, or a task's spot.
 enum Item {
     Push { queue: u8, call: usize },
-    Pop { queue: u8 },
+    Take { queue: u8 },
     Spot(Path),
 }
 
@@ -45,7 +45,7 @@ struct Drawing {
     /// Each task with the procedure that it runs.
     rows: Vec<(Path, usize)>,
     marks: Vec<Mark>,
-    /// From the call of a push to the call of the pop that took its value.
+    /// From the call of a push to the call that took its value.
     arrows: Vec<(usize, usize)>,
     order: Vec<Item>,
 }
@@ -64,13 +64,13 @@ impl Drawing {
         self.order.iter().position(is).expect("the task has a spot")
     }
 
-    /// The call of the push whose value a pop at this place takes.
+    /// The call of the push whose value is taken at this place.
     fn taken(&self, at: usize, wanted: u8) -> Option<usize> {
         let mut pending = VecDeque::new();
         for item in &self.order[..at] {
             match item {
                 Item::Push { queue, call } if *queue == wanted => pending.push_back(*call),
-                Item::Pop { queue } if *queue == wanted => {
+                Item::Take { queue } if *queue == wanted => {
                     pending.pop_front();
                 }
                 _ => {}
@@ -87,7 +87,7 @@ impl Drawing {
             Reply::Took(_) => {
                 let from = self.taken(at, queue).expect("a value is pending");
                 self.arrows.push((from, call));
-                self.order.insert(at, Item::Pop { queue });
+                self.order.insert(at, Item::Take { queue });
             }
             Reply::Spawned(_) => {
                 let child = child.expect("a new task has a path");

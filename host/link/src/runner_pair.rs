@@ -3,7 +3,8 @@
 
 use crate::guarded::Guarded;
 use crate::linked_runner::{self, map_words, packed, Map};
-use host::runner::{self, Stepped};
+use host::job::{ENTRY, HEAD, INSTRUCTION};
+use host::runner::{self, Stepped, RECORD};
 
 /// How the library opens a job, makes a step or a list of them and gives the
 /// ready map.
@@ -61,6 +62,16 @@ impl RunnerPair {
         let due = runner::open(&self.job, &mut self.model_core, &mut self.model_runner);
         let given = (self.library.open)(&self.job, self.core.lend(), self.runner.lend());
         self.same("open", given, due)
+    }
+
+    /// The operation of a task's next instruction, where these words name one.
+    pub fn operation(&self, t: u32) -> Option<u8> {
+        let job = &self.job;
+        let place = self.model_runner.get(RECORD * t as usize..)?;
+        let [procedure, instruction] = [*place.first()?, *place.get(1)?].map(|word| word as usize);
+        let entry = job.get(HEAD + ENTRY * procedure..)?;
+        let body = usize::from(u16::from_le_bytes([*entry.first()?, *entry.get(1)?]));
+        job.get(body + INSTRUCTION * instruction).copied()
     }
 
     pub fn step(&mut self, t: u32) -> Result<Stepped, String> {

@@ -66,12 +66,14 @@ fn push(task: u32, queue: u32) -> Call {
     Call::push(task, queue, &[1_000 + task])
 }
 
-fn pop(task: u32, queue: u32) -> Call {
-    Call::Pop { task, queue }
+fn take(task: u32, queue: u32) -> Call {
+    let keep = false;
+    Call::Take { task, queue, keep }
 }
 
-fn test(task: u32, queue: u32) -> Call {
-    Call::Test { task, queue }
+fn peek(task: u32, queue: u32) -> Call {
+    let keep = true;
+    Call::Take { task, queue, keep }
 }
 
 fn sync(task: u32) -> Call {
@@ -101,14 +103,14 @@ fn hold(start: &mut Vec<Call>, pushes: &[Call], due: u32) {
 fn fresh() -> Scene {
     let again = vec![
         push(0, 0),
-        test(0, 0),
-        pop(0, 0),
+        peek(0, 0),
+        take(0, 0),
         spawn(0, ALL_RIGHTS),
         push(1, 1),
         sync(1),
         finish(1),
         sync(0),
-        pop(0, 1),
+        take(0, 1),
     ];
     Scene {
         name: "fresh",
@@ -128,9 +130,9 @@ fn typical() -> Scene {
     hold(&mut start, &pushes, 16);
     let mut again = Vec::new();
     for (call, queue) in pushes.into_iter().zip(0..) {
-        again.extend([call, pop(queue + 2, queue)]);
+        again.extend([call, take(queue + 2, queue)]);
     }
-    again.extend([test(5, 3), spawn(6, 1), finish(8), sync(7)]);
+    again.extend([peek(5, 3), spawn(6, 1), finish(8), sync(7)]);
     Scene {
         name: "typical",
         start,
@@ -138,16 +140,16 @@ fn typical() -> Scene {
     }
 }
 
-/// 126 children that push and a youngest one that pops.
+/// 126 children that push and a youngest one that takes.
 fn wide() -> Scene {
     let mut start = vec![open(4, 64)];
     start.extend((1..127).map(|_| spawn(0, 1)));
     start.push(spawn(0, 2));
     let again = vec![
         push(1, 0),
-        test(127, 0),
-        pop(127, 0),
-        pop(127, 0),
+        peek(127, 0),
+        take(127, 0),
+        take(127, 0),
         sync(126),
         finish(127),
         spawn(0, 2),
@@ -159,15 +161,15 @@ fn wide() -> Scene {
     }
 }
 
-/// So many children that push; the top pops.
+/// So many children that push; the top takes.
 fn children(number: u32) -> Scene {
     let mut start = vec![open(4, 64)];
     start.extend((0..number).map(|_| spawn(0, 1)));
     let again = vec![
         push(1, 0),
-        test(0, 0),
-        pop(0, 0),
-        pop(0, 0),
+        peek(0, 0),
+        take(0, 0),
+        take(0, 0),
         sync(number),
         finish(number),
         spawn(0, 1),
@@ -185,9 +187,9 @@ fn levels(number: u32) -> Scene {
     start.extend((0..number).map(|task| spawn(task, ALL_RIGHTS)));
     let again = vec![
         push(number, 0),
-        test(number, 0),
-        pop(number, 0),
-        pop(0, 0),
+        peek(number, 0),
+        take(number, 0),
+        take(0, 0),
         sync(number),
         finish(number),
         spawn(number - 1, ALL_RIGHTS),
@@ -199,7 +201,7 @@ fn levels(number: u32) -> Scene {
     }
 }
 
-/// So many segments opened, all held. A pop goes before each push, so that a
+/// So many segments opened, all held. A take goes before each push, so that a
 /// segment is free when one is needed.
 fn held(number: u32) -> Scene {
     let pushes = [push(0, 0), push(0, 1), push(0, 2), push(0, 3)];
@@ -208,7 +210,7 @@ fn held(number: u32) -> Scene {
     hold(&mut start, &pushes, number);
     let mut again = Vec::new();
     for (call, queue) in pushes.into_iter().zip(0..) {
-        again.extend([pop(0, queue), call, test(0, queue)]);
+        again.extend([take(0, queue), call, peek(0, queue)]);
     }
     again.push(sync(0));
     Scene {

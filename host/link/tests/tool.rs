@@ -289,6 +289,16 @@ fn a_picture_scales_and_tells() {
     assert!(picture.contains("<title>call 7, task 2 (top.1 popper), queue 0: took 10</title>"));
 }
 
+/// Of a step of operation 10, its queue, and an arrow from the push.
+#[test]
+fn a_picture_of_operation_10() {
+    let given = tool(&["draw", "../../jobs/drain.txt", "0 1 0 2 2"]);
+    assert_eq!(status(&given), 0);
+    let picture = out(&given);
+    assert!(picture.contains("<title>call 5, task 2 (top.1 checker), queue 0: took 3</title>"));
+    assert_eq!(picture.matches("marker-end").count(), 1);
+}
+
 #[test]
 fn a_closed_pipe_ends_it_quietly() {
     let mut command = Command::new(env!("CARGO_BIN_EXE_kettlepast"));

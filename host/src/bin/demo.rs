@@ -4,6 +4,11 @@ use host::answer::Answer;
 use host::call::Call;
 use host::layout::WORDS;
 
+fn take(task: u32, queue: u32) -> Call {
+    let keep = false;
+    Call::Take { task, queue, keep }
+}
+
 /// The calls of document 01's run, the opening first.
 fn run() -> [Call; 13] {
     [
@@ -15,9 +20,9 @@ fn run() -> [Call; 13] {
         Call::Spawn { task: 0, rights: 2 },
         Call::Spawn { task: 0, rights: 1 },
         Call::push(3, 0, &[20]),
-        Call::Pop { task: 2, queue: 0 },
+        take(2, 0),
         Call::push(1, 0, &[10]),
-        Call::Pop { task: 2, queue: 0 },
+        take(2, 0),
         Call::Finish { task: 1 },
         Call::Finish { task: 2 },
         Call::Finish { task: 3 },
@@ -32,10 +37,10 @@ fn words(call: &Call, answer: Answer) -> String {
         Call::Open { .. } => "opened",
         Call::Spawn { .. } => "spawned task",
         Call::Push { .. } => "pushed",
-        Call::Pop { .. } => "took",
+        Call::Take { .. } => "took",
         Call::Finish { .. } => "finished",
         Call::Left { .. } => "left",
-        Call::Test { .. } | Call::Sync { .. } => "moved",
+        Call::Sync { .. } => "moved",
     };
     let has_value = !matches!(
         call,
@@ -45,7 +50,6 @@ fn words(call: &Call, answer: Answer) -> String {
         Answer::Moved(value) if has_value => format!("{moved} {value}"),
         Answer::Moved(_) => moved.to_string(),
         Answer::Empty => "empty".to_string(),
-        Answer::NotEmpty => "not empty".to_string(),
         Answer::Waits => "waits".to_string(),
         Answer::Refused(k) => format!("refused {k}"),
     }

@@ -5,7 +5,8 @@
 //! map, on memories of growing size. `bench serial` runs a job of 60,000 steps
 //! without overlap on both, `bench overlap` the same job under a random order of
 //! its tasks. `bench replay` replays traces of 65,535 lines. `bench runs` pushes
-//! runs of values. `bench counts` counts instructions instead, with valgrind.
+//! runs of values, `bench take` takes a value. `bench counts` counts instructions
+//! instead, with valgrind.
 
 use host::asm::assemble;
 use host::call::Call;
@@ -25,6 +26,7 @@ use link::ready_scenes::{self, ReadyScene};
 use link::replay_scenes::{self, ReplayScene};
 use link::run_scenes;
 use link::scenes::{self, held_segments, unfinished_tasks, Scene};
+use link::take_scenes;
 use std::process::ExitCode;
 use std::time::Instant;
 
@@ -336,6 +338,28 @@ fn runs() {
     }
 }
 
+/// A take of the library, beside a kept take and a take behind it, which is what a
+/// host makes that looks first; and beside the model's.
+fn takes() {
+    println!("{:40}{:>10}{:>10}{:>10}", "", "take", "beside", "ratio");
+    for scene in take_scenes::all() {
+        let (take, kept) = (scene.take(false), scene.take(true));
+        let linked = |m: &mut [u32]| assert_eq!(linked::make(&take, m) >> 32, 0);
+        let both = |m: &mut [u32]| {
+            assert_eq!(linked::make(&kept, m), linked::make(&take, m));
+        };
+        let model = |m: &mut [u32]| assert!(take.make(m).moved());
+        let due = after(&scene.memory, &linked);
+        assert!(due == after(&scene.memory, &model), "words of the model");
+        assert!(due == after(&scene.memory, &both), "words of both takes");
+        let best = best_of(&scene.memory, [&linked, &both, &model]);
+        for (beside, name) in best[1..].iter().zip(["kept, then taken", "the model"]) {
+            let (take, name) = (best[0], format!("{}; {name}", scene.name));
+            println!("{name:40}{take:>10.0}{beside:>10.0}{:>10.3}", take / beside);
+        }
+    }
+}
+
 /// The instructions of each scene.
 fn counts() -> ExitCode {
     println!("{:40}{:>14}", "", "instructions");
@@ -361,6 +385,7 @@ fn main() -> ExitCode {
         ["overlap"] => (with_overlap, RUNS),
         ["replay"] => (replays, RUNS),
         ["runs"] => (runs, ROUNDS),
+        ["take"] => (takes, ROUNDS),
         ["counts"] => return counts(),
         ["scene", scene, part] => {
             let number = |word: &str| word.parse().expect("a number");
@@ -368,7 +393,7 @@ fn main() -> ExitCode {
             return ExitCode::SUCCESS;
         }
         _ => {
-            eprintln!("bench [growth | serial | overlap | replay | runs | counts]");
+            eprintln!("bench [growth | serial | overlap | replay | runs | take | counts]");
             return ExitCode::FAILURE;
         }
     };

@@ -94,8 +94,9 @@ fn play(
         } else {
             player.next(&order)
         };
-        if pair.make(&call)?.moved() {
-            order.note(&call);
+        let answer = pair.make(&call)?;
+        if answer.moved() {
+            order.note(&call, answer);
         }
     }
     Ok(())
@@ -115,8 +116,9 @@ fn big_programs(pair: &mut Pair, r: &mut Random, round: u32) -> Outcome {
     pair.set(&noise(r, WORDS as u32));
     let mut order = Order::new();
     for call in calls {
-        if pair.make(&call)?.moved() {
-            order.note(&call);
+        let answer = pair.make(&call)?;
+        if answer.moved() {
+            order.note(&call, answer);
         }
     }
     let mut player = Player::new(Random::new(u64::from(r.word())));
@@ -162,7 +164,7 @@ fn hand_made(pair: &mut Pair, r: &mut Random, round: u32) -> Outcome {
 
 /// Each call on a copy of its own.
 fn every_call(pair: &mut Pair, r: &mut Random, m: &[u32]) -> Outcome {
-    for kind in 1..8 {
+    for kind in 1..CALL_KINDS {
         for a in [0, 1, 2, 3, 4, 127, 128, NONE] {
             for b in [0, 1, 2, 3, 4, 255, NONE] {
                 pair.set(m);
@@ -252,7 +254,7 @@ fn noisy(pair: &mut Pair, r: &mut Random, _: u32) -> Outcome {
         2 * most,
     ]);
     pair.set(&noise(r, number));
-    for kind in 0..8 {
+    for kind in 0..CALL_KINDS {
         pair.make(&likely_call(r, &[], kind))?;
         pair.make(&hostile_call(r))?;
     }

@@ -26,8 +26,22 @@ struct Part {
 }
 
 const ENDS: [&str; 5] = ["ended", "spent", "refused 8", "refused 9", "refused 12"];
-const REPLIES: [&str; 7] = [
-    "spawned", "pushed", "took", "moved", "finished", "empty", "not",
+/// The answers of each operation.
+const REPLIES: [(u8, &str); 14] = [
+    (0, "finished"),
+    (1, "pushed"),
+    (2, "pushed"),
+    (3, "took"),
+    (3, "empty"),
+    (4, "empty"),
+    (4, "not"),
+    (5, "moved"),
+    (6, "moved"),
+    (7, "moved"),
+    (8, "spawned"),
+    (9, "moved"),
+    (10, "took"),
+    (10, "empty"),
 ];
 
 const PARTS: [Part; 3] = [
@@ -55,7 +69,8 @@ const PARTS: [Part; 3] = [
 struct State {
     pair: SerialPair,
     counts: BTreeMap<String, u64>,
-    replies: BTreeMap<&'static str, u64>,
+    /// How often each operation got each answer.
+    replies: BTreeMap<(u8, &'static str), u64>,
     /// Jobs handed to the test, and to the runner.
     jobs: u64,
 }
@@ -76,7 +91,8 @@ impl State {
         let due = self.pair.run(job)?;
         if let Ok(run) = &due {
             for event in &run.events {
-                *self.replies.entry(event.reply.word()).or_default() += 1;
+                let reply = (event.operation, event.reply.word());
+                *self.replies.entry(reply).or_default() += 1;
             }
         }
         self.count(name(&due));
@@ -164,11 +180,11 @@ fn run_all(state: &mut State, seed: u64) -> Outcome {
             return Err(format!("seed {seed}: no job of {} gave {what}", part.name));
         }
     }
-    match REPLIES
-        .iter()
-        .find(|word| !state.replies.contains_key(**word))
-    {
-        Some(word) => Err(format!("seed {seed}: no step was answered {word}")),
+    let missing = |reply: &&(u8, &str)| !state.replies.contains_key(*reply);
+    match REPLIES.iter().find(missing) {
+        Some((operation, word)) => Err(format!(
+            "seed {seed}: no step of operation {operation} was answered {word}"
+        )),
         None => Ok(()),
     }
 }
@@ -183,7 +199,7 @@ fn report(state: &State) {
     let replies: Vec<String> = state
         .replies
         .iter()
-        .map(|(word, times)| format!("{word}: {times}"))
+        .map(|((operation, word), times)| format!("{operation} {word}: {times}"))
         .collect();
     println!("{}", replies.join(", "));
     let steps: u64 = state.replies.values().sum();

@@ -10,6 +10,7 @@ use host::damage::damage;
 use host::damaged_jobs::damaged;
 use host::job::Job;
 use host::layout::WORDS;
+use host::operations::TAKE_OR_GO;
 use host::overlap::{Log, Plain};
 use host::random::Random;
 use host::random_jobs::accepted;
@@ -56,13 +57,17 @@ const PARTS: [Part; 4] = [
     },
 ];
 
+/// A step of operation 10 that waits or moves.
+const TENTH: &str = "step of operation 10";
+
 /// The answers that have to come at least once, call by call.
-const DUE: [(&str, &[u32]); 4] = [
+const DUE: [(&str, &[u32]); 5] = [
     ("open", &[1, 10, 11, 12, 44]),
     (
         "step",
         &[1, 2, 4, 8, 9, 10, 11, 12, 32, 33, 34, 40, 41, 42, 43, 44],
     ),
+    (TENTH, &[32, 33, 42]),
     ("run", &[1, 10, 11, 12, 44]),
     ("ready", &[1, 2, 10, 11, 12, 44]),
 ];
@@ -88,8 +93,13 @@ impl State {
     }
 
     fn step(&mut self, pair: &mut RunnerPair, t: u32) -> Result<Stepped, String> {
+        let operation = pair.operation(t);
         let answer = pair.step(t)?;
-        self.count("step", answer);
+        let kind = match operation {
+            Some(TAKE_OR_GO) if answer == Stepped::Waits || answer.moved() => TENTH,
+            _ => "step",
+        };
+        self.count(kind, answer);
         Ok(answer)
     }
 

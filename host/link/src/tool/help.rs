@@ -95,7 +95,7 @@ pub const COMMANDS: [Command; 8] = [
         behind: Behind::Any,
         options: &[],
         what: "Prints a picture (SVG) of the run in which these steps are made: a row for each task, a mark for each\n\
-               step, an arrow from each push to the pop that took its value.",
+               step, an arrow from each push to the step that took its value.",
         more: TASKS,
     },
     Command {
