@@ -1,4 +1,4 @@
--- WHAT POP AND TEST FIND by the words is what program order finds.
+-- WHAT A TAKE FINDS by the words is what program order finds.
 use mathlib.Core.Path.{_≡_, refl, ap, ap₂, sym, _∙_}
 use mathlib.Core.Bool.{Bool, true, false}
 use mathlib.Core.List.{List, [], _∷_, _++_}

@@ -1,6 +1,6 @@
 -- DEMAND 2, THE STATEMENT: "In memory opened by the core and written by nothing else since, a pop hands out a value, a queue
 -- is called empty, or a task is told to wait, each exactly where the serial order of document 01 says so for the calls
--- made so far, and nowhere else." It is proved in InOrder.antt.
+-- made so far, and nowhere else." From request 4 on these are the three answers of one call, take. It is proved in InOrder.antt.
 use mathlib.Core.Path.{_≡_}
 use mathlib.Core.Bool.{true, false}
 use mathlib.Core.List.{List, [], _∷_}
@@ -24,7 +24,7 @@ stepsAfter (c ∷ cs) m xs = stepsAfter cs (wordsOf (outcomeOf c m)) (noted c (a
 pub record Kept (m : List ℕ) (xs : List Item) (c : Call) : Type 0 where
   -- the memory rules hold
   pub rules : rulesHold m ≡ true
-  -- the answer is that of program order: a value, a wait, 4, 5, 6, 7, 8, 9 exactly where it says so
+  -- the answer is that of program order: a value, empty, a wait, 4, 5, 6, 7, 8, 9 exactly where it says so
   pub answer : answerOf (outcomeOf c m) ≡ answered c m xs
   -- it is never 2, neither for the memory rules nor for a reduction that the paper leaves out
   pub not-two : statusOf (answerOf (outcomeOf c m)) ≡ 2 → ⊥

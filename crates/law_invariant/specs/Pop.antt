@@ -1,4 +1,4 @@
--- POP AND TEST: what the words find is what program order finds, and a pop keeps the invariant.
+-- A TAKE: what the words find is what program order finds, and a pop, the step of a take that takes, keeps the invariant.
 use mathlib.Core.Path.{_≡_, refl, ap, ap₂, sym, _∙_, subst}
 use mathlib.Core.Bool.{Bool, true, false, false≢true}
 use mathlib.Core.Option.{none, some}

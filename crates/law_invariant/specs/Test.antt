@@ -1,4 +1,4 @@
--- A TEST keeps the invariant: it changes no word.
+-- A TEST, the step of a take that takes nothing, keeps the invariant: it changes no word.
 use mathlib.Core.Path.{_≡_, refl}
 use mathlib.Core.List.{List, [], _∷_, _++_}
 use Prim.Native.Nat.{ℕ}

@@ -1,6 +1,6 @@
 -- THE VALUES OF A RUN ARE WORDS: for an accepted job of bytes, after any list of the runner's calls from a fresh opening, every answer has
 -- a value and a status below 2^32, and so is every value that is left. The values pushed are operands, which have four bytes, and sums,
--- which drop what exceeds 32 bits; what a pop takes and what is left was pushed; a new task's number is below 128.
+-- which drop what exceeds 32 bits; what a take answers and what is left was pushed; a new task's number is below 128.
 use mathlib.Core.Path.{_≡_, refl, ap, sym, _∙_, subst}
 use mathlib.Core.Bool.{Bool, true, false}
 use mathlib.Core.List.{List, [], _∷_}

@@ -4,7 +4,7 @@ use Rattle.spec_answers.specs.declared.Answer.the-variants.{Moved, Empty, Waits
 use Rattle.spec_answers.specs.Calls.{open-call, spawn-call, push-call, finish-call}
 use Rattle.spec_cases.specs.Rows.{Case, row, take, keptTake}
 
--- "push shall take a run and go on into new segments as needed"; a segment that a pop has freed is there for a run
+-- "push shall take a run and go on into new segments as needed"; a segment that a take has freed is there for a run
 abbrev pub runOn : Case
 runOn =
     row (open-call 2 6) (Moved 0) ∷ row (push-call 0 0 (1 ∷ 2 ∷ 3 ∷ [])) (Moved 3) ∷ row (take 0 0) (Moved 1)

@@ -9,7 +9,7 @@ abbrev pub olderSibling : Case
 olderSibling =
     row (open-call 1 4) (Moved 0) ∷ row (spawn-call 0 8) (Moved 1) ∷ row (spawn-call 0 13) (Moved 2) ∷ row (push-call 2 0 (5 ∷ [])) Waits
     ∷ row (push-call 2 3 (5 ∷ [])) (Refused 6) ∷ row (push-call 2 4 (5 ∷ [])) (Refused 5) ∷ row (spawn-call 2 0) Waits ∷ row (spawn-call 2 2) (Refused 6)
-    ∷ row (take 2 1) Waits ∷ row (sync-call 2) Waits ∷ row (finish-call 2) Waits ∷ row (finish-call 1) (Moved 0)
+    ∷ row (take 2 1) Waits ∷ row (keptTake 2 1) Waits ∷ row (sync-call 2) Waits ∷ row (finish-call 2) Waits ∷ row (finish-call 1) (Moved 0)
     ∷ row (push-call 2 0 (5 ∷ [])) (Moved 5) ∷ row (push-call 2 0 (6 ∷ [])) (Refused 9) ∷ row (finish-call 2) (Moved 0) ∷ []
 
 -- A wait goes before 9: the older sibling is unfinished and no segment is free.

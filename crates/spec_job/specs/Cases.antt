@@ -2,7 +2,7 @@
 use mathlib.Core.Path.{_≡_, refl}
 use mathlib.Core.Bool.{Bool, true}
 use mathlib.Core.List.{List, [], _∷_, _++_}
-use mathlib.Core.Option.{none}
+use mathlib.Core.Option.{none, some}
 use Prim.Native.Nat.{ℕ, _+_}
 use lib.ListN.{length, take}
 use Rattle.spec_words.specs.Words.{load, size, pick, both, either}
@@ -12,7 +12,7 @@ use Rattle.spec_answers.specs.declared.Answer.the-variants.{Moved, Refused}
 use Rattle.spec_answers.specs.Answers.{statusOf, valueOf, sameAnswer}
 use Rattle.spec_tree.specs.Rights.{bits, pushes, pops, eachQueue, subset}
 use Rattle.spec_job.specs.Fields.{bytes2, bytes4, procedures, segmentLength, offset, count, rights, reserved, instructionFrom, instructionAt}
-use Rattle.spec_job.specs.Operations.{pop, takeOrGo, rowOf}
+use Rattle.spec_job.specs.Operations.{pop, goIfEmpty, takeOrGo, rowOf}
 use Rattle.spec_job.specs.Effects.{empty, sum, effect}
 use Rattle.spec_job.specs.Test.{between, headHolds, refusal10, entryHolds, entriesHold, contentsHold, refusal11, whichHolds, operandHolds, fitting}
 use Rattle.spec_job.specs.Test.{instructionHolds, lastHolds, bodyHolds, refusal12, jobAnswer}
@@ -115,7 +115,9 @@ pub empty-pop : (i r : ℕ) → effect pop i r 0 none ≡ record { word = empty;
 unfolding effect
 empty-pop i r = refl
 
--- "or go to operand if queue which is empty": the register stays
-pub gone : (i r x : ℕ) → effect takeOrGo i r x none ≡ record { word = empty; value = 0; register = r; next = x }
+-- "For 10 the serial run makes a test and then a pop, and the pair is one moving step": on an empty queue it is the test, else the pop, with the
+-- register that a test leaves.
+pub test-then-pop : (i r x v : ℕ)
+    → (effect takeOrGo i r x none ≡ effect goIfEmpty i r x none) × (effect takeOrGo i r x (some v) ≡ effect pop i (effect goIfEmpty i r x (some v) .register) 0 (some v))
 unfolding effect
-gone i r x = refl
+test-then-pop i r x v = (refl, refl)

@@ -1,4 +1,4 @@
--- What a pop or a test on a queue finds, by program order.
+-- What a take on a queue finds, by program order. It stands for document 01's pop and test.
 use mathlib.Core.Bool.{Bool, true, false}
 use mathlib.Core.List.{List, [], _∷_, _++_}
 use mathlib.Core.Option.{Option, none, some}

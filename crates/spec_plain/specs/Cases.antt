@@ -50,6 +50,8 @@ pub record Cases : Type 0 where
   pub takenOrGoneEvents : events 6 takenOrGone ≡
       did [] push 0 pushed 9 ∷ did [] takeOrGo 0 took 9 ∷ did [] pushSum 1 pushed 9 ∷ did [] takeOrGo 0 empty 0
       ∷ did [] pushSum 1 pushed 9 ∷ did [] return 0 finished 0 ∷ []
+  -- "a test and then a pop"
+  pub testThenPop : (q v : ℕ) (qs : List (List ℕ)) → queuesAfter takeOrGo q v qs ≡ queuesAfter pop q v (queuesAfter goIfEmpty q v qs)
   pub takenOrGoneEnd : run 6 takenOrGone ≡ state ([] ∷ (9 ∷ 9 ∷ []) ∷ [] ∷ [] ∷ []) [] 6
   pub countedEvents : events 7 counted ≡
       did [] add 0 moved 0 ∷ did [] add 0 moved 0 ∷ did [] goIfZero 0 moved 0 ∷ did [] go 0 moved 0
@@ -71,6 +73,7 @@ cases =
       emptyPopEnd = refl;
       testedEvents = refl;
       takenOrGoneEvents = refl;
+      testThenPop = λ q v qs. refl;
       takenOrGoneEnd = refl;
       countedEvents = refl;
     }

@@ -79,7 +79,7 @@ unopened-right : right lent unopened ≡ true
 unfolding right
 unopened-right = refl
 
-nothing-left-right : right lent nothingLeft ≡ true
+pub nothing-left-right : right lent nothingLeft ≡ true
 unfolding right
 nothing-left-right = refl
 

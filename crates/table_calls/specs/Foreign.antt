@@ -39,7 +39,7 @@ unfoldable pub withFour : ℕ → List ℕ → List ℕ
 withFour count m = write (storeAll m (address (segment 4 0)) (0 ∷ count ∷ NONE ∷ [])) freeSegments 3
 
 -- "A call that would move but needs a reduction the paper leaves out gets 2": the tail of the children view and the head
--- of the user view are one segment. A push, with a user view that ends non-locally, is turned down too; a pop is not.
+-- of the user view are one segment. A push, with a user view that ends non-locally, is turned down too; a take is not.
 unfoldable pub oneTwice : List ℕ
 oneTwice = withView CHILDREN NL 4 (withView USER 4 NL (withView RIGHT NL 0 (withFour 0 (opened 4 8))))
 

@@ -4,7 +4,7 @@ use mathlib.Core.Bool.{true}
 use mathlib.Core.List.{List, [], _∷_, map}
 use Prim.Native.Nat.{ℕ}
 use Rattle.spec_answers.specs.declared.Answer.the-variants as Answer
-use Rattle.spec_job.specs.Examples.{head, entry, ins, alone, fullRun, wrapping, wrappedSpawn}
+use Rattle.spec_job.specs.Examples.{head, entry, ins, alone, fullRun, wrapping, wrappedSpawn, takenOrGone}
 use Rattle.spec_runner.specs.declared.StepAnswer.the-variants.{Spawned, Pushed, Took, Finished, Moved, Empty, Waits, Refused}
 use Rattle.spec_runner.specs.Packed.{packedStep}
 use Rattle.spec_runner.specs.Ready.{noMap}
@@ -53,6 +53,16 @@ pub wrapped : right wrappedSpawn (step 0 Moved ∷ step 0 (Spawned 1) ∷ step 0
 unfolding right
 wrapped = refl
 
+-- Operation 10, "answered "took" or "empty"": the empty queue leaves 9 in the register
+abbrev pub takenSteps : List Row
+takenSteps =
+    step 0 (Pushed 9) ∷ step 0 (Took 9) ∷ step 0 (Pushed 9) ∷ step 0 Empty ∷ step 0 (Pushed 9) ∷ step 0 Finished ∷ left 1 0 (Answer.Moved 9)
+    ∷ left 1 1 (Answer.Moved 9) ∷ left 1 2 (Answer.Refused 7) ∷ left 0 0 (Answer.Refused 7) ∷ []
+
+pub taken-or-gone : right takenOrGone takenSteps lent lentRunner ≡ true
+unfolding right
+taken-or-gone = refl
+
 -- words lent for the map
 abbrev pub six : List ℕ
 six = 7 ∷ 7 ∷ 7 ∷ 7 ∷ 7 ∷ 7 ∷ []
@@ -67,6 +77,22 @@ pub maps : right fullRun
     lent lentRunner ≡ true
 unfolding right
 maps = refl
+
+-- A task that drains queue 0 by operation 10, spawned behind one that pushes 5: it waits, and is not ready, until a value or the end is certain.
+abbrev pub drainingJob : List ℕ
+drainingJob =
+    head 3 1
+    (entry 22 4 255 (entry 46 2 1 (entry 58 3 2
+    (ins 8 1 0 (ins 8 2 0 (ins 9 0 0 (ins 0 0 0
+    (ins 1 0 5 (ins 0 0 0
+    (ins 10 0 2 (ins 5 0 0 (ins 0 0 0 []))))))))))))
+
+pub drains : right drainingJob
+    (step 0 (Spawned 1) ∷ step 0 (Spawned 2) ∷ step 2 Waits ∷ ready six Moved (2 ∷ 0 ∷ 0 ∷ 0 ∷ 1 ∷ 1 ∷ []) ∷ step 1 (Pushed 5) ∷ step 2 (Took 5)
+    ∷ step 2 Moved ∷ step 2 Waits ∷ step 1 Finished ∷ ready six Moved (4 ∷ 0 ∷ 0 ∷ 0 ∷ 1 ∷ 2 ∷ []) ∷ step 2 Empty ∷ step 2 Finished ∷ [])
+    lent lentRunner ≡ true
+unfolding right
+drains = refl
 
 -- nobody is ready once all have finished
 pub no-more : right (alone 1 (ins 0 0 0 [])) (step 0 Finished ∷ ready six Moved noMap ∷ []) lent lentRunner ≡ true
@@ -103,6 +129,6 @@ pub elevens : right (head 1 1 (entry 10 1 3 (ins 0 0 0 []))) (step 0 (Refused 11
 unfolding right
 elevens = refl
 
-pub twelves : right (alone 1 (ins 10 0 0 [])) (step 0 (Refused 12) ∷ list zeros five (Refused 12) five ∷ ready six (Refused 12) noMap ∷ []) lent lentRunner ≡ true
+pub twelves : right (alone 2 (ins 11 0 0 (ins 0 0 0 []))) (step 0 (Refused 12) ∷ list zeros five (Refused 12) five ∷ ready six (Refused 12) noMap ∷ []) lent lentRunner ≡ true
 unfolding right
 twelves = refl

@@ -10,8 +10,12 @@ pub struct TakeScene {
     pub memory: Vec<u32>,
 }
 
-/// The second stage takes from the first queue.
+/// The second stage takes from the first queue what a helper of the first pushes.
 const STAGE: u32 = 2;
+const HELPER: u32 = 6;
+
+/// Takes in a row.
+pub const IN_A_ROW: usize = 8;
 
 impl TakeScene {
     pub fn take(&self, keep: bool) -> Call {
@@ -32,14 +36,27 @@ impl TakeScene {
     }
 }
 
+fn typical() -> Vec<u32> {
+    let all = scenes::all();
+    let typical = all.iter().find(|scene| scene.name == "typical");
+    typical.expect("a scene of that name").memory()
+}
+
+/// As many more values in the queue as are taken.
+pub fn in_a_row() -> TakeScene {
+    let mut memory = typical();
+    let more = Call::push(HELPER, 0, &[1_000; IN_A_ROW]);
+    assert!(more.make(&mut memory).moved(), "there is room");
+    let name = "a value of several";
+    TakeScene { name, memory }
+}
+
 /// A value of a segment that has more of them; and the last one of a segment,
 /// which is freed.
 pub fn all() -> [TakeScene; 2] {
-    let all = scenes::all();
-    let typical = all.iter().find(|scene| scene.name == "typical");
     let value = TakeScene {
         name: "a value",
-        memory: typical.expect("a scene of that name").memory(),
+        memory: typical(),
     };
     assert!(!value.frees(), "a segment holds more than one value");
     let mut last = TakeScene {

@@ -26,7 +26,7 @@ use link::ready_scenes::{self, ReadyScene};
 use link::replay_scenes::{self, ReplayScene};
 use link::run_scenes;
 use link::scenes::{self, held_segments, unfinished_tasks, Scene};
-use link::take_scenes;
+use link::take_scenes::{self, IN_A_ROW};
 use std::process::ExitCode;
 use std::time::Instant;
 
@@ -338,25 +338,27 @@ fn runs() {
     }
 }
 
-/// A take of the library, beside a kept take and a take behind it, which is what a
-/// host makes that looks first; and beside the model's.
+/// Takes of the library one after another, each beside a kept take and a take
+/// behind it, which is what a host makes that looks first; and beside the model's.
 fn takes() {
     println!("{:40}{:>10}{:>10}{:>10}", "", "take", "beside", "ratio");
-    for scene in take_scenes::all() {
-        let (take, kept) = (scene.take(false), scene.take(true));
-        let linked = |m: &mut [u32]| assert_eq!(linked::make(&take, m) >> 32, 0);
-        let both = |m: &mut [u32]| {
-            assert_eq!(linked::make(&kept, m), linked::make(&take, m));
-        };
-        let model = |m: &mut [u32]| assert!(take.make(m).moved());
-        let due = after(&scene.memory, &linked);
-        assert!(due == after(&scene.memory, &model), "words of the model");
-        assert!(due == after(&scene.memory, &both), "words of both takes");
-        let best = best_of(&scene.memory, [&linked, &both, &model]);
-        for (beside, name) in best[1..].iter().zip(["kept, then taken", "the model"]) {
-            let (take, name) = (best[0], format!("{}; {name}", scene.name));
-            println!("{name:40}{take:>10.0}{beside:>10.0}{:>10.3}", take / beside);
-        }
+    let scene = take_scenes::in_a_row();
+    let (take, kept) = (scene.take(false), scene.take(true));
+    let linked = |m: &mut [u32]| assert_eq!(linked::make(&take, m) >> 32, 0);
+    let both = |m: &mut [u32]| {
+        assert_eq!(linked::make(&kept, m), linked::make(&take, m));
+    };
+    let model = |m: &mut [u32]| assert!(take.make(m).moved());
+    let works: [Work; 3] = [&linked, &both, &model];
+    let rows = works.map(|work| move |m: &mut [u32]| (0..IN_A_ROW).for_each(|_| work(m)));
+    let [linked, both, model] = &rows;
+    let due = after(&scene.memory, linked);
+    assert!(due == after(&scene.memory, model), "words of the model");
+    assert!(due == after(&scene.memory, both), "words of both takes");
+    let best = best_of(&scene.memory, [linked, both, model]).map(|time| time / IN_A_ROW as f64);
+    for (beside, name) in best[1..].iter().zip(["kept, then taken", "the model"]) {
+        let (take, name) = (best[0], format!("{}; {name}", scene.name));
+        println!("{name:40}{take:>10.0}{beside:>10.0}{:>10.3}", take / beside);
     }
 }
 
