@@ -2,7 +2,7 @@
 use mathlib.Core.List.{[], _∷_}
 use Rattle.spec_answers.specs.declared.Answer.the-variants.{Moved, Empty, Refused}
 use Rattle.spec_answers.specs.Calls.{open-call, spawn-call, push-call, sync-call, finish-call, left-call}
-use Rattle.spec_cases.specs.Rows.{Case, row, take, keptTake}
+use Rattle.spec_cases.specs.Rows.{Case, row, taking, keeping}
 
 -- 2: the memory found is not one of the core's; opening takes it all the same
 abbrev pub unopened : Case
@@ -15,11 +15,11 @@ unopened =
 abbrev pub notAllowed : Case
 notAllowed =
     row (open-call 4 8) (Moved 0) ∷ row (push-call 128 4 (0 ∷ [])) (Refused 4) ∷ row (push-call 1 4 (0 ∷ [])) (Refused 4) ∷ row (spawn-call 0 256) (Refused 6)
-    ∷ row (spawn-call 0 2) (Moved 1) ∷ row (push-call 1 0 (5 ∷ [])) (Refused 6) ∷ row (push-call 1 4 (5 ∷ [])) (Refused 5) ∷ row (take 1 4) (Refused 5) ∷ row (keptTake 1 4) (Refused 5)
-    ∷ row (take 1 1) (Refused 6) ∷ row (keptTake 1 1) (Refused 6) ∷ row (sync-call 2) (Refused 4) ∷ row (finish-call 4294967295) (Refused 4)
+    ∷ row (spawn-call 0 2) (Moved 1) ∷ row (push-call 1 0 (5 ∷ [])) (Refused 6) ∷ row (push-call 1 4 (5 ∷ [])) (Refused 5) ∷ row (taking 1 4) (Refused 5) ∷ row (keeping 1 4) (Refused 5)
+    ∷ row (taking 1 1) (Refused 6) ∷ row (keeping 1 1) (Refused 6) ∷ row (sync-call 2) (Refused 4) ∷ row (finish-call 4294967295) (Refused 4)
     ∷ row (finish-call 1) (Moved 0) ∷ row (finish-call 1) (Refused 4) ∷ []
 
 -- "7 is now given by "left" alone (example: index 0 with nothing left)"
 abbrev pub nothingLeft : Case
 nothingLeft =
-    row (open-call 4 8) (Moved 0) ∷ row (take 0 0) Empty ∷ row (finish-call 0) (Moved 0) ∷ row (left-call 0 0) (Refused 7) ∷ row (take 0 0) (Refused 4) ∷ []
+    row (open-call 4 8) (Moved 0) ∷ row (taking 0 0) Empty ∷ row (finish-call 0) (Moved 0) ∷ row (left-call 0 0) (Refused 7) ∷ row (taking 0 0) (Refused 4) ∷ []

@@ -13,8 +13,8 @@ abbrev pub Case : Type 0
 Case = List Row
 
 -- a take by task t from queue q, and one that leaves the value queued
-abbrev pub take : ℕ → ℕ → Call
-take t q = take-call t q false
+abbrev pub taking : ℕ → ℕ → Call
+taking t q = take-call t q false
 
-abbrev pub keptTake : ℕ → ℕ → Call
-keptTake t q = take-call t q true
+abbrev pub keeping : ℕ → ℕ → Call
+keeping t q = take-call t q true

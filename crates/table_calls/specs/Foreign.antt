@@ -10,14 +10,14 @@ use Rattle.spec_layout.specs.Layout.{NONE, NL, STATUS, YOUNGEST, UNFINISHED, QU
 use Rattle.spec_layout.specs.Layout.{freeTasks, segment, task, value, head, tail, address, write}
 use Rattle.spec_answers.specs.declared.Answer.the-variants.{Moved, Empty, Refused}
 use Rattle.spec_answers.specs.Calls.{open-call, spawn-call, push-call, sync-call, finish-call, left-call}
-use Rattle.spec_cases.specs.Rows.{Case, row, take, keptTake}
+use Rattle.spec_cases.specs.Rows.{Case, row, taking, keeping}
 use Rattle.spec_outcomes.specs.Open.{down, stacked, segmented, topped, opened}
 use Rattle.spec_outcomes.specs.Table.{right}
 
 -- every call, answered with 1 or with 2
 abbrev pub turnedDown : ℕ → Case
 turnedDown k =
-    row (spawn-call 0 0) (Refused k) ∷ row (push-call 0 0 (5 ∷ [])) (Refused k) ∷ row (take 128 4) (Refused k) ∷ row (keptTake 0 0) (Refused k)
+    row (spawn-call 0 0) (Refused k) ∷ row (push-call 0 0 (5 ∷ [])) (Refused k) ∷ row (taking 128 4) (Refused k) ∷ row (keeping 0 0) (Refused k)
     ∷ row (sync-call 0) (Refused k) ∷ row (finish-call 0) (Refused k) ∷ row (left-call 4 0) (Refused k) ∷ []
 
 -- 1 "16,383 words"
@@ -45,7 +45,7 @@ oneTwice = withView CHILDREN NL 4 (withView USER 4 NL (withView RIGHT NL 0 (with
 
 one-twice : right oneTwice (row (sync-call 0) (Refused 2) ∷ row (finish-call 0) (Refused 2) ∷ row (push-call 0 0 (5 ∷ [])) (Refused 2)
     ∷ row (push-call 0 0 (replicate 40 5)) (Refused 2) ∷ row (push-call 0 0 []) (Moved 0)
-    ∷ row (keptTake 0 0) Empty ∷ row (push-call 0 1 (5 ∷ [])) (Moved 5) ∷ []) ≡ true
+    ∷ row (keeping 0 0) Empty ∷ row (push-call 0 1 (5 ∷ [])) (Moved 5) ∷ []) ≡ true
 unfolding right oneTwice withView withFour write address store storeAll opened topped segmented stacked down
 one-twice = refl
 
@@ -53,7 +53,7 @@ one-twice = refl
 unfoldable pub onlyRight : List ℕ
 onlyRight = withView USER NONE NONE (withView RIGHT NL 0 (opened 4 8))
 
-only-right : right onlyRight (row (push-call 0 0 (5 ∷ 6 ∷ 7 ∷ 8 ∷ 9 ∷ [])) (Moved 9) ∷ row (keptTake 0 0) (Refused 2) ∷ []) ≡ true
+only-right : right onlyRight (row (push-call 0 0 (5 ∷ 6 ∷ 7 ∷ 8 ∷ 9 ∷ [])) (Moved 9) ∷ row (keeping 0 0) (Refused 2) ∷ []) ≡ true
 unfolding right onlyRight withView write address store storeAll opened topped segmented stacked down
 only-right = refl
 
@@ -69,7 +69,7 @@ right-apart = refl
 unfoldable pub crossed : List ℕ
 crossed = write (write (opened 4 8) (tail USER 0 0) 1) (tail USER 0 1) 0
 
-crossed-right : right crossed (row (push-call 0 0 (5 ∷ [])) (Moved 5) ∷ row (take 0 0) Empty ∷ row (take 0 1) (Moved 5) ∷ []) ≡ true
+crossed-right : right crossed (row (push-call 0 0 (5 ∷ [])) (Moved 5) ∷ row (taking 0 0) Empty ∷ row (taking 0 1) (Moved 5) ∷ []) ≡ true
 unfolding right crossed write address store storeAll opened topped segmented stacked down
 crossed-right = refl
 
