@@ -47,6 +47,7 @@ extern "C" {
  * but 0. */
 #define HQ_STATUS(answer) ((uint32_t)((answer) >> 32))
 #define HQ_VALUE(answer) ((uint32_t)(answer))
+/* A take answered HQ_EMPTY is a step too, but has no value: not for it. */
 #define HQ_HAS_MOVED(answer) (HQ_STATUS(answer) == HQ_MOVED)
 
 /* The statuses. 1 to 20 are refusals, of which 1 to 13 are in use. A call that
@@ -67,7 +68,7 @@ enum {
     HQ_JOB_BODY = 12,     /* an instruction of a job is wrong */
     HQ_TRACE_FORM = 13,   /* a line of a trace is none, or there are too many */
     HQ_WAITS = 32,
-    HQ_EMPTY = 33,     /* take, or a step: no value is there, none will come */
+    HQ_EMPTY = 33,     /* take, or a step: no value stands before it */
     HQ_NOT_EMPTY = 34, /* a step of operation 4: a value is there */
     HQ_SPENT = 35,     /* a run without overlap made 65,535 steps */
     HQ_DIFFERS = 36,   /* a trace: the value is the first line that differs */
@@ -143,9 +144,11 @@ HQ_ANSWER hq_push(uint32_t *words, size_t len, uint32_t task, uint32_t queue,
 /* Takes the next value, in the order of a run in which every child ends before
  * its parent goes on; it asks for the right to pop. With keep 0 the value is
  * taken; with any other number it stays queued and no word changes. The answer
- * is HQ_MOVED with the value either way; HQ_EMPTY where no value is there and
- * none will come, which changes no word; HQ_WAITS where one may still come; or
- * a refusal. */
+ * is HQ_MOVED with the value either way. HQ_EMPTY says that in that order no
+ * value stands before this call; no word changes, and what the task or its later
+ * children push is found by later takes. HQ_WAITS says that another task may
+ * still push a value that stands before, or that an older sibling which shares a
+ * right to pop, or a child that may pop from the queue, is unfinished. */
 HQ_ANSWER hq_take(uint32_t *words, size_t len, uint32_t task, uint32_t queue,
                  uint32_t keep);
 

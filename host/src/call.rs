@@ -63,6 +63,14 @@ impl Call {
         }
     }
 
+    /// The task and the queue of a take, and whether the value is kept.
+    pub fn as_take(&self) -> Option<(u32, u32, bool)> {
+        match *self {
+            Call::Take { task, queue, keep } => Some((task, queue, keep)),
+            _ => None,
+        }
+    }
+
     /// Makes the call on the core's memory.
     pub fn make(&self, m: &mut [u32]) -> Answer {
         match *self {

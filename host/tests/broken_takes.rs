@@ -19,17 +19,9 @@ use host::runner::{self, Stepped, RECORD, RUNNER};
 
 type Program = fn(&Call, &mut [u32]) -> Answer;
 
-/// Task and queue of a take, and whether it is kept.
-fn as_take(call: &Call) -> Option<(u32, u32, bool)> {
-    match *call {
-        Call::Take { task, queue, keep } => Some((task, queue, keep)),
-        _ => None,
-    }
-}
-
 /// The call with `keep` as it is given here.
 fn made_with(keep: bool, call: &Call, m: &mut [u32]) -> Answer {
-    match as_take(call) {
+    match call.as_take() {
         Some((task, queue, _)) => Call::Take { task, queue, keep }.make(m),
         None => call.make(m),
     }
@@ -38,7 +30,7 @@ fn made_with(keep: bool, call: &Call, m: &mut [u32]) -> Answer {
 /// The model's answer to a take, changed.
 fn answered(call: &Call, m: &mut [u32], change: impl Fn(bool, Answer) -> Answer) -> Answer {
     let answer = call.make(m);
-    match as_take(call) {
+    match call.as_take() {
         Some((_, _, keep)) => change(keep, answer),
         None => answer,
     }
@@ -114,7 +106,7 @@ fn frees_nothing(call: &Call, m: &mut [u32]) -> Answer {
     let before = m.to_vec();
     let answer = call.make(m);
     let freed = get(m, FREE_SEGMENTS) > get(&before, FREE_SEGMENTS);
-    if let Some((task, queue, _)) = as_take(call).filter(|_| freed) {
+    if let Some((task, queue, _)) = call.as_take().filter(|_| freed) {
         m.copy_from_slice(&before);
         pools::drop_first(m, get(&before, queue_head(task, queue)));
     }
@@ -126,7 +118,7 @@ fn keep_frees(call: &Call, m: &mut [u32]) -> Answer {
     let mut taken = m.to_vec();
     made_with(false, call, &mut taken);
     let frees = get(&taken, FREE_SEGMENTS) > get(m, FREE_SEGMENTS);
-    match as_take(call) {
+    match call.as_take() {
         Some((_, _, true)) if frees => made_with(false, call, m),
         _ => call.make(m),
     }
@@ -215,7 +207,7 @@ impl Taken<'_> {
     }
 }
 
-/// Makes another step of it, by its words, and gives the answer.
+/// Changes what the step left, and gives the answer that is handed out.
 type Change = fn(&mut Taken) -> Stepped;
 
 fn as_it_is(taken: &mut Taken) -> Stepped {
@@ -319,7 +311,7 @@ fn differs(r: &mut Random, bytes: &[u8], plain: &Plain, change: Change) -> Optio
     plain.differs(&log).or_else(|| stuck(&log, plain))
 }
 
-/// A run in which nobody has moved on to the end, though there was time.
+/// A run that has made less than half of its steps, though there was time.
 fn stuck(log: &Log, plain: &Plain) -> Option<String> {
     let (moves, steps) = (log.moves(), plain.steps);
     (2 * moves < steps).then(|| format!("{moves} of {steps} steps made"))

@@ -66,7 +66,8 @@ elevens =
     ∷ []
 
 -- 12: operation 11; unused fields that are not zero; queue 4; a right that is not held; a target one past the body; a
--- procedure that does not exist; one with more rights than its spawner; a last instruction that is neither 0 nor 5. The same for operation 10
+-- procedure that does not exist; one with more rights than its spawner; a last instruction that is neither 0 nor 5. Operation 10 with queue 4,
+-- without its right, with a target one past the body, and last in its body
 abbrev pub twelves : List Case
 twelves =
     gives (alone 2 (ins 11 0 0 (ins 0 0 0 []))) (Refused 12)

@@ -57,7 +57,7 @@ emptyPop = alone 4 (ins 7 0 5 (ins 3 0 0 (ins 2 0 0 (ins 0 0 0 []))))
 abbrev pub tested : List ℕ
 tested = alone 5 (ins 4 0 2 (ins 0 0 0 (ins 1 0 7 (ins 4 0 1 (ins 0 0 0 [])))))
 
--- "top pushes 9; 10 on queue 0 to 4; push register to queue 1; 10 on queue 0 to 5; add; push register to queue 1; return"
+-- operation 10 takes 9, which is pushed to queue 1; the second one finds the queue empty and goes past the addition, so that 9 is pushed again
 abbrev pub takenOrGone : List ℕ
 takenOrGone = alone 7 (ins 1 0 9 (ins 10 0 4 (ins 2 1 0 (ins 10 0 5 (ins 7 0 1 (ins 2 1 0 (ins 0 0 0 [])))))))
 

@@ -1,4 +1,5 @@
--- "no refused or waiting call changes a word": only a call that moves leaves other words, and a kept take or a left never does.
+-- "no refused or waiting call changes a word": only a call that moves leaves other words, and a kept take or a left never does. And what a
+-- kept take answers.
 use mathlib.Core.Path.{_≡_, refl}
 use mathlib.Core.Bool.{Bool, true, false}
 use mathlib.Core.List.{List, [], _∷_}
@@ -9,7 +10,7 @@ use Rattle.spec_answers.specs.declared.Answer.{Answer}
 use Rattle.spec_answers.specs.declared.Answer.the-variants.{Moved, Empty, Waits, Refused}
 use Rattle.spec_answers.specs.declared.Finding.{Finding}
 use Rattle.spec_answers.specs.declared.Finding.the-variants as Finding
-use Rattle.spec_answers.specs.Answers.{Outcome, outcome, wordsOf, whenMoved}
+use Rattle.spec_answers.specs.Answers.{Outcome, outcome, answerOf, wordsOf, whenMoved}
 use Rattle.spec_answers.specs.Calls.{Call, open-call, spawn-call, push-call, take-call, sync-call, finish-call, left-call}
 use Rattle.spec_outcomes.specs.Waits.{tested}
 use Rattle.spec_outcomes.specs.Open.{openOutcome}
@@ -133,6 +134,23 @@ same-found m t q Finding.Waits = refl
 pub kept-take-keeps : (t q : ℕ) (m : List ℕ) → wordsOf (outcomeOf (take-call t q true) m) ≡ m
 unfolding outcomeOf takeOutcome takeTested popAllowed wordsOf
 kept-take-keeps t q m = same-tested m _ (same-pick m _ _ _ refl (same-pick m _ _ _ refl (same-pick m _ _ _ refl (same-found m t q _))))
+
+-- "It answers a value, empty or waits", whether the value stays or not
+kept-pick : (b : Bool) (x y z : Outcome) → answerOf y ≡ answerOf z → answerOf (pick b x y) ≡ answerOf (pick b x z)
+unfolding pick
+kept-pick true x y z e = refl
+kept-pick false x y z e = e
+
+kept-found : (m : List ℕ) (t q : ℕ) (keep : Bool) (f : Finding) → answerOf (takeGives m t q keep f) ≡ answerOf (takeGives m t q false f)
+unfolding takeGives answerOf
+kept-found m t q keep (Finding.Value v) = refl
+kept-found m t q keep Finding.Empty = refl
+kept-found m t q keep Finding.Waits = refl
+
+pub keep-answers : (t q : ℕ) (keep : Bool) (m : List ℕ) → answerOf (outcomeOf (take-call t q keep) m) ≡ answerOf (outcomeOf (take-call t q false) m)
+unfolding outcomeOf takeOutcome takeTested popAllowed tested
+keep-answers t q keep m =
+    kept-pick _ _ _ _ (kept-pick _ _ _ _ (kept-pick _ _ _ _ (kept-pick _ _ _ _ (kept-pick _ _ _ _ (kept-found m t q keep _)))))
 
 -- "Left answers value number index (from 0) still queued": the value stays queued, so no word changes, although the call moves.
 pub left-keeps : (q i : ℕ) (m : List ℕ) → wordsOf (outcomeOf (left-call q i) m) ≡ m

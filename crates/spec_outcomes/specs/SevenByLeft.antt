@@ -51,7 +51,7 @@ picked P false x y p q = q
 
 -- what holds of the answers that any call may give
 module _ (P : Answer → Type 0) (moved : (v : ℕ) → P (Moved v)) (waits : P Waits) (refused : (k : ℕ) → (k ≡ 7 → ⊥) → P (Refused k)) where
-  abbrev Of : Outcome → Type 0
+  abbrev pub Of : Outcome → Type 0
   Of (outcome a n) = P a
 
   either : (b : Bool) (x y : Outcome) → Of x → Of y → Of (pick b x y)
@@ -101,29 +101,48 @@ module _ (P : Answer → Type 0) (moved : (v : ℕ) → P (Moved v)) (waits : P 
       picked P (leb NL s) (Refused 7) _ p
       (picked P (ltb i (read m (count s))) (Moved (valueAt m s i)) _ (moved (valueAt m s i)) (left-over k m (read m (next s)) (i - read m (count s)) p))
 
+  -- THE CALLS OF A TASK, behind the tests of length and memory
+  pub spawns : (m : List ℕ) (t r : ℕ) → Of (spawnTested m t r)
+  unfolding spawnTested spawned
+  spawns m t r =
+      rung 4 (λ e. omega (arith, e)) _ m _ (rung 6 (λ e. omega (arith, e)) _ m _ (either _ _ _ waits (rung 8 (λ e. omega (arith, e)) _ m _ (moved _))))
+
+  pub pushes : (m : List ℕ) (t q : ℕ) (vs : List ℕ) → Of (pushTested m t q vs)
+  unfolding pushTested pushedRun
+  pushes m t q vs =
+      rung 4 (λ e. omega (arith, e)) _ m _ (rung 5 (λ e. omega (arith, e)) _ m _ (rung 6 (λ e. omega (arith, e)) _ m _
+      (either _ _ _ waits (rung 9 (λ e. omega (arith, e)) _ m _ (all m m t q 0 vs)))))
+
+  pub takes : (m : List ℕ) (t q : ℕ) (keep : Bool) → P Empty → Of (takeTested m t q keep)
+  unfolding takeTested popAllowed
+  takes m t q keep p =
+      rung 4 (λ e. omega (arith, e)) _ m _ (rung 5 (λ e. omega (arith, e)) _ m _ (rung 6 (λ e. omega (arith, e)) _ m _ (found m t q keep _ p)))
+
+  pub syncs : (m : List ℕ) (t : ℕ) → Of (syncTested m t)
+  unfolding syncTested
+  syncs m t = reduced m t _ _ (moved 0)
+
+  pub finishes : (m : List ℕ) (t : ℕ) → Of (finishTested m t)
+  unfolding finishTested
+  finishes m t = either _ _ _ (reduced m t _ _ (moved 0)) (reduced m t _ _ (moved 0))
+
   -- THE ANSWERS: "empty" is asked about for a take only, and 7 for left only.
-  pub answers : (c : Call) (m : List ℕ) → (IsTake c → P Empty) → (IsLeft c → P (Refused 7)) → P (answerOf (outcomeOf c m))
+  whole : (c : Call) (m : List ℕ) → (IsTake c → P Empty) → (IsLeft c → P (Refused 7)) → Of (outcomeOf c m)
+  unfolding outcomeOf openOutcome spawnOutcome pushOutcome takeOutcome syncOutcome finishOutcome leftOutcome leftTested
+  whole (open-call l n) m empty seven = rung 1 (λ e. omega (arith, e)) _ m _ (rung 3 (λ e. omega (arith, e)) _ m _ (moved 0))
+  whole (spawn-call t r) m empty seven = behind-tests m _ (spawns m t r)
+  whole (push-call t q vs) m empty seven = behind-tests m _ (pushes m t q vs)
+  whole (take-call t q keep) m empty seven = behind-tests m _ (takes m t q keep (empty tt))
+  whole (sync-call t) m empty seven = behind-tests m _ (syncs m t)
+  whole (finish-call t) m empty seven = behind-tests m _ (finishes m t)
+  whole (left-call q i) m empty seven =
+      behind-tests m _ (rung 5 (λ e. omega (arith, e)) _ m _ (either _ _ _ waits (left-over 256 m (read m (queueHead 0 q)) i (seven tt))))
+
+  answers : (c : Call) (m : List ℕ) → (IsTake c → P Empty) → (IsLeft c → P (Refused 7)) → P (answerOf (outcomeOf c m))
   answers c m empty seven = as-answer (outcomeOf c m) (whole c m empty seven)
     where
       as-answer : (o : Outcome) → Of o → P (answerOf o)
       as-answer (outcome a n) p = unfold answerOf in p
-
-      whole : (c : Call) (m : List ℕ) → (IsTake c → P Empty) → (IsLeft c → P (Refused 7)) → Of (outcomeOf c m)
-      whole (open-call l n) m empty seven = unfold outcomeOf openOutcome in rung 1 (λ e. omega (arith, e)) _ m _ (rung 3 (λ e. omega (arith, e)) _ m _ (moved 0))
-      whole (spawn-call t r) m empty seven = unfold outcomeOf spawnOutcome spawnTested spawned in
-          behind-tests m _ (rung 4 (λ e. omega (arith, e)) _ m _ (rung 6 (λ e. omega (arith, e)) _ m _ (either _ _ _ waits
-          (rung 8 (λ e. omega (arith, e)) _ m _ (moved _)))))
-      whole (push-call t q vs) m empty seven = unfold outcomeOf pushOutcome pushTested pushedRun in
-          behind-tests m _ (rung 4 (λ e. omega (arith, e)) _ m _ (rung 5 (λ e. omega (arith, e)) _ m _ (rung 6 (λ e. omega (arith, e)) _ m _
-          (either _ _ _ waits (rung 9 (λ e. omega (arith, e)) _ m _ (all m m t q 0 vs))))))
-      whole (take-call t q keep) m empty seven = unfold outcomeOf takeOutcome takeTested popAllowed in
-          behind-tests m _ (rung 4 (λ e. omega (arith, e)) _ m _ (rung 5 (λ e. omega (arith, e)) _ m _ (rung 6 (λ e. omega (arith, e)) _ m _
-          (found m t q keep _ (empty tt)))))
-      whole (sync-call t) m empty seven = unfold outcomeOf syncOutcome syncTested in behind-tests m _ (reduced m t _ _ (moved 0))
-      whole (finish-call t) m empty seven = unfold outcomeOf finishOutcome finishTested in
-          behind-tests m _ (either _ _ _ (reduced m t _ _ (moved 0)) (reduced m t _ _ (moved 0)))
-      whole (left-call q i) m empty seven = unfold outcomeOf leftOutcome leftTested in
-          behind-tests m _ (rung 5 (λ e. omega (arith, e)) _ m _ (either _ _ _ waits (left-over 256 m (read m (queueHead 0 q)) i (seven tt))))
 
 -- an answer with another status
 other : (a b : Answer) (C : Type 0) → (statusOf a ≡ statusOf b → ⊥) → a ≡ b → C

@@ -6,6 +6,7 @@ pub mod Open
 pub mod Opens
 pub mod Step
 pub mod Laws
+pub mod NotSeven
 pub mod Ready
 pub mod ReadyLaws
 pub mod MapLaws

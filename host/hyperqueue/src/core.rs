@@ -36,7 +36,8 @@ pub fn push(words: &mut [u32], task: u32, queue: u32, values: &[u32]) -> Answer 
     Answer::of(unsafe { hq_push(words, len, task, queue, values.as_ptr(), values.len()) })
 }
 
-/// The next value, `Answer::EMPTY` where none will come.
+/// The next value; `Answer::EMPTY` where none stands before the call, in the order
+/// of a run without overlap.
 pub fn take(words: &mut [u32], task: u32, queue: u32) -> Answer {
     Answer::of(unsafe { hq_take(words.as_mut_ptr(), words.len(), task, queue, 0) })
 }

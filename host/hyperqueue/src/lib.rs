@@ -4,7 +4,7 @@
 //! read or written.
 
 pub mod core;
-pub mod declared;
+mod declared;
 pub mod jobs;
 pub mod runner;
 pub mod traces;
@@ -53,7 +53,8 @@ impl Answer {
         u64::from(self.status) << 32 | u64::from(self.value)
     }
 
-    /// The value of a call that moved.
+    /// The value of a call that is answered `MOVED`. A take that is answered `EMPTY`
+    /// has moved too, and has none.
     pub fn moved(self) -> Option<u32> {
         (self.status == Answer::MOVED).then_some(self.value)
     }

@@ -344,8 +344,8 @@ fn tests() {
     );
 }
 
-/// Operation 10: the same; it takes with the next instruction behind it, and
-/// where the queue is empty it goes past an addition, and leaves the register.
+/// Operation 10: the same waits; where it takes, the next instruction follows; on
+/// an empty queue it goes past an addition and leaves the register.
 #[test]
 fn takes_or_goes() {
     let mut pair = opened(&format!(

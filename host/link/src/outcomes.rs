@@ -9,7 +9,6 @@ use host::call::Call;
 use host::hand;
 use host::layout::*;
 use host::memory::*;
-use hyperqueue::declared::hq_take;
 
 impl Calls for Pair {
     fn make(&mut self, call: &Call) -> Answer {
@@ -317,6 +316,10 @@ fn take_and_keep() {
         assert_eq!(core.take(0, 0), Moved(value));
     }
     assert_eq!(core.peek(0, 0), Empty);
+}
+
+extern "C" {
+    fn hq_take(words: *mut u32, len: usize, task: u32, queue: u32, keep: u32) -> u64;
 }
 
 /// The value is taken with 0, and kept with any other number.

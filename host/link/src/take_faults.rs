@@ -19,16 +19,8 @@ use host::runner::RECORD;
 const EMPTY: u64 = 33 << 32;
 const NOT_EMPTY: u64 = 34 << 32;
 
-/// Task and queue of a take, and whether it is kept.
-fn as_take(call: &Call) -> Option<(u32, u32, bool)> {
-    match *call {
-        Call::Take { task, queue, keep } => Some((task, queue, keep)),
-        _ => None,
-    }
-}
-
 fn made_with(keep: bool, call: &Call, m: &mut [u32]) -> u64 {
-    match as_take(call) {
+    match call.as_take() {
         Some((task, queue, _)) => linked::make(&Call::Take { task, queue, keep }, m),
         None => linked::make(call, m),
     }
@@ -58,7 +50,7 @@ fn empty_gets_7(call: &Call, m: &mut [u32]) -> u64 {
 
 /// The answer of a kept take that moved, in place of its value.
 fn kept_is(answer: u64, call: &Call, m: &mut [u32]) -> u64 {
-    match (linked::make(call, m), as_take(call)) {
+    match (linked::make(call, m), call.as_take()) {
         (given, Some((_, _, true))) if given >> 32 == 0 => answer,
         (given, _) => given,
     }
@@ -76,7 +68,7 @@ fn kept_is_not_empty(call: &Call, m: &mut [u32]) -> u64 {
 fn frees_nothing(call: &Call, m: &mut [u32]) -> u64 {
     let before = m.to_vec();
     let answer = linked::make(call, m);
-    let Some((task, queue, _)) = as_take(call).filter(|_| answer >> 32 == 0) else {
+    let Some((task, queue, _)) = call.as_take().filter(|_| answer >> 32 == 0) else {
         return answer;
     };
     if get(m, FREE_SEGMENTS) > get(&before, FREE_SEGMENTS) {
@@ -106,9 +98,9 @@ fn takes() {
 
 type Step = fn(&[u8], &mut [u32], &mut [u32], u32) -> u64;
 
-/// The step of the library; then, where it is one of operation 10 on an empty
-/// queue, this with the runner's words of the task and with the instruction
-/// where it stood.
+/// The step of the library. Where it was one of operation 10 on an empty queue,
+/// `change` is then made to the runner's words of the task; it is told the
+/// instruction at which the task stood.
 fn changed(
     job: &[u8],
     m: &mut [u32],

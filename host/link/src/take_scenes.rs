@@ -42,7 +42,7 @@ fn typical() -> Vec<u32> {
     typical.expect("a scene of that name").memory()
 }
 
-/// As many more values in the queue as are taken.
+/// Typical memory with more values in the queue, so that as many takes find one.
 pub fn in_a_row() -> TakeScene {
     let mut memory = typical();
     let more = Call::push(HELPER, 0, &[1_000; IN_A_ROW]);
@@ -74,8 +74,12 @@ mod tests {
     use super::*;
 
     #[test]
-    fn a_value_is_there() {
-        let [value, last] = all();
-        assert!(!value.frees() && last.frees());
+    fn takes_in_a_row_find_values() {
+        let scene = in_a_row();
+        let mut words = scene.memory.clone();
+        for _ in 0..IN_A_ROW {
+            let answer = scene.take(false).make(&mut words);
+            assert!(matches!(answer, Answer::Moved(_)));
+        }
     }
 }

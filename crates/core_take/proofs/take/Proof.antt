@@ -17,19 +17,30 @@ find-requires c κs = may-pop _ _ _ (outcome Waits []) (c .before .before .refus
 
 returns-2 : tie.Need-returns-2
 returns-2 c =
-    none-taken _ _ _ _ _ _ (c .before .match .keys2) (c .nothing .ensures) ∙ take-given _ _ _ _ _ (c .before .before .before .before .before .refusal .ensures) (c .before .before .before .before .if1 .left) (c .before .before .find .ensures)
+    none-taken _ _ _ _ _ _ (c .before .match .keys2) (c .nothing .ensures) ∙ take-given _ _ _ _ _ (c .before .before .before .before .before .refusal .ensures)
+    (c .before .before .before .before .if1 .left) (c .before .before .find .ensures)
 
 returns-3 : tie.Need-returns-3
 returns-3 c =
-    value-kept _ _ _ _ _ (c .if2 .taken) (c .before .before .f .given .1) ∙ take-given _ _ _ _ _ (c .before .before .before .before .before .before .before .refusal .ensures) (c .before .before .before .before .before .before .if1 .left) (c .before .before .before .before .find .ensures)
+    value-kept _ _ _ _ _ (c .if2 .taken) (c .before .before .f .given .1) ∙ take-given _ _ _ _ _
+    (c .before .before .before .before .before .before .before .refusal .ensures) (c .before .before .before .before .before .before .if1 .left)
+    (c .before .before .before .before .find .ensures)
 
 take-first-requires : tie.Need-take-first-requires
-take-first-requires c κs = (may-pop _ _ _ (outcome Waits []) (c .before .before .before .before .before .before .before .before .refusal .ensures) (c .before .before .before .before .before .before .before .if1 .left) .1, value-there _ _ _ _ (c .before .before .before .before .before .find .ensures) (c .before .before .before .f .given .1))
+take-first-requires c κs = (
+  may-pop _ _ _ (outcome Waits []) (c .before .before .before .before .before .before .before .before .refusal .ensures)
+      (c .before .before .before .before .before .before .before .if1 .left) .1,
+  value-there _ _ _ _ (c .before .before .before .before .before .find .ensures)
+      (c .before .before .before .f .given .1),
+)
 
 returns-4 : tie.Need-returns-4
 returns-4 c =
-    value-taken _ _ _ _ _ _ (c .before .before .before .before .if2 .left) (c .before .before .before .before .before .before .f .given .1) (c .before .before .take-first .ensures)
-    ∙ take-given _ _ _ _ _ (c .before .before .before .before .before .before .before .before .before .before .before .refusal .ensures) (c .before .before .before .before .before .before .before .before .before .before .if1 .left) (c .before .before .before .before .before .before .before .before .find .ensures)
+    value-taken _ _ _ _ _ _ (c .before .before .before .before .if2 .left) (c .before .before .before .before .before .before .f .given .1)
+    (c .before .before .take-first .ensures)
+    ∙ take-given _ _ _ _ _ (c .before .before .before .before .before .before .before .before .before .before .before .refusal .ensures)
+    (c .before .before .before .before .before .before .before .before .before .before .if1 .left)
+    (c .before .before .before .before .before .before .before .before .find .ensures)
 
 pub take-spec : {M : Type 1} → statement M
 take-spec =

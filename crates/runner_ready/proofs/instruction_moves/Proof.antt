@@ -20,7 +20,8 @@ returns-4 c = going _ _ _ _ _ (c .before .if3 .left) (c .if4 .taken)
 
 returns-5 : tie.Need-returns-5
 returns-5 c =
-    c .finish-moves .ensures ∙ finishing _ _ _ _ _ (c .before .before .match .rest .0 .1) (c .before .before .match .rest .1) (c .before .before .match .rest .0 .0 .1)
+    c .finish-moves .ensures ∙ finishing _ _ _ _ _ (c .before .before .match .rest .0 .1) (c .before .before .match .rest .1)
+    (c .before .before .match .rest .0 .0 .1)
     (⊎-elim (λ s. inl (s .taken)) (λ s. inr (s .3 .left)) (c .before .if1 .came))
 
 returns-6 : tie.Need-returns-6

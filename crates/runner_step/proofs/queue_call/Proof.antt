@@ -16,7 +16,8 @@ returns-3 : tie.Need-returns-3
 returns-3 c = kept-made _ _ _ _ _ (c .before .before .before .before .match .keys3) (c .before .before .take .ensures)
 
 returns-4 : tie.Need-returns-4
-returns-4 c = take-made _ _ _ _ _ (three-or-ten _ (c .before .before .before .before .before .before .pre .2) (c .before .before .before .before .match .rest)) (c .before .before .take2 .ensures)
+returns-4 c = take-made _ _ _ _ _ (three-or-ten _ (c .before .before .before .before .before .before .pre .2) (c .before .before .before .before .match .rest))
+    (c .before .before .take2 .ensures)
 
 pub queue-call-spec : {M : Type 1} → statement M
 queue-call-spec =

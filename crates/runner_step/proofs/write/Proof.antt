@@ -15,10 +15,13 @@ returns c =
     (c .before .before .put2 .ensures)
 
 returns-2 : tie.Need-returns-2
-returns-2 c = goes-writes _ _ _ _ _ _ (c .before .before .before .before .before .before .before .before .before .before .procedure .ensures) _ (c .before .before .put3 .ensures) (c .before .before .before .before .before .if1 .left) (c .before .before .before .before .if2 .taken) (c .before .before .before .before .before .before .match .rest .1)
+returns-2 c = goes-writes _ _ _ _ _ _ (c .before .before .before .before .before .before .before .before .before .before .procedure .ensures) _
+    (c .before .before .put3 .ensures) (c .before .before .before .before .before .if1 .left) (c .before .before .before .before .if2 .taken)
+    (c .before .before .before .before .before .before .match .rest .1)
 
 returns-3 : tie.Need-returns-3
-returns-3 c = finish-writes _ _ _ _ _ _ _ (⊎-elim (λ s. inl (omega (arith, s .taken))) (λ s. inr (s .1 .left)) (c .before .before .before .before .if1 .came)) (c .before .before .put4 .ensures)
+returns-3 c = finish-writes _ _ _ _ _ _ _ (⊎-elim (λ s. inl (omega (arith, s .taken))) (λ s. inr (s .1 .left)) (c .before .before .before .before .if1 .came))
+    (c .before .before .put4 .ensures)
 
 pub write-spec : {M : Type 1} → statement M
 write-spec =

@@ -180,42 +180,72 @@ run-body-same-length-4 t c = c .before .before .before .before .before .before .
 
 run-body-returns-2 : (t : ℕ) → run-body-lts.Need-returns-2 (body-claims t) (run-body-at t) run-body.Post run-body-Inv-loop run-body-μ-loop
 run-body-returns-2 t c =
-    body-full _ _ _ _ _ _ _ _ _ (c .before .before .before .before .before .before .before .before .loop .inv .4) (c .before .before .before .before .before .before .before .before .before .before .before .before .pre .1 .3) _ (c .before .before .before .before .before .before .instruction-at .ensures) (c .before .before .before .before .before .before .before .loop-test .taken) (c .before .before .before .before .before .match .rest .1)
+    body-full _ _ _ _ _ _ _ _ _ (c .before .before .before .before .before .before .before .before .loop .inv .4)
+    (c .before .before .before .before .before .before .before .before .before .before .before .before .pre .1 .3) _
+    (c .before .before .before .before .before .before .instruction-at .ensures)
+    (c .before .before .before .before .before .before .before .loop-test .taken) (c .before .before .before .before .before .match .rest .1)
     (sym (c .before .is-full .ensures) ∙ c .if3 .taken)
 
 run-body-step-requires : (t : ℕ) → run-body-lts.Need-step-requires (body-claims t) (run-body-at t) run-body.Post run-body-Inv-loop run-body-μ-loop
 run-body-step-requires t c κs =
-    let h = inner _ (c .before .before .before .before .before .if1 .left) (c .before .before .before .before .if2 .taken) (c .before .before .before .before .before .before .match .rest .1) in (
-      size-kept _ _ _ (c .before .before .before .before .before .before .before .before .before .loop .inv .0) (c .before .before .before .before .before .before .before .before .before .before .before .before .before .pre .1 .0),
+    let h = inner _ (c .before .before .before .before .before .if1 .left) (c .before .before .before .before .if2 .taken)
+    (c .before .before .before .before .before .before .match .rest .1) in (
+      size-kept _ _ _ (c .before .before .before .before .before .before .before .before .before .loop .inv .0)
+          (c .before .before .before .before .before .before .before .before .before .before .before .before .before .pre .1 .0),
       h,
       sym (c .before .before .is-full .ensures) ∙ c .before .if3 .left,
-      position-small _ _ _ _ _ (c .before .before .before .before .before .before .before .instruction-at .ensures) (inner-some _ h) (c .before .before .before .before .before .before .before .before .before .before .before .before .before .pre .1 .1),
+      position-small _ _ _ _ _ (c .before .before .before .before .before .before .before .instruction-at .ensures) (inner-some _ h)
+          (c .before .before .before .before .before .before .before .before .before .before .before .before .before .pre .1 .1),
     )
 
 run-body-sub-write-answer : (t : ℕ) → run-body-lts.Need-sub-write-answer (body-claims t) (run-body-at t) run-body.Post run-body-Inv-loop run-body-μ-loop
-run-body-sub-write-answer t c = let f = c .before .before .before .before .before .before .before .before .before .before .before .before .before .loop .inv .4 .fewer in omega (arith, f, c .before .before .before .before .before .before .before .before .before .before .before .before .before .before .before .before .before .pre .1 .3)
+run-body-sub-write-answer t c = let f =
+    c .before .before .before .before .before .before .before .before .before .before .before .before .before .loop .inv .4 .fewer in omega (
+      arith,
+      f,
+      c .before .before .before .before .before .before .before .before .before .before .before .before .before .before .before .before .before .pre .1 .3,
+    )
 
 run-body-write-answer-requires : (t : ℕ) → run-body-lts.Need-write-answer-requires (body-claims t) (run-body-at t) run-body.Post run-body-Inv-loop run-body-μ-loop
 run-body-write-answer-requires t c κs = search needs
 
 run-body-sub-left : (t : ℕ) → run-body-lts.Need-sub-left (body-claims t) (run-body-at t) run-body.Post run-body-Inv-loop run-body-μ-loop
-run-body-sub-left t c = c .before .before .before .before .before .before .before .before .before .before .before .before .before .before .before .loop-test .taken
+run-body-sub-left t c =
+    c .before .before .before .before .before .before .before .before .before .before .before .before .before .before .before .loop-test .taken
 
 run-body-loop-less-2 : (t : ℕ) → run-body-lts.Need-loop-less-2 (body-claims t) (run-body-at t) run-body.Post run-body-Inv-loop run-body-μ-loop
-run-body-loop-less-2 t c = omega (arith, c .before .before .before .before .before .before .before .before .before .before .before .before .before .before .before .loop-test .taken)
+run-body-loop-less-2 t c = omega (
+  arith,
+  c .before .before .before .before .before .before .before .before .before .before .before .before .before .before .before .loop-test .taken,
+)
 
 run-body-loop-again-2 : (t : ℕ) → run-body-lts.Need-loop-again-2 (body-claims t) (run-body-at t) run-body.Post run-body-Inv-loop run-body-μ-loop
 run-body-loop-again-2 t c = (
-  c .before .before .before .before .before .before .step .kept .0 ∙ c .before .before .before .before .before .before .before .before .before .before .before .before .before .before .before .before .loop .inv .0,
-  c .before .before .write-answer .kept .0 ∙ c .before .before .before .before .before .before .before .before .before .before .before .before .before .before .before .before .loop .inv .1,
+  c .before .before .before .before .before .before .step .kept .0 ∙
+      c .before .before .before .before .before .before .before .before .before .before .before .before .before .before .before .before .loop .inv .0,
+  c .before .before .write-answer .kept .0 ∙
+      c .before .before .before .before .before .before .before .before .before .before .before .before .before .before .before .before .loop .inv .1,
   search needs,
   search needs,
-  goes-inner _ _ _ _ _ _ _ _ _ (c .before .before .before .before .before .before .before .before .before .before .before .before .before .before .before .before .loop .inv .4) (c .before .before .before .before .before .before .before .before .before .before .before .before .before .before .before .before .before .before .before .before .pre .1 .3) _ (c .before .before .before .before .before .before .before .before .before .before .before .before .before .before .instruction-at .ensures) (c .before .before .before .before .before .before .before .before .before .before .before .before .before .before .before .loop-test .taken) _ _
-      (inner _ (c .before .before .before .before .before .before .before .before .before .before .before .before .if1 .left) (c .before .before .before .before .before .before .before .before .before .before .before .if2 .taken) (c .before .before .before .before .before .before .before .before .before .before .before .before .before .match .rest .1)) (sym (c .before .before .before .before .before .before .before .before .before .is-full .ensures) ∙ c .before .before .before .before .before .before .before .before .if3 .left) (c .before .before .before .before .before .before .step .ensures) (c .before .before .write-answer .ensures),
+  goes-inner _ _ _ _ _ _ _ _ _
+      (c .before .before .before .before .before .before .before .before .before .before .before .before .before .before .before .before .loop .inv .4)
+      (c .before .before .before .before .before .before .before .before .before .before .before .before .before .before .before .before .before .before .before .before .pre .1 .3) _
+      (c .before .before .before .before .before .before .before .before .before .before .before .before .before .before .instruction-at .ensures)
+      (c .before .before .before .before .before .before .before .before .before .before .before .before .before .before .before .loop-test .taken) _ _
+      (inner _ (c .before .before .before .before .before .before .before .before .before .before .before .before .if1 .left)
+      (c .before .before .before .before .before .before .before .before .before .before .before .if2 .taken)
+      (c .before .before .before .before .before .before .before .before .before .before .before .before .before .match .rest .1)) (sym
+      (c .before .before .before .before .before .before .before .before .before .is-full .ensures) ∙
+      c .before .before .before .before .before .before .before .before .if3 .left) (c .before .before .before .before .before .before .step .ensures)
+      (c .before .before .write-answer .ensures),
 )
 
 run-body-sub-write-answer-2 : (t : ℕ) → run-body-lts.Need-sub-write-answer-2 (body-claims t) (run-body-at t) run-body.Post run-body-Inv-loop run-body-μ-loop
-run-body-sub-write-answer-2 t c = let f = c .before .before .before .before .before .loop .inv .4 .fewer in omega (arith, f, c .before .before .before .before .before .before .before .before .before .pre .1 .3)
+run-body-sub-write-answer-2 t c = let f = c .before .before .before .before .before .loop .inv .4 .fewer in omega (
+  arith,
+  f,
+  c .before .before .before .before .before .before .before .before .before .pre .1 .3,
+)
 
 run-body-write-answer-requires-2 : (t : ℕ) → run-body-lts.Need-write-answer-requires-2 (body-claims t) (run-body-at t) run-body.Post run-body-Inv-loop run-body-μ-loop
 run-body-write-answer-requires-2 t c κs = search needs
@@ -231,7 +261,10 @@ run-body-same-length-6 t c = c .before .before .write-answer2 .kept .0 ∙ c .be
 
 run-body-returns-3 : (t : ℕ) → run-body-lts.Need-returns-3 (body-claims t) (run-body-at t) run-body.Post run-body-Inv-loop run-body-μ-loop
 run-body-returns-3 t c =
-    body-returns _ _ _ _ _ _ _ _ _ (c .before .before .before .before .before .before .before .before .loop .inv .4) (c .before .before .before .before .before .before .before .before .before .before .before .before .pre .1 .3) _ (c .before .before .before .before .before .before .instruction-at .ensures) (c .before .before .before .before .before .before .before .loop-test .taken)
+    body-returns _ _ _ _ _ _ _ _ _ (c .before .before .before .before .before .before .before .before .loop .inv .4)
+    (c .before .before .before .before .before .before .before .before .before .before .before .before .pre .1 .3) _
+    (c .before .before .before .before .before .before .instruction-at .ensures)
+    (c .before .before .before .before .before .before .before .loop-test .taken)
     (⊎-elim (λ s. none-low _ (s .taken)) (λ s. inr (s .1 .left)) (c .before .before .before .before .if1 .came)) (c .before .before .write-answer2 .ensures)
 
 run-body-same-length-7 : (t : ℕ) → run-body-lts.Need-same-length-7 (body-claims t) (run-body-at t) run-body.Post run-body-Inv-loop run-body-μ-loop

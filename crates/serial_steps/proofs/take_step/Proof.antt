@@ -7,11 +7,15 @@ use Rattle.serial_steps.proofs.take_step.Tie as tie
 
 returns : tie.Need-returns
 returns c =
-    some-taken _ _ _ _ _ _ _ _ (c .before .before .before .before .before .before .before .before .before .before .before .pre .1) (c .before .before .before .before .before .before .before .before .value .ensures ∙ elem-front _) (c .before .before .before .before .before .before .pop .ensures) (c .before .before .f .given .1) (c .effect .ensures)
+    some-taken _ _ _ _ _ _ _ _ (c .before .before .before .before .before .before .before .before .before .before .before .pre .1)
+    (c .before .before .before .before .before .before .before .before .value .ensures ∙ elem-front _)
+    (c .before .before .before .before .before .before .pop .ensures) (c .before .before .f .given .1) (c .effect .ensures)
 
 returns-2 : tie.Need-returns-2
 returns-2 c =
-    none-taken _ _ _ _ _ _ _ _ (c .before .before .before .before .before .before .before .before .before .before .pre .1) (c .before .before .before .before .before .before .before .value .ensures ∙ elem-front _) (c .before .before .before .before .before .pop .ensures) (c .before .before .match .keys2) (c .effect2 .ensures)
+    none-taken _ _ _ _ _ _ _ _ (c .before .before .before .before .before .before .before .before .before .before .pre .1)
+    (c .before .before .before .before .before .before .before .value .ensures ∙ elem-front _) (c .before .before .before .before .before .pop .ensures)
+    (c .before .before .match .keys2) (c .effect2 .ensures)
 
 pub take-step-spec : {M : Type 1} → statement M
 take-step-spec =
