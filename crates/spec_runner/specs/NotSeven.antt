@@ -1,7 +1,7 @@
 -- No step is refused with 7, on any job and any words: its core calls are not left.
 use mathlib.Core.Path.{_≡_, ap, sym, _∙_}
 use mathlib.Core.Bool.{Bool, true, false, false≢true}
-use mathlib.Core.List.{List, [], _∷_}
+use mathlib.Core.List.{List}
 use mathlib.Core.Option.{Option, none, some}
 use Prim.Native.Nat.{ℕ}
 use native.Mathlib.Omega.{arith}
@@ -9,7 +9,6 @@ use Rattle.spec_words.specs.Words.{pick}
 use Rattle.spec_answers.specs.declared.Answer.{Answer}
 use Rattle.spec_answers.specs.declared.Answer.the-variants.{Moved, Empty, Waits, Refused}
 use Rattle.spec_answers.specs.Answers.{Outcome as CoreOutcome, outcome as answered}
-use Rattle.spec_answers.specs.Calls.{Call}
 use Rattle.spec_outcomes.specs.SevenByLeft.{Of, spawns, pushes, takes, syncs, finishes}
 use Rattle.spec_job.specs.declared.Instruction.{Instruction}
 use Rattle.spec_job.specs.Operations.{Operation, return, push, pushSum, pop, goIfEmpty, go, goIfZero, add, spawn, sync, takeOrGo, operationAt}
