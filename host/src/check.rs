@@ -7,9 +7,12 @@ use crate::layout::*;
 use crate::order::Order;
 use crate::{fast, pools, rules, views};
 
+/// Makes a call on the core's memory.
+pub type Program = fn(&Call, &mut [u32]) -> Answer;
+
 pub struct Pair {
-    /// Makes a call on the memory: the model, or in a test a program that errs.
-    pub program: fn(&Call, &mut [u32]) -> Answer,
+    /// The model, or in a test a program that errs.
+    pub program: Program,
     pub memory: Vec<u32>,
     pub order: Order,
     /// The memory before the next call.

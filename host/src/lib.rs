@@ -42,6 +42,7 @@ pub mod rules;
 pub mod runner;
 pub mod sample;
 pub mod serial;
+pub mod shown;
 pub mod source;
 pub mod trace;
 pub mod tree;

@@ -3,10 +3,9 @@
 
 use host::answer::{Answer, NO_SEGMENT};
 use host::call::Call;
-use host::check::Pair;
+use host::check::Program;
 use host::layout::*;
-use host::play::Player;
-use host::random::Random;
+use host::shown;
 use host::views;
 
 /// A push taken apart.
@@ -42,8 +41,6 @@ impl Push<'_> {
         self.values.len() as u32 > get(m, FREE_SEGMENTS) * length(m)
     }
 }
-
-type Program = fn(&Call, &mut [u32]) -> Answer;
 
 /// The values are pushed one by one, up to the one that is turned down.
 fn stored_in_part(call: &Call, m: &mut [u32]) -> Answer {
@@ -183,27 +180,7 @@ const BROKEN: [(&str, Program); 11] = [
     ("one place short", one_place_short),
 ];
 
-/// The first program, of so many, in which something differs.
-fn shown(program: Program, most: u64) -> Option<String> {
-    let mut pair = Pair::new(vec![3; WORDS], 1);
-    pair.program = program;
-    (0..most).find_map(|seed| {
-        let mut player = Player::new(Random::new(seed));
-        let mut tried = pair.make(&player.opening());
-        while tried.is_ok() && !player.ended() && player.calls < 600 {
-            let call = player.next(&pair.order);
-            tried = pair.make(&call);
-        }
-        tried.err()
-    })
-}
-
 #[test]
 fn each_is_shown() {
-    assert_eq!(shown(Call::make, 100), None);
-    for (name, program) in BROKEN {
-        let what = shown(program, 400).unwrap_or_else(|| panic!("not shown: {name}"));
-        println!("{name}: {what}");
-        assert!(what.starts_with("push("), "{name}: {what}");
-    }
+    shown::each(&BROKEN, "push(");
 }

@@ -5,19 +5,17 @@
 
 use host::answer::{Answer, NO_RIGHT, PAST_THE_END};
 use host::call::Call;
-use host::check::Pair;
+use host::check::Program;
 use host::job::{Instruction, Job};
 use host::layout::*;
 use host::operations::TAKE_OR_GO;
 use host::overlap::{Log, Plain};
 use host::plain::Reply;
-use host::play::Player;
 use host::pools;
 use host::random::Random;
 use host::random_jobs::accepted;
 use host::runner::{self, Stepped, RECORD, RUNNER};
-
-type Program = fn(&Call, &mut [u32]) -> Answer;
+use host::shown;
 
 /// The call with `keep` as it is given here.
 fn made_with(keep: bool, call: &Call, m: &mut [u32]) -> Answer {
@@ -139,29 +137,9 @@ const BROKEN: [(&str, Program); 12] = [
     ("a kept take that frees", keep_frees),
 ];
 
-/// What differs in the first program, of so many, in which something does.
-fn shown(program: Program, most: u64) -> Option<String> {
-    let mut pair = Pair::new(vec![3; WORDS], 1);
-    pair.program = program;
-    (0..most).find_map(|seed| {
-        let mut player = Player::new(Random::new(seed));
-        let mut tried = pair.make(&player.opening());
-        while tried.is_ok() && !player.ended() && player.calls < 600 {
-            let call = player.next(&pair.order);
-            tried = pair.make(&call);
-        }
-        tried.err()
-    })
-}
-
 #[test]
 fn each_is_shown() {
-    assert_eq!(shown(Call::make, 100), None);
-    for (name, program) in BROKEN {
-        let what = shown(program, 400).unwrap_or_else(|| panic!("not shown: {name}"));
-        println!("{name}: {what}");
-        assert!(what.starts_with("take("), "{name}: {what}");
-    }
+    shown::each(&BROKEN, "take(");
 }
 
 /// Both memories of a run.
