@@ -47,7 +47,8 @@ extern "C" {
  * but 0. */
 #define HQ_STATUS(answer) ((uint32_t)((answer) >> 32))
 #define HQ_VALUE(answer) ((uint32_t)(answer))
-/* A take answered HQ_EMPTY is a step too, but has no value: not for it. */
+/* The status is HQ_MOVED, so that there is a value. A take that is answered
+ * HQ_EMPTY has moved too, and has none. */
 #define HQ_HAS_MOVED(answer) (HQ_STATUS(answer) == HQ_MOVED)
 
 /* The statuses. 1 to 20 are refusals, of which 1 to 13 are in use. A call that
