@@ -1,3 +1,4 @@
 pub mod Packed
 pub mod Steps
 pub mod Replays
+pub mod Simulations

@@ -2,6 +2,7 @@
 pub mod jobs;
 pub mod replays;
 pub mod runs;
+pub mod simulations;
 
 ghost use mathlib.Core.Path.{_≡_};
 ghost use mathlib.Core.Bool.{not};

@@ -79,7 +79,7 @@ bare (gave q ∷ l) h = (tt, bare l h)
 
 module _ (j : List ℕ) (ticks : ℕ → ℕ) (e : jobAnswer j ≡ Moved 0) where
   -- ONE CALL
-  call : (s : Stand) (l : List (Item Numbered)) → Running j ticks s l → (t : ℕ) → Called j ticks e s l t
+  pub call : (s : Stand) (l : List (Item Numbered)) → Running j ticks s l → (t : ℕ) → Called j ticks e s l t
   call s l run t = go (unfinished t (s .order)) refl
     where
       stands : (a b : List (Item Numbered)) (n : Numbered) → Running j ticks s (a ++ spot n ∷ b) → Called j ticks e s (a ++ spot n ∷ b) (n .number)
@@ -120,7 +120,7 @@ module _ (j : List ℕ) (ticks : ℕ → ℕ) (e : jobAnswer j ≡ Moved 0) wher
     abbrev W : Waiters (jobTasks j)
     W = jobWaits j ticks
 
-    abbrev Kept : ℕ → Type 0
+    abbrev pub Kept : ℕ → Type 0
     Kept t = (stepAnswer j s t ≡ Waits) ⊎ (((stepAnswer j s t ≡ Refused 4) × (unfinishedIn (s .core) t ≡ false)) ⊎ Wants j s t)
 
     -- a step that stays: its task is not able, or it wants a record or a segment
@@ -131,7 +131,7 @@ module _ (j : List ℕ) (ticks : ℕ → ℕ) (e : jobAnswer j ≡ Moved 0) wher
     stayed n x (nine q v c d f) i = inr (a-segment q v i c d f)
 
     -- a call that does not move
-    only : (t : ℕ) → hasMoved (stepAnswer j s t) ≡ false → Kept t
+    pub only : (t : ℕ) → hasMoved (stepAnswer j s t) ≡ false → Kept t
     only t no-move = go (call s l run t)
       where
         go : Called j ticks e s l t → Kept t
@@ -144,7 +144,7 @@ module _ (j : List ℕ) (ticks : ℕ → ℕ) (e : jobAnswer j ≡ Moved 0) wher
         go (went w m k r) = absurd (false≢true (sym no-move ∙ m))
 
     -- the first task on the line
-    abbrev Ready : ℕ → Type 0
+    abbrev pub Ready : ℕ → Type 0
     Ready t = (hasMoved (stepAnswer j s t) ≡ true) ⊎ Wants j s t
 
     first-ready : (a b : List (Item Numbered)) (n : Numbered) → standing a ≡ [] → Running j ticks s (a ++ spot n ∷ b) → Ready (n .number)
@@ -167,7 +167,7 @@ module _ (j : List ℕ) (ticks : ℕ → ℕ) (e : jobAnswer j ≡ Moved 0) wher
         go (goes g) = inl (has-gone j ticks e s a b n r g)
 
     -- while a task is unfinished, the first on the line can move, or wants a record or a segment
-    some-ready : (t : ℕ) → unfinishedIn (s .core) t ≡ true → (u : ℕ) × (unfinishedIn (s .core) u ≡ true) × Ready u
+    pub some-ready : (t : ℕ) → unfinishedIn (s .core) t ≡ true → (u : ℕ) × (unfinishedIn (s .core) u ≡ true) × Ready u
     some-ready t there =
         let o = unfinished-stands j (run .beside) t (sym (state-unfinished (s .core) (s .order) (run .state) t) ∙ there) in
         go l run o (front l)

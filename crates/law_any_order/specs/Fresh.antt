@@ -28,17 +28,17 @@ use Rattle.law_any_order.specs.Statement.{Stand, fresh}
 use Rattle.law_any_order.specs.Written.{Words}
 use Rattle.law_any_order.specs.Running.{Running}
 
-no-word : (a : ℕ) → load (replicate RUNNER 0) a ≡ 0
+pub no-word : (n a : ℕ) → load (replicate n 0) a ≡ 0
 unfolding load
-no-word a =
+no-word n a =
     ⊎-elim
-    (λ l. getD-replicate RUNNER a 0 0 l)
-    (λ l. List·getD-eq-default (replicate RUNNER 0) 0 (subst (λ (k : ℕ). k ≤ a) (sym (length-replicate {A = ℕ} RUNNER 0)) l))
-    (below? a RUNNER)
+    (λ l. getD-replicate n a 0 0 l)
+    (λ l. List·getD-eq-default (replicate n 0) 0 (subst (λ (k : ℕ). k ≤ a) (sym (length-replicate {A = ℕ} n 0)) l))
+    (below? a n)
 
 zeros : (t : ℕ) → Words (replicate RUNNER 0) t 0 0 0
 unfolding procedureOf positionOf registerOf
-zeros t = record { procedure = no-word (t * 3); position = no-word (t * 3 + 1); register = no-word (t * 3 + 2) }
+zeros t = record { procedure = no-word RUNNER (t * 3); position = no-word RUNNER (t * 3 + 1); register = no-word RUNNER (t * 3 + 2) }
 
 module _ (j : List ℕ) (e : jobAnswer j ≡ Moved 0) (w v : List ℕ) (sw : size w ≡ WORDS) (sv : size v ≡ RUNNER) where
   pub opened-is : openOutcome j w v ≡ jobOpened j

@@ -6,6 +6,7 @@ use mathlib.Core.List.{List, []}
 use Prim.Native.Nat.{ℕ}
 use lib.ListN.{length}
 use Rattle.spec_words.specs.Words.{size}
+use Rattle.spec_lists.specs.Maps.{All}
 use Rattle.spec_layout.specs.Layout.{WORDS}
 use Rattle.spec_answers.specs.declared.Answer.the-variants.{Moved}
 use Rattle.spec_answers.specs.Answers.{answerOf as coreAnswer}
@@ -15,7 +16,7 @@ use Rattle.spec_job.specs.Test.{jobAnswer}
 use Rattle.spec_plain.specs.Run.{stackOf, run, answersOf}
 use Rattle.spec_runner.specs.Words.{RUNNER}
 use Rattle.spec_runner.specs.Answers.{hasMoved}
-use Rattle.law_any_order.specs.Statement.{Stand, eventFor, stepped, afterCalls, fresh, stepAnswer, AllFinished, Wants}
+use Rattle.law_any_order.specs.Statement.{Stand, eventFor, afterCalls, fresh, stepAnswer, AllFinished, Wants}
 
 -- Every task has got the same answers, as many calls have moved, and left answers the same, for any queue and index.
 pub record Alike (s o : Stand) : Type 0 where
@@ -43,9 +44,9 @@ pub data Still (j : List ℕ) (s o : Stand) (t : ℕ) : Type 0 where
   moves : hasMoved (stepAnswer j o t) ≡ true → eventFor j o t (stepAnswer j o t) ≡ eventFor j s t (stepAnswer j s t) → Still j s o t
   wants : Wants j o t → Still j s o t
 
--- STABILITY: after any list of calls, a step that would move still does so after a step of any other task that moved.
+-- STABILITY: after any list of calls, a step that would move still does so after any calls of other tasks, of which some may wait or be
+-- refused.
 abbrev pub Stability : Type 0
 Stability =
-    (j : List ℕ) → jobAnswer j ≡ Moved 0 → (w v : List ℕ) → size w ≡ WORDS → size v ≡ RUNNER → (ts : List ℕ) (t u : ℕ) → ¬ (t ≡ u)
-    → (let s = afterCalls j ts (fresh j w v) in
-    hasMoved (stepAnswer j s t) ≡ true → hasMoved (stepAnswer j s u) ≡ true → Still j s (stepped j u s) t)
+    (j : List ℕ) → jobAnswer j ≡ Moved 0 → (w v : List ℕ) → size w ≡ WORDS → size v ≡ RUNNER → (ts us : List ℕ) (t : ℕ) → All (λ u. ¬ (u ≡ t)) us
+    → (let s = afterCalls j ts (fresh j w v) in hasMoved (stepAnswer j s t) ≡ true → Still j s (afterCalls j us s) t)

@@ -14,7 +14,7 @@ use Rattle.spec_tree.specs.Rights.{sharesPop}
 use Rattle.spec_outcomes.specs.Waits.{unfinished, blocked}
 use Rattle.spec_job.specs.declared.Instruction.{Instruction}
 use Rattle.spec_job.specs.Fields.{rights}
-use Rattle.spec_job.specs.Operations.{rowOf, operationOf, operationAt}
+use Rattle.spec_job.specs.Operations.{Operation, rowOf, operationOf, operationAt}
 use Rattle.spec_job.specs.Rows.{from, row-past}
 use Rattle.core_return.proofs.Deciding.{stop, on}
 use Rattle.core_blocked.specs.Told.{Tell}
@@ -77,6 +77,12 @@ module _ (m : List ℕ) (l : length m ≡ 16384) where
 
   pub lent-moves : {b : Bool} (j r : List ℕ) (t : ℕ) → b ≡ stepMoves j (take (16384 - 0) m) r t → b ≡ stepMoves j m r t
   lent-moves j r t e = e ∙ ap (λ (m : List ℕ). stepMoves j m r t) all-lent
+
+  pub lent-length : (t : ℕ) → t < 128 → (length (take (16384 - 0) m) ≡ 16384) × (t < 128)
+  lent-length t small = (ap length all-lent ∙ l, small)
+
+  pub lent-decides : {b : Bool} (o : Operation) (j : List ℕ) (t : ℕ) (s : Instruction) → b ≡ instructionMoves o j (take (16384 - 0) m) t s → b ≡ instructionMoves o j m t s
+  lent-decides o j t s e = e ∙ ap (λ (m : List ℕ). instructionMoves o j m t s) all-lent
 
 -- what the word of a task tells
 pub by-word : {w r : ℕ} {b1 b2 : Bool} (m a : List ℕ) (t : ℕ) → Tell m a → b1 ≡ unfinished m t → not b1 ≡ false → w ≡ load a t → r ≡ rightsOf m t

@@ -19,7 +19,7 @@ use spec_job::Instruction;
 use spec_runner::StepAnswer;
 
 // Instruction s of task t, which is unfinished and not blocked, would move.
-fn instruction_moves(job: &[u8], m: &[u32], t: u32, s: Instruction) -> bool
+fn decides(job: &[u8], m: &[u32], t: u32, s: Instruction) -> bool
     requires { ⌜ (length (now m) ≡ 16384) × (t < 128) ⌝ }
     ensures { λ b. ⌜ b ≡ instructionMoves (operationAt (s .operation)) (now (job .entry)) (now (m .entry)) t s ⌝ }
 {
@@ -33,6 +33,14 @@ fn instruction_moves(job: &[u8], m: &[u32], t: u32, s: Instruction) -> bool
         9 => core_would_move::sync_moves(m, t),
         _ => core_would_move::finish_moves(m, t),
     }
+}
+
+// The same; the part of m that is lent is the whole, with a length that is known where it is read.
+pub fn instruction_moves(job: &[u8], m: &[u32], t: u32, s: Instruction) -> bool
+    requires { ⌜ (length (now m) ≡ 16384) × (t < 128) ⌝ }
+    ensures { λ b. ⌜ b ≡ instructionMoves (operationAt (s .operation)) (now (job .entry)) (now (m .entry)) t s ⌝ }
+{
+    decides(job, &m[0..WORDS], t, s)
 }
 
 // The next step of task t would move. The words a tell which tasks are blocked.

@@ -1,7 +1,7 @@
 -- How often a number stands in a list; sums over a list and sums over all numbers below a limit.
 use mathlib.Core.Path.{_≡_, refl, ap, sym, _∙_}
 use mathlib.Core.Bool.{Bool, true, false, false≢true}
-use mathlib.Core.List.{List, [], _∷_, _++_}
+use mathlib.Core.List.{List, [], _∷_, _++_, List·Memᴰ, List·Memᴰ·not-nil, List·Memᴰ·cases-cons}
 use mathlib.Core.Logic.{_⊎_, inl, inr, ⊎-elim}
 use Prim.Native.Nat.{ℕ, zero, suc, _+_, _*_, _<_, _≤_}
 use native.Mathlib.Omega.{arith}
@@ -21,7 +21,7 @@ occurrences s [] = 0
 occurrences s (x ∷ xs) = one (eqb x s) + occurrences s xs
 
 -- the sum of g over a list
-unfoldable pub over : List ℕ → (ℕ → ℕ) → ℕ
+unfoldable pub over : {A : Type 0} → List A → (A → ℕ) → ℕ
 over [] g = 0
 over (x ∷ xs) g = g x + over xs g
 
@@ -97,7 +97,24 @@ occurs-append s (x ∷ xs) ys =
     let c = occurs-append s xs ys in
     omega (arith, a, b, c)
 
-pub over-append : (g : ℕ → ℕ) (xs ys : List ℕ) → over (xs ++ ys) g ≡ over xs g + over ys g
+-- a number is a member exactly where it stands there at least once
+pub occurs-member : (x : ℕ) (l : List ℕ) → 0 < occurrences x l → List·Memᴰ x l
+occurs-member x [] p = let a = occurs-nil x in let z : ⊥ = omega (arith, a, p) in absurd z
+occurs-member x (y ∷ l) p =
+    ⊎-elim
+    (λ e. List·Memᴰ.List·Memᴰ·head (sym e))
+    (λ n. let a = occurs-past y x l n in List·Memᴰ.List·Memᴰ·tail (occurs-member x l (omega (arith, a, p))))
+    (equal? y x)
+
+pub member-occurs : (x : ℕ) (l : List ℕ) → List·Memᴰ x l → 0 < occurrences x l
+member-occurs x [] i = absurd (List·Memᴰ·not-nil i)
+member-occurs x (y ∷ l) i =
+    ⊎-elim
+    (λ e. let a = occurs-here y x l (sym e) in omega (arith, a))
+    (λ k. occurs-later y x l (member-occurs x l k))
+    (List·Memᴰ·cases-cons i)
+
+pub over-append : {A : Type 0} (g : A → ℕ) (xs ys : List A) → over (xs ++ ys) g ≡ over xs g + over ys g
 unfolding over
 over-append g [] ys = omega arith
 over-append g (x ∷ xs) ys = let a = over-append g xs ys in omega (arith, a)

@@ -1,0 +1,4 @@
+pub mod Held
+pub mod Decides
+pub mod Rightly
+pub mod PopsNothing

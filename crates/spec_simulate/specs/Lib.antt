@@ -1,0 +1,3 @@
+pub mod Ticks
+pub mod Machine
+pub mod Cases

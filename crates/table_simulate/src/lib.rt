@@ -1,0 +1,1 @@
+// Simulations of jobs with workers, computed. Laws only.
