@@ -1,6 +1,7 @@
 /* A written job, tested, run without overlap, then with it step by step, then
- * the same steps in one call, then from the lines that a run printed: the top
- * pushes 7 and 9, and a child takes the first of them. */
+ * the same steps in one call, then from the lines that a run printed, then
+ * simulated with workers: the top pushes 7 and 9, and a child takes the first of
+ * them. */
 #include "hyperqueue.h"
 
 #include <stdio.h>
@@ -87,6 +88,21 @@ static void replayed(const char *trace) {
     printf("\n");
 }
 
+/* How long the job takes with so many workers. */
+static void simulated(uint32_t workers) {
+    uint32_t under_way[HQ_SIMULATE_WORDS];
+    uint64_t out[2];
+    uint64_t answer = hq_simulate(job, sizeof job, workers, core, HQ_WORDS, runner,
+                                  HQ_RUNNER_WORDS, under_way, HQ_SIMULATE_WORDS,
+                                  out);
+
+    printf("%u worker%s: ", workers, workers == 1 ? "" : "s");
+    if (HQ_HAS_MOVED(answer))
+        printf("%u ticks, work %u\n", (unsigned)out[0], (unsigned)out[1]);
+    else
+        printf("%s\n", hq_status_text(HQ_STATUS(answer)));
+}
+
 int main(void) {
     uint64_t run;
     uint32_t step, index;
@@ -108,5 +124,8 @@ int main(void) {
     replayed(recorded);
     replayed(altered);
     replayed("job refused 10\n");
+    simulated(0);
+    simulated(1);
+    simulated(2);
     return 0;
 }

@@ -1,6 +1,7 @@
 /* The queue core: four queues and a tree of tasks, in memory lent by the host;
- * and the runs of a written job, with overlap and without, and the replay of a
- * recorded run, at the end of this file.
+ * and the runs of a written job, with overlap and without, the replay of a
+ * recorded run, and how long a job takes with so many workers, at the end of this
+ * file.
  *
  * Every call gets the host's words and their number: words points to len words
  * that may be written, and len should be HQ_WORDS. Nothing else has to be
@@ -28,7 +29,7 @@ extern "C" {
 #endif
 
 /* The version of the library. */
-#define HQ_VERSION "0.5.0"
+#define HQ_VERSION "0.6.0"
 
 /* An answer that is not looked at is mostly an error: where the compiler can,
  * it says so. */
@@ -51,27 +52,28 @@ extern "C" {
  * HQ_EMPTY has moved too, and has none. */
 #define HQ_HAS_MOVED(answer) (HQ_STATUS(answer) == HQ_MOVED)
 
-/* The statuses. 1 to 20 are refusals, of which 1 to 13 are in use. A call that
+/* The statuses. 1 to 20 are refusals, of which 1 to 14 are in use. A call that
  * waits may be made again once other tasks have moved. */
 enum {
     HQ_MOVED = 0,
-    HQ_LENGTH_WRONG = 1,  /* len is not HQ_WORDS */
-    HQ_RULES_FAIL = 2,    /* the words are not such as calls leave behind */
-    HQ_NUMBERS_WRONG = 3, /* open: length or segments out of range */
-    HQ_NO_SUCH_TASK = 4,  /* no unfinished task has this number */
-    HQ_NO_SUCH_QUEUE = 5, /* queues are 0 to 3 */
-    HQ_NO_RIGHT = 6,      /* the task lacks the right */
-    HQ_PAST_THE_END = 7,  /* left: no value is there */
-    HQ_NO_RECORD = 8,     /* spawn: 128 tasks are unfinished */
-    HQ_NO_SEGMENT = 9,    /* push: too few segments are free for the run */
-    HQ_JOB_HEAD = 10,     /* a job too short, or its first numbers wrong */
-    HQ_JOB_CONTENTS = 11, /* an entry of a job or its length is wrong */
-    HQ_JOB_BODY = 12,     /* an instruction of a job is wrong */
-    HQ_TRACE_FORM = 13,   /* a line of a trace is none, or there are too many */
+    HQ_LENGTH_WRONG = 1,   /* len is not HQ_WORDS */
+    HQ_RULES_FAIL = 2,     /* the words are not such as calls leave behind */
+    HQ_NUMBERS_WRONG = 3,  /* open: length or segments out of range */
+    HQ_NO_SUCH_TASK = 4,   /* no unfinished task has this number */
+    HQ_NO_SUCH_QUEUE = 5,  /* queues are 0 to 3 */
+    HQ_NO_RIGHT = 6,       /* the task lacks the right */
+    HQ_PAST_THE_END = 7,   /* left: no value is there */
+    HQ_NO_RECORD = 8,      /* spawn: 128 tasks are unfinished */
+    HQ_NO_SEGMENT = 9,     /* push: too few segments are free for the run */
+    HQ_JOB_HEAD = 10,      /* a job too short, or its first numbers wrong */
+    HQ_JOB_CONTENTS = 11,  /* an entry of a job or its length is wrong */
+    HQ_JOB_BODY = 12,      /* an instruction of a job is wrong */
+    HQ_TRACE_FORM = 13,    /* a line of a trace is none, or there are too many */
+    HQ_WORKERS_WRONG = 14, /* workers are 1 to 16 */
     HQ_WAITS = 32,
     HQ_EMPTY = 33,     /* take, or a step: no value stands before it */
     HQ_NOT_EMPTY = 34, /* a step of operation 4: a value is there */
-    HQ_SPENT = 35,     /* a run without overlap made 65,535 steps */
+    HQ_SPENT = 35,     /* 65,535 steps made, the top unfinished */
     HQ_DIFFERS = 36,   /* a trace: the value is the first line that differs */
     HQ_AGREES = 37,    /* a trace: no line of it differs */
     /* A step of a job's task that moved, in a run with overlap or without,
@@ -100,6 +102,7 @@ static inline const char *hq_status_text(uint32_t status) {
     case HQ_JOB_CONTENTS: return "refused: a job's entries or its length";
     case HQ_JOB_BODY: return "refused: an instruction of a job";
     case HQ_TRACE_FORM: return "refused: the form of a trace";
+    case HQ_WORKERS_WRONG: return "refused: workers are 1 to 16";
     case HQ_WAITS: return "waits";
     case HQ_EMPTY: return "empty";
     case HQ_NOT_EMPTY: return "not empty";
@@ -235,6 +238,33 @@ HQ_ANSWER hq_job_ready(const uint8_t *job, size_t job_len, const uint32_t *words
 HQ_ANSWER hq_replay(const uint8_t *job, size_t job_len, const uint8_t *trace,
                    size_t trace_len, uint32_t *words, size_t len,
                    uint32_t *runner, size_t runner_len);
+
+/* WITH WORKERS: how many ticks the job takes with so many workers, 1 to 16. An
+ * instruction of operation 0 to 10 takes 2, 3, 3, 3, 2, 1, 1, 1, 5, 1 or 3 ticks.
+ * A worker takes it only when it could move and holds it for its ticks; its
+ * effect, a step of its task, falls at their end. No task has two instructions
+ * under way, and no worker idles while an instruction that could move is untaken.
+ * Effects of one tick fall, and free workers choose, in the order of a run without
+ * overlap; a free worker passes over what waits.
+ *
+ * HQ_MOVED where the top task has finished: out[0] is the ticks used, out[1] the
+ * work, which is the ticks of all instructions together and the same for every
+ * number of workers with which the job ends. HQ_SPENT once 65,535 effects have
+ * fallen with the top unfinished. HQ_NO_RECORD or HQ_NO_SEGMENT where an
+ * instruction is refused so when a free worker comes to it or when its effect
+ * falls; with another number of workers the job may end. The value is always 0,
+ * and out[0] and out[1] are 0 with any answer but HQ_MOVED.
+ *
+ * Refused is, in this order: a wrong length of words, runner or working with 1;
+ * bytes that are no job, as by hq_job_test; workers with HQ_WORKERS_WRONG. A
+ * refusal leaves all words as they were; else their contents before do not matter,
+ * words and runner are as after the last effect, and working[t] is the tick at
+ * which the effect of task t falls, 0 where it has no instruction under way. */
+#define HQ_SIMULATE_WORDS 128
+HQ_ANSWER hq_simulate(const uint8_t *job, size_t job_len, uint32_t workers,
+                     uint32_t *words, size_t len, uint32_t *runner,
+                     size_t runner_len, uint32_t *working, size_t working_len,
+                     uint64_t out[2]);
 
 /* WITHOUT OVERLAP. Words that a run without overlap is lent for working and for its answers;
  * any other numbers are refused with 1. Their contents before do not matter. */

@@ -118,11 +118,16 @@ pub fn spawn(m: &mut [u32], t: u32, child_rights: u32) -> Answer {
     whole(m, |m| try_spawn(m, t, child_rights))
 }
 
-pub(crate) fn try_spawn(m: &mut [u32], t: u32, child_rights: u32) -> Tried {
+/// The tests of a spawn behind the memory test; the number of the child.
+pub(crate) fn may_spawn(m: &[u32], t: u32, child_rights: u32) -> Result<u32, Answer> {
     task_unfinished(m, t)?;
     refuse_if(child_rights & !rights(m, t) != 0, NO_RIGHT)?;
     no_older_popper(m, t)?;
-    let child = pools::next_free_task(m).ok_or(NO_RECORD)?;
+    pools::next_free_task(m).ok_or(NO_RECORD)
+}
+
+pub(crate) fn try_spawn(m: &mut [u32], t: u32, child_rights: u32) -> Tried {
+    let child = may_spawn(m, t, child_rights)?;
     pools::take_task(m);
     write_child(m, t, child, child_rights);
     for q in 0..QUEUES {
@@ -179,11 +184,22 @@ pub fn push(m: &mut [u32], t: u32, q: u32, run: &[u32]) -> Answer {
     whole(m, |m| try_push(m, t, q, run))
 }
 
-pub(crate) fn try_push(m: &mut [u32], t: u32, q: u32, run: &[u32]) -> Tried {
+/// The tests of a push but those of its place.
+fn may_store(m: &[u32], t: u32, q: u32) -> Passed {
     task_unfinished(m, t)?;
     queue_exists(q)?;
     right_held(m, t, push_right(q))?;
-    no_older_popper(m, t)?;
+    no_older_popper(m, t)
+}
+
+/// The tests of a push of one value.
+pub(crate) fn may_push(m: &[u32], t: u32, q: u32) -> Passed {
+    may_store(m, t, q)?;
+    push::place(m, t, q, 1).map(|_| ())
+}
+
+pub(crate) fn try_push(m: &mut [u32], t: u32, q: u32, run: &[u32]) -> Tried {
+    may_store(m, t, q)?;
     let Some(last) = run.last() else {
         return Ok(Answer::Moved(0));
     };
@@ -194,7 +210,7 @@ pub(crate) fn try_push(m: &mut [u32], t: u32, q: u32, run: &[u32]) -> Tried {
 
 /// The tests of a take; the segment that has the first value, none where the
 /// queue is empty.
-fn find(m: &[u32], t: u32, q: u32) -> Result<Option<u32>, Answer> {
+pub(crate) fn find(m: &[u32], t: u32, q: u32) -> Result<Option<u32>, Answer> {
     task_unfinished(m, t)?;
     queue_exists(q)?;
     right_held(m, t, pop_right(q))?;
@@ -249,9 +265,13 @@ pub fn sync(m: &mut [u32], t: u32) -> Answer {
     whole(m, |m| try_sync(m, t))
 }
 
-pub(crate) fn try_sync(m: &mut [u32], t: u32) -> Tried {
+pub(crate) fn may_sync(m: &[u32], t: u32) -> Passed {
     may_end(m, t)?;
-    refuse_if(late::sync_left_out(m, t), RULES_FAIL)?;
+    refuse_if(late::sync_left_out(m, t), RULES_FAIL)
+}
+
+pub(crate) fn try_sync(m: &mut [u32], t: u32) -> Tried {
+    may_sync(m, t)?;
     join_children(m, t);
     Ok(Answer::Moved(0))
 }
@@ -268,15 +288,21 @@ pub fn finish(m: &mut [u32], t: u32) -> Answer {
     whole(m, |m| try_finish(m, t))
 }
 
-pub(crate) fn try_finish(m: &mut [u32], t: u32) -> Tried {
-    may_end(m, t)?;
+pub(crate) fn may_finish(m: &[u32], t: u32) -> Passed {
     if t == 0 {
-        refuse_if(late::sync_left_out(m, t), RULES_FAIL)?;
+        return may_sync(m, t);
+    }
+    may_end(m, t)?;
+    refuse_if(late::finish_left_out(m, t), RULES_FAIL)
+}
+
+pub(crate) fn try_finish(m: &mut [u32], t: u32) -> Tried {
+    may_finish(m, t)?;
+    if t == 0 {
         join_children(m, t);
         put(m, task(t) + STATUS, FINISHED);
         return Ok(Answer::Moved(0));
     }
-    refuse_if(late::finish_left_out(m, t), RULES_FAIL)?;
     for q in 0..QUEUES {
         return_views(m, t, q);
         return_queue_view(m, t, q);

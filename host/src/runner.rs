@@ -55,7 +55,7 @@ impl Stepped {
 type Tried<T> = Result<T, Stepped>;
 
 /// Tests 1, 10, 11 and 12.
-fn accepted(job: &[u8], m: &[u32], r: &[u32]) -> Tried<Job> {
+pub(crate) fn accepted(job: &[u8], m: &[u32], r: &[u32]) -> Tried<Job> {
     if m.len() != WORDS || r.len() != RUNNER {
         return Err(Stepped::Refused(1));
     }
@@ -144,6 +144,31 @@ pub(crate) fn stepped(job: &Job, m: &mut [u32], r: &mut [u32], t: u32) -> Steppe
     }
 }
 
+/// Whether a step of `t` would move, behind the same tests; else what it would be
+/// answered. No word changes.
+pub(crate) fn would_move(job: &Job, m: &[u32], r: &[u32], t: u32) -> Tried<()> {
+    let i = next(job, r, t);
+    let q = u32::from(i.which);
+    let asked = match i.operation {
+        RETURN => calls::may_finish(m, t),
+        PUSH | PUSH_REGISTER => calls::may_push(m, t, q),
+        POP | GO_IF_EMPTY | TAKE_OR_GO => calls::find(m, t, q).map(|_| ()),
+        SPAWN => {
+            let rights = u32::from(job.procedures()[usize::from(i.which)].rights);
+            calls::may_spawn(m, t, rights).map(|_| ())
+        }
+        SYNC => calls::may_sync(m, t),
+        _ => calls::no_older_popper(m, t),
+    };
+    pass(asked)
+}
+
+/// The next instruction of an unfinished task.
+pub(crate) fn next(job: &Job, r: &[u32], t: u32) -> Instruction {
+    let at = place(r, t);
+    job.procedures()[at.procedure].body[at.instruction]
+}
+
 /// A task's three words.
 struct Place {
     procedure: usize,
@@ -168,8 +193,7 @@ fn write(r: &mut [u32], t: u32, words: [u32; RECORD]) {
 fn try_step(job: &Job, m: &mut [u32], r: &mut [u32], t: u32) -> Tried<Reply> {
     pass(calls::task_unfinished(m, t))?;
     pass(calls::no_older_popper(m, t))?;
-    let mut at = place(r, t);
-    let i = job.procedures()[at.procedure].body[at.instruction];
+    let (i, mut at) = (next(job, r, t), place(r, t));
     at.instruction += 1;
     let reply = perform(job.procedures(), m, &mut at, t, i)?;
     let words = match reply {

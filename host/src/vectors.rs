@@ -2,9 +2,10 @@
 //! from this one. The head of the file says how they are written.
 
 use crate::replay::Judged;
+use crate::simulate::{Simulated, OURS};
 use std::fs;
 
-const LEVEL_4: &str = concat!(env!("CARGO_MANIFEST_DIR"), "/tests/vectors/level-4.txt");
+const LEVEL_5: &str = concat!(env!("CARGO_MANIFEST_DIR"), "/tests/vectors/level-5.txt");
 
 /// A job and what is answered.
 #[derive(Default)]
@@ -20,6 +21,8 @@ pub struct Vector {
     /// The values that it left, queue by queue.
     pub queues: Vec<Vec<u32>>,
     pub replays: Vec<(String, Judged)>,
+    /// Workers, and the answer with our ticks.
+    pub simulations: Vec<(u32, Simulated)>,
 }
 
 impl Vector {
@@ -34,9 +37,9 @@ impl Vector {
     }
 }
 
-/// The vectors that hold once requests 1 to 4 are in.
-pub fn level_4() -> Vec<Vector> {
-    let text = fs::read_to_string(LEVEL_4).expect("the file of the vectors");
+/// The vectors that hold once requests 1 to 5 are in.
+pub fn level_5() -> Vec<Vector> {
+    let text = fs::read_to_string(LEVEL_5).expect("the file of the vectors");
     let mut vectors: Vec<Vector> = Vec::new();
     for line in text.lines() {
         let (word, rest) = line.split_once(' ').unwrap_or((line, ""));
@@ -56,9 +59,9 @@ pub fn level_4() -> Vec<Vector> {
                 let (end, steps) = rest.split_once(' ').expect("an end and steps");
                 vector.serial = Some((end.to_string(), number(steps) as usize));
             }
-            (_, "queue") => vector
-                .queues
-                .push(rest.split_whitespace().map(number).collect()),
+            (_, "queue") => vector.queues.push(numbers(rest)),
+            (_, "table") => assert_eq!(numbers(rest), OURS, "other ticks"),
+            (_, "simulate") => vector.simulations.push(simulated(rest)),
             (_, "replay") => vector.replays.push((String::new(), judged(rest))),
             (_, "printed") => {}
             _ => panic!("no line of a vector: {line}"),
@@ -69,6 +72,10 @@ pub fn level_4() -> Vec<Vector> {
 
 fn number(word: &str) -> u32 {
     word.parse().expect("a number")
+}
+
+fn numbers(words: &str) -> Vec<u32> {
+    words.split_whitespace().map(number).collect()
 }
 
 fn bytes(hexadecimal: &str) -> Vec<u8> {
@@ -83,4 +90,19 @@ fn judged(words: &str) -> Judged {
         Some(("refused", why)) => Judged::Refused(number(why)),
         _ => panic!("no answer to a trace: {words}"),
     }
+}
+
+/// The workers, and the answer.
+fn simulated(words: &str) -> (u32, Simulated) {
+    let words: Vec<&str> = words.split(' ').collect();
+    let long = |word: &str| u64::from(number(word));
+    let answer = match words[1..] {
+        ["ended", ticks, work] => Simulated::Ended {
+            ticks: long(ticks),
+            work: long(work),
+        },
+        ["refused", why] => Simulated::Refused(number(why)),
+        _ => panic!("no answer to a simulation: {words:?}"),
+    };
+    (number(words[0]), answer)
 }

@@ -66,6 +66,18 @@ extern "C" {
         runner: *mut u32,
         runner_len: usize,
     ) -> u64;
+    pub fn hq_simulate(
+        job: *const u8,
+        job_len: usize,
+        workers: u32,
+        words: *mut u32,
+        len: usize,
+        runner: *mut u32,
+        runner_len: usize,
+        working: *mut u32,
+        working_len: usize,
+        out: *mut u64,
+    ) -> u64;
     pub fn hq_run_serially(
         job: *const u8,
         len: usize,

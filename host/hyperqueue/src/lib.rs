@@ -7,6 +7,7 @@ pub mod core;
 mod declared;
 pub mod jobs;
 pub mod runner;
+pub mod simulation;
 pub mod traces;
 
 use std::mem::MaybeUninit;
@@ -32,8 +33,11 @@ impl Answer {
     pub const EMPTY: u32 = 33;
     /// Of a job's step alone: it asked, and a value is queued.
     pub const NOT_EMPTY: u32 = 34;
-    /// A run without overlap that made all its steps and has not ended.
+    /// A run without overlap, or a simulation, that made all its steps and has not
+    /// ended.
     pub const SPENT: u32 = 35;
+    /// The refusal of a simulation: workers are 1 to 16.
+    pub const WORKERS_WRONG: u32 = 14;
     /// A trace, with the first line that differs as the value; one that agrees;
     /// the refusal of one that has another form.
     pub const DIFFERS: u32 = 36;

@@ -7,13 +7,15 @@
 use crate::large_job::{large, BODIES, BODY};
 use crate::proved_run::printed;
 use crate::run_scenes::{self, RunScene};
+use crate::simulation_scenes::{self, SimulationScene};
 use crate::take_scenes::{self, TakeScene};
-use crate::{linked, linked_replay, linked_runner};
+use crate::{linked, linked_replay, linked_runner, linked_simulation};
 use host::asm::assemble;
 use host::call::Call;
 use host::job::Job;
 use host::layout::{segment_place, WORDS};
 use host::runner::{self, RUNNER};
+use host::simulate::WORKING;
 use std::process::Command;
 
 const DOWNLOAD_BENCH: &str = include_str!("../../../jobs/download-bench.txt");
@@ -236,6 +238,26 @@ fn taken(scene: TakeScene) -> [Scene; 2] {
     })
 }
 
+/// A whole simulation.
+fn simulated(scene: SimulationScene) -> Scene {
+    let (job, workers) = (scene.job, scene.workers);
+    let run = move || {
+        let mut lent = [WORDS, RUNNER, WORKING].map(|length| vec![0; length]);
+        let slices = lent.each_mut().map(|words| &mut words[..]);
+        linked_simulation::simulate(&job, workers, slices, &mut [0; 2]);
+    };
+    Scene {
+        name: scene.name,
+        part: Part {
+            call: "hq_simulate",
+            run: Box::new(run),
+        },
+        less: vec![],
+        unit: "an effect",
+        units: scene.effects as u64,
+    }
+}
+
 /// The runner's tests without those of the core and of the job: its words, all
 /// but one record of them free.
 fn runner_words() -> Scene {
@@ -404,6 +426,7 @@ pub fn scenes() -> Vec<Scene> {
         all.extend(run_of_values(scene));
     }
     all.extend(take_scenes::all().into_iter().flat_map(taken));
+    all.extend(simulation_scenes::all().into_iter().map(simulated));
     all
 }
 

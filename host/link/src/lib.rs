@@ -14,6 +14,7 @@ pub mod linked;
 pub mod linked_jobs;
 pub mod linked_replay;
 pub mod linked_runner;
+pub mod linked_simulation;
 #[cfg(test)]
 mod linked_vectors;
 pub mod long_job;
@@ -37,6 +38,11 @@ pub mod runner_pair;
 pub mod scenes;
 pub mod serial_pair;
 pub mod shrink;
+#[cfg(test)]
+mod simulation_outcomes;
+pub mod simulation_pair;
+pub mod simulation_picture;
+pub mod simulation_scenes;
 #[cfg(test)]
 mod take_faults;
 pub mod take_scenes;

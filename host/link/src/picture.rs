@@ -178,7 +178,7 @@ fn y(row: usize) -> usize {
 }
 
 /// Text as it may stand in the picture.
-fn escaped(text: &str) -> String {
+pub(crate) fn escaped(text: &str) -> String {
     text.replace('&', "&amp;").replace('<', "&lt;")
 }
 
@@ -294,7 +294,7 @@ const KINDS: [(&str, &str); 8] = [
 ];
 
 /// The name of a row: the task's place in the tree of spawns and its procedure.
-fn row_name((path, procedure): &(Path, usize), procedures: &[String]) -> String {
+pub(crate) fn row_name((path, procedure): &(Path, usize), procedures: &[String]) -> String {
     match procedures.get(*procedure) {
         Some(known) if !path.is_empty() || known != "top" => format!("{} {known}", name(path)),
         _ => name(path),

@@ -45,7 +45,7 @@ fn word(path: &Path) -> &str {
 
 #[test]
 fn wrong_arguments_get_2() {
-    let wrong: [&[&str]; 15] = [
+    let wrong: [&[&str]; 26] = [
         &[],
         &["nothing"],
         &["serial"],
@@ -61,6 +61,17 @@ fn wrong_arguments_get_2() {
         &["replay", JOB],
         &["replay", JOB, "no-such-file"],
         &["replay", JOB, JOB, "more"],
+        &["simulate"],
+        &["simulate", JOB, "2"],
+        &["simulate", JOB, "--workers"],
+        &["simulate", JOB, "--workers", "0"],
+        &["simulate", JOB, "--workers", "17"],
+        &["simulate", JOB, "--workers", "two"],
+        &["simulate", JOB, "--workers", "3..2"],
+        &["simulate", JOB, "--workers", "0..2"],
+        &["simulate", JOB, "--workers", "2", "--workers", "3"],
+        &["simulate", JOB, "--draw"],
+        &["simulate", JOB, "--draw", "no-such-folder/picture.svg"],
     ];
     for words in wrong {
         let given = tool(words);
@@ -86,6 +97,7 @@ fn help_and_version_are_fine() {
         "serial",
         "compare",
         "replay",
+        "simulate",
         "draw",
         "assemble",
         "disassemble",
@@ -130,7 +142,15 @@ fn refusals_get_1() {
     let whole = Path::new(env!("CARGO_TARGET_TMPDIR")).join("whole.job");
     assert_eq!(status(&tool(&["assemble", JOB, word(&whole)])), 0);
     let cut = file("cut.job", &fs::read(&whole).unwrap()[..50]);
-    for command in ["test", "serial", "disassemble", "compare", "run", "draw"] {
+    for command in [
+        "test",
+        "serial",
+        "disassemble",
+        "compare",
+        "run",
+        "draw",
+        "simulate",
+    ] {
         let given = tool(&[command, word(&cut)]);
         assert_eq!(status(&given), 1, "{command}");
         assert!(out(&given).starts_with("job refused 11"), "{command}");
@@ -277,6 +297,129 @@ fn compare_of_orders_that_stop() {
         "{said}"
     );
     assert!(!said.contains("all agree"));
+}
+
+const HEADING: &str = "workers     ticks      work  speed-up  utilisation\n";
+
+#[test]
+fn a_simulation_of_document_01() {
+    let all = out(&tool(&["simulate", JOB]));
+    assert!(all.starts_with(HEADING), "{all}");
+    assert_eq!(all.lines().count(), 17);
+    let some = tool(&["simulate", JOB, "--workers", "1..2"]);
+    assert_eq!(status(&some), 0);
+    let rows = "      1        33        33      1.00      100.0 %\n      \
+                2        23        33      1.43       71.7 %\n";
+    assert_eq!(out(&some), format!("{HEADING}{rows}"));
+    assert!(all.starts_with(&out(&some)));
+    let one = out(&tool(&["simulate", JOB, "--workers", "16"]));
+    let last = all.lines().last().unwrap();
+    assert_eq!(one, format!("{HEADING}{last}\n"));
+}
+
+/// 300 values through 256 segments of one value: a single worker pushes until none is
+/// free, a second one takes them meanwhile. So there is no speed-up to tell.
+#[test]
+fn a_simulation_that_stops() {
+    let text = "length 1
+        procedure top all
+        spawn pusher 300
+        spawn taker 0
+        return
+        procedure pusher push 0
+        more: go-if-zero done
+        push 0 7
+        add -1
+        go more
+        done: return
+        procedure taker pop 0
+        next: take-or-go 0 done
+        go next
+        done: return";
+    let job = file("through.txt", text.as_bytes());
+    let given = tool(&["simulate", word(&job), "--workers", "1..3"]);
+    assert_eq!(status(&given), 1);
+    let said = out(&given);
+    let rows: Vec<&str> = said.lines().collect();
+    assert_eq!(rows[1], "      1  stopped with 9: no segment was free");
+    assert_eq!(
+        rows[2],
+        "      2      1815      3020         -       83.2 %"
+    );
+    let two = tool(&["simulate", word(&job), "--workers", "2"]);
+    assert_eq!(status(&two), 0);
+    let deep = tool(&["simulate", "../../jobs/too-deep.txt", "--workers", "4"]);
+    assert_eq!(status(&deep), 1);
+    assert!(out(&deep).ends_with("      4  stopped with 8: 128 tasks were unfinished\n"));
+    let endless = file("endless.txt", b"length 1\nprocedure top all\nhere: go here");
+    let spent = tool(&["simulate", word(&endless), "--workers", "1"]);
+    assert_eq!(status(&spent), 1);
+    let due = "      1  spent: 65,535 steps were made and the job has not ended\n";
+    assert!(out(&spent).ends_with(due));
+}
+
+#[test]
+fn a_simulation_is_drawn() {
+    let picture = Path::new(env!("CARGO_TARGET_TMPDIR")).join("simulated.svg");
+    let drawn = |workers| {
+        let given = tool(&[
+            "simulate",
+            JOB,
+            "--workers",
+            workers,
+            "--draw",
+            word(&picture),
+        ]);
+        assert_eq!(status(&given), 0);
+        let said = out(&given).lines().last().unwrap().to_string();
+        (said, fs::read_to_string(&picture).unwrap())
+    };
+    let source = "the schedule is the model's, which gives the same answer as the library";
+    let (said, two) = drawn("2");
+    let name = word(&picture);
+    assert_eq!(said, format!("{name}: drawn for 2 workers; {source}"));
+    assert!(two.starts_with("<svg xmlns=\"http://www.w3.org/2000/svg\" viewBox=\"0 0 "));
+    assert!(two.contains("document-01.txt: 2 workers, 23 ticks, work 33"));
+    let title = "ticks 10 to 13, worker 1, task 1 (top.1 popper), operation 3, queue 0: took 10";
+    assert!(two.contains(&format!("<title>{title}</title>")), "{two}");
+    assert_eq!(two.matches("<title>").count(), 11);
+    let (said, four) = drawn("1..4");
+    assert!(said.contains("drawn for 4 workers, the most that were asked for;"));
+    assert!(four.contains("workers 3 to 4 have nothing to do"));
+}
+
+/// A schedule that is cut off, and one that is too long to be drawn whole.
+#[test]
+fn a_simulation_without_an_end_is_drawn() {
+    let picture = Path::new(env!("CARGO_TARGET_TMPDIR")).join("stopped.svg");
+    let drawn = |job: &str, workers| {
+        let words = [
+            "simulate",
+            job,
+            "--workers",
+            workers,
+            "--draw",
+            word(&picture),
+        ];
+        assert_eq!(status(&tool(&words)), 1);
+        fs::read_to_string(&picture).unwrap()
+    };
+    let endless = file(
+        "for-ever.txt",
+        b"length 1\nprocedure top all\nhere: go here",
+    );
+    assert!(drawn(word(&endless), "1").contains("; the first 3000 ticks</text>"));
+    let crowd = "length 64
+        procedure top all
+        again: spawn slow 100
+        go again
+        procedure slow pop 0
+        more: go-if-zero done
+        add -1
+        go more
+        done: return";
+    let crowd = file("slow.txt", crowd.as_bytes());
+    assert!(drawn(word(&crowd), "2").contains("under way at the stop"));
 }
 
 #[test]

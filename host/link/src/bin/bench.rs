@@ -4,9 +4,10 @@
 //! `bench growth` makes calls on the linked core alone, and asks it for the ready
 //! map, on memories of growing size. `bench serial` runs a job of 60,000 steps
 //! without overlap on both, `bench overlap` the same job under a random order of
-//! its tasks. `bench replay` replays traces of 65,535 lines. `bench runs` pushes
-//! runs of values, `bench take` takes a value. `bench counts` counts instructions
-//! instead, with valgrind.
+//! its tasks. `bench replay` replays traces of 65,535 lines. `bench simulate` simulates
+//! that job, and one of many tasks, with workers. `bench runs` pushes runs of values,
+//! `bench take` takes a value. `bench counts` counts instructions instead, with
+//! valgrind.
 
 use host::asm::assemble;
 use host::call::Call;
@@ -15,17 +16,20 @@ use host::layout::{TASKS, VALUES, WORDS};
 use host::replay::{self, Judged};
 use host::runner::{self, RUNNER};
 use host::serial::{self, End};
+use host::simulate::{self, OURS};
 use host::trace::MOST_LINES;
 use link::instructions;
 use link::linked;
 use link::linked_jobs::{packed, run_serially, ANSWERS, WORKING};
 use link::linked_replay;
 use link::linked_runner;
+use link::linked_simulation;
 use link::long_job;
 use link::ready_scenes::{self, ReadyScene};
 use link::replay_scenes::{self, ReplayScene};
 use link::run_scenes;
 use link::scenes::{self, held_segments, unfinished_tasks, Scene};
+use link::simulation_scenes::{self, SimulationScene};
 use link::take_scenes::{self, IN_A_ROW};
 use std::process::ExitCode;
 use std::time::Instant;
@@ -278,6 +282,37 @@ fn replays() {
     }
 }
 
+/// Best nanoseconds an effect: of the linked simulation and of the model's.
+fn simulation_times(scene: &SimulationScene) -> [f64; 2] {
+    let (job, workers, due) = (&scene.job, scene.workers, scene.due(&mut ()));
+    let [mut core, mut words, mut working] =
+        [WORDS, RUNNER, simulate::WORKING].map(|length| vec![0; length]);
+    let mut best = [f64::INFINITY; 2];
+    for _ in 0..RUNS {
+        let (lent, mut out) = ([&mut core[..], &mut words, &mut working], [0; 2]);
+        let (linked, answer) = timed(|| linked_simulation::simulate(job, workers, lent, &mut out));
+        assert_eq!(answer, linked_simulation::packed(due));
+        assert_eq!(out, due.out(), "{}", scene.name);
+        let (model, given) =
+            timed(|| simulate::simulate(job, workers, &OURS, &mut core, &mut words, &mut working));
+        assert_eq!(given, due, "{}", scene.name);
+        for (best, time) in best.iter_mut().zip([linked, model]) {
+            *best = best.min(time / scene.effects as f64);
+        }
+    }
+    best
+}
+
+/// Simulations on the library and on the model: nanoseconds an effect.
+fn simulations() {
+    println!("{:40}{:>10}{:>10}{:>8}", "", "linked", "model", "ratio");
+    for scene in simulation_scenes::all() {
+        let [linked, model] = simulation_times(&scene);
+        let (name, ratio) = (scene.name, linked / model);
+        println!("{name:40}{linked:>10.1}{model:>10.1}{ratio:>8.2}");
+    }
+}
+
 /// Memories of one timing, so that the clock's own time counts for little.
 const COPIES: usize = 4;
 
@@ -386,6 +421,7 @@ fn main() -> ExitCode {
         ["serial"] => (without_overlap, ROUNDS),
         ["overlap"] => (with_overlap, RUNS),
         ["replay"] => (replays, RUNS),
+        ["simulate"] => (simulations, RUNS),
         ["runs"] => (runs, ROUNDS),
         ["take"] => (takes, ROUNDS),
         ["counts"] => return counts(),
@@ -395,7 +431,9 @@ fn main() -> ExitCode {
             return ExitCode::SUCCESS;
         }
         _ => {
-            eprintln!("bench [growth | serial | overlap | replay | runs | take | counts]");
+            eprintln!(
+                "bench [growth | serial | overlap | replay | simulate | runs | take | counts]"
+            );
             return ExitCode::FAILURE;
         }
     };

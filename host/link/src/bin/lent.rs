@@ -8,13 +8,17 @@
 //! words that nobody has written.
 
 use host::call::Call;
+use host::job::Job;
 use host::layout::WORDS;
+use host::overlap::Plain;
 use host::random::Random;
 use host::random_jobs::accepted;
 use host::random_traces::of_a_run;
 use host::runner::RUNNER;
+use host::simulate;
 use hyperqueue::jobs::run_serially_unset;
 use hyperqueue::runner::run_unset;
+use hyperqueue::simulation::simulate_unset;
 use hyperqueue::traces::replay_unset;
 use link::fuzzing::{calls, Made};
 use link::ground::Ground;
@@ -22,10 +26,13 @@ use link::linked_jobs::{job_test, ANSWERS, WORKING};
 use link::linked_runner::Map;
 use link::rounds::random_of;
 use link::{linked, linked_runner};
+use std::mem::MaybeUninit;
 use std::process::ExitCode;
 
 /// One of so many memories is followed by calls on words not yet written.
 const UNSET_EVERY: u64 = 10;
+/// Steps of a job that is simulated.
+const SHORT: u64 = 200;
 
 /// Blocks with no word to spare.
 struct Lent {
@@ -115,7 +122,40 @@ fn replays(r: &mut Random) {
     }
 }
 
-/// What opens, what replays and what runs a job serially, on words that nobody
+/// Simulations on words that nobody has written, where both places of the answer are
+/// written whatever it is; with a word too few, and with no workers.
+fn simulations(r: &mut Random) {
+    let job = short_job(r).into_boxed_slice();
+    let workers = r.within(1, 16);
+    for (workers, short) in [(workers, 0), (workers, 1), (0, 0)] {
+        let mut core = Box::new_uninit_slice(WORDS);
+        let mut runner = Box::new_uninit_slice(RUNNER);
+        let mut working = Box::new_uninit_slice(simulate::WORKING - short);
+        let mut out = Box::new([MaybeUninit::uninit(); 2]);
+        let answer = simulate_unset(
+            &job,
+            workers,
+            &mut core,
+            &mut runner,
+            &mut working,
+            &mut out,
+        );
+        let [ticks, work] = out.map(|number| unsafe { number.assume_init() });
+        assert!(answer.status == 0 || ticks + work == 0, "zeros");
+    }
+}
+
+/// A random job that ends soon.
+fn short_job(r: &mut Random) -> Vec<u8> {
+    loop {
+        let job = accepted(r);
+        if Plain::run(&Job::read(&job).expect("a job"), SHORT).is_some() {
+            return job;
+        }
+    }
+}
+
+/// What opens, replays, simulates and runs a job serially, on words that nobody
 /// has written: the checker sees a word that is read before it is written. The
 /// calls behind an opening find all words written.
 fn on_unset_words(r: &mut Random) {
@@ -134,6 +174,7 @@ fn on_unset_words(r: &mut Random) {
     every_call(r, &ground, &mut [0; 2]);
     list_of_steps(r, &job);
     replays(r);
+    simulations(r);
     let mut working = Box::new_uninit_slice(WORKING);
     let mut answers = Box::new_uninit_slice(ANSWERS);
     let _ = run_serially_unset(&job, &mut working, &mut answers);

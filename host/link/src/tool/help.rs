@@ -12,8 +12,9 @@ pub struct Command {
     pub name: &'static str,
     pub form: &'static str,
     pub behind: Behind,
-    /// Options, each with a number behind it.
+    /// Options, each with a number behind it; and those with a word.
     pub options: &'static [&'static str],
+    pub texts: &'static [&'static str],
     pub what: &'static str,
     pub more: &'static str,
 }
@@ -34,6 +35,7 @@ kettlepast COMMAND JOB ..
     serial JOB              run it without overlap
     compare JOB             run it with overlap in many orders against the run without
     replay JOB TRACE        make a recorded run's steps again, and say which line of it differs
+    simulate JOB            say how long the job takes with 1 to 16 workers
     draw JOB TASK..         draw a run with overlap (SVG)
     assemble TEXT OUT       write the job file of a text
     disassemble JOB         print a text that gives the same job
@@ -51,12 +53,13 @@ const TASKS: &str = "\
 TASK is the number of a task, 0 to 255, or several with blanks between them; a single - takes
 them from standard input.\n";
 
-pub const COMMANDS: [Command; 8] = [
+pub const COMMANDS: [Command; 9] = [
     Command {
         name: "run",
         form: "run JOB TASK..",
         behind: Behind::Any,
         options: &[],
+        texts: &[],
         what: "Opens the job and makes the steps, a line for each: its number, the task, the answer and its value.\n\
                Then come the values left, or how many tasks are unfinished.",
         more: TASKS,
@@ -66,6 +69,7 @@ pub const COMMANDS: [Command; 8] = [
         form: "serial JOB",
         behind: Behind::None,
         options: &[],
+        texts: &[],
         what: "Runs the job without overlap: a line for each step, then the values left, or why the run stopped.",
         more: "",
     },
@@ -74,6 +78,7 @@ pub const COMMANDS: [Command; 8] = [
         form: "compare JOB [--orders N] [--seed S]",
         behind: Behind::None,
         options: &["--orders", "--seed"],
+        texts: &[],
         what: "Runs the job with overlap in N random orders (100) and compares every task's answers, and the values\n\
                left, with the run without overlap. It says how many answers were compared of how many.",
         more: "",
@@ -83,6 +88,7 @@ pub const COMMANDS: [Command; 8] = [
         form: "replay JOB TRACE",
         behind: Behind::One("the trace"),
         options: &[],
+        texts: &[],
         what: "Makes the steps of a recorded run again. TRACE is the file of the lines that a run of the job printed, as\n\
                run prints them, at most 65,535 of them; a single - takes them from standard input. It says that all\n\
                agree, and how many of the lines that the run prints were there; or the first line that differs, with\n\
@@ -90,10 +96,28 @@ pub const COMMANDS: [Command; 8] = [
         more: "",
     },
     Command {
+        name: "simulate",
+        form: "simulate JOB [--workers N | --workers A..B] [--draw FILE]",
+        behind: Behind::None,
+        options: &[],
+        texts: &["--workers", "--draw"],
+        what: "Simulates the job with N workers, with each number from A to B, or with each from 1 to 16. A worker takes\n\
+               an instruction when it could move and holds it for its ticks; for operations 0 to 10 these are 2, 3, 3,\n\
+               3, 2, 1, 1, 1, 5, 1 and 3. A row says the ticks used; the work, which is all ticks together; the\n\
+               speed-up, ticks of one worker divided by ticks, or - where one worker does not come to the end; the\n\
+               utilisation, work divided by workers times ticks.\n\
+               A simulation that meets an instruction with no record or no segment free for it is stopped with 8 or\n\
+               9; one that makes 65,535 steps without an end is spent.\n\
+               --draw writes the picture (SVG) of the largest number, its first 3,000 ticks: a row for each worker, a bar\n\
+               for each instruction with the number and the colour of its task.",
+        more: "",
+    },
+    Command {
         name: "draw",
         form: "draw JOB TASK..",
         behind: Behind::Any,
         options: &[],
+        texts: &[],
         what: "Prints a picture (SVG) of the run in which these steps are made: a row for each task, a mark for each\n\
                step, an arrow from each push to the step that took its value.",
         more: TASKS,
@@ -103,6 +127,7 @@ pub const COMMANDS: [Command; 8] = [
         form: "assemble TEXT OUT",
         behind: Behind::One("the file to write"),
         options: &[],
+        texts: &[],
         what: "Writes the job that a text describes to the file OUT.",
         more: "",
     },
@@ -111,6 +136,7 @@ pub const COMMANDS: [Command; 8] = [
         form: "disassemble JOB",
         behind: Behind::None,
         options: &[],
+        texts: &[],
         what: "Prints a text that assembles to the same job.",
         more: "",
     },
@@ -119,6 +145,7 @@ pub const COMMANDS: [Command; 8] = [
         form: "test JOB",
         behind: Behind::None,
         options: &[],
+        texts: &[],
         what: "Says whether the bytes are a job, or the number of the refusal and why.",
         more: "",
     },

@@ -7,6 +7,7 @@ mod help;
 mod input;
 mod prints;
 mod replay;
+mod simulate;
 mod words;
 
 use help::{COMMANDS, OVERVIEW};
@@ -62,6 +63,7 @@ pub fn answer(words: &[String]) -> Result<Said, Fault> {
         "serial" => prints::serial(&words),
         "compare" => compare::compare(&words),
         "replay" => replay::replay(&words),
+        "simulate" => simulate::simulate(&words),
         "draw" => prints::draw(&words),
         "assemble" => prints::assemble(&words),
         "disassemble" => prints::disassemble(&words),

@@ -8,7 +8,8 @@ pub struct Words<'a> {
     command: &'a Command,
     pub file: &'a str,
     behind: Vec<&'a str>,
-    options: Vec<(&'a str, u64)>,
+    /// Each with the word behind it.
+    options: Vec<(&'a str, &'a str)>,
 }
 
 impl<'a> Words<'a> {
@@ -24,15 +25,22 @@ impl<'a> Words<'a> {
                 plain.push(word);
                 continue;
             }
-            if !command.options.contains(&word) {
+            let number = command.options.contains(&word);
+            if !number && !command.texts.contains(&word) {
                 return Err(fault(format!("no option {word}")));
             }
             if options.iter().any(|(known, _)| *known == word) {
                 return Err(fault(format!("{word} is given twice")));
             }
-            let number = rest.next().and_then(|number| number.parse().ok());
-            let number = number.ok_or_else(|| fault(format!("{word} needs a number")))?;
-            options.push((word, number));
+            let behind = rest.next();
+            let good = behind.filter(|text| !number || text.parse::<u64>().is_ok());
+            let needed = match word {
+                _ if number => "a number",
+                "--workers" => "a number or a range",
+                _ => "the name of a file",
+            };
+            let text = good.ok_or_else(|| fault(format!("{word} needs {needed}")))?;
+            options.push((word, text));
         }
         if plain.is_empty() {
             return Err(fault("the job is missing".to_string()));
@@ -60,10 +68,16 @@ impl<'a> Words<'a> {
         self.behind[0]
     }
 
+    /// The word behind an option, if that is given.
+    pub fn text(&self, name: &str) -> Option<&'a str> {
+        let given = self.options.iter().find(|(known, _)| *known == name);
+        given.map(|(_, text)| *text)
+    }
+
     /// The number of an option, or what it is without.
     pub fn option(&self, name: &str, without: u64) -> u64 {
-        let given = self.options.iter().find(|(known, _)| *known == name);
-        given.map_or(without, |(_, number)| *number)
+        let number = self.text(name).and_then(|text| text.parse().ok());
+        number.unwrap_or(without)
     }
 
     /// The numbers of tasks behind the job.
