@@ -21,7 +21,7 @@ use Rattle.spec_runner.specs.declared.StepAnswer.the-variants.{Refused}
 use Rattle.spec_runner.specs.Answers.{hasMoved, statusOf, answerOf}
 use Rattle.spec_runner.specs.Step.{stepTested}
 use Rattle.law_links.specs.Linked.{numbersBack}
-use Rattle.law_any_order.specs.Statement.{Stand, stepped, afterCalls, fresh, stepAnswer, Wants, a-record, a-segment}
+use Rattle.law_any_order.specs.Statement.{Stand, afterCalls, fresh, stepAnswer, Wants, a-record, a-segment}
 use Rattle.law_any_order.specs.States.{state-unfinished}
 use Rattle.law_any_order.specs.Running.{Running}
 use Rattle.law_any_order.specs.Called.{Mover}
@@ -33,6 +33,7 @@ use Rattle.law_any_two.specs.Reached.{Reached, reached-tested}
 use Rattle.spec_simulate.specs.Machine.{backOnto, inOrder}
 use Rattle.law_simulate.specs.Schedule.{numbers}
 use Rattle.law_simulate.specs.Facts.{Facts}
+use Rattle.law_simulate.specs.Keeps.{calls-append}
 
 -- the last first, and back again
 back-append : (xs ys zs : List ℕ) → backOnto (xs ++ ys) zs ≡ backOnto ys (backOnto xs zs)
@@ -60,12 +61,6 @@ back-occurs t (x ∷ xs) ys =
 pub order-occurs : (t : ℕ) (m : List ℕ) → occurrences t (inOrder m) ≡ occurrences t (entered (tour MARKS (recordOf m) 0))
 unfolding inOrder
 order-occurs t m = let a = back-occurs t (entered (tour MARKS (recordOf m) 0)) [] in let b = occurs-nil t in omega (arith, a, b)
-
--- calls behind calls
-calls-append : (j ts us : List ℕ) (s : Stand) → afterCalls j (ts ++ us) s ≡ afterCalls j us (afterCalls j ts s)
-unfolding afterCalls
-calls-append j [] us s = refl
-calls-append j (t ∷ ts) us s = calls-append j ts us (stepped j t s)
 
 module _ (j : List ℕ) (accept : jobAnswer j ≡ Moved 0) (m r : List ℕ) (sm : size m ≡ WORDS) (sr : size r ≡ RUNNER) where
   abbrev at : List ℕ → Stand

@@ -75,11 +75,15 @@ pub small-task : (m : List ℕ) (t : ℕ) → unfinished m t ≡ true → t < 12
 unfolding unfinished
 small-task m t e = ltb-true t 128 (both-true _ _ e .0)
 
--- calls one more
+-- calls behind calls, and one more
+pub calls-append : (j ts us : List ℕ) (s : Stand) → afterCalls j (ts ++ us) s ≡ afterCalls j us (afterCalls j ts s)
+unfolding afterCalls
+calls-append j [] us s = refl
+calls-append j (t ∷ ts) us s = calls-append j ts us (stepped j t s)
+
 pub calls-more : (j ts : List ℕ) (t : ℕ) (s : Stand) → afterCalls j (ts ++ (t ∷ [])) s ≡ stepped j t (afterCalls j ts s)
 unfolding afterCalls
-calls-more j [] t s = refl
-calls-more j (u ∷ ts) t s = calls-more j ts t (stepped j u s)
+calls-more j ts t s = calls-append j ts (t ∷ []) s
 
 module _ (g : Given) where
   abbrev pub At : List Event → Stand
