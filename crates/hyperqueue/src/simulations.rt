@@ -1,7 +1,8 @@
 // Simulations of jobs with workers, for hosts in other languages.
 ghost use mathlib.Core.Path.{_≡_};
+ghost use lib.ListN.{take};
 ghost use Rattle.spec_simulate.specs.Ticks.{ourTicks};
-ghost use Rattle.spec_simulate.specs.Machine.{simulateOutcome};
+ghost use Rattle.spec_span.specs.Listing.{listedOutcome};
 ghost use Rattle.hyperqueue.specs.Simulations.{statusOf, ticksUsed, workDone, SimulationHanded};
 use spec_simulate::Simulated;
 
@@ -43,8 +44,8 @@ fn work_done(a: Simulated) -> u32
     }
 }
 
-// Simulates the job with a number of workers. The memories and the words for the ends are for working; a simulation that is refused leaves
-// them as they were.
+// Simulates the job with a number of workers, and writes the ticks used, the work and the span; zeros where the job's end is not reached. The
+// memories and the words lent for working are for working; a simulation that is refused leaves the memories as they were.
 #[no_mangle]
 pub extern "C" fn hq_simulate(
     job: &[u8],
@@ -52,12 +53,13 @@ pub extern "C" fn hq_simulate(
     words: &mut [u32],
     runner: &mut [u32],
     working: &mut [u32],
-    out: &mut [u64; 2],
+    out: &mut [u64; 3],
 ) -> u64
-    ensures { λ r. ⌜ SimulationHanded r (now (out .exit)) (now (words .exit)) (now (runner .exit)) (now (working .exit))
-        (simulateOutcome (now (job .entry)) ourTicks workers (now (words .entry)) (now (runner .entry)) (now (working .entry))) ⌝ }
+    ensures { λ r. ⌜ SimulationHanded r (now (out .exit)) (now (words .exit)) (now (runner .exit)) (take 128 (now (working .exit)))
+        (listedOutcome (now (job .entry)) ourTicks workers (now (words .entry)) (now (runner .entry)) (now (working .entry))) ⌝ }
 {
-    let a = simulate::simulate(job, workers, words, runner, working);
-    *out = [ticks_used(a) as u64, work_done(a) as u64];
+    let l = simulate_listed::simulate_listed(job, workers, words, runner, working);
+    let a = l.answer;
+    *out = [ticks_used(a) as u64, work_done(a) as u64, l.span as u64];
     packing::pack(status(a), 0)
 }

@@ -57,6 +57,7 @@ pub record Stepped (j : List ℕ) (W : Waits (jobTasks j)) (r : Fronts) (qs : Li
   pub fronts : Fronts
   pub then : List (Timed Runner)
   pub move : Move (jobTasks j) W r l fronts then
+  pub mover : move .task ≡ u
   pub serially : Serially fronts queues tasks then
   pub is : next j (state qs (tasksOf (u ∷ us)) n) ≡ state queues (tasksOf tasks) (n + 1)
   pub event : eventIn (step j (state qs (tasksOf (u ∷ us)) n)) ≡ moveEvent j W move ∷ []
@@ -134,6 +135,7 @@ module _ (j : List ℕ) (W : Waits (jobTasks j)) (r : Fronts) (qs : List (List �
           fronts = r;
           then = w .line;
           move = moved free free _ (ap (λ (i : Action Runner). startOf i r) e) w;
+          mover = refl;
           serially = record { before = vs ++ ws; line = w .same ∙ same; bare = all-append NoSpot vs ws (h .bare) b; lists = k };
           is = next-is ∙ is;
           event = event-is none d;
@@ -169,15 +171,16 @@ module _ (j : List ℕ) (W : Waits (jobTasks j)) (r : Fronts) (qs : List (List �
 
         -- the search has found o
         ended : (x : Fronts) (o : Option ℕ) (ws : List (Item Runner)) {k : List (Timed Runner)} (m : Move (jobTasks j) W r l x k)
-            → moveEvent j W m ≡ eventWith j u o → untimed k ≡ ws ++ (spot (f o) ∷ spotsOf us) → front (queue qs q) ≡ o
+            → m .task ≡ u → moveEvent j W m ≡ eventWith j u o → untimed k ≡ ws ++ (spot (f o) ∷ spotsOf us) → front (queue qs q) ≡ o
             → All NoSpot ws → Lists x (looking b q) ws → Stepped j W r qs u us n l
-        ended x o ws {k} m c g i y z =
+        ended x o ws {k} m who c g i y z =
             record {
               queues = looking b q;
               tasks = f o ∷ us;
               fronts = x;
               then = k;
               move = m;
+              mover = who;
               serially = record { before = ws; line = g; bare = y; lists = z };
               is = next-is ∙ is ∙ ap (λ (p : Option ℕ). state (looking b q) (f p .task ∷ tasksOf us) (n + 1)) i;
               event = event-is (front (queue qs q)) d ∙ ap (λ (p : Option ℕ). eventWith j u p ∷ []) i ∙ ap (λ (p : Event). p ∷ []) (sym c);
@@ -192,11 +195,11 @@ module _ (j : List ℕ) (W : Waits (jobTasks j)) (r : Fronts) (qs : List (List �
         go : (c : List ℕ) → r q ≡ c → Stepped j W r qs u us n l
         go [] i =
             let w = looked (jobTasks j) W u b q (λ a. spot (f a) ∷ []) e l vs (spotsOf us) (h .line) (h .bare) 0 in
-            ended r (front (valuesOf q vs)) (remaining b q vs) (moved (seeking b q) (w .end) _ (starts [] i) (w .lead)) (ap (eventWith j u) (w .finds))
+            ended r (front (valuesOf q vs)) (remaining b q vs) (moved (seeking b q) (w .end) _ (starts [] i) (w .lead)) refl (ap (eventWith j u) (w .finds))
             (w .lead .same) (values [] i) (line-bare b q) (line-lists b q small i)
         go (y ∷ c) i =
             let w = lead-at (jobTasks j) W u (found b q y) (spot (f (some y)) ∷ []) tt (rw e (refl, refl, refl)) l vs (spotsOf us) (h .line) (h .bare) 0 in
-            ended _ (some y) vs (moved (found b q y) (found b q y) _ (starts (y ∷ c) i) w) refl (w .same)
+            ended _ (some y) vs (moved (found b q y) (found b q y) _ (starts (y ∷ c) i) w) refl refl (w .same)
             (values (y ∷ c) i ∙ (unfold front in refl)) (h .bare) (front-lists b q y c small i)
 
   -- BY THE OPERATION'S NUMBER

@@ -15,6 +15,8 @@ use Rattle.law_order.specs.Names.{Under, under-parent}
 use Rattle.law_order_waits.specs.Spots.{child-says, says-older}
 use Rattle.law_order_waits.specs.Popper.{both-share}
 use Rattle.spec_plain.specs.Stack.{rightsOf}
+use Rattle.spec_line.specs.Line.{spot}
+use Rattle.law_timed_line.specs.Times.{Timed, at}
 use Rattle.law_job_line.specs.Tasks.{canPop, Runner}
 use Rattle.law_job_times.specs.Kin.{popsOf}
 use Rattle.law_serial_times.specs.Ended.{Over, Among, Every}
@@ -27,6 +29,11 @@ Beneath u s = Under (u .task .name) (s .task .name)
 -- a task of the stack, and the time of its last step
 pub data Frame : Type 0 where
   frame : ℕ → Runner → Frame
+
+-- the spots of a stack
+abbrev pub spotsOf : List Frame → List (Timed Runner)
+spotsOf [] = []
+spotsOf (frame t u ∷ st) = at t (spot u) ∷ spotsOf st
 
 module _ (j : List ℕ) where
   abbrev pub Pop : Runner → ℕ → Type 0

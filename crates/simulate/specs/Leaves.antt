@@ -1,4 +1,4 @@
--- The ticks of an operation by its number, and the earlier of two ends, case by case.
+-- The ticks of an instruction, and the earlier of two ends, case by case.
 use mathlib.Core.Path.{_≡_, refl, ap, sym, _∙_}
 use Prim.Native.Nat.{ℕ, suc, _<_, _≤_}
 use native.Mathlib.Omega.{arith}
@@ -6,48 +6,17 @@ use borrow.Author.Tests.{eq-eqb, ne-eqb, lt-ltb, le-ltb}
 use mathlib.Core.List.{List}
 use Rattle.spec_words.specs.Words.{load, halt, pass, neither, true-left, true-right}
 use Rattle.spec_job.specs.declared.Instruction.{Instruction}
-use Rattle.spec_job.specs.Operations.{Operation, operationAt, operationOf, rowOf}
-use Rattle.spec_job.specs.Rows.{from, row-past}
+use Rattle.spec_job.specs.Operations.{Operation, operationAt}
 use Rattle.spec_runner.specs.Words.{instructionFor}
 use Rattle.spec_simulate.specs.Ticks.{number, ticksFor}
 use Rattle.spec_simulate.specs.Machine.{earlier, soonest}
 use Rattle.simulate.specs.Listed.{listed}
 use Rattle.simulate.specs.Parts.{Table}
 
--- an operation's number is the one that it has in the table of operations
-pub numbered : (k : ℕ) → k ≤ 10 → k ≡ number (operationAt k)
-unfolding number operationAt operationOf rowOf
-numbered k few =
-    from Says 0 (λ l. refl)
-    (from Says 1 (λ l. refl)
-    (from Says 2 (λ l. refl)
-    (from Says 3 (λ l. refl)
-    (from Says 4 (λ l. refl)
-    (from Says 5 (λ l. refl)
-    (from Says 6 (λ l. refl)
-    (from Says 7 (λ l. refl)
-    (from Says 8 (λ l. refl) (from Says 9 (λ l. refl) (from Says 10 (λ l. refl) (λ i past l. let z : ⊥ = omega (arith, past, l) in absurd z))))))))))) k
-    (omega arith) few
-  where
-    Says : ℕ → Type 0
-    Says i = i ≤ 10 → i ≡ number (operationAt i)
-
--- a number that is none is taken for a return
-pub numbered-past : (k : ℕ) → 11 ≤ k → 0 ≡ number (operationAt k)
-unfolding number operationAt operationOf
-numbered-past k past = rw (row-past k past) refl
-
 -- the ticks of instruction s, which task t is at
-module _ (table j r : List ℕ) (t : ℕ) {s : Instruction} (is : s ≡ instructionFor j r t) {x : ℕ} where
-  pub ticks-here : s .operation ≤ 10 → x ≡ load table (s .operation) → x ≡ ticksFor table (operationAt (instructionFor j r t .operation))
-  unfolding ticksFor
-  ticks-here few at =
-      at ∙ ap (load table) (numbered (s .operation) few) ∙ ap (λ (i : Instruction). load table (number (operationAt (i .operation)))) is
-
-  pub ticks-past : 11 ≤ s .operation → x ≡ load table 0 → x ≡ ticksFor table (operationAt (instructionFor j r t .operation))
-  unfolding ticksFor
-  ticks-past past at =
-      at ∙ ap (load table) (numbered-past (s .operation) past) ∙ ap (λ (i : Instruction). load table (number (operationAt (i .operation)))) is
+pub ticks-here : (table j r : List ℕ) (t : ℕ) {s : Instruction} {x : ℕ} → s ≡ instructionFor j r t → x ≡ ticksFor table (operationAt (s .operation))
+    → x ≡ ticksFor table (operationAt (instructionFor j r t .operation))
+ticks-here table j r t is at = at ∙ ap (λ (i : Instruction). ticksFor table (operationAt (i .operation))) is
 
 pub few-ticks : (table : List ℕ) (o : Operation) {n : ℕ} → n ≡ ticksFor table o → Table table → n ≤ 1000
 unfolding ticksFor

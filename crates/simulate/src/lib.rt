@@ -8,7 +8,7 @@ ghost use Rattle.spec_words.specs.Words.{load};
 ghost use Rattle.spec_lists.specs.Maps.{All};
 ghost use Rattle.spec_outcomes.specs.Waits.{unfinished};
 ghost use Rattle.law_any_two.specs.Reached.{Reached};
-ghost use Rattle.spec_simulate.specs.Ticks.{ticksFor, operationOf, ourTicks};
+ghost use Rattle.spec_simulate.specs.Ticks.{ticksFor, operationOf};
 ghost use Rattle.spec_simulate.specs.Machine.{wouldBe, earlier, soonest, inOrder, simulation, simulateOutcome};
 ghost use Rattle.simulate.specs.Listed.{listed, Noted};
 ghost use Rattle.simulate.specs.Parts.{Table, Counts, GoesOn, Asks, Chooses, Judges, Falls, FallsAll, Rounds, RoundsAll};
@@ -91,11 +91,7 @@ fn ticks_of(job: &[u8], r: &[u32], ticks: &[u32], t: u32) -> u32
     ensures { λ n. ⌜ n ≡ ticksFor (now (ticks .entry)) (operationOf (now (job .entry)) (now (r .entry)) t) ⌝ }
 {
     let s = instruction_for(job, r, t);
-    let k = s.operation;
-    if k <= 10 {
-        return memory::get(ticks, k as usize);
-    }
-    memory::get(ticks, 0)
+    job_ticks::ticks_for(ticks, s.operation)
 }
 
 // A worker comes to task t: one that is under way is passed, as one that waits.
@@ -362,19 +358,4 @@ pub fn simulate_by(
     runner_open::open_tested(job, m, r);
     memory::clear(ends);
     rounds(job, m, r, ticks, ends, workers)
-}
-
-// The same by our table.
-pub fn simulate(
-    job: &[u8],
-    workers: u32,
-    m: &mut [u32],
-    r: &mut [u32],
-    ends: &mut [u32],
-) -> Simulated
-    ensures { λ a. ⌜ simulation a (now (m .exit)) (now (r .exit)) (now (ends .exit))
-        ≡ simulateOutcome (now (job .entry)) ourTicks workers (now (m .entry)) (now (r .entry)) (now (ends .entry)) ⌝ }
-{
-    let ticks = [2u32, 3, 3, 3, 2, 1, 1, 1, 5, 1, 3];
-    simulate_by(job, &ticks, workers, m, r, ends)
 }

@@ -29,7 +29,7 @@ renumbered =
     (ins 1 0 6 (ins 1 0 7 (ins 0 0 0 []))))))))))))))
 
 -- both are accepted
-accepted : (jobAnswer fullRun ≡ Moved 0) × (jobAnswer renumbered ≡ Moved 0)
+pub accepted : (jobAnswer fullRun ≡ Moved 0) × (jobAnswer renumbered ≡ Moved 0)
 unfolding load size pick both either upto bits pushes pops eachQueue subset bytes2 bytes4 procedures segmentLength offset count rights reserved instructionFrom
     instructionAt rowOf between headHolds refusal10 entryHolds entriesHold contentsHold refusal11 whichHolds operandHolds fitting instructionHolds lastHolds
     bodyHolds refusal12 jobAnswer

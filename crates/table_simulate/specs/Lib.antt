@@ -1,3 +1,4 @@
 pub mod Quick
 pub mod Table
 pub mod Cases
+pub mod Listed

@@ -1,0 +1,4 @@
+pub mod Ancestors
+pub mod Named
+pub mod Stacked
+pub mod Shallow

@@ -1,0 +1,12 @@
+pub mod Statement
+pub mod Latest
+pub mod Top
+pub mod Standing
+pub mod Holders
+pub mod Carried
+pub mod Moving
+pub mod Taking
+pub mod Passing
+pub mod Falling
+pub mod Bounds
+pub mod Guarantee

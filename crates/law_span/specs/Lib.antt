@@ -1,0 +1,9 @@
+pub mod Ticks
+pub mod Chains
+pub mod Heard
+pub mod Owned
+pub mod Covered
+pub mod Spanned
+pub mod Parted
+pub mod Serial
+pub mod Span

@@ -1,0 +1,12 @@
+pub mod Raised
+pub mod Places
+pub mod Ready
+pub mod Kept
+pub mod Going
+pub mod Pushing
+pub mod Taking
+pub mod Finishing
+pub mod Finished
+pub mod Spawning
+pub mod Stepped
+pub mod Passed

@@ -1,0 +1,1 @@
+// The span in one pass is the longest chain; laws only.

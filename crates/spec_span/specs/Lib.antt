@@ -1,0 +1,5 @@
+pub mod Kinds
+pub mod Pass
+pub mod Needs
+pub mod Listing
+pub mod Cases
