@@ -22,6 +22,7 @@ static uint32_t working[HQ_WORKING_WORDS];
 static uint32_t answers[HQ_ANSWER_WORDS];
 static uint32_t core[HQ_WORDS];
 static uint32_t runner[HQ_RUNNER_WORDS];
+static uint32_t under_way[HQ_SIMULATE_WORDS];
 
 /* The steps that were made with overlap, and their answers. */
 #define MOST_STEPS 16
@@ -88,17 +89,18 @@ static void replayed(const char *trace) {
     printf("\n");
 }
 
-/* How long the job takes with so many workers. */
+/* How long the job takes with so many workers, and how long at most. */
 static void simulated(uint32_t workers) {
-    uint32_t under_way[HQ_SIMULATE_WORDS];
-    uint64_t out[2];
+    uint64_t out[3];
     uint64_t answer = hq_simulate(job, sizeof job, workers, core, HQ_WORDS, runner,
                                   HQ_RUNNER_WORDS, under_way, HQ_SIMULATE_WORDS,
                                   out);
 
     printf("%u worker%s: ", workers, workers == 1 ? "" : "s");
     if (HQ_HAS_MOVED(answer))
-        printf("%u ticks, work %u\n", (unsigned)out[0], (unsigned)out[1]);
+        printf("%u ticks, work %u, span %u, at most %u ticks\n",
+               (unsigned)out[0], (unsigned)out[1], (unsigned)out[2],
+               (unsigned)HQ_CEILING(workers, out));
     else
         printf("%s\n", hq_status_text(HQ_STATUS(answer)));
 }

@@ -29,7 +29,7 @@ extern "C" {
 #endif
 
 /* The version of the library. */
-#define HQ_VERSION "0.6.0"
+#define HQ_VERSION "0.7.0"
 
 /* An answer that is not looked at is mostly an error: where the compiler can,
  * it says so. */
@@ -248,23 +248,35 @@ HQ_ANSWER hq_replay(const uint8_t *job, size_t job_len, const uint8_t *trace,
  * overlap; a free worker passes over what waits.
  *
  * HQ_MOVED where the top task has finished: out[0] is the ticks used, out[1] the
- * work, which is the ticks of all instructions together and the same for every
- * number of workers with which the job ends. HQ_SPENT once 65,535 effects have
- * fallen with the top unfinished. HQ_NO_RECORD or HQ_NO_SEGMENT where an
- * instruction is refused so when a free worker comes to it or when its effect
- * falls; with another number of workers the job may end. The value is always 0,
- * and out[0] and out[1] are 0 with any answer but HQ_MOVED.
+ * work, which is the ticks of all instructions together, and out[2] the span: the
+ * ticks of the longest chain of instructions each of which needs the one before,
+ * that is its task's previous one, the spawn of its task, the push of the value
+ * that it finds, or the finish of a task that it waits for. Work and span are the
+ * same for every number of workers with which the job ends, and HQ_CEILING(workers,
+ * out) ticks are never exceeded. HQ_SPENT once 65,535 effects have fallen with the
+ * top unfinished. HQ_NO_RECORD or HQ_NO_SEGMENT where an instruction is refused so
+ * when a free worker comes to it or when its effect falls; with another number of
+ * workers the job may end. The value is always 0, and all three of out are 0 with
+ * any answer but HQ_MOVED.
  *
  * Refused is, in this order: a wrong length of words, runner or working with 1;
  * bytes that are no job, as by hq_job_test; workers with HQ_WORKERS_WRONG. A
- * refusal leaves all words as they were; else their contents before do not matter,
- * words and runner are as after the last effect, and working[t] is the tick at
- * which the effect of task t falls, 0 where it has no instruction under way. */
-#define HQ_SIMULATE_WORDS 128
+ * refusal leaves words, runner and the first 128 of working as they were; else
+ * their contents before do not matter, words and runner are as after the last
+ * effect, and working[t], of the first 128, is the tick at which the effect of task
+ * t falls, 0 where it has no instruction under way. The others of working may be
+ * written whatever the answer, and mean nothing. working has 2 MB, more than a
+ * stack may have room for. */
+#define HQ_SIMULATE_WORDS 525718
 HQ_ANSWER hq_simulate(const uint8_t *job, size_t job_len, uint32_t workers,
                      uint32_t *words, size_t len, uint32_t *runner,
                      size_t runner_len, uint32_t *working, size_t working_len,
-                     uint64_t out[2]);
+                     uint64_t out[3]);
+
+/* The ticks that so many workers, 1 to 16, use at most, by what hq_simulate gave:
+ * work plus workers - 1 times span, divided by workers, rounded down. */
+#define HQ_CEILING(workers, out)                                               \
+    (((out)[1] + ((uint64_t)(workers) - 1) * (out)[2]) / (uint64_t)(workers))
 
 /* WITHOUT OVERLAP. Words that a run without overlap is lent for working and for its answers;
  * any other numbers are refused with 1. Their contents before do not matter. */

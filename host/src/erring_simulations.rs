@@ -4,8 +4,10 @@
 
 use crate::job::Job;
 use crate::layout::{status, FINISHED};
+use crate::one_pass_span;
 use crate::runner::{self, Stepped, RECORD};
-use crate::simulate::{Simulated, Table, MOST_EFFECTS, MOST_WORKERS, WORKERS_WRONG, WORKING};
+use crate::simulate::{Simulated, Table, ENDS, MOST_EFFECTS, MOST_WORKERS};
+use crate::simulate::{WORKERS_WRONG, WORKING};
 use crate::tree;
 
 #[derive(Clone, Copy, Debug, PartialEq, Eq)]
@@ -55,33 +57,21 @@ pub fn simulate(
     table: &Table,
     [m, r, working]: [&mut [u32]; 3],
 ) -> Simulated {
-    let has = |wanted| fault == Some(wanted);
-    let lengths_fit =
-        working.len() == WORKING || has(Fault::LongWorking) && working.len() > WORKING;
-    let fewest = if has(Fault::Workers0) { 0 } else { 1 };
-    let most = MOST_WORKERS + u32::from(has(Fault::Workers17));
-    let workers_fit = (fewest..=most).contains(&workers);
-    if has(Fault::WorkersFirst) && !workers_fit {
-        return Simulated::Refused(WORKERS_WRONG);
-    }
-    let job = match runner::accepted(job, m, r) {
-        _ if !lengths_fit => return Simulated::Refused(1),
+    let job = match accepted(fault, job, workers, [m, r, working]) {
         Ok(job) => job,
-        Err(refused) => return Simulated::Refused(refused.status()),
+        Err(number) => return Simulated::Refused(number),
     };
-    if !workers_fit {
-        return Simulated::Refused(WORKERS_WRONG);
-    }
     runner::open_job(&job, m, r);
-    working.fill(0);
+    let due = &mut working[..ENDS];
+    due.fill(0);
     let mut machine = Machine {
         fault,
         job,
         table,
         m,
         r,
-        due: working,
-        free: workers + u32::from(has(Fault::OneWorkerMore)),
+        due,
+        free: workers + u32::from(fault == Some(Fault::OneWorkerMore)),
         workers,
         clock: 0,
         work: 0,
@@ -94,6 +84,33 @@ pub fn simulate(
         if let Err(end) = machine.choose().and_then(|()| machine.fall()) {
             return end;
         }
+    }
+}
+
+/// Tests 1, 10, 11, 12 and 14.
+fn accepted(
+    fault: Option<Fault>,
+    job: &[u8],
+    workers: u32,
+    [m, r, working]: [&[u32]; 3],
+) -> Result<Job, u32> {
+    let has = |wanted| fault == Some(wanted);
+    let lengths_fit =
+        working.len() == WORKING || has(Fault::LongWorking) && working.len() > WORKING;
+    let fewest = if has(Fault::Workers0) { 0 } else { 1 };
+    let most = MOST_WORKERS + u32::from(has(Fault::Workers17));
+    let workers_fit = (fewest..=most).contains(&workers);
+    if has(Fault::WorkersFirst) && !workers_fit {
+        return Err(WORKERS_WRONG);
+    }
+    if !lengths_fit {
+        return Err(1);
+    }
+    let job = runner::accepted(job, m, r).map_err(Stepped::status)?;
+    if workers_fit {
+        Ok(job)
+    } else {
+        Err(WORKERS_WRONG)
     }
 }
 
@@ -276,9 +293,12 @@ impl Machine<'_> {
             return Err(Simulated::Spent);
         }
         if status(self.m, 0) == FINISHED {
+            // Of more steps there is no span; only a simulation that errs makes them.
+            let span = one_pass_span::span(&self.job, self.table);
             return Err(Simulated::Ended {
                 ticks: u64::from(self.clock),
                 work: self.work,
+                span: span.unwrap_or(0),
             });
         }
         match spent {

@@ -2,8 +2,11 @@
 //! to when.
 
 use crate::job::Instruction;
+use crate::overlap::{Log, Path};
 use crate::plain::Reply;
+use crate::runner::Stepped;
 use crate::simulate::Watch;
+use std::collections::BTreeMap;
 
 /// An instruction that a worker took.
 #[derive(Clone, Debug, PartialEq, Eq)]
@@ -37,6 +40,33 @@ impl Schedule {
             self.held.push(None);
             self.held.len() - 1
         })
+    }
+
+    /// For each bar the path of its task, and how many bars of that task there were
+    /// before.
+    pub fn places(&self) -> Vec<(Path, usize)> {
+        let mut paths = vec![Path::default(); self.bars.len()];
+        let mut log = Log::default();
+        let path = |log: &Log, bar: &Bar| log.path(bar.task).cloned().unwrap_or_default();
+        for at in &self.effects {
+            let bar = &self.bars[*at];
+            paths[*at] = path(&log, bar);
+            if let Some(reply) = bar.reply {
+                log.note(bar.task, Stepped::Moved(reply));
+            }
+        }
+        for (at, bar) in self.bars.iter().enumerate() {
+            if bar.reply.is_none() {
+                paths[at] = path(&log, bar);
+            }
+        }
+        let mut made = BTreeMap::new();
+        let place = |path: Path| {
+            let before = made.entry(path.clone()).or_insert(0);
+            *before += 1;
+            (path, *before - 1)
+        };
+        paths.into_iter().map(place).collect()
     }
 
     /// How many workers held an instruction at some time.

@@ -1,5 +1,5 @@
-//! A job simulated with W workers: how many ticks it takes, and how much work it
-//! is. Document 02, No. 5.
+//! A job simulated with W workers: how many ticks it takes, how much work it is, and
+//! its span. Document 02, No. 5 and No. 6.
 //!
 //! A worker takes an instruction that could move and holds it for its ticks; the
 //! effect, a step of the runner, falls at the end of the last one. The clock goes
@@ -7,12 +7,18 @@
 
 use crate::job::{Instruction, Job};
 use crate::layout::TASKS;
-use crate::operations::OPERATIONS;
+use crate::one_pass_span;
+use crate::operations::{OPERATIONS, QUEUES};
 use crate::plain::Reply;
 use crate::runner::{self, Stepped};
 
-/// Words for working: one a task record.
-pub const WORKING: usize = TASKS as usize;
+/// Words for working that hold the ends: one a task record.
+pub const ENDS: usize = TASKS as usize;
+/// Words for working. Behind the ends stands what the library works the span out in:
+/// 10 words a task of the stack, one more than there are records, 12 for the queues,
+/// and for each of them 65,536 places of 2 words. What they hold means nothing, before
+/// and after.
+pub const WORKING: usize = ENDS + 10 * (TASKS as usize + 1) + 12 + QUEUES as usize * 65_536 * 2;
 pub const MOST_WORKERS: u32 = 16;
 /// Effects after which a simulation whose top is unfinished is spent.
 pub const MOST_EFFECTS: u32 = 65_535;
@@ -31,6 +37,7 @@ pub enum Simulated {
     Ended {
         ticks: u64,
         work: u64,
+        span: u64,
     },
     Spent,
     /// An instruction was refused with 8 or 9, when chosen or when its effect fell.
@@ -48,11 +55,11 @@ impl Simulated {
         }
     }
 
-    /// Ticks and work, as the library gives them: zeros where it did not end.
-    pub fn out(self) -> [u64; 2] {
+    /// Ticks, work and span, as the library gives them: zeros where it did not end.
+    pub fn out(self) -> [u64; 3] {
         match self {
-            Simulated::Ended { ticks, work } => [ticks, work],
-            _ => [0, 0],
+            Simulated::Ended { ticks, work, span } => [ticks, work, span],
+            _ => [0; 3],
         }
     }
 }
@@ -70,8 +77,8 @@ impl Watch for () {}
 
 /// Simulates the job with so many workers. The three memories may hold anything;
 /// a refusal leaves them. Else both memories of the runner are as after the last
-/// effect, and `working` has for each task the tick at which its effect is due, 0
-/// where nothing of it is under way.
+/// effect, and `working` begins with the tick at which the effect of each task is due,
+/// 0 where nothing of it is under way.
 pub fn simulate(
     job: &[u8],
     workers: u32,
@@ -97,13 +104,16 @@ pub fn watched(
         Err(number) => return Simulated::Refused(number),
     };
     runner::open_job(&job, m, r);
-    working.fill(0);
+    let due = working
+        .first_chunk_mut()
+        .expect("as many words as were tested");
+    due.fill(0);
     let mut machine = Machine {
         job: &job,
         table,
         m,
         r,
-        due: working,
+        due,
         order: vec![0],
         free: workers,
         clock: 0,
@@ -113,7 +123,7 @@ pub fn watched(
     };
     loop {
         if let Err(end) = machine.choose().and_then(|()| machine.fall()) {
-            return end;
+            return machine.answer(end);
         }
     }
 }
@@ -131,8 +141,16 @@ fn accepted(job: &[u8], workers: u32, m: &[u32], r: &[u32], working: &[u32]) -> 
     }
 }
 
+/// Why a simulation that was not refused is over.
+enum End {
+    /// The top has finished.
+    Top,
+    Spent,
+    Stopped(u32),
+}
+
 /// The end of a simulation is the error case.
-type Goes = Result<(), Simulated>;
+type Goes = Result<(), End>;
 
 struct Machine<'a, W> {
     job: &'a Job,
@@ -140,7 +158,7 @@ struct Machine<'a, W> {
     m: &'a mut [u32],
     r: &'a mut [u32],
     /// For each task the tick at which its effect falls, 0 for none.
-    due: &'a mut [u32],
+    due: &'a mut [u32; ENDS],
     /// The unfinished tasks in program order.
     order: Vec<u32>,
     free: u32,
@@ -152,6 +170,20 @@ struct Machine<'a, W> {
 }
 
 impl<W: Watch> Machine<'_, W> {
+    /// At the job's end the serial run, which has as many steps as there were effects,
+    /// has ended too.
+    fn answer(&self, end: End) -> Simulated {
+        match end {
+            End::Spent => Simulated::Spent,
+            End::Stopped(number) => Simulated::Stopped(number),
+            End::Top => Simulated::Ended {
+                ticks: u64::from(self.clock),
+                work: self.work,
+                span: one_pass_span::span(self.job, self.table).expect("the serial run ends"),
+            },
+        }
+    }
+
     /// Free workers take, in program order, what could move. They come to no task
     /// behind the one that the last of them takes.
     fn choose(&mut self) -> Goes {
@@ -165,7 +197,7 @@ impl<W: Watch> Machine<'_, W> {
             }
             match runner::would_move(self.job, self.m, self.r, t) {
                 Ok(()) => self.take(t),
-                Err(Stepped::Refused(number)) => return Err(Simulated::Stopped(number)),
+                Err(Stepped::Refused(number)) => return Err(End::Stopped(number)),
                 Err(_) => {}
             }
         }
@@ -193,10 +225,9 @@ impl<W: Watch> Machine<'_, W> {
         // order waits for nobody.
         let next = ends.filter(|end| *end != 0).min();
         self.clock = next.expect("an instruction is under way");
-        let falls = |t: &&u32| self.due[**t as usize] == self.clock;
-        let mut falling = [0; MOST_WORKERS as usize];
-        let mut number = 0;
-        for t in self.order.iter().filter(falls) {
+        let (mut falling, mut number) = ([0; MOST_WORKERS as usize], 0);
+        let (due, clock) = (&*self.due, self.clock);
+        for t in self.order.iter().filter(|t| due[**t as usize] == clock) {
             falling[number] = *t;
             number += 1;
         }
@@ -208,7 +239,7 @@ impl<W: Watch> Machine<'_, W> {
         let ticks = self.ticks(runner::next(self.job, self.r, t));
         let reply = match runner::stepped(self.job, self.m, self.r, t) {
             Stepped::Moved(reply) => reply,
-            Stepped::Refused(number) => return Err(Simulated::Stopped(number)),
+            Stepped::Refused(number) => return Err(End::Stopped(number)),
             Stepped::Waits => unreachable!("what could move when it was taken still can"),
         };
         self.due[t as usize] = 0;
@@ -218,13 +249,10 @@ impl<W: Watch> Machine<'_, W> {
         self.watch.fell(t, reply);
         self.reorder(t, reply);
         if self.order.is_empty() {
-            return Err(Simulated::Ended {
-                ticks: u64::from(self.clock),
-                work: self.work,
-            });
+            return Err(End::Top);
         }
         if self.effects == MOST_EFFECTS {
-            return Err(Simulated::Spent);
+            return Err(End::Spent);
         }
         Ok(())
     }

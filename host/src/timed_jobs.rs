@@ -20,7 +20,7 @@ impl TimedJob {
     }
 }
 
-fn job(name: &'static str, text: &str, answers: &[(u32, Simulated)]) -> TimedJob {
+pub(crate) fn job(name: &'static str, text: &str, answers: &[(u32, Simulated)]) -> TimedJob {
     TimedJob {
         name,
         job: assemble(text).expect("the job assembles"),
@@ -28,8 +28,8 @@ fn job(name: &'static str, text: &str, answers: &[(u32, Simulated)]) -> TimedJob
     }
 }
 
-fn ended(ticks: u64, work: u64) -> Simulated {
-    Ended { ticks, work }
+pub(crate) fn ended(ticks: u64, work: u64, span: u64) -> Simulated {
+    Ended { ticks, work, span }
 }
 
 pub fn all() -> Vec<TimedJob> {
@@ -38,7 +38,7 @@ pub fn all() -> Vec<TimedJob> {
         job(
             "document 01",
             document_01,
-            &[(1, ended(33, 33)), (2, ended(23, 33))],
+            &[(1, ended(33, 33, 23)), (2, ended(23, 33, 23))],
         ),
         nine_when_chosen(),
         nine_when_falling(),
@@ -57,7 +57,7 @@ pub fn all() -> Vec<TimedJob> {
         job(
             "ends with the last effect",
             &long(7),
-            &[(1, ended(65_536, 65_536))],
+            &[(1, ended(65_536, 65_536, 65_536))],
         ),
         job("spent before its last effect", &long(8), &[(1, Spent)]),
         spent_within_a_tick(),
@@ -84,7 +84,7 @@ fn nine_when_chosen() -> TimedJob {
         pop 0
         return"
     );
-    let answers = &[(1, ended(789, 789)), (2, Stopped(9))];
+    let answers = &[(1, ended(789, 789, 412)), (2, Stopped(9))];
     job("9 when chosen", &text, answers)
 }
 
@@ -126,8 +126,8 @@ fn last_segment(popper: &str) -> String {
 /// falls a tick behind theirs.
 fn nine_when_falling() -> TimedJob {
     let answers = &[
-        (1, ended(1_545, 1_545)),
-        (2, ended(1_534, 1_545)),
+        (1, ended(1_545, 1_545, 1_532)),
+        (2, ended(1_534, 1_545, 1_532)),
         (3, Stopped(9)),
     ];
     job("9 when its effect falls", &last_segment("sync\n"), answers)
@@ -151,7 +151,10 @@ fn two_effects() -> TimedJob {
         sync
         push 1 1
         return";
-    let answers = &[(1, ended(1_527, 1_527)), (2, ended(1_521, 1_527))];
+    let answers = &[
+        (1, ended(1_527, 1_527, 1_521)),
+        (2, ended(1_521, 1_527, 1_521)),
+    ];
     job("two effects of one tick", text, answers)
 }
 
@@ -159,9 +162,9 @@ fn two_effects() -> TimedJob {
 /// frees one, which the third, of the task with the lowest number, needs.
 fn one_tick() -> TimedJob {
     let answers = &[
-        (1, ended(1_544, 1_544)),
-        (2, ended(1_534, 1_544)),
-        (3, ended(1_531, 1_544)),
+        (1, ended(1_544, 1_544, 1_531)),
+        (2, ended(1_534, 1_544, 1_531)),
+        (3, ended(1_531, 1_544, 1_531)),
     ];
     job("effects of one tick", &last_segment(""), answers)
 }
@@ -175,9 +178,9 @@ fn pop_ahead() -> TimedJob {
         procedure pusher push 0\npush 0 1\nreturn",
     );
     let answers = &[
-        (1, ended(1_544, 1_544)),
-        (2, ended(1_534, 1_544)),
-        (3, ended(1_531, 1_544)),
+        (1, ended(1_544, 1_544, 1_531)),
+        (2, ended(1_534, 1_544, 1_531)),
+        (3, ended(1_531, 1_544, 1_531)),
     ];
     job("a pop ahead of two pushes", &text, answers)
 }
@@ -201,7 +204,11 @@ fn between_effects() -> TimedJob {
         procedure leaf
         return"
     );
-    let answers = &[(1, ended(48, 48)), (2, ended(29, 48)), (3, ended(29, 48))];
+    let answers = &[
+        (1, ended(48, 48, 29)),
+        (2, ended(29, 48, 29)),
+        (3, ended(29, 48, 29)),
+    ];
     job("between two effects", &text, answers)
 }
 
@@ -253,7 +260,7 @@ fn eight_when_falling() -> TimedJob {
         "spawn late 0\nspawn spawner 0\nreturn",
         "procedure spawner\nspawn leaf 0\nreturn",
     );
-    let answers = &[(1, ended(1_027, 1_027)), (2, Stopped(8))];
+    let answers = &[(1, ended(1_027, 1_027, 1_013)), (2, Stopped(8))];
     job("8 when its effect falls", &text, answers)
 }
 
@@ -265,9 +272,9 @@ fn one_tick_as_taken() -> TimedJob {
         "procedure brief\nsync\nsync\nsync\nreturn",
     );
     let answers = &[
-        (1, ended(1_030, 1_030)),
-        (2, ended(1_016, 1_030)),
-        (3, ended(1_013, 1_030)),
+        (1, ended(1_030, 1_030, 1_013)),
+        (2, ended(1_016, 1_030, 1_013)),
+        (3, ended(1_013, 1_030, 1_013)),
     ];
     job("effects of one tick, as taken", &text, answers)
 }
@@ -309,5 +316,5 @@ fn born_in_a_tick() -> TimedJob {
         return
         procedure child
         return";
-    job("a child's first choice", text, &[(1, ended(10, 10))])
+    job("a child's first choice", text, &[(1, ended(10, 10, 10))])
 }

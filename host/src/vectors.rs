@@ -5,7 +5,7 @@ use crate::replay::Judged;
 use crate::simulate::{Simulated, OURS};
 use std::fs;
 
-const LEVEL_5: &str = concat!(env!("CARGO_MANIFEST_DIR"), "/tests/vectors/level-5.txt");
+const LEVEL_6: &str = concat!(env!("CARGO_MANIFEST_DIR"), "/tests/vectors/level-6.txt");
 
 /// A job and what is answered.
 #[derive(Default)]
@@ -37,9 +37,9 @@ impl Vector {
     }
 }
 
-/// The vectors that hold once requests 1 to 5 are in.
-pub fn level_5() -> Vec<Vector> {
-    let text = fs::read_to_string(LEVEL_5).expect("the file of the vectors");
+/// The vectors that hold once requests 1 to 6 are in.
+pub fn level_6() -> Vec<Vector> {
+    let text = fs::read_to_string(LEVEL_6).expect("the file of the vectors");
     let mut vectors: Vec<Vector> = Vec::new();
     for line in text.lines() {
         let (word, rest) = line.split_once(' ').unwrap_or((line, ""));
@@ -97,9 +97,10 @@ fn simulated(words: &str) -> (u32, Simulated) {
     let words: Vec<&str> = words.split(' ').collect();
     let long = |word: &str| u64::from(number(word));
     let answer = match words[1..] {
-        ["ended", ticks, work] => Simulated::Ended {
+        ["ended", ticks, work, span] => Simulated::Ended {
             ticks: long(ticks),
             work: long(work),
+            span: long(span),
         },
         ["refused", why] => Simulated::Refused(number(why)),
         _ => panic!("no answer to a simulation: {words:?}"),

@@ -73,7 +73,7 @@ fn small_jobs() {
 
 /// The tick at which the effect of each task is due, where one is under way.
 fn under_way(lent: &Lent) -> Vec<(usize, u32)> {
-    let words = lent.working.iter().copied().enumerate();
+    let words = lent.working[..ENDS].iter().copied().enumerate();
     words.filter(|(_, end)| *end != 0).collect()
 }
 
@@ -191,7 +191,8 @@ fn another_table() {
             simulate(&job, 1, &table, m, r, working),
             Simulated::Ended {
                 ticks: due,
-                work: due
+                work: due,
+                span: due
             }
         );
     }
@@ -313,7 +314,7 @@ fn promises() {
         };
         for workers in [1, 2, 3, 5, 16] {
             let (given, mut again) = Again::of(&job, workers);
-            let Simulated::Ended { ticks, work } = given else {
+            let Simulated::Ended { ticks, work, .. } = given else {
                 continue;
             };
             again.all();
@@ -356,7 +357,7 @@ fn work_whatever_the_workers() {
             continue;
         };
         for workers in 1..=MOST_WORKERS {
-            let Simulated::Ended { ticks, work } = simulated(&job, workers) else {
+            let Simulated::Ended { ticks, work, .. } = simulated(&job, workers) else {
                 continue;
             };
             assert_eq!(work, due, "seed {seed}, {workers}");
@@ -394,7 +395,7 @@ fn word_by_word() {
         assert_eq!(given, due, "seed {seed}");
         assert!(lent.core == plainly.core, "seed {seed}");
         assert!(lent.runner == plainly.runner, "seed {seed}");
-        assert_eq!(lent.working, plainly.working, "seed {seed}");
+        assert!(lent.working == plainly.working, "seed {seed}");
         *came.entry(given.status()).or_insert(0) += 1;
     }
     println!("{came:?}");

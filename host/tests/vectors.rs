@@ -9,14 +9,14 @@ use host::replay::{replay, replay_by_text};
 use host::runner::RUNNER;
 use host::serial::{self, End};
 use host::simulate::{simulate, OURS, WORKING};
-use host::vectors::level_5;
+use host::vectors::level_6;
 
 #[test]
 fn all_are_there() {
-    let vectors = level_5();
+    let vectors = level_6();
     let replays: usize = vectors.iter().map(|vector| vector.replays.len()).sum();
     let simulations: usize = vectors.iter().map(|v| v.simulations.len()).sum();
-    assert_eq!((vectors.len(), replays, simulations), (120, 555, 660));
+    assert_eq!((vectors.len(), replays, simulations), (120, 580, 690));
     let cores = core_4();
     let calls: usize = cores.iter().map(|core| core.len() - 1).sum();
     assert_eq!((cores.len(), calls), (60, 7_200));
@@ -24,7 +24,7 @@ fn all_are_there() {
 
 #[test]
 fn job_tests_and_prints() {
-    for vector in level_5() {
+    for vector in level_6() {
         let test = Job::read(&vector.job).map_or_else(|refusal| refusal.number(), |_| 0);
         assert_eq!(test, vector.test);
         assert_eq!(
@@ -36,15 +36,14 @@ fn job_tests_and_prints() {
 
 #[test]
 fn runs_without_overlap() {
-    for vector in level_5() {
+    for vector in level_6() {
         let Some((end, steps)) = vector.serial else {
             continue;
         };
         let run = serial::run(&Job::read(&vector.job).expect("a job"));
         let due = match end.as_str() {
             "ended" => End::Ended,
-            "8" => End::Refused(8),
-            other => panic!("no end: {other}"),
+            number => End::Refused(number.parse().expect("8 or 9")),
         };
         assert_eq!((run.end, run.events.len()), (due, steps));
         assert_eq!(run.queues.to_vec(), vector.queues);
@@ -53,7 +52,7 @@ fn runs_without_overlap() {
 
 #[test]
 fn replays() {
-    for vector in level_5() {
+    for vector in level_6() {
         for (trace, due) in vector.replays {
             let trace = trace.as_bytes();
             let given = replay(&vector.job, trace, &mut [7; WORDS], &mut [7; RUNNER]);
@@ -65,9 +64,9 @@ fn replays() {
 
 #[test]
 fn simulations() {
-    for vector in level_5() {
+    for vector in level_6() {
         for (workers, due) in vector.simulations {
-            let (mut m, mut r, mut working) = ([7; WORDS], [7; RUNNER], [7; WORKING]);
+            let (mut m, mut r, mut working) = ([7; WORDS], [7; RUNNER], vec![7; WORKING]);
             let given = simulate(&vector.job, workers, &OURS, &mut m, &mut r, &mut working);
             assert_eq!(given, due, "{workers} workers");
         }

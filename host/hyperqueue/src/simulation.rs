@@ -5,7 +5,9 @@ use crate::{lent, Answer};
 use std::mem::MaybeUninit;
 
 /// Words for working, beside those of the core and of the runner.
-pub const WORDS: usize = 128;
+pub const WORDS: usize = 525_718;
+/// So many of them, the first, have contents that mean something.
+pub const ENDS: usize = 128;
 /// Workers are 1 to 16.
 pub const MOST_WORKERS: u32 = 16;
 
@@ -13,10 +15,12 @@ pub const MOST_WORKERS: u32 = 16;
 #[must_use]
 #[derive(Clone, Copy, Debug, PartialEq, Eq)]
 pub enum Simulated {
-    /// The top task has finished.
+    /// The top task has finished. The work is the ticks of all instructions, the span
+    /// those of the longest chain of instructions each of which needs the one before.
     Ended {
         ticks: u64,
         work: u64,
+        span: u64,
     },
     /// 65,535 effects have fallen, and the top is unfinished.
     Spent,
@@ -28,9 +32,9 @@ pub enum Simulated {
 }
 
 impl Simulated {
-    pub fn of(answer: Answer, [ticks, work]: [u64; 2]) -> Simulated {
+    pub fn of(answer: Answer, [ticks, work, span]: [u64; 3]) -> Simulated {
         match answer.status {
-            Answer::MOVED => Simulated::Ended { ticks, work },
+            Answer::MOVED => Simulated::Ended { ticks, work, span },
             Answer::SPENT => Simulated::Spent,
             number @ (8 | 9) => Simulated::Stopped(number),
             number => Simulated::Refused(number),
@@ -38,9 +42,18 @@ impl Simulated {
     }
 }
 
-/// Simulates the job. A refusal leaves all words as they were. Else core and runner
-/// are as after the last effect, and `working[t]` is the tick at which the effect of
-/// task t falls, 0 where it has no instruction under way.
+/// The ticks that so many workers use at most: work plus W - 1 times span, divided by
+/// W, rounded down. None for no workers.
+pub fn ceiling(workers: u32, work: u64, span: u64) -> Option<u64> {
+    let workers = u64::from(workers);
+    let all = work + workers.checked_sub(1)? * span;
+    Some(all / workers)
+}
+
+/// Simulates the job. A refusal leaves core, runner and the first `ENDS` words of
+/// `working` as they were. Else core and runner are as after the last effect, and
+/// `working[t]`, of the first `ENDS`, is the tick at which the effect of task t falls, 0
+/// where it has no instruction under way. The other words of `working` mean nothing.
 pub fn simulate(
     job: &[u8],
     workers: u32,
@@ -48,22 +61,22 @@ pub fn simulate(
     runner: &mut [u32],
     working: &mut [u32],
 ) -> Simulated {
-    let mut out = [0; 2];
+    let mut out = [0; 3];
     let answer = simulate_out(job, workers, core, runner, working, &mut out);
     Simulated::of(answer, out)
 }
 
-/// The same with the answer as hosts in C get it: ticks and work in the two places
-/// lent, zeros where the top has not finished.
+/// The same with the answer as hosts in C get it: ticks, work and span in the three
+/// places lent, zeros where the top has not finished.
 pub fn simulate_out(
     job: &[u8],
     workers: u32,
     core: &mut [u32],
     runner: &mut [u32],
     working: &mut [u32],
-    out: &mut [u64; 2],
+    out: &mut [u64; 3],
 ) -> Answer {
-    let lent_out = lent(out).try_into().expect("two places");
+    let lent_out = lent(out).try_into().expect("three places");
     simulate_unset(
         job,
         workers,
@@ -81,7 +94,7 @@ pub fn simulate_unset(
     core: &mut [MaybeUninit<u32>],
     runner: &mut [MaybeUninit<u32>],
     working: &mut [MaybeUninit<u32>],
-    out: &mut [MaybeUninit<u64>; 2],
+    out: &mut [MaybeUninit<u64>; 3],
 ) -> Answer {
     Answer::of(unsafe {
         hq_simulate(

@@ -8,14 +8,16 @@ use crate::large_job::{large, BODIES, BODY};
 use crate::proved_run::printed;
 use crate::run_scenes::{self, RunScene};
 use crate::simulation_scenes::{self, SimulationScene};
+use crate::span_scenes::{self, SpanScene};
 use crate::take_scenes::{self, TakeScene};
 use crate::{linked, linked_replay, linked_runner, linked_simulation};
 use host::asm::assemble;
 use host::call::Call;
 use host::job::Job;
 use host::layout::{segment_place, WORDS};
+use host::one_pass_span;
 use host::runner::{self, RUNNER};
-use host::simulate::WORKING;
+use host::simulate::{OURS, WORKING};
 use std::process::Command;
 
 const DOWNLOAD_BENCH: &str = include_str!("../../../jobs/download-bench.txt");
@@ -238,24 +240,56 @@ fn taken(scene: TakeScene) -> [Scene; 2] {
     })
 }
 
-/// A whole simulation.
-fn simulated(scene: SimulationScene) -> Scene {
-    let (job, workers) = (scene.job, scene.workers);
+fn simulation(job: Vec<u8>, workers: u32) -> Part {
     let run = move || {
         let mut lent = [WORDS, RUNNER, WORKING].map(|length| vec![0; length]);
         let slices = lent.each_mut().map(|words| &mut words[..]);
-        linked_simulation::simulate(&job, workers, slices, &mut [0; 2]);
+        linked_simulation::simulate(&job, workers, slices, &mut [0; 3]);
     };
+    Part {
+        call: "hq_simulate",
+        run: Box::new(run),
+    }
+}
+
+/// A whole simulation.
+fn simulated(scene: SimulationScene) -> Scene {
     Scene {
         name: scene.name,
-        part: Part {
-            call: "hq_simulate",
-            run: Box::new(run),
-        },
+        part: simulation(scene.job, scene.workers),
         less: vec![],
         unit: "an effect",
         units: scene.effects as u64,
     }
+}
+
+/// The span of a job: what a simulation takes more than one that stops before its last
+/// effect, that effect included; and the model's own, in one pass.
+fn spanned(scene: SpanScene) -> [Scene; 2] {
+    let (units, unit) = (scene.steps as u64, "a step");
+    let job = Job::read(&scene.ends).expect("a job");
+    let one_pass = Part {
+        call: "host::one_pass_span::span*",
+        run: Box::new(move || {
+            one_pass_span::span(&job, &OURS);
+        }),
+    };
+    [
+        Scene {
+            name: format!("span, {}", scene.name),
+            part: simulation(scene.ends, 1),
+            less: vec![simulation(scene.stops, 1)],
+            unit,
+            units,
+        },
+        Scene {
+            name: format!("span of the model, {}", scene.name),
+            part: one_pass,
+            less: vec![],
+            unit,
+            units,
+        },
+    ]
 }
 
 /// The runner's tests without those of the core and of the job: its words, all
@@ -427,6 +461,7 @@ pub fn scenes() -> Vec<Scene> {
     }
     all.extend(take_scenes::all().into_iter().flat_map(taken));
     all.extend(simulation_scenes::all().into_iter().map(simulated));
+    all.extend(span_scenes::all().into_iter().flat_map(spanned));
     all
 }
 

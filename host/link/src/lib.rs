@@ -43,6 +43,7 @@ mod simulation_outcomes;
 pub mod simulation_pair;
 pub mod simulation_picture;
 pub mod simulation_scenes;
+pub mod span_scenes;
 #[cfg(test)]
 mod take_faults;
 pub mod take_scenes;

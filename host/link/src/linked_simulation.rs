@@ -9,7 +9,7 @@ pub fn simulate(
     job: &[u8],
     workers: u32,
     [core, runner, working]: [&mut [u32]; 3],
-    out: &mut [u64; 2],
+    out: &mut [u64; 3],
 ) -> u64 {
     simulate_out(job, workers, core, runner, working, out).packed()
 }

@@ -2,13 +2,18 @@
 //! model, with the answer named here; and libraries that err, each of which is
 //! found.
 
+use crate::linked_jobs;
 use crate::linked_simulation::{self, packed};
 use crate::simulation_pair::{Library, SimulationPair};
 use host::erring_simulations::{self, Fault};
+use host::erring_spans;
+use host::job::Job;
 use host::layout::WORDS;
 use host::runner::RUNNER;
 use host::simulate::Simulated::{self, Ended, Refused};
-use host::simulate::{OURS, WORKING};
+use host::simulate::{ENDS, OURS, WORKING};
+use host::span::Run;
+use host::span_jobs;
 use host::timed_jobs::{self, TimedJob};
 
 const LENGTHS: [usize; 3] = [WORDS, RUNNER, WORKING];
@@ -17,17 +22,21 @@ fn pair_of(word: u32, lengths: [usize; 3]) -> SimulationPair {
     SimulationPair::new(lengths.map(|length| vec![word; length]))
 }
 
+fn small_ones() -> impl Iterator<Item = TimedJob> {
+    timed_jobs::all().into_iter().chain(span_jobs::all())
+}
+
 fn small(name: &str) -> TimedJob {
-    let mut all = timed_jobs::all().into_iter();
+    let mut all = small_ones();
     all.find(|job| job.name == name).expect("a small job")
 }
 
 /// Ended, spent, 8 and 9, when chosen and when an effect falls, with each number of
-/// workers that the job names; on words that the one before left.
+/// workers that the job names; spans by each rule; on words that the one before left.
 #[test]
 fn small_jobs() {
     let mut pair = pair_of(u32::MAX, LENGTHS);
-    for job in timed_jobs::all() {
+    for job in small_ones() {
         for (workers, due) in &job.answers {
             let given = pair.simulate(&job.job, *workers);
             assert_eq!(given, Ok(*due), "{}, {workers} workers", job.name);
@@ -40,8 +49,28 @@ fn document_01() {
     let (mut pair, job) = (pair_of(7, LENGTHS), small("document 01").job);
     for workers in 1..=16 {
         let ticks = if workers == 1 { 33 } else { 23 };
-        assert_eq!(pair.simulate(&job, workers), Ok(Ended { ticks, work: 33 }));
+        let (work, span) = (33, 23);
+        assert_eq!(
+            pair.simulate(&job, workers),
+            Ok(Ended { ticks, work, span })
+        );
     }
+}
+
+/// A span where the run without overlap is stopped with 9: 5,000 values in a queue.
+#[test]
+fn bounds_aside() {
+    let job = span_jobs::five_thousand();
+    let mut working = vec![7; linked_jobs::WORKING];
+    let mut answers = vec![7; linked_jobs::ANSWERS];
+    let serially = linked_jobs::run_serially(&job.job, &mut working, &mut answers);
+    assert_eq!(serially >> 32, 9);
+    let mut pair = pair_of(7, LENGTHS);
+    for workers in [1, 2, 16] {
+        let due = job.due(workers);
+        assert_eq!(pair.simulate(&job.job, workers), Ok(due), "{workers}");
+    }
+    assert_eq!(job.due(2).out(), [30_015, 50_020, 30_015]);
 }
 
 /// 14, behind 1, 10, 11 and 12.
@@ -78,7 +107,7 @@ fn erring(
     job: &[u8],
     workers: u32,
     lent: [&mut [u32]; 3],
-    out: &mut [u64; 2],
+    out: &mut [u64; 3],
 ) -> u64 {
     let given = erring_simulations::simulate(Some(fault), job, workers, &OURS, lent);
     *out = given.out();
@@ -110,22 +139,85 @@ fn libraries_that_err_are_found() {
     }
 }
 
-/// Errors in what is handed out beside the answer, and outside the words lent.
+/// What the library would give with this fault in its span.
+fn with_span(
+    fault: erring_spans::Fault,
+    job: &[u8],
+    workers: u32,
+    lent: [&mut [u32]; 3],
+    out: &mut [u64; 3],
+) -> u64 {
+    let answer = linked_simulation::simulate(job, workers, lent, out);
+    let run = Run::of(&Job::read(job).expect("a job"), 2_000).expect("it ends");
+    out[2] = erring_spans::span(Some(fault), &run, &OURS);
+    answer
+}
+
 #[test]
-fn libraries_that_write_are_found() {
+fn spans_that_err_are_found() {
+    use erring_spans::Fault::*;
+    let no_pushers: Library = |j, w, l, o| with_span(PushersLeftOut, j, w, l, o);
+    let all_pushers: Library = |j, w, l, o| with_span(PushersUpToTheInstruction, j, w, l, o);
+    let no_push: Library = |j, w, l, o| with_span(PushLeftOut, j, w, l, o);
+    let no_children: Library = |j, w, l, o| with_span(ChildrenLeftOut, j, w, l, o);
+    let no_last: Library = |j, w, l, o| with_span(LastNotCounted, j, w, l, o);
+    for (library, name, due) in [
+        (no_pushers, "a pusher that pushes nothing", "span 29,"),
+        (all_pushers, "a pusher behind the push", "span 55,"),
+        (no_push, "a value pushed late", "span 22,"),
+        (no_children, "a child", "span 17,"),
+        (no_last, "document 01", "span 21,"),
+    ] {
+        let what = found(library, name, 2);
+        assert!(what.contains(due), "{name}: {what}");
+    }
+}
+
+/// Errors in what is handed out beside the answer.
+#[test]
+fn libraries_that_hand_out_more_are_found() {
     let out_of_spent: Library = |job, workers, lent, out| {
         let answer = linked_simulation::simulate(job, workers, lent, out);
         out[1] |= answer >> 32;
+        answer
+    };
+    let span_of_spent: Library = |job, workers, lent, out| {
+        let answer = linked_simulation::simulate(job, workers, lent, out);
+        out[2] |= answer >> 32;
         answer
     };
     let with_a_value: Library = |job, workers, lent, out| {
         let answer = linked_simulation::simulate(job, workers, lent, out);
         answer | out[0]
     };
-    let working_kept: Library = |job, workers, lent, out| {
-        let [core, runner, working] = lent;
+    let nine = "9 when chosen";
+    for (library, name, workers, due) in [
+        (out_of_spent, nine, 2, "status 9, value 0, ticks 0, work 9,"),
+        (
+            span_of_spent,
+            nine,
+            2,
+            "status 9, value 0, ticks 0, work 0, span 9,",
+        ),
+        (with_a_value, "document 01", 1, "status 0, value 33,"),
+    ] {
+        let what = found(library, name, workers);
+        assert!(what.starts_with(due), "{name}: {what}");
+    }
+}
+
+/// Errors in the words lent, and outside them. What stands behind the ends among the
+/// words for working is free.
+#[test]
+fn libraries_that_write_are_found() {
+    let working_kept: Library = |job, workers, [core, runner, working], out| {
         let answer = linked_simulation::simulate(job, workers, [core, runner, working], out);
-        working[127] = 1;
+        working[ENDS - 1] = 1;
+        answer
+    };
+    let behind_the_ends: Library = |job, workers, [core, runner, working], out| {
+        let answer = linked_simulation::simulate(job, workers, [core, runner, working], out);
+        working[ENDS..].fill(1);
         answer
     };
     let a_word_outside: Library = |job, workers, lent, out| {
@@ -133,32 +225,35 @@ fn libraries_that_write_are_found() {
         unsafe { *lent[2].as_mut_ptr().add(lent[2].len()) = 0 };
         linked_simulation::simulate(job, workers, lent, out)
     };
-    for (library, name, workers, due) in [
-        (
-            out_of_spent,
-            "9 when chosen",
-            2,
-            "status 9, value 0, ticks 0, work 9,",
-        ),
-        (with_a_value, "document 01", 1, "status 0, value 33,"),
-        (
-            working_kept,
-            "document 01",
-            0,
-            "word 127 of those for working",
-        ),
-        (a_word_outside, "document 01", 2, "words outside those lent"),
+    for (library, workers, due) in [
+        (working_kept, 0, "word 127 of those for working"),
+        (a_word_outside, 2, "words outside those lent"),
     ] {
-        let what = found(library, name, workers);
-        assert!(what.starts_with(due), "{name}: {what}");
+        let what = found(library, "document 01", workers);
+        assert!(what.starts_with(due), "{what}");
     }
+    let (mut pair, job) = (pair_of(7, LENGTHS), small("document 01"));
+    pair.library = behind_the_ends;
+    for workers in [0, 2] {
+        assert!(pair.simulate(&job.job, workers).is_ok());
+    }
+}
+
+/// The numbers of words are the same in the header, in the binding and in the model.
+#[test]
+fn numbers_of_words() {
+    use hyperqueue::simulation;
+    let header = include_str!("../../../include/hyperqueue.h");
+    assert!(header.contains(&format!("#define HQ_SIMULATE_WORDS {WORKING}\n")));
+    assert_eq!((simulation::WORDS, simulation::ENDS), (WORKING, ENDS));
+    assert!(header.contains("uint64_t out[3]);"));
 }
 
 /// The binding's answers are the model's.
 #[test]
 fn binding() {
     use hyperqueue::simulation;
-    for job in timed_jobs::all() {
+    for job in small_ones() {
         for (workers, due) in &job.answers {
             let [mut core, mut runner, mut working] = LENGTHS.map(|length| vec![7; length]);
             let given =
@@ -171,7 +266,7 @@ fn binding() {
 fn as_model(given: hyperqueue::simulation::Simulated) -> Simulated {
     use hyperqueue::simulation::Simulated as Given;
     match given {
-        Given::Ended { ticks, work } => Ended { ticks, work },
+        Given::Ended { ticks, work, span } => Ended { ticks, work, span },
         Given::Spent => Simulated::Spent,
         Given::Stopped(number) => Simulated::Stopped(number),
         Given::Refused(number) => Refused(number),

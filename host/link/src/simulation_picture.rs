@@ -1,13 +1,14 @@
 //! A picture of a simulation: a row a worker, a bar an instruction, with the number
 //! and the colour of its task, above a scale of ticks. A long schedule goes on below
-//! in further bands. A bar says more where one points at it.
+//! in further bands. A bar says more where one points at it. The bars of one longest
+//! chain of the job are outlined.
 //!
-//! The schedule is the model's; who draws it compares its answer with the library's.
+//! Schedule and chain are the model's; who draws them compares its answer with the
+//! library's.
 
 use crate::picture::{escaped, row_name};
+use host::chain::Places;
 use host::operations::{Which, OPERATIONS};
-use host::overlap::{Log, Path};
-use host::runner::Stepped;
 use host::schedule::{Bar, Schedule};
 use std::fmt::Write;
 
@@ -32,6 +33,9 @@ pub const MOST_TICKS: u32 = 3_000;
 const CUT: &str = "under way at the stop";
 const CUT_COLOUR: &str = "#b8b8b8";
 
+/// The outline of the bars of the chain.
+const CHAIN: &str = "stroke=\"#ff3b1f\" stroke-width=\"3\"";
+
 /// Colours of tasks, in the order in which they first move, and then again from the
 /// first; white letters can be read on each.
 const COLOURS: [&str; 10] = [
@@ -42,6 +46,8 @@ const COLOURS: [&str; 10] = [
 /// What is drawn.
 pub struct Drawn<'a> {
     pub schedule: &'a Schedule,
+    /// The longest chain that is marked; none where the job does not end.
+    pub chain: Places,
     pub workers: usize,
     /// The names of the procedures, where they are known.
     pub names: &'a [String],
@@ -57,6 +63,18 @@ struct Page {
     end: u32,
     /// The last tick drawn is the last of the job, and is marked so.
     ends: bool,
+    /// Whether there is a line of the legend about the chain.
+    chain: bool,
+}
+
+/// A bar as it is drawn.
+struct Marked<'a> {
+    bar: &'a Bar,
+    /// The name and the colour of its task.
+    name: String,
+    colour: &'static str,
+    /// Its number in the chain, from 0.
+    link: Option<usize>,
 }
 
 /// The picture as SVG.
@@ -67,50 +85,48 @@ pub fn svg(drawn: &Drawn) -> String {
     let cut = schedule.bars.iter().any(|bar| bar.reply.is_none());
     let mut page = Page::new(schedule, end.min(MOST_TICKS));
     page.ends = !cut && end <= MOST_TICKS;
+    page.chain = !drawn.chain.is_empty();
     page.head(drawn, end);
     for first in page.bands() {
         page.scale(first);
         page.names(first);
     }
-    let mut seen: Vec<(Path, String)> = Vec::new();
-    for (bar, path) in schedule.bars.iter().zip(tasks(schedule)) {
-        let found = seen.iter().position(|(other, _)| *other == path);
-        let at = found.unwrap_or_else(|| {
-            let name = row_name(&(path.clone(), bar.procedure), drawn.names);
-            seen.push((path, name));
-            seen.len() - 1
-        });
-        page.bar(bar, &seen[at].1, colour(at));
-    }
-    let names: Vec<String> = seen.into_iter().map(|(_, name)| name).collect();
+    let (marked, names) = marked(drawn);
+    marked
+        .iter()
+        .for_each(|bar| page.bar(bar, drawn.chain.len()));
     page.legend(&names, cut);
+    page.chain_legend(&marked, &drawn.chain);
     page.put("</svg>");
     page.out
+}
+
+/// The bars with what is said of them, and the names of the tasks in the order in which
+/// they first move.
+fn marked<'a>(drawn: &Drawn<'a>) -> (Vec<Marked<'a>>, Vec<String>) {
+    let (mut seen, mut names) = (Vec::new(), Vec::new());
+    let mut bars = Vec::new();
+    for (bar, place) in drawn.schedule.bars.iter().zip(drawn.schedule.places()) {
+        let path = &place.0;
+        let found = seen.iter().position(|other| other == path);
+        let at = found.unwrap_or_else(|| {
+            names.push(row_name(&(path.clone(), bar.procedure), drawn.names));
+            seen.push(path.clone());
+            seen.len() - 1
+        });
+        bars.push(Marked {
+            bar,
+            name: names[at].clone(),
+            colour: colour(at),
+            link: drawn.chain.get(&place).copied(),
+        });
+    }
+    (bars, names)
 }
 
 /// The colour of the task that is the at-th to move.
 fn colour(at: usize) -> &'static str {
     COLOURS[at % COLOURS.len()]
-}
-
-/// The path of each bar's task.
-fn tasks(schedule: &Schedule) -> Vec<Path> {
-    let mut paths = vec![Path::default(); schedule.bars.len()];
-    let mut log = Log::default();
-    let path = |log: &Log, bar: &Bar| log.path(bar.task).cloned().unwrap_or_default();
-    for at in &schedule.effects {
-        let bar = &schedule.bars[*at];
-        paths[*at] = path(&log, bar);
-        if let Some(reply) = bar.reply {
-            log.note(bar.task, Stepped::Moved(reply));
-        }
-    }
-    for (at, bar) in schedule.bars.iter().enumerate() {
-        if bar.reply.is_none() {
-            paths[at] = path(&log, bar);
-        }
-    }
-    paths
 }
 
 impl Page {
@@ -128,6 +144,7 @@ impl Page {
             rows: schedule.workers().max(1),
             end,
             ends: false,
+            chain: false,
         }
     }
 
@@ -160,6 +177,11 @@ impl Page {
         HEAD + (first / self.band) as usize * self.band_height()
     }
 
+    /// Where the legend begins, below all bands.
+    fn legend_top(&self) -> usize {
+        self.top(0) + self.bands().count() * self.band_height()
+    }
+
     fn row(&self, first: u32, worker: usize) -> usize {
         self.top(first) + SCALE + DOWN * worker
     }
@@ -173,7 +195,7 @@ impl Page {
 
     fn head(&mut self, drawn: &Drawn, whole: u32) {
         let width = self.width();
-        let height = self.top(0) + self.bands().count() * self.band_height() + 2 * MARGIN;
+        let height = self.legend_top() + (1 + usize::from(self.chain)) * LINE;
         self.put(&format!(
             "<svg xmlns=\"http://www.w3.org/2000/svg\" viewBox=\"0 0 {width} {height}\" \
              width=\"{width}\" height=\"{height}\" font-family=\"sans-serif\" font-size=\"11\">\n\
@@ -233,12 +255,14 @@ impl Page {
         }
     }
 
-    /// The bar in each band that it reaches into.
-    fn bar(&mut self, bar: &Bar, name: &str, colour: &str) {
-        let title = escaped(&title(bar, name));
-        let (colour, dashes) = match bar.reply {
-            Some(_) => (colour, ""),
-            None => (CUT_COLOUR, " stroke=\"#c0392b\" stroke-dasharray=\"3,2\""),
+    /// The bar in each band that it reaches into; the chain has so many.
+    fn bar(&mut self, marked: &Marked, links: usize) {
+        let bar = marked.bar;
+        let title = escaped(&title(marked, links));
+        let (colour, line) = match bar.reply {
+            Some(_) if marked.link.is_some() => (marked.colour, CHAIN),
+            Some(_) => (marked.colour, "stroke=\"none\""),
+            None => (CUT_COLOUR, "stroke=\"#c0392b\" stroke-dasharray=\"3,2\""),
         };
         for first in self.bands().collect::<Vec<u32>>() {
             let start = bar.start.max(first);
@@ -251,7 +275,7 @@ impl Page {
             let label = escaped(&label(bar, width));
             self.put(&format!(
                 "<g><title>{title}</title><rect x=\"{x}\" y=\"{y}\" width=\"{width}\" height=\"{}\" \
-                 rx=\"3\" fill=\"{colour}\"{dashes}/><text x=\"{}\" y=\"{}\" text-anchor=\"middle\" \
+                 rx=\"3\" fill=\"{colour}\" {line}/><text x=\"{}\" y=\"{}\" text-anchor=\"middle\" \
                  fill=\"white\">{label}</text></g>",
                 DOWN - 4,
                 x + width / 2,
@@ -263,7 +287,7 @@ impl Page {
     /// Whose the colours are, as many tasks as there is room for; and of bars that did
     /// not come to their effect, if some did.
     fn legend(&mut self, names: &[String], cut: bool) {
-        let y = self.top(0) + self.bands().count() * self.band_height() + MARGIN / 2;
+        let y = self.legend_top() + MARGIN / 2;
         let said = "in a bar: the number of its task";
         let room = self.width() - MARGIN - LETTER * (said.len() + CUT.len());
         let mut x = MARGIN;
@@ -285,10 +309,37 @@ impl Page {
         }
         self.text(x, y, "start", "#222", said);
     }
+
+    /// What the outline means, and how many bars of the chain are drawn where not all
+    /// are.
+    fn chain_legend(&mut self, bars: &[Marked], chain: &Places) {
+        if !self.chain {
+            return;
+        }
+        let end = self.end;
+        let links = bars.iter().filter(|bar| bar.link.is_some());
+        let drawn = links.clone().filter(|bar| bar.bar.start < end).count();
+        let ticks: u32 = links.map(|bar| bar.bar.end - bar.bar.start).sum();
+        let y = self.legend_top() + LINE + MARGIN / 2;
+        self.put(&format!(
+            "<rect x=\"{MARGIN}\" y=\"{}\" width=\"12\" height=\"12\" rx=\"3\" fill=\"white\" {CHAIN}/>",
+            y - 10
+        ));
+        let mut said = format!(
+            "one longest chain: {} instructions, each of which needs the one before, {ticks} ticks together",
+            chain.len()
+        );
+        if drawn < chain.len() {
+            let _ = write!(said, "; {drawn} of them are drawn");
+        }
+        self.text(MARGIN + 17, y, "start", "#222", &said);
+    }
 }
 
-/// Pixels that the legend needs.
+/// Pixels that the legend needs, and the height of a line of it.
 const LEGEND: usize = 850;
+const LINE: usize = 24;
+
 /// The task's number, with the answer where it fits.
 fn label(bar: &Bar, width: usize) -> String {
     let number = bar.task.to_string();
@@ -306,16 +357,20 @@ fn label(bar: &Bar, width: usize) -> String {
     words.iter().find(fits).cloned().unwrap_or(number)
 }
 
-/// What is said where one points at a bar.
-fn title(bar: &Bar, name: &str) -> String {
+/// What is said where one points at a bar; the chain has so many.
+fn title(marked: &Marked, links: usize) -> String {
+    let (bar, name) = (marked.bar, &marked.name);
     let i = bar.instruction;
     let queue = match OPERATIONS[usize::from(i.operation)].which {
         Which::Queue(_) => format!(", queue {}", i.which),
         _ => String::new(),
     };
     let answer = bar.reply.map_or(CUT.to_string(), |reply| reply.to_string());
+    let link = marked.link.map_or(String::new(), |link| {
+        format!("; number {} of {links} in the chain", link + 1)
+    });
     format!(
-        "ticks {} to {}, worker {}, task {} ({name}), operation {}{queue}: {}",
+        "ticks {} to {}, worker {}, task {} ({name}), operation {}{queue}: {}{link}",
         bar.start,
         bar.end,
         bar.worker + 1,

@@ -299,7 +299,7 @@ fn compare_of_orders_that_stop() {
     assert!(!said.contains("all agree"));
 }
 
-const HEADING: &str = "workers     ticks      work  speed-up  utilisation\n";
+const HEADING: &str = "workers     ticks      work      span   ceiling  speed-up  utilisation\n";
 
 #[test]
 fn a_simulation_of_document_01() {
@@ -308,13 +308,14 @@ fn a_simulation_of_document_01() {
     assert_eq!(all.lines().count(), 17);
     let some = tool(&["simulate", JOB, "--workers", "1..2"]);
     assert_eq!(status(&some), 0);
-    let rows = "      1        33        33      1.00      100.0 %\n      \
-                2        23        33      1.43       71.7 %\n";
+    let rows = "      1        33        33        23        33      1.00      100.0 %\n      \
+                2        23        33        23        28      1.43       71.7 %\n";
     assert_eq!(out(&some), format!("{HEADING}{rows}"));
     assert!(all.starts_with(&out(&some)));
     let one = out(&tool(&["simulate", JOB, "--workers", "16"]));
-    let last = all.lines().last().unwrap();
-    assert_eq!(one, format!("{HEADING}{last}\n"));
+    let last = "     16        23        33        23        23      1.43        9.0 %\n";
+    assert_eq!(one, format!("{HEADING}{last}"));
+    assert!(all.ends_with(last));
 }
 
 /// 300 values through 256 segments of one value: a single worker pushes until none is
@@ -344,7 +345,7 @@ fn a_simulation_that_stops() {
     assert_eq!(rows[1], "      1  stopped with 9: no segment was free");
     assert_eq!(
         rows[2],
-        "      2      1815      3020         -       83.2 %"
+        "      2      1815      3020      1815      2417         -       83.2 %"
     );
     let two = tool(&["simulate", word(&job), "--workers", "2"]);
     assert_eq!(status(&two), 0);
@@ -374,18 +375,40 @@ fn a_simulation_is_drawn() {
         let said = out(&given).lines().last().unwrap().to_string();
         (said, fs::read_to_string(&picture).unwrap())
     };
-    let source = "the schedule is the model's, which gives the same answer as the library";
+    let source = "schedule and chain are the model's, which gives the same answer as the library";
     let (said, two) = drawn("2");
     let name = word(&picture);
     assert_eq!(said, format!("{name}: drawn for 2 workers; {source}"));
     assert!(two.starts_with("<svg xmlns=\"http://www.w3.org/2000/svg\" viewBox=\"0 0 "));
-    assert!(two.contains("document-01.txt: 2 workers, 23 ticks, work 33"));
+    assert!(two.contains("document-01.txt: 2 workers, 23 ticks, work 33, span 23"));
     let title = "ticks 10 to 13, worker 1, task 1 (top.1 popper), operation 3, queue 0: took 10";
     assert!(two.contains(&format!("<title>{title}</title>")), "{two}");
     assert_eq!(two.matches("<title>").count(), 11);
     let (said, four) = drawn("1..4");
     assert!(said.contains("drawn for 4 workers, the most that were asked for;"));
     assert!(four.contains("workers 3 to 4 have nothing to do"));
+    // The chain is the same, whatever the workers.
+    let one = drawn("1").1;
+    assert_eq!(
+        [&one, &two, &four].map(|picture| chain(picture)),
+        [DUE_CHAIN; 3]
+    );
+}
+
+/// The answers along the chain of document 01's job: it goes by the third child, which
+/// pushes 20.
+const DUE_CHAIN: [&str; 7] = [
+    "spawned", "spawned", "spawned", "pushed", "finished", "moved", "finished",
+];
+
+/// The words of the answers of the bars that are marked, in the order of the chain.
+fn chain(picture: &str) -> [&str; 7] {
+    [1, 2, 3, 4, 5, 6, 7].map(|number| {
+        let end = format!("; number {number} of 7 in the chain</title>");
+        let (before, _) = picture.split_once(&end).expect("a bar of the chain");
+        let answer = before.rsplit(": ").next().expect("an answer");
+        answer.split(' ').next().expect("a word")
+    })
 }
 
 /// A schedule that is cut off, and one that is too long to be drawn whole.
@@ -408,7 +431,9 @@ fn a_simulation_without_an_end_is_drawn() {
         "for-ever.txt",
         b"length 1\nprocedure top all\nhere: go here",
     );
-    assert!(drawn(word(&endless), "1").contains("; the first 3000 ticks</text>"));
+    let spent = drawn(word(&endless), "1");
+    assert!(spent.contains("; the first 3000 ticks</text>"));
+    assert!(!spent.contains("chain"));
     let crowd = "length 64
         procedure top all
         again: spawn slow 100
@@ -419,7 +444,30 @@ fn a_simulation_without_an_end_is_drawn() {
         go more
         done: return";
     let crowd = file("slow.txt", crowd.as_bytes());
-    assert!(drawn(word(&crowd), "2").contains("under way at the stop"));
+    let stopped = drawn(word(&crowd), "2");
+    assert!(stopped.contains("under way at the stop"));
+    assert!(!stopped.contains("chain"));
+}
+
+/// Of a chain that goes on behind the last tick drawn it is said how much is drawn.
+#[test]
+fn a_chain_that_is_too_long() {
+    let picture = Path::new(env!("CARGO_TARGET_TMPDIR")).join("long.svg");
+    let text = "length 1
+        procedure top all
+        add 900
+        more: go-if-zero done
+        sync
+        add -1
+        go more
+        done: return";
+    let job = file("long.txt", text.as_bytes());
+    let given = tool(&["simulate", word(&job), "--draw", word(&picture)]);
+    assert_eq!(status(&given), 0);
+    let said = fs::read_to_string(&picture).unwrap();
+    let due = "one longest chain: 3603 instructions, each of which needs the one before, \
+               3604 ticks together; 3000 of them are drawn</text>";
+    assert!(said.contains(due));
 }
 
 #[test]

@@ -5,14 +5,16 @@
 //! map, on memories of growing size. `bench serial` runs a job of 60,000 steps
 //! without overlap on both, `bench overlap` the same job under a random order of
 //! its tasks. `bench replay` replays traces of 65,535 lines. `bench simulate` simulates
-//! that job, and one of many tasks, with workers. `bench runs` pushes runs of values,
-//! `bench take` takes a value. `bench counts` counts instructions instead, with
-//! valgrind.
+//! that job, and one of many tasks, with workers. `bench span` works out the span of a
+//! job, beside the model's one pass. `bench runs` pushes runs of values, `bench take`
+//! takes a value. `bench counts` counts instructions instead, with valgrind; `bench
+//! counts LETTERS` those of the scenes with these letters in their name.
 
 use host::asm::assemble;
 use host::call::Call;
 use host::job::Job;
 use host::layout::{TASKS, VALUES, WORDS};
+use host::one_pass_span;
 use host::replay::{self, Judged};
 use host::runner::{self, RUNNER};
 use host::serial::{self, End};
@@ -30,6 +32,7 @@ use link::replay_scenes::{self, ReplayScene};
 use link::run_scenes;
 use link::scenes::{self, held_segments, unfinished_tasks, Scene};
 use link::simulation_scenes::{self, SimulationScene};
+use link::span_scenes::{self, SpanScene};
 use link::take_scenes::{self, IN_A_ROW};
 use std::process::ExitCode;
 use std::time::Instant;
@@ -289,7 +292,7 @@ fn simulation_times(scene: &SimulationScene) -> [f64; 2] {
         [WORDS, RUNNER, simulate::WORKING].map(|length| vec![0; length]);
     let mut best = [f64::INFINITY; 2];
     for _ in 0..RUNS {
-        let (lent, mut out) = ([&mut core[..], &mut words, &mut working], [0; 2]);
+        let (lent, mut out) = ([&mut core[..], &mut words, &mut working], [0; 3]);
         let (linked, answer) = timed(|| linked_simulation::simulate(job, workers, lent, &mut out));
         assert_eq!(answer, linked_simulation::packed(due));
         assert_eq!(out, due.out(), "{}", scene.name);
@@ -310,6 +313,53 @@ fn simulations() {
         let [linked, model] = simulation_times(&scene);
         let (name, ratio) = (scene.name, linked / model);
         println!("{name:40}{linked:>10.1}{model:>10.1}{ratio:>8.2}");
+    }
+}
+
+/// Best nanoseconds a step: of the linked simulation with one worker, of the one that
+/// stops before its last effect, of the model's simulation, and of its span.
+fn span_times(scene: &SpanScene) -> [f64; 4] {
+    let [mut core, mut words, mut working] =
+        [WORDS, RUNNER, simulate::WORKING].map(|length| vec![0; length]);
+    let job = Job::read(&scene.ends).expect("a job");
+    let due = one_pass_span::span(&job, &OURS).expect("it ends");
+    let mut best = [f64::INFINITY; 4];
+    for _ in 0..ROUNDS {
+        let [ends, stops] = [&scene.ends, &scene.stops].map(|job| {
+            let (lent, mut out) = ([&mut core[..], &mut words, &mut working], [0; 3]);
+            let (time, answer) = timed(|| linked_simulation::simulate(job, 1, lent, &mut out));
+            (time, answer >> 32, out[2])
+        });
+        assert_eq!([ends.1, stops.1], [0, 9], "one ends, the other stops");
+        assert_eq!([ends.2, stops.2], [due, 0], "spans");
+        let (model, given) = timed(|| {
+            simulate::simulate(&scene.ends, 1, &OURS, &mut core, &mut words, &mut working)
+        });
+        assert_eq!(given.out()[2], due);
+        let (one_pass, span) = timed(|| one_pass_span::span(&job, &OURS));
+        assert_eq!(span, Some(due));
+        for (best, time) in best.iter_mut().zip([ends.0, stops.0, model, one_pass]) {
+            *best = best.min(time / scene.steps as f64);
+        }
+    }
+    best
+}
+
+/// The span of a job on the library and on the model: nanoseconds a step, and the whole
+/// simulation with it.
+fn spans() {
+    println!("span: what a simulation that ends takes longer than one that stops with 9 instead");
+    println!(
+        "{:14}{:>10}{:>10}{:>8}{:>14}{:>10}{:>10}{:>8}",
+        "", "span", "one pass", "ratio", "ends", "stops", "model", "ratio"
+    );
+    for scene in span_scenes::all() {
+        let [ends, stops, model, one_pass] = span_times(&scene);
+        let (name, span) = (scene.name, ends - stops);
+        let (ratio, whole) = (span / one_pass, ends / model);
+        println!(
+            "{name:14}{span:>10.2}{one_pass:>10.2}{ratio:>8.2}{ends:>14.1}{stops:>10.1}{model:>10.1}{whole:>8.2}"
+        );
     }
 }
 
@@ -397,10 +447,19 @@ fn takes() {
     }
 }
 
-/// The instructions of each scene.
-fn counts() -> ExitCode {
+/// The instructions of each scene with these letters in its name.
+fn counts(letters: &str) -> ExitCode {
+    let scenes = instructions::scenes();
+    let numbered = scenes.iter().enumerate();
+    let wanted: Vec<_> = numbered
+        .filter(|(_, scene)| scene.name.contains(letters))
+        .collect();
+    if wanted.is_empty() {
+        eprintln!("bench: no scene of the counts has `{letters}` in its name");
+        return ExitCode::FAILURE;
+    }
     println!("{:40}{:>14}", "", "instructions");
-    for (at, scene) in instructions::scenes().iter().enumerate() {
+    for (at, scene) in wanted {
         match instructions::count(at, scene) {
             Ok(count) => println!("{:40}{count:>14.1} {}", scene.name, scene.unit),
             Err(fault) => {
@@ -422,9 +481,11 @@ fn main() -> ExitCode {
         ["overlap"] => (with_overlap, RUNS),
         ["replay"] => (replays, RUNS),
         ["simulate"] => (simulations, RUNS),
+        ["span"] => (spans, ROUNDS),
         ["runs"] => (runs, ROUNDS),
         ["take"] => (takes, ROUNDS),
-        ["counts"] => return counts(),
+        ["counts"] => return counts(""),
+        ["counts", letters] => return counts(letters),
         ["scene", scene, part] => {
             let number = |word: &str| word.parse().expect("a number");
             instructions::run(number(scene), number(part));
@@ -432,7 +493,7 @@ fn main() -> ExitCode {
         }
         _ => {
             eprintln!(
-                "bench [growth | serial | overlap | replay | simulate | runs | take | counts]"
+                "bench [growth | serial | overlap | replay | simulate | span | runs | take | counts [LETTERS]]"
             );
             return ExitCode::FAILURE;
         }

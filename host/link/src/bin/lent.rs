@@ -13,6 +13,7 @@ use host::layout::WORDS;
 use host::overlap::Plain;
 use host::random::Random;
 use host::random_jobs::accepted;
+use host::random_stages::staged;
 use host::random_traces::of_a_run;
 use host::runner::RUNNER;
 use host::simulate;
@@ -122,7 +123,7 @@ fn replays(r: &mut Random) {
     }
 }
 
-/// Simulations on words that nobody has written, where both places of the answer are
+/// Simulations on words that nobody has written, where all places of the answer are
 /// written whatever it is; with a word too few, and with no workers.
 fn simulations(r: &mut Random) {
     let job = short_job(r).into_boxed_slice();
@@ -131,7 +132,7 @@ fn simulations(r: &mut Random) {
         let mut core = Box::new_uninit_slice(WORDS);
         let mut runner = Box::new_uninit_slice(RUNNER);
         let mut working = Box::new_uninit_slice(simulate::WORKING - short);
-        let mut out = Box::new([MaybeUninit::uninit(); 2]);
+        let mut out = Box::new([MaybeUninit::uninit(); 3]);
         let answer = simulate_unset(
             &job,
             workers,
@@ -140,15 +141,15 @@ fn simulations(r: &mut Random) {
             &mut working,
             &mut out,
         );
-        let [ticks, work] = out.map(|number| unsafe { number.assume_init() });
-        assert!(answer.status == 0 || ticks + work == 0, "zeros");
+        let [ticks, work, span] = out.map(|number| unsafe { number.assume_init() });
+        assert!(answer.status == 0 || ticks + work + span == 0, "zeros");
     }
 }
 
 /// A random job that ends soon.
 fn short_job(r: &mut Random) -> Vec<u8> {
     loop {
-        let job = accepted(r);
+        let job = if r.chance(50) { accepted(r) } else { staged(r) };
         if Plain::run(&Job::read(&job).expect("a job"), SHORT).is_some() {
             return job;
         }

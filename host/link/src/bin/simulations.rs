@@ -1,6 +1,7 @@
 //! The linked simulation against the model's: small jobs and those of jobs/ with
-//! every number of workers, random jobs, ones with few segments or records, and
-//! what is refused.
+//! every number of workers, random jobs, ones of stages with few rights, long pipelines,
+//! ones with few segments or records, and what is refused. Spans of jobs with few steps
+//! are compared with the naive ones.
 //!
 //! `simulations SEED` runs all parts. `simulations SEED PART ROUND` makes one round
 //! of one part again, as the line of a difference names it.
@@ -13,9 +14,12 @@ use host::layout::WORDS;
 use host::overlap::Plain;
 use host::random::Random;
 use host::random_jobs::accepted;
+use host::random_pipelines::piped;
+use host::random_stages::staged;
 use host::runner::RUNNER;
 use host::sample::{any_word, noise};
 use host::simulate::{Simulated, WORKING};
+use host::span_jobs;
 use host::timed_jobs;
 use link::rounds::{asked, random_of, status, usage, Asked};
 use link::simulation_pair::{kind, told, SimulationPair};
@@ -31,6 +35,8 @@ const WORKERS: u32 = 17;
 /// all the same, most of them up to 65,535 effects.
 const MOST_STEPS: u64 = 2_000;
 const LONG: u32 = 40;
+/// Spans that have to be compared with the naive ones.
+const LEAST_NAIVE: u64 = 5_000;
 
 struct Part {
     name: &'static str,
@@ -40,13 +46,13 @@ struct Part {
     due: &'static [(&'static str, u64)],
 }
 
-const PARTS: [Part; 5] = [
+const PARTS: [Part; 7] = [
     Part {
         name: "small",
         rounds: WORKERS + 1,
         round: small,
         due: &[
-            ("ended", 100),
+            ("ended", 400),
             ("spent", 30),
             ("stopped 8", 15),
             ("stopped 9", 15),
@@ -61,9 +67,21 @@ const PARTS: [Part; 5] = [
     },
     Part {
         name: "random",
-        rounds: 4_000,
+        rounds: 8_000,
         round: random,
-        due: &[("ended", 2_000), ("spent", 3)],
+        due: &[("ended", 5_000), ("spent", 3)],
+    },
+    Part {
+        name: "stages",
+        rounds: 3_000,
+        round: stages,
+        due: &[("ended", 2_500)],
+    },
+    Part {
+        name: "pipelines",
+        rounds: 150,
+        round: pipelines,
+        due: &[("ended", 80), ("stopped 9", 3)],
     },
     Part {
         name: "crowded",
@@ -103,16 +121,27 @@ impl State {
     /// Lends words of these numbers: those that the last simulation left, or others.
     fn lend(&mut self, r: &mut Random, lengths: [usize; 3]) {
         if self.pair.lengths() != lengths || r.chance(30) {
-            self.pair.set(lengths.map(|length| noise(r, length as u32)));
+            self.pair.set(lengths.map(|length| any_words(r, length)));
         }
     }
 }
 
 const LENGTHS: [usize; 3] = [WORDS, RUNNER, WORKING];
 
+/// Any words; of more than the core has, the others are all the same.
+fn any_words(r: &mut Random, length: usize) -> Vec<u32> {
+    let mut words = vec![any_word(r); length];
+    let first = noise(r, length.min(WORDS) as u32);
+    words[..first.len()].copy_from_slice(&first);
+    words
+}
+
 /// The small jobs, with as many workers as the number of the round.
 fn small(state: &mut State, r: &mut Random, round: u32) -> Outcome {
-    for job in timed_jobs::all() {
+    let spans = span_jobs::all()
+        .into_iter()
+        .chain([span_jobs::five_thousand()]);
+    for job in timed_jobs::all().into_iter().chain(spans) {
         state.lend(r, LENGTHS);
         state.simulate(&job.job, round)?;
     }
@@ -147,6 +176,22 @@ fn random(state: &mut State, r: &mut Random, _: u32) -> Outcome {
         state.simulate(&job, some_workers(r))?;
     }
     Ok(())
+}
+
+fn stages(state: &mut State, r: &mut Random, _: u32) -> Outcome {
+    let job = staged(r);
+    if short(r, &job) {
+        state.lend(r, LENGTHS);
+        state.simulate(&job, some_workers(r))?;
+    }
+    Ok(())
+}
+
+fn pipelines(state: &mut State, r: &mut Random, _: u32) -> Outcome {
+    let steps = r.within(3_000, 65_000);
+    let job = piped(r, steps);
+    state.lend(r, LENGTHS);
+    state.simulate(&job, some_workers(r)).map(|_| ())
 }
 
 fn crowds(state: &mut State, r: &mut Random, _: u32) -> Outcome {
@@ -226,8 +271,12 @@ fn run_all(state: &mut State, seed: u64) -> Outcome {
         make_part(state, seed, at)?;
         simulations += state.counts.values().sum::<u64>();
     }
-    println!("{simulations} simulations agree");
-    Ok(())
+    let naive = state.pair.naive;
+    println!("{simulations} simulations agree; {naive} spans are the naive ones");
+    match naive >= LEAST_NAIVE {
+        true => Ok(()),
+        false => Err(format!("fewer than {LEAST_NAIVE} spans were compared so")),
+    }
 }
 
 /// The jobs in jobs/, by name.

@@ -35,7 +35,7 @@ kettlepast COMMAND JOB ..
     serial JOB              run it without overlap
     compare JOB             run it with overlap in many orders against the run without
     replay JOB TRACE        make a recorded run's steps again, and say which line of it differs
-    simulate JOB            say how long the job takes with 1 to 16 workers
+    simulate JOB            say how long the job takes with 1 to 16 workers, and how long at most
     draw JOB TASK..         draw a run with overlap (SVG)
     assemble TEXT OUT       write the job file of a text
     disassemble JOB         print a text that gives the same job
@@ -103,13 +103,18 @@ pub const COMMANDS: [Command; 9] = [
         texts: &["--workers", "--draw"],
         what: "Simulates the job with N workers, with each number from A to B, or with each from 1 to 16. A worker takes\n\
                an instruction when it could move and holds it for its ticks; for operations 0 to 10 these are 2, 3, 3,\n\
-               3, 2, 1, 1, 1, 5, 1 and 3. A row says the ticks used; the work, which is all ticks together; the\n\
-               speed-up, ticks of one worker divided by ticks, or - where one worker does not come to the end; the\n\
-               utilisation, work divided by workers times ticks.\n\
+               3, 2, 1, 1, 1, 5, 1 and 3. A row says the ticks used; the work, which is all ticks together; the span,\n\
+               which is the ticks of the longest chain of instructions each of which needs the one before; the\n\
+               ceiling, which the ticks never exceed: work plus workers - 1 times span, divided by workers, rounded\n\
+               down; the speed-up, ticks of one worker divided by ticks, or - where one worker does not come to the\n\
+               end; the utilisation, work divided by workers times ticks.\n\
+               An instruction needs its task's previous one, the spawn of its task, the push of the value that it\n\
+               finds, and the finish of each older sibling, child or pusher that it has to wait for.\n\
                A simulation that meets an instruction with no record or no segment free for it is stopped with 8 or\n\
                9; one that makes 65,535 steps without an end is spent.\n\
                --draw writes the picture (SVG) of the largest number, its first 3,000 ticks: a row for each worker, a bar\n\
-               for each instruction with the number and the colour of its task.",
+               for each instruction with the number and the colour of its task. Where the job comes to its end the\n\
+               bars of one longest chain are outlined; it is the same for every number of workers.",
         more: "",
     },
     Command {

@@ -6,11 +6,13 @@ use super::prints::told;
 use super::words::Words;
 use super::{Fault, Said};
 use crate::simulation_picture::{self, Drawn};
+use host::chain::{self, Places};
+use host::job::Job;
 use host::layout::WORDS;
 use host::runner::RUNNER;
 use host::schedule::Schedule;
 use host::simulate::{self, OURS};
-use hyperqueue::simulation::{self, Simulated, MOST_WORKERS};
+use hyperqueue::simulation::{self, ceiling, Simulated, MOST_WORKERS};
 use std::fmt::Write;
 use std::fs;
 use std::ops::RangeInclusive;
@@ -23,8 +25,8 @@ pub fn simulate(words: &Words) -> Result<Said, Fault> {
         return Ok(told(&job.bytes, number));
     }
     let mut out = format!(
-        "{:>7}{:>10}{:>10}{:>10}{:>13}\n",
-        "workers", "ticks", "work", "speed-up", "utilisation"
+        "{:>7}{:>10}{:>10}{:>10}{:>10}{:>10}{:>13}\n",
+        "workers", "ticks", "work", "span", "ceiling", "speed-up", "utilisation"
     );
     let mut fine = true;
     for number in workers.clone() {
@@ -62,15 +64,16 @@ fn simulated(job: &[u8], workers: u32) -> Simulated {
 
 /// What is said of so many workers behind their number.
 fn row(workers: u32, given: Simulated, one: Simulated) -> String {
-    let Simulated::Ended { ticks, work } = given else {
+    let Simulated::Ended { ticks, work, span } = given else {
         return format!("  {}", why(given));
     };
+    let ceiling = ceiling(workers, work, span).unwrap_or(0);
     let speed_up = match one {
         Simulated::Ended { ticks: alone, .. } => format!("{:.2}", alone as f64 / ticks as f64),
         _ => "-".to_string(),
     };
     let busy = 100.0 * work as f64 / (f64::from(workers) * ticks as f64);
-    format!("{ticks:>10}{work:>10}{speed_up:>10}{busy:>11.1} %")
+    format!("{ticks:>10}{work:>10}{span:>10}{ceiling:>10}{speed_up:>10}{busy:>11.1} %")
 }
 
 /// Why a simulation did not come to the job's end.
@@ -86,7 +89,9 @@ fn why(given: Simulated) -> String {
 /// What came of a simulation.
 fn said(given: Simulated) -> String {
     match given {
-        Simulated::Ended { ticks, work } => format!("{ticks} ticks, work {work}"),
+        Simulated::Ended { ticks, work, span } => {
+            format!("{ticks} ticks, work {work}, span {span}")
+        }
         other => why(other),
     }
 }
@@ -111,25 +116,41 @@ fn draw(
         );
         return Ok(Said::only(false, what));
     }
-    let said = said(given);
     let workers_said = format!("{workers} worker{}", if workers == 1 { "" } else { "s" });
+    let ended = matches!(given, Simulated::Ended { .. });
     let picture = simulation_picture::svg(&Drawn {
         schedule: &schedule,
+        chain: ended.then(|| longest(&job.bytes)).unwrap_or_default(),
         workers: workers as usize,
         names: &job.names,
-        heading: format!("{}: {workers_said}, {said}", short(name)),
+        heading: format!("{}: {workers_said}, {}", short(name), said(given)),
     });
     fs::write(file, picture).map_err(|e| Fault(format!("{file}: {e}")))?;
-    let several = if asked.start() < asked.end() {
-        ", the most that were asked for"
-    } else {
-        ""
-    };
-    let out = format!(
-        "{}{file}: drawn for {workers_said}{several}; the schedule is the model's, which gives the same answer as the library\n",
-        table.out
-    );
+    let several = asked.start() < asked.end();
+    let out = table.out + &drawn(file, &workers_said, several, ended);
     Ok(Said { out, ..table })
+}
+
+/// What is said of a picture: for whom it is, and whose is what is drawn.
+fn drawn(file: &str, workers: &str, several: bool, ended: bool) -> String {
+    let which = match several {
+        true => ", the most that were asked for",
+        false => "",
+    };
+    let what = match ended {
+        true => "schedule and chain are",
+        false => "the schedule is",
+    };
+    format!("{file}: drawn for {workers}{which}; {what} the model's, which gives the same answer as the library\n")
+}
+
+/// A longest chain of a job that ends.
+fn longest(job: &[u8]) -> Places {
+    let Ok(job) = Job::read(job) else {
+        return Places::new();
+    };
+    let chain = chain::longest(&job, &OURS).unwrap_or_default();
+    chain::places(&job, &chain)
 }
 
 /// The name of a file without its folder.
@@ -144,7 +165,7 @@ fn modelled(job: &[u8], workers: u32) -> (Simulated, Schedule) {
     let mut schedule = Schedule::default();
     let given = simulate::watched(job, workers, &OURS, slices, &mut schedule);
     let answer = match given {
-        simulate::Simulated::Ended { ticks, work } => Simulated::Ended { ticks, work },
+        simulate::Simulated::Ended { ticks, work, span } => Simulated::Ended { ticks, work, span },
         simulate::Simulated::Spent => Simulated::Spent,
         simulate::Simulated::Stopped(number) => Simulated::Stopped(number),
         simulate::Simulated::Refused(number) => Simulated::Refused(number),
