@@ -1,4 +1,6 @@
 // The numbers of the answers of a step, as in `number_of` of crate `spec_job`.
+#![tactic(auto)]
+
 pub const WAITS: u32 = 32;
 
 pub const EMPTY: u32 = 33;

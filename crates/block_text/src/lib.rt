@@ -1,4 +1,6 @@
 // Lines of a run in blocks of at most 1,024, put at the start of lent bytes. A block gives the number of its bytes.
+#![tactic(auto)]
+
 ghost use Rattle.std.specs.Prelude.{◌+◌, ◌*◌, ◌^◌, ◌<◌, ◌≤◌, length};
 ghost use Rattle.text.specs.Puts.{Puts};
 ghost use Rattle.run_text.specs.Lines.{end_line};

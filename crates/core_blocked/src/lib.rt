@@ -1,5 +1,7 @@
 // Which tasks an older sibling blocks, asked of all tasks at once: each list of siblings is walked once, from the oldest on, with the
 // rights of those that it has passed.
+#![tactic(auto)]
+
 ghost use Rattle.std.specs.Prelude.{◌≡◌, true, replicate};
 ghost use Rattle.spec_rules.specs.Test.{rules_hold};
 ghost use Rattle.core_blocked.specs.Noted.{noted, is_oldest, family_noted};

@@ -1,4 +1,6 @@
 // sync (task) and finish (task)
+#![tactic(auto)]
+
 ghost use Rattle.std.specs.Prelude.{◌≡◌, ◌<◌, eqb, length, replicate};
 ghost use Rattle.spec_words.specs.Words.{pick, either};
 ghost use Rattle.spec_words.specs.Blocks.{store_all};
@@ -125,7 +127,7 @@ fn waits(m: &[u32], t: u32) -> bool
 }
 
 // What is asked of a task that no sibling and no child keeps waiting.
-#[derive(Drop)]
+#[derive(Clone, Copy)]
 enum Call {
     Sync,
     FinishTop,

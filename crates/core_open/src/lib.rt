@@ -1,4 +1,6 @@
 // open (length, segments)
+#![tactic(auto)]
+
 ghost use Rattle.std.specs.Prelude.{◌≡◌, ◌+◌, ◌<◌, ◌≤◌, length};
 ghost use Rattle.spec_words.specs.Blocks.{store_all};
 ghost use Rattle.spec_layout.specs.Layout.{segment, address};

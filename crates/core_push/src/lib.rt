@@ -1,4 +1,6 @@
 // push (task, queue, run of values)
+#![tactic(auto)]
+
 mod room;
 
 ghost use Rattle.std.specs.Prelude.{◌≡◌, true, ◌<◌, ◌≤◌, ◌-◌, length, take, drop};

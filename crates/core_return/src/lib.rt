@@ -1,4 +1,6 @@
 // What a task returns of a queue when it finishes: whether the paper has the reductions, and where the views go.
+#![tactic(auto)]
+
 ghost use Rattle.std.specs.Prelude.{◌≡◌, ◌<◌, eqb};
 ghost use Rattle.spec_words.specs.Words.{pick};
 ghost use Rattle.spec_layout.specs.Layout.{NL};

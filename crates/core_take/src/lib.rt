@@ -1,4 +1,6 @@
 // take (task, queue, keep): what it finds, and the value taken
+#![tactic(auto)]
+
 ghost use Rattle.std.specs.Prelude.{◌≡◌, ◌<◌};
 ghost use Rattle.spec_layout.specs.Layout.{count, queue_head, read};
 ghost use Rattle.spec_answers.specs.Answers.Outcome.{outcome};

@@ -1,4 +1,6 @@
 // Whether a call of the core would move, asked of an unfinished task that no older sibling blocks. Nothing is written.
+#![tactic(auto)]
+
 ghost use Rattle.std.specs.Prelude.{◌≡◌, true, ◌<◌, length};
 ghost use Rattle.spec_layout.specs.Layout.{free_height, rights_of};
 ghost use Rattle.spec_tree.specs.Rights.{uses, each_queue};

@@ -1,4 +1,6 @@
 // The seven calls of the core, on any words and with any arguments.
+#![tactic(auto)]
+
 pub mod jobs;
 pub mod replays;
 pub mod runs;

@@ -1,5 +1,7 @@
 // What an operation does to its task: the answer, the register and the next instruction. Both runners go by it, so that an
 // operation is coded once.
+#![tactic(auto)]
+
 ghost use Rattle.std.specs.Prelude.{◌≡◌, ◌^◌, ◌<◌, ◌==◌};
 ghost use Rattle.spec_words.specs.Words.{pick};
 ghost use Rattle.spec_job.specs.Operations.{operation_at};
@@ -10,7 +12,7 @@ ghost use Rattle.job_effect.specs.Made.{gives, found_with, coded};
 use answer_numbers::{EMPTY, FINISHED, MOVED, NOT_EMPTY, PUSHED, SPAWNED, TOOK};
 
 // What a step gives: its answer as a number, the value, 0 where there is none, the register and the next instruction after it.
-#[derive(Drop)]
+#[derive(Clone, Copy)]
 pub struct Made {
     pub answer: u32,
     pub value: u32,

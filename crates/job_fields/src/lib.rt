@@ -1,5 +1,7 @@
 // Reading the fields of a job. A byte past the end is read as 0, so a function asks nothing of the job, except where its
 // name or its comment says that what it reads lies inside the job: it does not test for the end.
+#![tactic(auto)]
+
 ghost use Rattle.std.specs.Prelude.{◌≡◌, ◌+◌, ◌^◌, ◌<◌, ◌≤◌, length};
 ghost use Rattle.spec_words.specs.Words.{load};
 ghost use Rattle.spec_job.specs.Fields.{bytes2, bytes4, procedures, segment_length, entry_at, offset, count, rights, reserved, instruction_from, instruction_at};
@@ -96,7 +98,7 @@ fn bytes4_inside(job: &[u8], a: usize) -> u32
 }
 
 // The entry of a procedure: where its body begins, the number of instructions, the rights, and the last byte.
-#[derive(Drop)]
+#[derive(Clone, Copy)]
 pub struct Procedure {
     pub offset: u32,
     pub count: u32,

@@ -1,4 +1,6 @@
 // The job test. Every byte is read a bounded number of times, so its time is linear in the bytes.
+#![tactic(auto)]
+
 ghost use Rattle.std.specs.Prelude.{◌≡◌, true, ◌+◌, ◌<◌, ◌≤◌, ltb, length};
 ghost use Rattle.spec_words.specs.Words.{both};
 ghost use Rattle.spec_lists.specs.Tests.{upto};

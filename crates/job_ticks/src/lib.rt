@@ -1,4 +1,6 @@
 // The ticks of an operation, by a table with a number for each.
+#![tactic(auto)]
+
 ghost use Rattle.std.specs.Prelude.{◌≡◌};
 ghost use Rattle.spec_job.specs.Operations.{operation_at};
 ghost use Rattle.spec_simulate.specs.Ticks.{ticks_for};

@@ -1,1 +1,2 @@
 // The words of memory represent program order: the invariant that every call keeps; laws only.
+#![tactic(auto)]

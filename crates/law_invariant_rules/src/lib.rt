@@ -1,1 +1,2 @@
 // Memory that represents program order passes the memory test; laws only.
+#![tactic(auto)]

@@ -1,1 +1,2 @@
 // What the memory test promises to the calls: laws only.
+#![tactic(auto)]

@@ -1,1 +1,2 @@
 // Segments: the test and the rules say the same; laws only.
+#![tactic(auto)]

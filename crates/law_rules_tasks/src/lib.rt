@@ -1,1 +1,2 @@
 // Tasks: the test and the rules say the same; laws only.
+#![tactic(auto)]

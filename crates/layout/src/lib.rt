@@ -1,5 +1,6 @@
 // Where every word of the core's memory stands, and what the numbers in it mean: docs/LAYOUT.md, and crate spec_layout for definitions.
 // What is added up to an address is a usize. The number of a word, and what a word holds, is a u32.
+#![tactic(auto)]
 
 // The length of the memory.
 pub const WORDS: usize = 16384;

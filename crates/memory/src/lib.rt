@@ -1,5 +1,7 @@
 // Reading and writing the fields of the layout. Every function is total: past the end a read gives 0 and a write
 // does nothing.
+#![tactic(auto)]
+
 ghost use Rattle.std.specs.Prelude.{◌≡◌, [], ◌∷◌, length, replicate, ◌<◌, ◌^◌};
 ghost use Rattle.spec_words.specs.Words.{load, store};
 ghost use Rattle.spec_words.specs.Blocks.{store_all};

@@ -1,4 +1,6 @@
 // The memory test: all memory rules.
+#![tactic(auto)]
+
 ghost use Rattle.std.specs.Prelude.{◌≡◌, length};
 ghost use Rattle.spec_rules.specs.Contents.{decode};
 ghost use Rattle.spec_rules.specs.Test.{rules_hold};

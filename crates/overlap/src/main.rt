@@ -1,6 +1,8 @@
 // Runs the job in the file that the first argument names, with the order of calls from standard input: each byte is the
 // number of a task, which makes a step. It prints the run in document 01's lines. Where the file cannot be read it says why on
 // standard error and prints nothing.
+#![tactic(auto)]
+
 ghost use Rattle.std.specs.Prelude.{◌≡◌, ◌+◌, ◌^◌, ◌<◌, ◌≤◌, length};
 ghost use Rattle.law_any_two.specs.Reached.{Reached};
 

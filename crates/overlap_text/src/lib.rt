@@ -1,5 +1,7 @@
 // The lines of a job's run with overlap in blocks of at most 1,024, put at the start of lent bytes, and the values that it
 // left. A block gives the number of its bytes.
+#![tactic(auto)]
+
 ghost use Rattle.std.specs.Prelude.{◌≡◌, ◌+◌, ◌^◌, ◌<◌, ◌≤◌, length};
 ghost use Rattle.std.proofs.Math.Option.{none, some};
 ghost use Rattle.spec_words.specs.Words.{pick};
@@ -91,7 +93,7 @@ pub fn call_lines(
 }
 
 // A value left in a queue, where it is there.
-#[derive(Drop)]
+#[derive(Clone, Copy)]
 pub struct LeftValue {
     pub there: bool,
     pub value: u32,

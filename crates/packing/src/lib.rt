@@ -1,4 +1,6 @@
 // Answers as one number of 64 bits, for hosts in other languages.
+#![tactic(auto)]
+
 ghost use Rattle.std.specs.Prelude.{◌≡◌, ◌+◌, ◌*◌, ◌/◌, ◌%◌};
 ghost use Rattle.spec_runner.specs.Packed.{Packs};
 

@@ -1,11 +1,13 @@
 // Reading a file: once, its start as far as lent bytes go, or the job of a program.
+#![tactic(auto)]
+
 ghost use Rattle.read_file.specs.Inside.{Inside};
 
 // The largest job has 49,540 bytes. A longer file is none, and is refused by its first 49,541 bytes as by all of them.
 pub const JOB_BYTES: usize = 49541;
 
 // How many bytes were read.
-#[derive(Drop)]
+#[derive(Clone, Copy)]
 pub enum Bytes {
     Read(usize),
     Unread,

@@ -1,5 +1,7 @@
 // Replays a trace: each line's task is moved again, and the lines are compared with those that the run prints. Lines are compared by
 // what was read of them, since two lines with one text are one line.
+#![tactic(auto)]
+
 ghost use Rattle.std.specs.Prelude.{◌≡◌, true, [], ◌∷◌, ◌+◌, ◌<◌, eqb};
 ghost use Rattle.spec_words.specs.Words.{both};
 ghost use Rattle.spec_job.specs.Numbers.{number_of, word_numbered};
@@ -24,7 +26,7 @@ use trace_line::REFUSED;
 const TRACE_FORM: u32 = 13;
 
 // Where the comparison stands: a position in the trace, how many lines were compared, and whether the last of them differs.
-#[derive(Drop)]
+#[derive(Clone, Copy)]
 struct Place {
     at: usize,
     lines: u32,

@@ -1,4 +1,6 @@
 // Tests of a rights word.
+#![tactic(auto)]
+
 ghost use Rattle.std.specs.Prelude.{◌≡◌, ℕ, ◌<◌};
 ghost use Rattle.spec_tree.specs.Rights.{pushes, pops, uses, shares_pop, subset};
 

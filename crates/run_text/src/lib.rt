@@ -1,5 +1,7 @@
 // The lines of a run, put into lent bytes from position `at` on. Each function gives the position behind what it wrote, and
 // says how far behind that is at most.
+#![tactic(auto)]
+
 ghost use Rattle.std.specs.Prelude.{◌++◌, ◌+◌, ◌^◌, ◌<◌, ◌≤◌, length};
 ghost use Rattle.text.specs.Text.{decimal};
 ghost use Rattle.text.specs.Puts.{Puts};

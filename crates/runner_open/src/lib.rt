@@ -1,4 +1,6 @@
 // Opening a job: the core for its segment length, and the top at its first instruction.
+#![tactic(auto)]
+
 ghost use Rattle.std.specs.Prelude.{◌≡◌};
 ghost use Rattle.spec_runner.specs.Open.{segments_for};
 ghost use Rattle.runner_words.specs.Refusals.{job_refusal};

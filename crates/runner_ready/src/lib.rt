@@ -1,5 +1,7 @@
 // THE READY MAP: which tasks' next steps would move, how many, and the lowest of them. One job test, one test of the
 // memory's rules and one walk along all siblings; no memory is copied, and none but the map is written.
+#![tactic(auto)]
+
 ghost use Rattle.std.specs.Prelude.{◌≡◌, [], ◌∷◌, ◌+◌, ◌*◌, ◌^◌, ◌<◌, ◌≤◌, length};
 ghost use Rattle.std.specs.Int.Count.{ones};
 ghost use Rattle.spec_lists.specs.Counting.{one, over};

@@ -1,5 +1,7 @@
 // A LIST OF STEPS IN ONE CALL: the job is tested once and opened afresh, and each step is made behind its tests, since words
 // that only the core wrote pass them.
+#![tactic(auto)]
+
 ghost use Rattle.std.specs.Prelude.{◌≡◌, ◌<◌, length};
 ghost use Rattle.spec_runner.specs.Run.{listed, run_outcome};
 ghost use Rattle.law_any_two.specs.Reached.{Reached};

@@ -1,4 +1,6 @@
 // One step of a job's task: the tests, the core call of its instruction, and where the task goes on.
+#![tactic(auto)]
+
 ghost use Rattle.std.specs.Prelude.{◌≡◌, ◌^◌, ◌<◌, true, [], ◌∷◌, length};
 ghost use Rattle.spec_rules.specs.Test.{rules_hold};
 ghost use Rattle.spec_answers.specs.Answers.{outcome as answered};

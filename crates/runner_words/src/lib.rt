@@ -1,5 +1,7 @@
 // The runner's words: reading and writing them, whether they keep their rules, and what every call of the runner tests first.
 // Reading and writing are total: past the end a read gives 0 and a write does nothing. The test of the rules asks for what the calls test before it.
+#![tactic(auto)]
+
 ghost use Rattle.std.specs.Prelude.{◌≡◌, true, List, ℕ, ◌+◌, ◌-◌, ◌<◌, ◌≤◌, length};
 ghost use Rattle.spec_lists.specs.Tests.{upto};
 ghost use Rattle.spec_outcomes.specs.Waits.{unfinished};

@@ -1,4 +1,6 @@
 // WHAT THE NEXT STEP OF A TASK WOULD BE, asked on words that a run has reached: it moves, it waits, or 8 or 9 refuses it. Nothing is written.
+#![tactic(auto)]
+
 ghost use Rattle.std.specs.Prelude.{◌≡◌, true};
 ghost use Rattle.spec_outcomes.specs.Waits.{unfinished, blocked};
 ghost use Rattle.spec_job.specs.Operations.{operation_at};

@@ -1,9 +1,11 @@
 // The record of a segment as a struct, lent to the two functions that change it.
+#![tactic(auto)]
+
 ghost use Rattle.std.specs.Prelude.{◌≡◌, ◌+◌, ◌<◌, ◌^◌};
 ghost use Rattle.segment_record.specs.Ring.{more, one_fewer};
 
 // The place of the first value in the ring, the number of values, the segment linked behind this one.
-#[derive(Drop)]
+#[derive(Clone, Copy)]
 pub struct Record {
     pub first: u32,
     pub count: u32,

@@ -1,4 +1,6 @@
 // The memory test of segment records and of the stack of free segments, with the count of the held ones.
+#![tactic(auto)]
+
 ghost use Rattle.std.specs.Prelude.{◌≡◌, true, ◌<◌, ◌≤◌, length, get_or, replicate};
 ghost use Rattle.spec_lists.specs.Tests.{upto};
 ghost use Rattle.spec_lists.specs.Marks.{marking};
@@ -16,7 +18,7 @@ use layout::{
 };
 
 // How many segments are held, or that a test has failed.
-#[derive(Drop)]
+#[derive(Clone, Copy)]
 pub enum Counted {
     Held(u32),
     Wrong,

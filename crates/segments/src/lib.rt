@@ -1,4 +1,6 @@
 // Segments: the ring of values, the stack of free segments, linking two segments.
+#![tactic(auto)]
+
 mod ring;
 
 ghost use Rattle.std.specs.Prelude.{◌≡◌, [], ◌∷◌, ◌+◌, ◌*◌, ◌<◌, ◌≤◌, min, length, take};

@@ -1,4 +1,6 @@
 // The four lists of the serial runner, as rings in the working words. A queue that is none is an empty list.
+#![tactic(auto)]
+
 ghost use Rattle.std.specs.Prelude.{◌≡◌, [], ◌∷◌, ◌++◌, ◌<◌, length, set, drop};
 ghost use Rattle.std.proofs.Math.ListN.{get_elem?};
 ghost use Rattle.spec_words.specs.Words.{size};
@@ -19,7 +21,7 @@ const FIRST_AT: usize = 16384;
 const COUNT_AT: usize = 16385;
 
 // A value of a list, where it is there.
-#[derive(Drop)]
+#[derive(Clone, Copy)]
 pub enum Found {
     Value(u32),
     Nothing,

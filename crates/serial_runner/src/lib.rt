@@ -1,6 +1,8 @@
 // The serial runner: the job run without overlap, within bounds. Two parts call each other, the one that runs a body and the
 // one that runs a child, and the steps that remain fall from one body to the next. Both are lent the working words w, which
 // hold the four lists, and the words a for the answers.
+#![tactic(auto)]
+
 ghost use Rattle.std.specs.Prelude.{◌≡◌, ◌+◌, ◌^◌, ◌<◌, ◌≤◌};
 ghost use Rattle.spec_words.specs.Words.{size};
 ghost use Rattle.spec_serial.specs.Serial.{STEPS, DEPTH};
@@ -24,7 +26,7 @@ const DEPTH: u32 = 128;
 pub const ANSWERS: usize = 196605;
 
 // How a part has come to an end, the steps that then remain, and the tasks made, the top included.
-#[derive(Drop)]
+#[derive(Clone, Copy)]
 pub struct Ran {
     pub end: End,
     pub left: u32,
@@ -124,7 +126,7 @@ fn run_child(
 }
 
 // A run that has stopped: why, and the steps made.
-#[derive(Drop)]
+#[derive(Clone, Copy)]
 pub struct Stopped {
     pub end: End,
     pub steps: u32,

@@ -1,5 +1,7 @@
 // One step of the serial runner that neither spawns nor returns: what it finds in its queue and does to it. Crate `job_effect`
 // has its answer and where its task goes on. And the words of an answer.
+#![tactic(auto)]
+
 ghost use Rattle.std.specs.Prelude.{◌≡◌, false, [], ◌∷◌, ◌*◌, ◌^◌, ◌<◌, ◌≤◌, length};
 ghost use Rattle.spec_words.specs.Words.{size};
 ghost use Rattle.spec_words.specs.Blocks.{store_all};

@@ -1,4 +1,6 @@
 // The lines of a serial run's steps in blocks of at most 1,024, put at the start of lent bytes, and the values that it left.
+#![tactic(auto)]
+
 ghost use Rattle.std.specs.Prelude.{◌+◌, ◌^◌, ◌<◌, ◌≤◌, length, take, drop};
 ghost use Rattle.spec_plain.specs.Machine.{queue};
 ghost use Rattle.spec_serial.specs.Working.{lists};

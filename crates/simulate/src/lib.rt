@@ -1,5 +1,7 @@
 // A JOB WITH W WORKERS: how many ticks it uses, and the work. The job is tested once and opened afresh, and each effect is a step made
 // behind its tests, since words that only the core wrote pass them.
+#![tactic(auto)]
+
 ghost use Rattle.std.specs.Prelude.{◌≡◌, true, ◌+◌, ◌<◌, ◌≤◌, length, replicate};
 ghost use Rattle.spec_words.specs.Words.{load};
 ghost use Rattle.spec_lists.specs.Maps.{All};

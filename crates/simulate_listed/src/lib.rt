@@ -1,5 +1,7 @@
 // A JOB WITH W WORKERS, and at its end its span: the simulation on the first words that are lent for working, and the span's pass on those
 // behind them.
+#![tactic(auto)]
+
 ghost use Rattle.std.specs.Prelude.{◌≡◌, length, take};
 ghost use Rattle.spec_simulate.specs.Ticks.{our_ticks};
 ghost use Rattle.spec_span.specs.Pass.{SPAN};

@@ -1,5 +1,7 @@
 // THE SPAN IN ONE PASS along the serial run, on words that the caller lends. What the words hold is free, and so is what the job's bytes are. The
 // words of the task that steps are read once; each step writes them, as its definition does.
+#![tactic(auto)]
+
 ghost use Rattle.std.specs.Prelude.{◌≡◌, ◌<◌, ◌≤◌, length};
 ghost use Rattle.spec_span.specs.Pass.{SPAN, queued, step_of, pass_step, span_pass};
 ghost use Rattle.span_words.specs.Words.{Holds};

@@ -1,5 +1,7 @@
 // THE WORDS OF THE SPAN'S PASS: those of the tasks on the stack, of the queues and of their places. What they hold is free; where the words of
 // tasks are asked for, there are as many words as the pass has, so that these are read and written without a test.
+#![tactic(auto)]
+
 ghost use Rattle.std.specs.Prelude.{◌≡◌, ◌+◌, ◌<◌, ◌≤◌, length};
 ghost use Rattle.spec_words.specs.Words.{load, store, pick};
 ghost use Rattle.spec_line.specs.Later.{later};
@@ -41,7 +43,7 @@ const PLACES: usize = 1302;
 const PLACE_WORDS: usize = 131072;
 
 // The task that is to make a step: its depth, and its words, read once; and when the last step was done.
-#[derive(Drop)]
+#[derive(Clone, Copy)]
 pub struct Standing {
     pub depth: u32,
     pub procedure: u32,
@@ -53,7 +55,7 @@ pub struct Standing {
 }
 
 // What a look in a queue finds, and when it can be made.
-#[derive(Drop)]
+#[derive(Clone, Copy)]
 pub struct Seen {
     pub found: bool,
     pub value: u32,

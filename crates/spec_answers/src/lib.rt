@@ -1,5 +1,7 @@
+#![tactic(auto)]
+
 // What a core call answers.
-#[derive(Drop)]
+#[derive(Clone, Copy)]
 pub enum Answer {
     // The call moved; with it the value that it returns.
     Moved(u32),
@@ -11,7 +13,7 @@ pub enum Answer {
 }
 
 // What a take finds.
-#[derive(Drop)]
+#[derive(Clone, Copy)]
 pub enum Finding {
     Value(u32),
     Empty,

@@ -1,1 +1,2 @@
 // Cases: calls and the answers that they must get.
+#![tactic(auto)]

@@ -1,5 +1,7 @@
+#![tactic(auto)]
+
 // An instruction of a job: which operation, and its two fields.
-#[derive(Drop)]
+#[derive(Clone, Copy)]
 pub struct Instruction {
     pub operation: u32,
     pub which: u32,

@@ -1,1 +1,2 @@
 // The layout of the core's memory: definitions and laws only.
+#![tactic(auto)]

@@ -1,1 +1,2 @@
 // Lists of numbers: definitions and laws only.
+#![tactic(auto)]

@@ -1,1 +1,2 @@
 // Program order: definitions and laws only.
+#![tactic(auto)]

@@ -1,1 +1,2 @@
 // The outcome of every core call: definitions and laws only.
+#![tactic(auto)]

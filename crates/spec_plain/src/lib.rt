@@ -1,1 +1,2 @@
 // The plain machine: definitions and laws only.
+#![tactic(auto)]

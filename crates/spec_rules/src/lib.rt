@@ -1,1 +1,2 @@
 // The memory rules: definitions and laws only.
+#![tactic(auto)]

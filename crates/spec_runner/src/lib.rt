@@ -1,5 +1,7 @@
+#![tactic(auto)]
+
 // What a step of a job's task is answered.
-#[derive(Drop)]
+#[derive(Clone, Copy)]
 pub enum StepAnswer {
     // with the number of the new task
     Spawned(u32),

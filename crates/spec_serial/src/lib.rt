@@ -1,5 +1,7 @@
+#![tactic(auto)]
+
 // How a serial run stops.
-#[derive(Drop)]
+#[derive(Clone, Copy)]
 pub enum End {
     // The top task has finished.
     Ended,

@@ -1,5 +1,7 @@
+#![tactic(auto)]
+
 // What the next step of a task would be: it moves, it waits, or it is refused with a number.
-#[derive(Drop)]
+#[derive(Clone, Copy)]
 pub enum Would {
     Moves,
     Waits,
@@ -7,7 +9,7 @@ pub enum Would {
 }
 
 // What a simulation answers: the job's end, with the ticks used and the work; "spent"; 8 or 9, which stops it; or a refusal.
-#[derive(Drop)]
+#[derive(Clone, Copy)]
 pub enum Simulated {
     Ended(u32, u32),
     Spent,
@@ -17,7 +19,7 @@ pub enum Simulated {
 
 // What a phase leads to: it is over, with an answer, or it goes on with the clock, the free workers, the effects fallen and their ticks
 // together. The memories and the ends stand beside it.
-#[derive(Drop)]
+#[derive(Clone, Copy)]
 pub struct Phase {
     pub over: bool,
     pub answer: Simulated,

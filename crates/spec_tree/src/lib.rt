@@ -1,1 +1,2 @@
 // The tree of tasks: definitions and laws only.
+#![tactic(auto)]

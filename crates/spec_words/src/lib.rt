@@ -1,1 +1,2 @@
 // Lists of words: definitions and laws only.
+#![tactic(auto)]

@@ -1,1 +1,2 @@
 // The table of computed cases.
+#![tactic(auto)]

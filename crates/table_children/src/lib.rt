@@ -1,1 +1,2 @@
 // The case of 127 children: its second half.
+#![tactic(auto)]

@@ -1,1 +1,2 @@
 // Runs of jobs, computed on the runner's outcomes. Laws only.
+#![tactic(auto)]

@@ -1,1 +1,2 @@
 // Replays of document 01's run in full, computed. Laws only.
+#![tactic(auto)]

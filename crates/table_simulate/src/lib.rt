@@ -1,1 +1,2 @@
 // Simulations of jobs with workers, computed. Laws only.
+#![tactic(auto)]

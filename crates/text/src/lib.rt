@@ -1,5 +1,7 @@
 // Text put into lent bytes. Each function writes from position `at` on and gives the position behind what it wrote; past the
 // end of the bytes nothing is written.
+#![tactic(auto)]
+
 ghost use Rattle.std.specs.Prelude.{◌≡◌, ◌^◌, ◌<◌};
 ghost use Rattle.spec_words.specs.Words.{store};
 ghost use Rattle.text.specs.Text.{decimal};

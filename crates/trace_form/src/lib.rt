@@ -1,4 +1,6 @@
 // The form of a trace, tested over the whole of it before a step is made.
+#![tactic(auto)]
+
 ghost use Rattle.std.specs.Prelude.{◌≡◌, ◌<◌, length};
 ghost use Rattle.spec_words.specs.Words.{both};
 ghost use Rattle.spec_trace.specs.Form.{is_call, trace_lines, there};
@@ -10,7 +12,7 @@ use spec_trace::Line;
 const LINES: u32 = 65535;
 
 // The position behind a line, 0 where there is none that may stand there; and whether it is a line of the end.
-#[derive(Drop)]
+#[derive(Clone, Copy)]
 struct Place {
     next: usize,
     ended: bool,

@@ -1,5 +1,7 @@
 // Reading a line of a trace. A position is handed on from part to part; where the bytes are of another form it is the trace's
 // length, behind which no part finds anything.
+#![tactic(auto)]
+
 ghost use Rattle.std.specs.Prelude.{◌≡◌, ◌+◌, ◌<◌, ◌≤◌, length, drop};
 ghost use Rattle.spec_job.specs.Numbers.{number_of, word_numbered};
 ghost use Rattle.spec_trace.specs.Read.{front, behind_byte, behind_text, digit_of, numbered, more_digits, fitting, number_at, below, word_at, value_of, behind_feed, call_at, left_at, open_at};
@@ -12,13 +14,13 @@ use spec_trace::Line;
 pub const REFUSED: u32 = 0;
 
 // A line that was read, and the position behind it; 0 where the bytes are of another form.
-#[derive(Drop)]
+#[derive(Clone, Copy)]
 pub struct Found {
     pub line: Line,
     pub next: usize,
 }
 
-#[derive(Drop)]
+#[derive(Clone, Copy)]
 struct Numeral {
     value: u32,
     next: usize,

@@ -1,4 +1,6 @@
 // The memory test: opening numbers, free task records, the top and the task tree.
+#![tactic(auto)]
+
 ghost use Rattle.std.specs.Prelude.{◌≡◌, true, ◌+◌, ◌<◌, ◌≤◌, length, take};
 ghost use Rattle.spec_layout.specs.Layout.{record_of};
 ghost use Rattle.spec_tree.specs.Tour.{tour};
@@ -190,7 +192,7 @@ fn exited_next(m: &[u32], t: u32) -> u32
 }
 
 // Where the walk along the tree stands: the next mark, or END where a link is wrong; and how many marks are written.
-#[derive(Drop)]
+#[derive(Clone, Copy)]
 struct Spot {
     mark: u32,
     written: usize,

@@ -1,4 +1,6 @@
 // One view of the memory test: its head starts a chain of segments, its tail ends one.
+#![tactic(auto)]
+
 ghost use Rattle.std.specs.Prelude.{◌≡◌, ◌+◌, ◌%◌, ◌<◌, not, ◌∷◌, length, ◌==◌, slice_index};
 ghost use Rattle.spec_rules.specs.Contents.{decode, part};
 ghost use Rattle.spec_rules.specs.Test.{marked, passed};

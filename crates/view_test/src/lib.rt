@@ -1,4 +1,6 @@
 // The memory test of views and segments: the views in the order of the tour, with the chains of segments; all segment records.
+#![tactic(auto)]
+
 ghost use Rattle.std.specs.Prelude.{◌≡◌, true, ◌+◌, ◌-◌, ◌*◌, ◌<◌, ◌≤◌, length, get_or, set, replicate};
 ghost use Rattle.spec_lists.specs.Marks.{marking};
 ghost use Rattle.spec_layout.specs.Layout.{NONE, CHILDREN, USER, RIGHT};

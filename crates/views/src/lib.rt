@@ -1,4 +1,6 @@
 // Views: a view is its head and its tail. Reading, writing and reducing them, and sync.
+#![tactic(auto)]
+
 ghost use Rattle.std.specs.Prelude.{◌≡◌, List, ℕ, ltb};
 ghost use Rattle.spec_words.specs.Words.{both};
 ghost use Rattle.spec_layout.specs.Layout.{NL};

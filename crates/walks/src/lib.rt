@@ -1,5 +1,7 @@
 // Walks over tasks: the tour of the task tree, siblings, and what the calls ask of them. Each walk is bounded by the
 // number of its steps, so it ends on any memory.
+#![tactic(auto)]
+
 ghost use Rattle.std.specs.Prelude.{◌≡◌, not, ◌<◌, ltb, eqb};
 ghost use Rattle.spec_words.specs.Words.{pick, both};
 ghost use Rattle.spec_layout.specs.Layout.{rights_of, record_of};
@@ -148,7 +150,7 @@ fn stands_at(m: &[u32], q: u32, x: u32) -> bool
 
 // What a walk over the tour asks of a mark: is a task entered there that may push to the queue, has its task a right to it, does a view of it
 // stand there?
-#[derive(Drop)]
+#[derive(Clone, Copy)]
 enum Asks {
     Pushes,
     TakesPart,
