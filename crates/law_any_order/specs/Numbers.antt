@@ -2,7 +2,7 @@
 use Rattle.std.specs.Prelude.{◌≡◌, true, ℕ}
 use Rattle.std.proofs.Math.Path.{refl, ap}
 use Rattle.std.proofs.Common.{sym, ◌∙◌, inl, arith}
-use mathlib.Core.List.{List, [], ◌∷◌, ◌++◌, map, map-append, nil≢cons, head_eq_of_cons_eq, tail-eq_of_cons-eq}
+use mathlib.Core.List.{List, [], ◌∷◌, ◌++◌, map, map-append, nil≢cons, head-eq_of_cons-eq, tail-eq_of_cons-eq}
 use Rattle.spec_lists.specs.Counting.{one_yes}
 use Rattle.spec_lists.specs.Maps.{All}
 use Rattle.spec_order.specs.Steps.{Item as Mark, step, spot as place, number_of}
@@ -26,7 +26,7 @@ module _ (j : List ℕ) where
   none_numbered t (step p a ∷ xs) ns c e = none_numbered t xs ns (omega (arith, c)) e
   none_numbered t (place o ∷ xs) [] c e = absurd (nil≢cons (sym e))
   none_numbered t (place o ∷ xs) (n ∷ ns) c e = (
-    (λ d. let i = one_yes (number_of o) t (ap number_of (head_eq_of_cons_eq e) ∙ d) in omega (arith, c, i)),
+    (λ d. let i = one_yes (number_of o) t (ap number_of (head-eq_of_cons-eq e) ∙ d) in omega (arith, c, i)),
     none_numbered t xs ns (omega (arith, c)) (tail-eq_of_cons-eq e),
   )
 

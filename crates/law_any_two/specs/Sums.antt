@@ -2,7 +2,7 @@
 -- finished has the sums of the plain machine's run.
 use Rattle.std.specs.Prelude.{◌≡◌, refl, ℕ, ◌+◌, length}
 use Rattle.std.proofs.Common.{ap, sym, ◌∙◌, subst, ⊎_elim, arith}
-use mathlib.Core.List.{List, [], ◌∷◌, ◌++◌, nil≢cons, head_eq_of_cons_eq, tail-eq_of_cons-eq}
+use mathlib.Core.List.{List, [], ◌∷◌, ◌++◌, nil≢cons, head-eq_of_cons-eq, tail-eq_of_cons-eq}
 use Rattle.spec_words.specs.Words.{size, pass, halt}
 use Rattle.spec_lists.specs.Counting.{over, over_append}
 use Rattle.spec_layout.specs.Layout.{WORDS}
@@ -40,7 +40,7 @@ first p x more [] e = absurd (nil≢cons (sym e))
 first p x more (y ∷ ys) e =
     let rest = first p x more ys in
     ⊎_elim
-    (λ i. record { before = []; behind = ys; here = ap (λ (z : Event). z ∷ ys) (sym (head_eq_of_cons_eq (e ∙ answers_here p y ys i))); none = refl })
+    (λ i. record { before = []; behind = ys; here = ap (λ (z : Event). z ∷ ys) (sym (head-eq_of_cons-eq (e ∙ answers_here p y ys i))); none = refl })
     (λ n.
     let w = rest (e ∙ answers_past p y ys n) in
     record {

@@ -59,6 +59,7 @@ find (right_of t) Target.at_entered (entering v w e i f (whole {s = s} {c = c} y
     tail (local s) s c (f ∙ ap (λ (z : ℕ). extent (local s) (local z)) (sym y)) Gap.at_entered
 find {children} (children_of t) (Target.at_exited h x f) (exiting v e rest r) = clash (children t) e f
 find (children_of t) (Target.at_exited h x f) (exiting v e close r) = with_tail t e r
+find (children_of t) Target.top (exiting v e rest r) = elim r [ ]
 find (children_of t) Target.top (exiting v e close r) = with_tail t e r
 find k (Target.up {t = t} f o) (exiting v e rest r) = found_exited t (find k o r)
 find {children} k (Target.up {t = t} f o) (exiting v e close r) = clash (children t) f e

@@ -21,12 +21,19 @@ fuse close rest = close
 -- a chain s ∷ c that comes behind the chain a ∷ b, or behind a last segment
 extend : {a : ℕ} (b : List ℕ) {s : ℕ} {c : List ℕ} {x : End} {n : Mode} → Begins (s ∷ c) (extent (local s) x) n
     → Begins (a ∷ (b ++ (s ∷ c))) (extent (local a) x) n
-extend {a} b {s} {c} (whole y) = whole (last_append a b s c ∙ y)
-extend {a} b {s} {c} (begun y) = begun (last_append a b s c ∙ y)
+extend b = extended b
+  where
+    extended : {a : ℕ} (b : List ℕ) {s h : ℕ} {c : List ℕ} {x : End} {n : Mode} → Begins (s ∷ c) (extent (local h) x) n
+        → Begins (a ∷ (b ++ (s ∷ c))) (extent (local a) x) n
+    extended {a = a} b {s = s} {c = c} (whole y) = whole (last_append a b s c ∙ y)
+    extended {a = a} b {s = s} {c = c} (begun y) = begun (last_append a b s c ∙ y)
 
 pub reach : {s : ℕ} {c : List ℕ} {x : End} {n : Mode} → Begins (s ∷ c) (extent (local s) x) n → Inside (awaiting (last_of s c)) (extent nonlocal x) n
-reach (whole y) = rw y close
-reach (begun y) = rw y mid
+reach = reached
+  where
+    reached : {s h : ℕ} {c : List ℕ} {x : End} {n : Mode} → Begins (s ∷ c) (extent (local h) x) n → Inside (awaiting (last_of s c)) (extent nonlocal x) n
+    reached (whole y) = rw y close
+    reached (begun y) = rw y mid
 
 onto : {s z : ℕ} {c : List ℕ} {x : End} {n : Mode} → last_of s c ≡ z → Inside (awaiting z) (extent nonlocal x) n
     → Begins (s ∷ c) (extent (local s) x) n
@@ -83,6 +90,7 @@ module _ (children user right : ℕ → Extent) (s : ℕ) (c : List ℕ) (q : �
       entering v (extent (local a) x) f i (put_same right t _ ∙ ap (λ (z : Extent). reduced z (extent (local s) x)) g) (extend b' b)
       (put_right t _ (entered_off t [] [] l once).1 r)
   deposit (children_of t) once b (Target.at_exited h y f) (exiting v g i r) = behind t v once b g i (λ z. clash (children t) (g ∙ z) f) r
+  deposit (children_of t) once b Target.top (exiting v g rest r) = elim r [ ]
   deposit (children_of t) once b Target.top (exiting v g close r) = behind t v once b g close (λ z. clash v z refl) r
   deposit k once b (Target.up {t = t} {l = l} f o) (exiting v g rest r) =
       exiting vacant (place_off t k (local s) x o (exited_off t [] l once).1 ∙ f) rest (deposit k (once_behind (exited t ∷ []) l once) b o r)

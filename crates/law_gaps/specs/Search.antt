@@ -117,6 +117,7 @@ module _ (uses : ℕ → Bool) (top_uses : uses 0 ≡ true) where
   pub latest_found : {children user right : ℕ → Extent} {n : Mode} (a : Line) → Views children user right a n → All (Fits uses) a
       → All (λ t. t < 128) (entries a) → Ends (marks a) → Latest a (place_at (first_of (has_part uses) (marks a)))
   unfolding has_part task_at
+  latest_found [] v fits small ends = elim v [ ]
   latest_found (base c ∷ l) (queue e) fits small ends = absurd ends
   latest_found (exited t ∷ l) (exiting v e i r) fits small ends =
       subst (Latest (exited t ∷ l)) (sym (ap place_at (here (has_part uses) (128 + t) (marks l) (takes_exited t fits.0)) ∙ place_exited t))
@@ -154,6 +155,7 @@ module _ (uses : ℕ → Bool) (top_uses : uses 0 ≡ true) where
     -- the bottom of a line, where no mark is left
     bare : {user right : ℕ → Extent} {n : Mode} (t : ℕ) (l : Line) → Views children user right l n → marks l ≡ []
         → Target children (exited t ∷ l) (children_of t)
+    bare t [] v h = elim v [ ]
     bare t (base c ∷ l) (queue e) h = Target.top
     bare t (exited u ∷ l) (exiting v e i r) h = let z : ◌≡◌ {A = ℕ} 0 1 = cc in absurd (omega (arith, z))
     bare t (entered u c ∷ l) (entering v w e i f b r) h = let z : ◌≡◌ {A = ℕ} 0 1 = cc in absurd (omega (arith, z))
@@ -163,6 +165,7 @@ module _ (uses : ℕ → Bool) (top_uses : uses 0 ≡ true) where
     pub target_found : {user right : ℕ → Extent} {n : Mode} (a : Line) → Views children user right a n → All (Fits uses) a
         → All (λ t. t < 128) (entries a) → Ends (marks a) → Target children a (place_at (first_of (stands_at uses children) (marks a)))
     unfolding has_part task_at occupied
+    target_found [] v fits small ends = elim v [ ]
     target_found (base c ∷ l) (queue e) fits small ends = absurd ends
     target_found (entered t c ∷ l) (entering v w e i f b r) fits small ends =
         subst (Target children (entered t c ∷ l))

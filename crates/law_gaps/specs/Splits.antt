@@ -3,7 +3,7 @@ use Rattle.std.proofs.Math.Path.{◌≡◌, ap}
 use Rattle.std.specs.Prelude.{refl, Bool, true, false, ℕ, ◌+◌, ◌<◌}
 use Rattle.std.proofs.Common.{sym, ◌∙◌, subst, arith}
 use Rattle.std.proofs.lemmas.Bool.{false≢true}
-use mathlib.Core.List.{List, [], ◌∷◌, ◌++◌, head_eq_of_cons_eq, tail-eq_of_cons-eq}
+use mathlib.Core.List.{List, [], ◌∷◌, ◌++◌, head-eq_of_cons-eq, tail-eq_of_cons-eq}
 use Rattle.spec_lists.specs.Maps.{All, all_behind}
 use Rattle.law_gaps.specs.Line.{Extent, Mark, base, exited, entered, pass, Line, marks, entries, Fits, Mode, Views, queue, exiting, entering, passing}
 use Rattle.law_gaps.specs.Frames.{split}
@@ -39,7 +39,7 @@ first z l x y ys f e = record {
   earlier = l;
   parts = refl;
   later_marks = refl;
-  number = f ∙ ap (λ (k : ℕ). k ∷ []) (head_eq_of_cons_eq e);
+  number = f ∙ ap (λ (k : ℕ). k ∷ []) (head-eq_of_cons-eq e);
   earlier_marks = tail-eq_of_cons-eq e;
 }
 
@@ -48,19 +48,20 @@ part [] [] y ys e = let z : ◌≡◌ {A = ℕ} 0 1 = cc in absurd (omega (arith
 part [] (x ∷ xs) y ys e = let z : ◌≡◌ {A = ℕ} 0 1 = cc in absurd (omega (arith, z))
 part (base c ∷ l) xs y ys e = more (base c) (λ a. refl) refl (part l xs y ys e)
 part (exited t ∷ l) [] y ys e = first (exited t) l (128 + t) y ys refl e
-part (exited t ∷ l) (x ∷ xs) y ys e = more (exited t) (λ a. refl) (ap (λ (k : ℕ). k ∷ xs) (head_eq_of_cons_eq e)) (part l xs y ys (tail-eq_of_cons-eq e))
+part (exited t ∷ l) (x ∷ xs) y ys e = more (exited t) (λ a. refl) (ap (λ (k : ℕ). k ∷ xs) (head-eq_of_cons-eq e)) (part l xs y ys (tail-eq_of_cons-eq e))
 part (entered t c ∷ l) [] y ys e = first (entered t c) l t y ys refl e
-part (entered t c ∷ l) (x ∷ xs) y ys e = more (entered t c) (λ a. refl) (ap (λ (k : ℕ). k ∷ xs) (head_eq_of_cons_eq e)) (part l xs y ys (tail-eq_of_cons-eq e))
+part (entered t c ∷ l) (x ∷ xs) y ys e = more (entered t c) (λ a. refl) (ap (λ (k : ℕ). k ∷ xs) (head-eq_of_cons-eq e)) (part l xs y ys (tail-eq_of_cons-eq e))
 part (pass w ∷ l) [] y ys e = first (pass w) l w y ys refl e
-part (pass w ∷ l) (x ∷ xs) y ys e = more (pass w) (λ a. refl) (ap (λ (k : ℕ). k ∷ xs) (head_eq_of_cons_eq e)) (part l xs y ys (tail-eq_of_cons-eq e))
+part (pass w ∷ l) (x ∷ xs) y ys e = more (pass w) (λ a. refl) (ap (λ (k : ℕ). k ∷ xs) (head-eq_of_cons-eq e)) (part l xs y ys (tail-eq_of_cons-eq e))
 
 -- the first mark of a line
 front : {children user right : ℕ → Extent} {n : Mode} (l : Line) (y : ℕ) (ys : List ℕ) → Views children user right l n → marks l ≡ y ∷ ys
     → (z : Mark) × (a : Line) × (l ≡ z ∷ a) × (marks (z ∷ []) ≡ y ∷ []) × (marks a ≡ ys)
+front [] y ys v h = elim v [ ]
 front (base c ∷ l) y ys (queue e) h = let z : ◌≡◌ {A = ℕ} 0 1 = cc in absurd (omega (arith, z))
-front (exited t ∷ l) y ys (exiting v e i r) h = (exited t, l, refl, ap (λ (k : ℕ). k ∷ []) (head_eq_of_cons_eq h), tail-eq_of_cons-eq h)
-front (entered t c ∷ l) y ys (entering v w e i f b r) h = (entered t c, l, refl, ap (λ (k : ℕ). k ∷ []) (head_eq_of_cons_eq h), tail-eq_of_cons-eq h)
-front (pass x ∷ l) y ys (passing r) h = (pass x, l, refl, ap (λ (k : ℕ). k ∷ []) (head_eq_of_cons_eq h), tail-eq_of_cons-eq h)
+front (exited t ∷ l) y ys (exiting v e i r) h = (exited t, l, refl, ap (λ (k : ℕ). k ∷ []) (head-eq_of_cons-eq h), tail-eq_of_cons-eq h)
+front (entered t c ∷ l) y ys (entering v w e i f b r) h = (entered t c, l, refl, ap (λ (k : ℕ). k ∷ []) (head-eq_of_cons-eq h), tail-eq_of_cons-eq h)
+front (pass x ∷ l) y ys (passing r) h = (pass x, l, refl, ap (λ (k : ℕ). k ∷ []) (head-eq_of_cons-eq h), tail-eq_of_cons-eq h)
 
 earlier_views : {children user right : ℕ → Extent} {n : Mode} (z : Mark) (a : Line) (y : ℕ) (ys : List ℕ) → Views children user right (z ∷ a) n
     → marks a ≡ y ∷ ys
@@ -93,26 +94,26 @@ module _ (uses : ℕ → Bool) where
   is_entered : (t : ℕ) → t < 128 → uses t ≡ true → (z : Mark) → Proper z → marks (z ∷ []) ≡ t ∷ [] → (c : List ℕ) × (z ≡ entered t c)
   unfolding task_at
   is_entered t s u (base c) h e = let z : ◌≡◌ {A = ℕ} 0 1 = cc in absurd (omega (arith, z))
-  is_entered t s u (exited x) h e = let q = head_eq_of_cons_eq e in absurd (omega (arith, q, s))
-  is_entered t s u (entered x c) h e = (c, ap (λ (k : ℕ). entered k c) (head_eq_of_cons_eq e))
+  is_entered t s u (exited x) h e = let q = head-eq_of_cons-eq e in absurd (omega (arith, q, s))
+  is_entered t s u (entered x c) h e = (c, ap (λ (k : ℕ). entered k c) (head-eq_of_cons-eq e))
   is_entered t s u (pass x) h e =
-      absurd (false≢true (sym h.0 ∙ (ap (λ (k : ℕ). uses (task_at k)) (head_eq_of_cons_eq e) ∙ (ap uses (task_entered t s) ∙ u))))
+      absurd (false≢true (sym h.0 ∙ (ap (λ (k : ℕ). uses (task_at k)) (head-eq_of_cons-eq e) ∙ (ap uses (task_entered t s) ∙ u))))
 
   is_exited : (t : ℕ) → uses t ≡ true → (z : Mark) → Proper z → marks (z ∷ []) ≡ (128 + t) ∷ [] → z ≡ exited t
   unfolding task_at
   is_exited t u (base c) h e = let z : ◌≡◌ {A = ℕ} 0 1 = cc in absurd (omega (arith, z))
-  is_exited t u (exited x) h e = let q = head_eq_of_cons_eq e in ap exited (let z : x ≡ t = omega (arith, q) in z)
-  is_exited t u (entered x c) h e = let q = head_eq_of_cons_eq e in absurd (omega (arith, q, h.1.0))
+  is_exited t u (exited x) h e = let q = head-eq_of_cons-eq e in ap exited (let z : x ≡ t = omega (arith, q) in z)
+  is_exited t u (entered x c) h e = let q = head-eq_of_cons-eq e in absurd (omega (arith, q, h.1.0))
   is_exited t u (pass x) h e =
-      absurd (false≢true (sym h.0 ∙ (ap (λ (k : ℕ). uses (task_at k)) (head_eq_of_cons_eq e) ∙ (ap uses (task_exited t) ∙ u))))
+      absurd (false≢true (sym h.0 ∙ (ap (λ (k : ℕ). uses (task_at k)) (head-eq_of_cons-eq e) ∙ (ap uses (task_exited t) ∙ u))))
 
   is_pass : (y : ℕ) → uses (task_at y) ≡ false → (z : Mark) → Proper z → marks (z ∷ []) ≡ y ∷ [] → z ≡ pass y
   is_pass y u (base c) h e = let z : ◌≡◌ {A = ℕ} 0 1 = cc in absurd (omega (arith, z))
   is_pass y u (exited x) h e =
-      absurd (false≢true (sym u ∙ (ap (λ (k : ℕ). uses (task_at k)) (sym (head_eq_of_cons_eq e)) ∙ (ap uses (task_exited x) ∙ h.0))))
+      absurd (false≢true (sym u ∙ (ap (λ (k : ℕ). uses (task_at k)) (sym (head-eq_of_cons-eq e)) ∙ (ap uses (task_exited x) ∙ h.0))))
   is_pass y u (entered x c) h e =
-      absurd (false≢true (sym u ∙ (ap (λ (k : ℕ). uses (task_at k)) (sym (head_eq_of_cons_eq e)) ∙ (ap uses (task_entered x h.1.0) ∙ h.0))))
-  is_pass y u (pass x) h e = ap pass (head_eq_of_cons_eq e)
+      absurd (false≢true (sym u ∙ (ap (λ (k : ℕ). uses (task_at k)) (sym (head-eq_of_cons-eq e)) ∙ (ap uses (task_entered x h.1.0) ∙ h.0))))
+  is_pass y u (pass x) h e = ap pass (head-eq_of_cons-eq e)
 
   -- AT ONE MARK: the spot of a task with a right; a mark of a task without
   pub entered_part : (l : Line) → All Proper l → (t : ℕ) (xs ys : List ℕ) → t < 128 → uses t ≡ true → marks l ≡ xs ++ (t ∷ ys)

@@ -3,7 +3,7 @@ use Rattle.std.specs.Prelude.{◌≡◌, refl, false, ℕ, ◌-◌, ◌<◌, ltb
 use Rattle.std.proofs.Math.Path.{ap}
 use Rattle.std.proofs.Common.{ap₂, sym, ◌∙◌, subst, arith}
 use Rattle.std.proofs.lemmas.Bool.{false≢true}
-use mathlib.Core.List.{List, [], ◌∷◌, cons-ne-nil, head_eq_of_cons_eq, tail-eq_of_cons-eq}
+use mathlib.Core.List.{List, [], ◌∷◌, cons-ne-nil, head-eq_of_cons-eq, tail-eq_of_cons-eq}
 use Rattle.spec_words.specs.Words.{pick}
 use Rattle.spec_layout.specs.Layout.{NONE, YOUNGEST, task, read}
 use Rattle.spec_tree.specs.Tour.{after, entering, exiting}
@@ -56,14 +56,14 @@ module _ (m : List ℕ) (xs : List Item) (r : Represents m xs) (alone : read m (
     second l (queue e) f k = absurd (cons-ne-nil _ _ (sym k))
     second l (exits {t = t} {l = b} v e i w) f k =
         let z = third b w (tail-eq_of_cons-eq k) in
-        let is : t ≡ 0 = (let h = head_eq_of_cons_eq k in omega (arith, h)) in
+        let is : t ≡ 0 = (let h = head-eq_of_cons-eq k in omega (arith, h)) in
         (z.0, z.1, ap (λ (x : ℕ). exited x ∷ b) is ∙ ap (λ (y : Line). exited 0 ∷ y) z.2)
     second l (enters {t = t} v w e i f0 b u) f k =
-        let h = head_eq_of_cons_eq k in let a = uses_small m q t f.0 in let z : ⊥ = omega (arith, h, a) in absurd z
+        let h = head-eq_of_cons-eq k in let a = uses_small m q t f.0 in let z : ⊥ = omega (arith, h, a) in absurd z
     second l (passing {x = x} w) f k =
         absurd
         (false≢true
-        (sym (subst (λ (y : ℕ). uses_in m q (pick (ltb y 128) y (y - 128)) ≡ false) (head_eq_of_cons_eq k) f.0) ∙ (unfold pick in top_uses m xs r q small)))
+        (sym (subst (λ (y : ℕ). uses_in m q (pick (ltb y 128) y (y - 128)) ≡ false) (head-eq_of_cons-eq k) f.0) ∙ (unfold pick in top_uses m xs r q small)))
 
     -- THE LINE of a queue: the top's spot, and one chain before it
     pub line_alone : (g : ℕ) × (d : List ℕ) × (r.line q ≡ entered 0 [] ∷ exited 0 ∷ base (g ∷ d) ∷ [])
@@ -78,4 +78,4 @@ module _ (m : List ℕ) (xs : List Item) (r : Represents m xs) (alone : read m (
         first l (passing w) z f k = absurd z
         first l (enters {t = t} {c = d} {l = b} v w e i f0 b0 u) z f k =
             let y = second b u f.1 (tail-eq_of_cons-eq k) in
-            (y.0, y.1, ap₂ (λ (x : ℕ) (s : List ℕ). entered x s ∷ b) (head_eq_of_cons_eq k) z ∙ ap (λ (x : Line). entered 0 [] ∷ x) y.2)
+            (y.0, y.1, ap₂ (λ (x : ℕ) (s : List ℕ). entered x s ∷ b) (head-eq_of_cons-eq k) z ∙ ap (λ (x : Line). entered 0 [] ∷ x) y.2)

@@ -3,7 +3,7 @@ use Rattle.std.specs.Prelude.{◌≡◌, true, false, ℕ, ◌+◌, ◌<◌}
 use Rattle.std.proofs.Math.Path.{ap}
 use Rattle.std.proofs.Common.{ap₂, sym, ◌∙◌, subst, arith}
 use Rattle.std.proofs.Math.Bool.{false≢true}
-use mathlib.Core.List.{List, [], ◌∷◌, ◌++◌, head_eq_of_cons_eq}
+use mathlib.Core.List.{List, [], ◌∷◌, ◌++◌, head-eq_of_cons-eq}
 use Rattle.spec_lists.specs.Counting.{occurrences, occurs_append}
 use Rattle.spec_layout.specs.Layout.{Opened}
 use Rattle.spec_tree.specs.Rights.{uses}
@@ -187,7 +187,7 @@ module _ (m : List ℕ) (ys zs : List Item) (s : Task) (r : Represents m (ys ++ 
           × (marks a ≡ (leaf m ys zs s r barren).earlier)
           → Change m n (views_returned n t q) t q (line q) h New Rest
       go ([], c, a, p, e, f) =
-          let d = head_eq_of_cons_eq
+          let d = head-eq_of_cons-eq
           (sym r.linked.first.1 ∙ (leaf m ys zs s r barren).here ∙ ap (λ (k : List ℕ). k ++ t ∷ (128 + t) ∷ (leaf m ys zs s r barren).earlier) (sym e)) in
           let z : ⊥ = omega (arith, d, above) in
           absurd z

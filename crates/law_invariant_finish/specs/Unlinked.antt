@@ -1,7 +1,7 @@
 -- FINISH, THE TREE: the task leaves the list of its siblings and its record is free; the tour is the one without its two marks.
 use Rattle.std.specs.Prelude.{◌≡◌, false, ◌⊎◌, ℕ, ◌<◌, length}
 use Rattle.std.proofs.Common.{ap, sym, ◌∙◌, subst, inl, inr, ⊎_elim, arith}
-use mathlib.Core.List.{List, ◌∷◌, ◌++◌, head_eq_of_cons_eq}
+use mathlib.Core.List.{List, ◌∷◌, ◌++◌, head-eq_of_cons-eq}
 use Rattle.spec_layout.specs.Layout.{NONE, PARENT, OLDER, YOUNGER, free_tasks, task, read}
 use Rattle.spec_rules.specs.Contents.{Contents, decode, word}
 use Rattle.spec_rules.specs.Rules.{Unfinished, Child, TaskRules}
@@ -63,7 +63,7 @@ module _ (m : List ℕ) (ys zs : List Item) (s : Task) (r : Represents m (ys ++ 
   older_other : read m (task t OLDER) ≡ t → ⊥
   older_other e =
       let w = older_says (name_of s) (name_of s) (r.linked.ages s s (mine_spot m ys zs s r) (mine_spot m ys zs s r) e) in
-      let d = head_eq_of_cons_eq (sym w.3 ∙ w.4) in
+      let d = head-eq_of_cons-eq (sym w.3 ∙ w.4) in
       let l = w.5 in
       omega (arith, d, l)
 

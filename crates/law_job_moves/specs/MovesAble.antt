@@ -4,7 +4,7 @@ use Rattle.std.specs.Prelude.{◌≡◌, refl, ℕ, ◌<◌}
 use Rattle.std.proofs.Math.Path.{ap, sym}
 use Rattle.std.proofs.Common.{ap₂, ◌∙◌, subst, inl, inr, arith, lt-ltb, eq-eqb}
 use Rattle.std.proofs.Math.Bool.{true, false, false≢true}
-use mathlib.Core.List.{List, [], ◌∷◌, ◌++◌, head_eq_of_cons_eq, tail-eq_of_cons-eq}
+use mathlib.Core.List.{List, [], ◌∷◌, ◌++◌, head-eq_of_cons-eq, tail-eq_of_cons-eq}
 use Rattle.spec_words.specs.Words.{halt, pass, both_true, true_both, refuted, neither}
 use Rattle.spec_tree.specs.Rights.{pushes as mayPush, pops as mayPop, uses}
 use Rattle.spec_tree.specs.Users.{pops_uses, uses_pushes}
@@ -61,10 +61,10 @@ no_own u (gave q) d e = let z : ◌≡◌ {A = ℕ} 0 1 = cc in omega (arith, z)
 
 same_front : (u : Runner) (f g r t : List (Item Runner)) → All (Differs u) f → All (Differs u) g → f ++ spot u ∷ r ≡ g ++ spot u ∷ t → f ≡ g
 same_front u [] [] r t p q e = refl
-same_front u [] (y ∷ g) r t p q e = absurd (no_own u y q.0 (head_eq_of_cons_eq e))
-same_front u (x ∷ f) [] r t p q e = absurd (no_own u x p.0 (sym (head_eq_of_cons_eq e)))
+same_front u [] (y ∷ g) r t p q e = absurd (no_own u y q.0 (head-eq_of_cons-eq e))
+same_front u (x ∷ f) [] r t p q e = absurd (no_own u x p.0 (sym (head-eq_of_cons-eq e)))
 same_front u (x ∷ f) (y ∷ g) r t p q e =
-    ap₂ (λ (z : Item Runner) (l : List (Item Runner)). z ∷ l) (head_eq_of_cons_eq e) (same_front u f g r t p.1 q.1 (tail-eq_of_cons-eq e))
+    ap₂ (λ (z : Item Runner) (l : List (Item Runner)). z ∷ l) (head-eq_of_cons-eq e) (same_front u f g r t p.1 q.1 (tail-eq_of_cons-eq e))
 
 module _ (j : List ℕ) (u : Runner) where
   -- a task with another name

@@ -2,7 +2,7 @@
 use Rattle.std.specs.Prelude.{◌≡◌, refl, true, ℕ}
 use Rattle.std.proofs.Math.Path.{ap}
 use Rattle.std.proofs.Common.{ap₂, sym, ◌∙◌, subst, inl}
-use mathlib.Core.List.{List, [], ◌∷◌, ◌++◌, map, map-append, nil≢cons, head_eq_of_cons_eq, tail-eq_of_cons-eq}
+use mathlib.Core.List.{List, [], ◌∷◌, ◌++◌, map, map-append, nil≢cons, head-eq_of_cons-eq, tail-eq_of_cons-eq}
 use borrow.Author.Tests.{eqb-true}
 use Rattle.spec_words.specs.Words.{halt}
 use Rattle.spec_tree.specs.Rights.{uses}
@@ -33,10 +33,10 @@ place_at [] ts us s e = absurd (no_end ts us s e)
 place_at (step p a ∷ xs) ts us s e =
     let w = place_at xs ts us s e in
     (step p a ∷ w.0, w.1, ap (λ (l : List Mark). step p a ∷ l) w.2, w.3, w.4)
-place_at (place o ∷ xs) [] us s e = ([], xs, ap (λ (t : Task). place t ∷ xs) (head_eq_of_cons_eq e), refl, tail-eq_of_cons-eq e)
+place_at (place o ∷ xs) [] us s e = ([], xs, ap (λ (t : Task). place t ∷ xs) (head-eq_of_cons-eq e), refl, tail-eq_of_cons-eq e)
 place_at (place o ∷ xs) (t ∷ ts) us s e =
     let w = place_at xs ts us s (tail-eq_of_cons-eq e) in
-    (place o ∷ w.0, w.1, ap (λ (l : List Mark). place o ∷ l) w.2, ap₂ (λ (t : Task) (l : List Task). t ∷ l) (head_eq_of_cons_eq e) w.3, w.4)
+    (place o ∷ w.0, w.1, ap (λ (l : List Mark). place o ∷ l) w.2, ap₂ (λ (t : Task) (l : List Task). t ∷ l) (head-eq_of_cons-eq e) w.3, w.4)
 
 -- Task n, which stands between a and b on the line, stands between before and behind among the steps and spots.
 pub record Located (j : List ℕ) (xs : List Mark) (a b : List (Item Numbered)) (n : Numbered) : Type 0 where
@@ -84,7 +84,7 @@ one_stands j s [] ts us e = absurd (no_end ts us s e)
 one_stands j s (value q v ∷ l) ts us e = on_past (value q v) (one_stands j s l ts us e)
 one_stands j s (finished n ∷ l) ts us e = on_past (finished n) (one_stands j s l ts us e)
 one_stands j s (gave q ∷ l) ts us e = on_past (gave q) (one_stands j s l ts us e)
-one_stands j s (spot n ∷ l) [] us e = record { before = []; behind = l; who = n; here = refl; number = ap number_of (head_eq_of_cons_eq e) }
+one_stands j s (spot n ∷ l) [] us e = record { before = []; behind = l; who = n; here = refl; number = ap number_of (head-eq_of_cons-eq e) }
 one_stands j s (spot n ∷ l) (t ∷ ts) us e = on_past (spot n) (one_stands j s l ts us (tail-eq_of_cons-eq e))
 
 module _ (j : List ℕ) where

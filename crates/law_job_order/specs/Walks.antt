@@ -2,7 +2,7 @@
 use Rattle.std.specs.Prelude.{◌≡◌, refl, Bool, ℕ}
 use Rattle.std.proofs.Common.{ap, sym, ◌∙◌, subst}
 use Rattle.std.proofs.Math.Option.{Option, none, some}
-use mathlib.Core.List.{List, [], ◌∷◌, ◌++◌, append-nil, nil≢cons, head_eq_of_cons_eq, tail-eq_of_cons-eq}
+use mathlib.Core.List.{List, [], ◌∷◌, ◌++◌, append-nil, nil≢cons, head-eq_of_cons-eq, tail-eq_of_cons-eq}
 use Rattle.spec_lists.specs.Maps.{All}
 use Rattle.spec_order.specs.Steps.{Item as Mark}
 use Rattle.spec_line.specs.Line.{Item, value, spot, Action, puts, looks, Search, free, seeking, found, Acts, leave}
@@ -39,7 +39,7 @@ module _ (j : List ℕ) where
     here_one m xs r acts ticks c (at t y ∷ l) e a = (
       m,
       refl,
-      subst (λ (z : Item Runner). Lifted (job_tasks j) (job_waits j ticks) u m m a (at t z ∷ l) (xs ++ r)) (sym (head_eq_of_cons_eq e))
+      subst (λ (z : Item Runner). Lifted (job_tasks j) (job_waits j ticks) u m m a (at t z ∷ l) (xs ++ r)) (sym (head-eq_of_cons-eq e))
           (lift_here (job_tasks j) (job_waits j ticks) u m a t xs l r acts (tail-eq_of_cons-eq e)),
     )
 
@@ -50,7 +50,7 @@ module _ (j : List ℕ) where
         let v = w ticks c.1 l (tail-eq_of_cons-eq e) (heard (job_tasks j) (job_waits j ticks) m u x t a) in (
           v.0,
           v.1,
-          subst (λ (z : Item Runner). Lifted (job_tasks j) (job_waits j ticks) u m v.0 a (at t z ∷ l) (x ∷ k)) (sym (head_eq_of_cons_eq e))
+          subst (λ (z : Item Runner). Lifted (job_tasks j) (job_waits j ticks) u m v.0 a (at t z ∷ l) (x ∷ k)) (sym (head-eq_of_cons-eq e))
               (lift_past (job_tasks j) (job_waits j ticks) u m v.0 a t x l k (p, c.0) v.2),
         )
 
@@ -62,7 +62,7 @@ module _ (j : List ℕ) where
           i.0,
           i.1,
           subst (λ (z : Item Runner). Lifted (job_tasks j) (job_waits j ticks) u (seeking b q) i.0 a (at t z ∷ l) (leave b (value q v) k))
-              (sym (head_eq_of_cons_eq e))
+              (sym (head-eq_of_cons-eq e))
               (lift_finds (job_tasks j) (job_waits j ticks) u i.0 a t b q v l k i.2),
         )
 

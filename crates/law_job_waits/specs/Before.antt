@@ -2,7 +2,7 @@
 use Rattle.std.proofs.Math.Path.{◌≡◌, subst}
 use Rattle.std.specs.Prelude.{refl, true, ◌⊎◌, ℕ, ◌<◌}
 use Rattle.std.proofs.Common.{ap, sym, ◌∙◌, inl, inr, ⊎_elim, arith}
-use mathlib.Core.List.{List, [], ◌∷◌, ◌++◌, append_assoc, head_eq_of_cons_eq, tail-eq_of_cons-eq, map}
+use mathlib.Core.List.{List, [], ◌∷◌, ◌++◌, append_assoc, head-eq_of_cons-eq, tail-eq_of_cons-eq, map}
 use Rattle.spec_words.specs.Words.{either_true}
 use Rattle.spec_order.specs.Steps.{Name, Task, Item as Mark, step, spot as place, name_of}
 use Rattle.spec_order.specs.Waits.{is_child, is_older}
@@ -32,7 +32,7 @@ under_parts : {i k : ℕ} {p q : Name} → Under (i ∷ p) (k ∷ q) → ((i ≡
 under_parts {i} {k} {p} {q} u = go u.0 u.1
   where
     go : (path : List ℕ) → k ∷ q ≡ path ++ i ∷ p → ((i ≡ k) × (p ≡ q)) ⊎ Under (i ∷ p) q
-    go [] e = inl (sym (head_eq_of_cons_eq e), sym (tail-eq_of_cons-eq e))
+    go [] e = inl (sym (head-eq_of_cons-eq e), sym (tail-eq_of_cons-eq e))
     go (x ∷ path) e = inr (path, tail-eq_of_cons-eq e)
 
 not_older : (i k : ℕ) (p : Name) → i < k → Precedes (k ∷ p) (i ∷ p) → ⊥
@@ -84,7 +84,7 @@ module _ (ys zs : List Mark) (s : Task) (reached : Reached (ys ++ place s ∷ zs
       let v = older_says (name_of o) (name_of s) e in
       let l = v.5 in
       stands_before o i
-      (λ d. let f : v.0 ≡ v.1 = head_eq_of_cons_eq (sym v.3 ∙ ap name_of d ∙ v.4) in omega (arith, l, f))
+      (λ d. let f : v.0 ≡ v.1 = head-eq_of_cons-eq (sym v.3 ∙ ap name_of d ∙ v.4) in omega (arith, l, f))
       (λ d. not_older v.0 v.1 v.2 l (subst (λ (x : Name). Precedes x (v.0 ∷ v.2)) v.4 (subst (Precedes (name_of s)) v.3 d)))
 
   pub child_before : (o : Task) → In (place o) (ys ++ place s ∷ zs) → is_child (name_of o) (name_of s) ≡ true → In (place o) ys

@@ -2,7 +2,7 @@
 use Rattle.std.specs.Prelude.{◌≡◌, true, ◌⊎◌, ℕ, zero, suc, ◌+◌, ◌<◌, ◌≤◌}
 use Rattle.std.proofs.Math.Path.{refl, ap, sym}
 use Rattle.std.proofs.Common.{◌∙◌, subst, arith}
-use mathlib.Core.List.{List, [], ◌∷◌, head_eq_of_cons_eq, tail-eq_of_cons-eq}
+use mathlib.Core.List.{List, [], ◌∷◌, head-eq_of_cons-eq, tail-eq_of_cons-eq}
 use Rattle.std.proofs.Math.Logic.{inl, inr, ⊎_elim}
 use Rattle.spec_words.specs.Words.{load}
 use Rattle.spec_lists.specs.Counting.{equal?}
@@ -23,7 +23,7 @@ older_trans a b d e f =
     let v = older_says a b e in
     let w = older_says b d f in
     let g : v.1 ∷ v.2 ≡ w.0 ∷ w.2 = sym v.4 ∙ w.3 in
-    let i = head_eq_of_cons_eq g in
+    let i = head-eq_of_cons-eq g in
     let l = v.5 in
     let k = w.5 in
     subst (λ (x : Name). is_older x d ≡ true) (sym (v.3 ∙ ap (λ (n : Name). v.0 ∷ n) (tail-eq_of_cons-eq g)))
@@ -35,8 +35,8 @@ older_apart a b e f =
     let w = older_says b a f in
     let g : v.1 ∷ v.2 ≡ w.0 ∷ w.2 = sym v.4 ∙ w.3 in
     let k : v.0 ∷ v.2 ≡ w.1 ∷ w.2 = sym v.3 ∙ w.4 in
-    let i = head_eq_of_cons_eq g in
-    let j = head_eq_of_cons_eq k in
+    let i = head-eq_of_cons-eq g in
+    let j = head-eq_of_cons-eq k in
     let l = v.5 in
     let n = w.5 in
     omega (arith, i, j, l, n)
@@ -169,8 +169,8 @@ module _ (m : List ℕ) (T : List ℕ) (xs : List Item) (play : Played xs) (h : 
       let y = older_says (name_of o) (name_of v.0) a in
       let f : y.0 ∷ y.2 ≡ k ∷ name_of s = sym y.3 ∙ e in
       let g : y.1 ∷ y.2 ≡ v.2 ∷ name_of s = sym y.4 ∙ named in
-      let fi = head_eq_of_cons_eq f in
-      let gi = head_eq_of_cons_eq g in
+      let fi = head-eq_of_cons-eq f in
+      let gi = head-eq_of_cons-eq g in
       let l = y.5 in
       inr (v.0, v.2, v.3, named, omega (arith, fi, gi, l), back))
       (law.younger_linked (number_of o) (number_of s) (child_link o s k j i e))

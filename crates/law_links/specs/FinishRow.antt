@@ -1,7 +1,7 @@
 -- THE TOUR AFTER A FINISH: the two marks of the task, which stand side by side, are gone.
 use Rattle.std.specs.Prelude.{◌≡◌, refl, ◌⊎◌, ℕ, ◌+◌, ◌<◌, ◌≤◌}
 use Rattle.std.proofs.Common.{ap, ap₂, sym, ◌∙◌, subst, inl, inr, ⊎_elim, arith}
-use mathlib.Core.List.{List, [], ◌∷◌, ◌++◌, head_eq_of_cons_eq, cons-ne-nil}
+use mathlib.Core.List.{List, [], ◌∷◌, ◌++◌, head-eq_of_cons-eq, cons-ne-nil}
 use Rattle.spec_lists.specs.Counting.{occurrences, equal?, occurs_here, occurs_past, occurs_append, occurs_first, occurs_later}
 use Rattle.spec_layout.specs.Layout.{NONE, STATUS, RIGHTS, PARENT, OLDER, YOUNGER, YOUNGEST, task, read}
 use Rattle.spec_tree.specs.Rights.{subset}
@@ -229,7 +229,7 @@ module _ (m n : List ℕ) (T : List ℕ) (xs : List Item) (h : Linked m T xs) (t
   in_front : b ≡ [] → ⊥
   in_front e =
       let f : t ∷ (128 + t) ∷ a ≡ 0 ∷ h.first.0 = ap (λ (l : List ℕ). l ++ t ∷ (128 + t) ∷ a) (sym e) ∙ sym here ∙ h.first.1 in
-      let g = head_eq_of_cons_eq f in
+      let g = head-eq_of_cons-eq f in
       omega (arith, g, above)
 
   pub cut_row : Row d (b ++ a)
@@ -240,4 +240,4 @@ module _ (m n : List ℕ) (T : List ℕ) (xs : List Item) (h : Linked m T xs) (t
     where
       go : (b : List ℕ) → b ++ t ∷ (128 + t) ∷ a ≡ 0 ∷ h.first.0 → (b ≡ [] → ⊥) → (l : List ℕ) × (b ++ a ≡ 0 ∷ l)
       go [] e f = absurd (f refl)
-      go (x ∷ b) e f = (b ++ a, ap (λ (u : ℕ). u ∷ (b ++ a)) (head_eq_of_cons_eq e))
+      go (x ∷ b) e f = (b ++ a, ap (λ (u : ℕ). u ∷ (b ++ a)) (head-eq_of_cons-eq e))

@@ -1,7 +1,7 @@
 -- THE FREE RECORDS AND THE TOP AFTER A FINISH: the record of the task goes to the stack.
 use Rattle.std.specs.Prelude.{◌≡◌, true, ◌⊎◌, ℕ, suc, ◌+◌, ◌-◌, ◌*◌, ◌<◌, ◌≤◌, length, drop, take}
 use Rattle.std.proofs.Common.{ap, ap₂, sym, ◌∙◌, inl, inr, ⊎_elim, arith, length-append}
-use mathlib.Core.List.{List, [], ◌∷◌, ◌++◌, head_eq_of_cons_eq}
+use mathlib.Core.List.{List, [], ◌∷◌, ◌++◌, head-eq_of_cons-eq}
 use Rattle.spec_lists.specs.Counting.{occurrences, equal?, occurs_here, occurs_past, occurs_append, occurs_nil}
 use Rattle.spec_layout.specs.Layout.{FREE_TASKS, STATUS, RIGHTS, PARENT, free_tasks, read}
 use Rattle.spec_rules.specs.Contents.{Contents, decode, word}
@@ -36,7 +36,7 @@ module _ (m n : List ℕ) (T : List ℕ) (xs : List Item) (h : Linked m T xs) (t
       omega (arith, e, f, g, i)
     where
       in_front : (l : List ℕ) → l ++ t ∷ (128 + t) ∷ a ≡ 0 ∷ h.first.0 → 1 ≤ length l
-      in_front [] e = let g = head_eq_of_cons_eq e in let z : ⊥ = omega (arith, g, above) in absurd z
+      in_front [] e = let g = head-eq_of_cons-eq e in let z : ⊥ = omega (arith, g, above) in absurd z
       in_front (x ∷ l) e = omega arith
 
   high : read m free_tasks ≡ length c.idle

@@ -1,7 +1,7 @@
 -- WHERE A TASK STANDS in the tour: what the tour meets behind it are the spots before its own.
 use Rattle.std.specs.Prelude.{◌≡◌, refl, Bool, true, false, ℕ, zero, suc, ◌+◌, ◌<◌, ◌≤◌, ltb, leb, length}
 use Rattle.std.proofs.Common.{ap, ap₂, sym, ◌∙◌, subst, inl, ⊎_elim, arith, length-append}
-use mathlib.Core.List.{List, [], ◌∷◌, ◌++◌, head_eq_of_cons_eq, tail-eq_of_cons-eq, append_assoc, cons-ne-nil, append-ne-nil_of_right_ne-nil}
+use mathlib.Core.List.{List, [], ◌∷◌, ◌++◌, head-eq_of_cons-eq, tail-eq_of_cons-eq, append_assoc, cons-ne-nil, append-ne-nil_of_right_ne-nil}
 use Rattle.spec_words.specs.Words.{pick}
 use Rattle.spec_lists.specs.Counting.{below?}
 use Rattle.spec_layout.specs.Layout.{NONE, YOUNGEST, task, read, record_of}
@@ -47,10 +47,10 @@ entered_parts (x ∷ T) l r t e =
     on : (l : List ℕ) → x ∷ entered T ≡ l ++ t ∷ r → x < 128
         → ((k : List ℕ) → entered T ≡ k ++ t ∷ r → (b : List ℕ) × (a : List ℕ) × (T ≡ b ++ t ∷ a) × (entered b ≡ k) × (entered a ≡ r))
         → (b : List ℕ) × (a : List ℕ) × (x ∷ T ≡ b ++ t ∷ a) × (entered b ≡ l) × (entered a ≡ r)
-    on [] d h rest = ([], T, ap (λ (y : ℕ). y ∷ T) (head_eq_of_cons_eq d), refl, tail-eq_of_cons-eq d)
+    on [] d h rest = ([], T, ap (λ (y : ℕ). y ∷ T) (head-eq_of_cons-eq d), refl, tail-eq_of_cons-eq d)
     on (y ∷ l) d h rest =
         let w = rest l (tail-eq_of_cons-eq d) in
-        (x ∷ w.0, w.1, ap (λ (k : List ℕ). x ∷ k) w.2, entered_here x w.0 h ∙ ap₂ (λ (z : ℕ) (k : List ℕ). z ∷ k) (head_eq_of_cons_eq d) w.3, w.4)
+        (x ∷ w.0, w.1, ap (λ (k : List ℕ). x ∷ k) w.2, entered_here x w.0 h ∙ ap₂ (λ (z : ℕ) (k : List ℕ). z ∷ k) (head-eq_of_cons-eq d) w.3, w.4)
 
     over : 128 ≤ x → (b : List ℕ) × (a : List ℕ) × (T ≡ b ++ t ∷ a) × (entered b ≡ l) × (entered a ≡ r)
         → (b : List ℕ) × (a : List ℕ) × (x ∷ T ≡ b ++ t ∷ a) × (entered b ≡ l) × (entered a ≡ r)

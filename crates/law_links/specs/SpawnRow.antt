@@ -1,7 +1,7 @@
 -- THE TOUR AFTER A SPAWN: the child is entered just behind its spawner.
 use Rattle.std.specs.Prelude.{◌≡◌, refl, true, ℕ, ◌+◌, ◌<◌}
 use Rattle.std.proofs.Common.{ap, ap₂, sym, ◌∙◌, subst, ⊎_elim, arith}
-use mathlib.Core.List.{List, [], ◌∷◌, ◌++◌, head_eq_of_cons_eq}
+use mathlib.Core.List.{List, [], ◌∷◌, ◌++◌, head-eq_of_cons-eq}
 use Rattle.spec_lists.specs.Counting.{occurrences, occurs_here, occurs_append, occurs_first, occurs_later}
 use Rattle.spec_layout.specs.Layout.{NONE, STATUS, RIGHTS, PARENT, OLDER, YOUNGER, YOUNGEST, task, rights_of, read}
 use Rattle.spec_tree.specs.Rights.{subset}
@@ -155,5 +155,5 @@ module _ (m n : List ℕ) (T : List ℕ) (xs : List Item) (h : Linked m T xs) (t
   new_first = go b (sym here ∙ h.first.1)
     where
       go : (b : List ℕ) → b ++ t ∷ a ≡ 0 ∷ h.first.0 → (l : List ℕ) × (b ++ t ∷ u ∷ (128 + u) ∷ a ≡ 0 ∷ l)
-      go [] e = (u ∷ (128 + u) ∷ a, ap (λ (x : ℕ). x ∷ u ∷ (128 + u) ∷ a) (head_eq_of_cons_eq e))
-      go (y ∷ b) e = (b ++ t ∷ u ∷ (128 + u) ∷ a, ap (λ (x : ℕ). x ∷ (b ++ t ∷ u ∷ (128 + u) ∷ a)) (head_eq_of_cons_eq e))
+      go [] e = (u ∷ (128 + u) ∷ a, ap (λ (x : ℕ). x ∷ u ∷ (128 + u) ∷ a) (head-eq_of_cons-eq e))
+      go (y ∷ b) e = (b ++ t ∷ u ∷ (128 + u) ∷ a, ap (λ (x : ℕ). x ∷ (b ++ t ∷ u ∷ (128 + u) ∷ a)) (head-eq_of_cons-eq e))

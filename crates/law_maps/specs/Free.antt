@@ -2,7 +2,7 @@
 use Rattle.std.specs.Prelude.{◌≡◌, refl, Bool, true, false, length, eqb}
 use Rattle.std.proofs.Common.{ap, ap₂, sym, ◌∙◌, add-one, eq-eqb, ne_eqb, eqb-true, lt-ltb}
 use Rattle.std.proofs.Math.Option.{none, some, none-ne-some, some-injective}
-use mathlib.Core.List.{List, [], ◌∷◌, head_eq_of_cons_eq, tail-eq_of_cons-eq}
+use mathlib.Core.List.{List, [], ◌∷◌, head-eq_of_cons-eq, tail-eq_of_cons-eq}
 use Prim.Native.Nat.{ℕ, zero, suc, ◌+◌, ◌-◌, ◌*◌, ◌<◌, ◌≤◌}
 use native.Mathlib.Omega.{arith}
 use Rattle.spec_words.specs.Words.{store, size, pass, halt}
@@ -89,7 +89,7 @@ module _ (m : List ℕ) (s a b c : ℕ) where
 stack_first : (f : ℕ → ℕ) (n g : ℕ) (r : List ℕ) → stack f n ≡ g ∷ r → (j : ℕ) × (n ≡ suc j) × (f j ≡ g) × (stack f j ≡ r)
 unfolding stack
 stack_first f zero g r e = let z : 0 ≡ suc (length r) = ap length e in let y : ⊥ = omega (arith, z) in absurd y
-stack_first f (suc n) g r e = (n, refl, head_eq_of_cons_eq e, tail-eq_of_cons-eq e)
+stack_first f (suc n) g r e = (n, refl, head-eq_of_cons-eq e, tail-eq_of_cons-eq e)
 
 stack_length : (f : ℕ → ℕ) (n : ℕ) → length (stack f n) ≡ n
 unfolding stack

@@ -1,7 +1,7 @@
 -- One value more at the end of a segment, and the first value gone.
 use Rattle.std.specs.Prelude.{◌≡◌, refl, ℕ, zero, suc, ◌+◌, ◌-◌, ◌*◌, ◌<◌, ◌≤◌, length}
 use Rattle.std.proofs.Common.{ap, ap₂, sym, ◌∙◌, arith, add-one}
-use mathlib.Core.List.{List, [], ◌∷◌, ◌++◌, head_eq_of_cons_eq, tail-eq_of_cons-eq}
+use mathlib.Core.List.{List, [], ◌∷◌, ◌++◌, head-eq_of_cons-eq, tail-eq_of_cons-eq}
 use Rattle.spec_layout.specs.Layout.{segment, value, first, count, length_of, Opened, address, read, write}
 use Rattle.spec_layout.specs.Frame.{read_same, size_write}
 use Rattle.spec_outcomes.specs.Segments.{place, value_at, stored, dropped}
@@ -50,7 +50,7 @@ value_stored m s v z hs hc =
 listed_first : (f : ℕ → ℕ) (n w : ℕ) (r : List ℕ) → listed f n ≡ w ∷ r → (j : ℕ) × (n ≡ suc j) × (f 0 ≡ w) × (listed (λ k. f (suc k)) j ≡ r)
 unfolding listed
 listed_first f zero w r e = let z : 0 ≡ suc (length r) = ap length e in let y : ⊥ = omega (arith, z) in absurd y
-listed_first f (suc n) w r e = (n, refl, head_eq_of_cons_eq e, tail-eq_of_cons-eq e)
+listed_first f (suc n) w r e = (n, refl, head-eq_of_cons-eq e, tail-eq_of_cons-eq e)
 
 pub first_value : (m : List ℕ) (s w : ℕ) (r : List ℕ) → s < 256 → contents_in m s ≡ w ∷ r → (value_at m s 0 ≡ w) × (read m (count s) ≡ suc (length r))
 first_value m s w r hs e =

@@ -2,7 +2,7 @@
 use Rattle.std.specs.Prelude.{◌≡◌, refl, Bool, true, false, ◌⊎◌, ℕ, ◌≤◌, length}
 use Rattle.std.proofs.Common.{ap, sym, ◌∙◌, inl, inr, arith, length-append, eqb-true, eq-eqb}
 use Rattle.std.proofs.lemmas.Bool.{false≢true}
-use mathlib.Core.List.{List, [], ◌∷◌, ◌++◌, append_assoc, head_eq_of_cons_eq, tail-eq_of_cons-eq}
+use mathlib.Core.List.{List, [], ◌∷◌, ◌++◌, append_assoc, head-eq_of_cons-eq, tail-eq_of_cons-eq}
 use Rattle.spec_words.specs.Words.{both_true, true_both}
 use Rattle.spec_order.specs.Steps.{Name}
 use Rattle.spec_order.specs.Waits.{same_name}
@@ -35,7 +35,7 @@ one_branch {i} {j} {p} {q} u v = go u.0 v.0 (sym u.1 ∙ v.1)
     far b k e = not_under_child (under_self p) (b, e)
 
     go : (a b : List ℕ) → a ++ (i ∷ p) ≡ b ++ (j ∷ p) → i ≡ j
-    go [] [] e = head_eq_of_cons_eq e
+    go [] [] e = head-eq_of_cons-eq e
     go [] (y ∷ b) e = absurd (far b j (tail-eq_of_cons-eq e))
     go (x ∷ a) [] e = absurd (far a i (sym (tail-eq_of_cons-eq e)))
     go (x ∷ a) (y ∷ b) e = go a b (tail-eq_of_cons-eq e)

@@ -48,18 +48,18 @@ balance q n (spot s ∷ xs) = balance q n xs
 pub covers_append : (q n : ℕ) (xs ys : List Item) → Covers q n xs → Covers q (balance q n xs) ys → Covers q n (xs ++ ys)
 unfolding balance
 covers_append q n [] ys h k = k
-covers_append q n (step p a ∷ xs) ys h k = (h.0, covers_append q _ xs ys h.1 k)
+covers_append q n (step p a ∷ xs) ys h k = (h.0, covers_append q (n + length (added q a) - takes q a) xs ys h.1 k)
 covers_append q n (spot s ∷ xs) ys h k = covers_append q n xs ys h k
 
 pub covers_front : (q n : ℕ) (xs ys : List Item) → Covers q n (xs ++ ys) → Covers q n xs
 covers_front q n [] ys h = tt
-covers_front q n (step p a ∷ xs) ys h = (h.0, covers_front q _ xs ys h.1)
+covers_front q n (step p a ∷ xs) ys h = (h.0, covers_front q (n + length (added q a) - takes q a) xs ys h.1)
 covers_front q n (spot s ∷ xs) ys h = covers_front q n xs ys h
 
 pub covers_behind : (q n : ℕ) (xs ys : List Item) → Covers q n (xs ++ ys) → Covers q (balance q n xs) ys
 unfolding balance
 covers_behind q n [] ys h = h
-covers_behind q n (step p a ∷ xs) ys h = covers_behind q _ xs ys h.1
+covers_behind q n (step p a ∷ xs) ys h = covers_behind q (n + length (added q a) - takes q a) xs ys h.1
 covers_behind q n (spot s ∷ xs) ys h = covers_behind q n xs ys h
 
 -- more values do no harm
@@ -68,7 +68,7 @@ covers_more q n k [] l h = tt
 covers_more q n k (step p a ∷ xs) l h =
     let t = h.0 in (
       omega (arith, t, l),
-      covers_more q _ _ xs (let i : n + length (added q a) - takes q a ≤ k + length (added q a) - takes q a = omega (arith, l) in i) h.1,
+      covers_more q (n + length (added q a) - takes q a) (k + length (added q a) - takes q a) xs (let i : n + length (added q a) - takes q a ≤ k + length (added q a) - takes q a = omega (arith, l) in i) h.1,
     )
 covers_more q n k (spot s ∷ xs) l h = covers_more q n k xs l h
 

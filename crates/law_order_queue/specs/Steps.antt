@@ -2,7 +2,7 @@
 use Rattle.std.specs.Prelude.{◌≡◌, refl, Bool, true, false, ℕ, ◌+◌, ◌≤◌, eqb}
 use Rattle.std.proofs.Math.Path.{ap}
 use Rattle.std.proofs.Common.{ap₂, sym, ◌∙◌, ⊎_elim, arith}
-use mathlib.Core.List.{List, [], ◌∷◌, ◌++◌, append_assoc, head_eq_of_cons_eq, tail-eq_of_cons-eq}
+use mathlib.Core.List.{List, [], ◌∷◌, ◌++◌, append_assoc, head-eq_of_cons-eq, tail-eq_of_cons-eq}
 use Rattle.spec_words.specs.Words.{pick, halt}
 use Rattle.spec_lists.specs.Counting.{one, one_yes}
 use Rattle.spec_tree.specs.Rights.{uses}
@@ -38,7 +38,7 @@ one_way t [] b (x ∷ c) d h e =
     let z : ⊥ = omega (arith, f, g, h, i) in
     absurd z
 one_way t (x ∷ a) b [] d h e =
-    let y : x ≡ user t = head_eq_of_cons_eq e in
+    let y : x ≡ user t = head-eq_of_cons-eq e in
     let g = users_append t a (user t ∷ b) in
     let i = one_yes t t refl in
     let j : user_count t (x ∷ (a ++ user t ∷ b)) ≡ one (eqb t t) + user_count t (a ++ user t ∷ b) = ap (λ (p : Point). user_count t (p ∷ (a ++ user t ∷ b))) y in
@@ -46,7 +46,7 @@ one_way t (x ∷ a) b [] d h e =
     absurd z
 one_way t (x ∷ a) b (y ∷ c) d h e =
     let w = one_way t a b c d (fewer x h) (tail-eq_of_cons-eq e) in
-    (ap₂ (λ (p : Point) (l : List Point). p ∷ l) (head_eq_of_cons_eq e) w.0, w.1)
+    (ap₂ (λ (p : Point) (l : List Point). p ∷ l) (head-eq_of_cons-eq e) w.0, w.1)
   where
     fewer : (x : Point) → user_count t (x ∷ (a ++ user t ∷ b)) ≤ 1 → user_count t (a ++ user t ∷ b) ≤ 1
     fewer (value v) h = h
@@ -75,10 +75,10 @@ along_users q t (spot s ∷ xs) = go (uses (rights_of s) q) (along_users q t xs)
 behind_values : (vs : List ℕ) (t : ℕ) (l r ps : List Point) → l ++ user t ∷ r ≡ values vs ++ ps
     → (a : List Point) × (l ≡ values vs ++ a) × (ps ≡ a ++ user t ∷ r)
 behind_values [] t l r ps e = (l, refl, sym e)
-behind_values (v ∷ vs) t [] r ps e = absurd (apart (sym (head_eq_of_cons_eq e)))
+behind_values (v ∷ vs) t [] r ps e = absurd (apart (sym (head-eq_of_cons-eq e)))
 behind_values (v ∷ vs) t (x ∷ l) r ps e =
     let w = behind_values vs t l r ps (tail-eq_of_cons-eq e) in
-    (w.0, ap₂ (λ (p : Point) (l : List Point). p ∷ l) (head_eq_of_cons_eq e) w.1, w.2)
+    (w.0, ap₂ (λ (p : Point) (l : List Point). p ∷ l) (head-eq_of_cons-eq e) w.1, w.2)
 
 module _ (q : ℕ) (ys zs : List Item) (s : Task) where
   abbrev Here : List Item

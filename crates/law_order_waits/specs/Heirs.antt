@@ -4,7 +4,7 @@ use Rattle.std.proofs.Common.{ap, sym, ◌∙◌, subst, inl, inr, ⊎_elim, eq-
 use Rattle.std.proofs.Math.Path.{ap₂}
 use Rattle.std.proofs.Math.Bool.{true, false}
 use Rattle.std.proofs.lemmas.Bool.{false≢true}
-use mathlib.Core.List.{List, [], ◌∷◌, ◌++◌, head_eq_of_cons_eq, tail-eq_of_cons-eq}
+use mathlib.Core.List.{List, [], ◌∷◌, ◌++◌, head-eq_of_cons-eq, tail-eq_of_cons-eq}
 use Rattle.std.proofs.Math.Option.{Option, none, some}
 use Rattle.spec_words.specs.Words.{pick, pass, halt}
 use Rattle.spec_tree.specs.Rights.{pops as mayPop}
@@ -92,7 +92,7 @@ module _ (ys zs : List Item) (s : Task) (q : ℕ) where
         let w = older_says o n l in
         let d = w.4 in
         let f : w.1 ∷ w.2 ≡ j ∷ p = sym d ∙ e in
-        let g = head_eq_of_cons_eq f in
+        let g = head-eq_of_cons-eq f in
         let x = w.5 in
         (w.0, w.3 ∙ ap (λ (y : Name). w.0 ∷ y) (tail-eq_of_cons-eq f), omega (arith, g, x))
 

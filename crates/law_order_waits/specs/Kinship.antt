@@ -3,7 +3,7 @@ use Rattle.std.specs.Prelude.{◌≡◌, refl, true, false, ℕ, ◌+◌, ◌<�
 use Rattle.std.proofs.Math.Path.{ap, ap₂, subst}
 use Rattle.std.proofs.Common.{sym, ◌∙◌, inl, inr, arith}
 use Rattle.std.proofs.Math.Bool.{false≢true}
-use mathlib.Core.List.{List, [], ◌∷◌, ◌++◌, head_eq_of_cons_eq, tail-eq_of_cons-eq, cons-ne-nil}
+use mathlib.Core.List.{List, [], ◌∷◌, ◌++◌, head-eq_of_cons-eq, tail-eq_of_cons-eq, cons-ne-nil}
 use Rattle.std.proofs.Math.Logic.{⊎_elim}
 use Rattle.spec_words.specs.Words.{both_true, true_both}
 use Rattle.spec_tree.specs.Rights.{subset, shares_pop}
@@ -34,7 +34,7 @@ module _ (xs : List Item) where
     pub idle : (o s c : Task) (k : ℕ) → Blocks o s → Stands s → Stands c → name_of c ≡ k ∷ name_of s → ⊥
 
 cons_same : {i j : ℕ} {p q : Name} → i ∷ p ≡ j ∷ q → (i ≡ j) × (p ≡ q)
-cons_same e = (head_eq_of_cons_eq e, tail-eq_of_cons-eq e)
+cons_same e = (head-eq_of_cons-eq e, tail-eq_of_cons-eq e)
 
 top_alone : (s : Task) → In (spot s) begin → name_of s ≡ []
 unfolding begin name_of

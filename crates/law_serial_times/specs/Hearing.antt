@@ -14,6 +14,7 @@ use Rattle.spec_line.specs.Rights.{Passes, Tasks}
 use Rattle.law_job_line.specs.Tasks.{by_test}
 use Rattle.law_timed_line.specs.Times.{Timed, at, later, later_bounds, later_least}
 use Rattle.law_timed_line.specs.Walks.{given, Waits, Walk}
+use Rattle.law_timed_line.specs.Once.{ends}
 use Rattle.law_timed_line.specs.Back.{given_more}
 use Rattle.law_timed_line.specs.Agreement.{Bare}
 use Rattle.law_serial_times.specs.Ended.{ended, Among, Every}
@@ -136,8 +137,7 @@ module _ {S : Type 0} (T : Tasks S) (W : Waits T) where
   pub time_is : (u : S) (m e : Search) (a d : ℕ) (f : List (Timed S)) (t : ℕ) (r : List (Timed S)) {k : List (Timed S)} → Bare f
       → Walk T W u m e a d (f ++ at t (spot u) ∷ r) k → d ≡ later (hear (counting u) m a f) t + W.ticks u
   unfolding hear
-  time_is u m e a d [] t r b (Walk.here xs acts i) = i
-  time_is u m e a d [] t r b (Walk.past g v) = absurd (g.1.0 (W.self u))
+  time_is u m e a d [] t r b w = (ends T W u u m e a t d refl w).time
   time_is u m e a d (at x (value p v) ∷ f) t r b (Walk.past g w) =
       let h = meets_past m p v a x g.0 in
       rw (h.0, h.1) (time_is u m e a d f t r b.1 w)
@@ -145,5 +145,5 @@ module _ {S : Type 0} (T : Tasks S) (W : Waits T) where
       let h = meets_found c p v a x in
       rw (h.0, h.1) (time_is u (found c p v) e (later a x) d f t r b.1 w)
   time_is u m e a d (at x (spot s) ∷ f) t r b w = absurd b.0
-  time_is u m e a d (at x (finished s) ∷ f) t r b (Walk.past g w) = time_is u m e _ d f t r b.1 w
-  time_is u m e a d (at x (gave q) ∷ f) t r b (Walk.past g w) = time_is u m e _ d f t r b.1 w
+  time_is u m e a d (at x (finished s) ∷ f) t r b (Walk.past g w) = time_is u m e (pick (W.counts m u s) (later a x) a) d f t r b.1 w
+  time_is u m e a d (at x (gave q) ∷ f) t r b (Walk.past g w) = time_is u m e (given m q x a) d f t r b.1 w

@@ -2,15 +2,16 @@
 -- that one away or leaves it.
 use Rattle.std.specs.Prelude.{◌≡◌, Bool, ℕ, eqb}
 use Rattle.std.proofs.Math.Path.{refl, ap, sym}
-use Rattle.std.proofs.Common.{◌∙◌, eq-eqb, ne_eqb}
+use Rattle.std.proofs.Common.{◌∙◌, subst₂, eq-eqb, ne_eqb}
 use Rattle.std.proofs.Math.Bool.{true, false}
 use mathlib.Core.List.{List, [], ◌∷◌, ◌++◌}
 use Rattle.std.proofs.Math.Option.{Option, none, some}
 use Rattle.spec_words.specs.Words.{pick, halt, pass}
 use Rattle.spec_line.specs.Line.{Item, value, spot, finished, gave, Search, free, seeking, found, putting, Acts, found_by}
 use Rattle.spec_line.specs.Rights.{Passes, Tasks}
-use Rattle.law_timed_line.specs.Times.{picked, Timed, at, stamp, leave_at}
-use Rattle.law_timed_line.specs.Walks.{Waits, Walk}
+use Rattle.law_timed_line.specs.Times.{picked, Timed, at, later, stamp, leave_at}
+use Rattle.law_timed_line.specs.Walks.{given, Waits, Walk}
+use Rattle.law_timed_line.specs.Once.{ends}
 use Rattle.law_timed_line.specs.Agreement.{Bare}
 use Rattle.law_serial_times.specs.Ended.{Over, over, ended}
 
@@ -118,16 +119,17 @@ module _ {S : Type 0} (T : Tasks S) (W : Waits T) where
 
   pub leaves : (u : S) (m e : Search) (a d : ℕ) (f : List (Timed S)) (t : ℕ) (r : List (Timed S)) {k : List (Timed S)} → Bare f
       → Walk T W u m e a d (f ++ at t (spot u) ∷ r) k → Leaves u m e d f r k
-  leaves u m e a d [] t r b (Walk.here xs acts i) = ends_here u m d t r xs acts
-  leaves u m e a d [] t r b (Walk.past g v) = absurd (g.1.0 (W.self u))
+  leaves u m e a d [] t r b w =
+      let z = ends T W u u m e a t d refl w in
+      subst₂ (λ (i : Search) (l : List (Timed S)). Leaves u m i d [] r l) z.found (sym z.line) (ends_here u m d t r z.puts z.acts)
   leaves u m e a d (at x (value p v) ∷ f) t r b (Walk.past g w) =
-      past_item u m e d (at x (value p v)) f r _ (skips_value m x p v g.0) (leaves u m e _ d f t r b.1 w)
-  leaves u m e a d (at x (value p v) ∷ f) t r b (Walk.finds {b = c} w) = finds_item u c p v x e d f r _ (leaves u (found c p v) e _ d f t r b.1 w)
+      past_item u m e d (at x (value p v)) f r _ (skips_value m x p v g.0) (leaves u m e a d f t r b.1 w)
+  leaves u m e a d (at x (value p v) ∷ f) t r b (Walk.finds {b = c} w) = finds_item u c p v x e d f r _ (leaves u (found c p v) e (later a x) d f t r b.1 w)
   leaves u m e a d (at x (spot s) ∷ f) t r b w = absurd b.0
   leaves u m e a d (at x (gave q) ∷ f) t r b (Walk.past g w) =
-      past_item u m e d (at x (gave q)) f r _ (skips_gave m x q) (leaves u m e _ d f t r b.1 w)
+      past_item u m e d (at x (gave q)) f r _ (skips_gave m x q) (leaves u m e (given m q x a) d f t r b.1 w)
   leaves u m e a d (at x (finished s) ∷ f) t r b (Walk.past g w) =
-      past_item u m e d (at x (finished s)) f r _ (skips_finished m x s) (leaves u m e _ d f t r b.1 w)
+      past_item u m e d (at x (finished s)) f r _ (skips_finished m x s) (leaves u m e (pick (W.counts m u s) (later a x) a) d f t r b.1 w)
 
 -- TAKING A VALUE leaves the finished tasks, and no task is unfinished there
 module _ {S : Type 0} (q : ℕ) where

@@ -2,7 +2,7 @@
 -- steps of the run are timed so.
 use Rattle.std.specs.Prelude.{◌≡◌, true, ℕ, ◌+◌, ◌≤◌}
 use Rattle.std.proofs.Math.Path.{refl}
-use Rattle.std.proofs.Common.{◌∙◌, arith, ltb-true}
+use Rattle.std.proofs.Common.{sym, ◌∙◌, subst, arith, ltb-true}
 use mathlib.Core.List.{List, [], ◌∷◌, ◌++◌, append-nil}
 use Rattle.std.proofs.Math.Option.{none}
 use Rattle.spec_words.specs.Words.{both_true, true_both}
@@ -21,7 +21,7 @@ use Rattle.law_timed_line.specs.Times.{Timed, at}
 use Rattle.law_timed_line.specs.Agreement.{MoveOf, Bare}
 use Rattle.law_job_times.specs.Kin.{awaits, ticks_of}
 use Rattle.law_job_times.specs.Times.{job_waits}
-use Rattle.law_serial_times.specs.Ended.{over, ended, ended_append}
+use Rattle.law_serial_times.specs.Ended.{Over, over, ended, ended_append}
 use Rattle.law_serial_times.specs.Leaving.{ended_taken}
 use Rattle.law_serial_times.specs.Dominated.{Frame, frame, spots_of, Pop, Dom, Nobody, goes_dom, spawn_dom}
 use Rattle.law_serial_times.specs.Returned.{Nested, return_dom}
@@ -44,7 +44,7 @@ module _ (j : List ℕ) (ticks : ℕ → ℕ) (f : List (Timed Runner)) (t : ℕ
   -- the task goes on, and nobody has finished
   goes : (g : List (Timed Runner)) (w : Runner) → ended g ≡ ended f → w.task.name ≡ u.task.name → w.task.procedure ≡ u.task.procedure
       → u.task.children ≤ w.task.children → Dom j (ended g) (Nobody j) (frame d w ∷ st)
-  goes g w i n p c = rw i (goes_dom j (ended f) t d u w st (n, p) c after dom)
+  goes g w i n p c = subst (λ (o : List (Over Runner)). Dom j o (Nobody j) (frame d w ∷ st)) (sym i) (goes_dom j (ended f) t d u w st (n, p) c after dom)
 
   puts_value : (q y : ℕ) → ended (f ++ at d (value q y) ∷ []) ≡ ended f
   unfolding ended

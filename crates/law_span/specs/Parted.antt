@@ -1,7 +1,7 @@
 -- THE TASKS OF A LINE OF THE SERIAL RUN are its stack: what is over, then the spots.
 use Rattle.std.specs.Prelude.{◌≡◌, refl, true, ℕ}
 use Rattle.std.proofs.Common.{ap, ap₂, sym, ltb-true}
-use mathlib.Core.List.{List, [], ◌∷◌, ◌++◌, nil≢cons, head_eq_of_cons_eq, tail-eq_of_cons-eq}
+use mathlib.Core.List.{List, [], ◌∷◌, ◌++◌, nil≢cons, head-eq_of_cons-eq, tail-eq_of_cons-eq}
 use Rattle.spec_words.specs.Words.{both_true, true_both}
 use Rattle.spec_tree.specs.Rights.{subset}
 use Rattle.spec_tree.specs.Users.{subset_pops}
@@ -29,11 +29,11 @@ same_runners [] [] [] [] a b e = refl
 same_runners [] [] [] (x ∷ xs) a b e = absurd (nil≢cons e)
 same_runners [] [] (u ∷ us) [] a b e = absurd (nil≢cons (sym e))
 same_runners [] [] (u ∷ us) (x ∷ xs) a b e =
-    let h : u ≡ x = cc (head_eq_of_cons_eq e) in ap₂ (λ (y : Runner) (ys : List Runner). y ∷ ys) h (same_runners [] [] us xs tt tt (tail-eq_of_cons-eq e))
+    let h : u ≡ x = cc (head-eq_of_cons-eq e) in ap₂ (λ (y : Runner) (ys : List Runner). y ∷ ys) h (same_runners [] [] us xs tt tt (tail-eq_of_cons-eq e))
 same_runners [] (w ∷ ws) [] xs a b e = absurd (nil≢cons e)
-same_runners [] (w ∷ ws) (u ∷ us) xs a b e = absurd (rw (← head_eq_of_cons_eq e) at b.0)
+same_runners [] (w ∷ ws) (u ∷ us) xs a b e = absurd (rw (← head-eq_of_cons-eq e) at b.0)
 same_runners (v ∷ vs) [] us [] a b e = absurd (nil≢cons (sym e))
-same_runners (v ∷ vs) [] us (x ∷ xs) a b e = absurd (rw (head_eq_of_cons_eq e) at a.0)
+same_runners (v ∷ vs) [] us (x ∷ xs) a b e = absurd (rw (head-eq_of_cons-eq e) at a.0)
 same_runners (v ∷ vs) (w ∷ ws) us xs a b e = same_runners vs ws us xs a.1 b.1 (tail-eq_of_cons-eq e)
 
 -- each task of the plain machine's stack is the youngest child of the next

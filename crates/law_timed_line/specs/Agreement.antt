@@ -119,7 +119,7 @@ module _ {S : Type 0} (T : Tasks S) (W : Waits T) where
   agree {n} b s no_move = record { left = n; count = omega arith; run = s }
   agree b s (moves m ms) =
       let a = after_move b s m in
-      let c = agree b a.run ms in
+      let c = agree {n = a.left} b a.run ms in
       record { left = c.left; count = omega (arith, a.less, c.count); run = c.run }
 
   pub all_finished : {n k : ℕ} {r x y : Fronts} {l j z : List (Timed S)} → Bare z → Moves n r l y z → Bare j → Moves k r l x j
@@ -128,5 +128,5 @@ module _ {S : Type 0} (T : Tasks S) (W : Waits T) where
   all_finished b (moves m ms) c no_move = absurd (no_walk m.task _ m.end 0 m.done c m.move.walk)
   all_finished b ms c (moves o os) =
       let r = after_move b ms o in
-      let h = all_finished b r.run c os in
+      let h = all_finished {n = r.left} b r.run c os in
       (r.less ∙ ap suc h.0, h.1, h.2)

@@ -2,7 +2,7 @@
 -- a line need this.
 use Rattle.std.specs.Prelude.{◌≡◌, refl, ℕ}
 use Rattle.std.proofs.Common.{ap, ◌∙◌}
-use mathlib.Core.List.{List, [], ◌∷◌, ◌++◌, nil≢cons, head_eq_of_cons_eq, tail-eq_of_cons-eq}
+use mathlib.Core.List.{List, [], ◌∷◌, ◌++◌, nil≢cons, head-eq_of_cons-eq, tail-eq_of_cons-eq}
 use Rattle.spec_line.specs.Line.{Item}
 use Rattle.law_timed_line.specs.Times.{Timed, at, untimed}
 
@@ -23,7 +23,7 @@ module _ {S : Type 0} where
         before = [];
         time = t;
         behind = l;
-        line = ap (λ (z : Item S). at t z ∷ l) (head_eq_of_cons_eq e);
+        line = ap (λ (z : Item S). at t z ∷ l) (head-eq_of_cons-eq e);
         front = refl;
         rest = tail-eq_of_cons-eq e;
       }
@@ -34,6 +34,6 @@ module _ {S : Type 0} where
         time = p.time;
         behind = p.behind;
         line = ap (λ (k : List (Timed S)). at t y ∷ k) p.line;
-        front = ap (λ (k : List (Item S)). y ∷ k) p.front ∙ ap (λ (w : Item S). w ∷ f) (head_eq_of_cons_eq e);
+        front = ap (λ (k : List (Item S)). y ∷ k) p.front ∙ ap (λ (w : Item S). w ∷ f) (head-eq_of_cons-eq e);
         rest = p.rest;
       }

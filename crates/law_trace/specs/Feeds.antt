@@ -1,7 +1,7 @@
 -- LINES: texts that end with their only line feed. What is written of lines one behind the other, up to a line feed, is whole lines.
 use Rattle.std.specs.Prelude.{◌≡◌, refl, ℕ, suc, ◌≤◌, length, take, drop}
 use Rattle.std.proofs.Common.{ap, ap₂, sym, ◌∙◌, arith}
-use mathlib.Core.List.{List, [], ◌∷◌, ◌++◌, append_assoc, nil≢cons, head_eq_of_cons_eq, tail-eq_of_cons-eq}
+use mathlib.Core.List.{List, [], ◌∷◌, ◌++◌, append_assoc, nil≢cons, head-eq_of_cons-eq, tail-eq_of_cons-eq}
 use Rattle.std.proofs.Math.Seq.{append_snoc}
 use Rattle.spec_lists.specs.Counting.{occurrences, occurs_nil, occurs_here, occurs_past, occurs_append}
 use Rattle.spec_lists.specs.Maps.{All, Off, last_of, all_append, last_append}
@@ -63,11 +63,11 @@ record Past (w : List ℕ) (r xs ys : List ℕ) : Type 0 where
 past : (w : List ℕ) → Off 10 w → (r : List ℕ) (x : ℕ) (xs ys : List ℕ) → x ∷ (xs ++ ys) ≡ w ++ (10 ∷ r) → EndsLine (x ∷ xs) → Past w r (x ∷ xs) ys
 past [] o r x [] ys e h = record { rest = []; first = ap (λ (b : ℕ). b ∷ []) h; then = tail-eq_of_cons-eq e; ends = tt }
 past [] o r x (y ∷ xs) ys e h =
-    record { rest = y ∷ xs; first = ap (λ (b : ℕ). b ∷ y ∷ xs) (head_eq_of_cons_eq e); then = tail-eq_of_cons-eq e; ends = h }
-past (b ∷ w) o r x [] ys e h = absurd (o.0 (sym (head_eq_of_cons_eq e) ∙ h))
+    record { rest = y ∷ xs; first = ap (λ (b : ℕ). b ∷ y ∷ xs) (head-eq_of_cons-eq e); then = tail-eq_of_cons-eq e; ends = h }
+past (b ∷ w) o r x [] ys e h = absurd (o.0 (sym (head-eq_of_cons-eq e) ∙ h))
 past (b ∷ w) o r x (y ∷ xs) ys e h =
     let p = past w o.1 r y xs ys (tail-eq_of_cons-eq e) h in
-    record { rest = p.rest; first = ap₂ (λ (c : ℕ) (l : List ℕ). c ∷ l) (head_eq_of_cons_eq e) p.first; then = p.then; ends = p.ends }
+    record { rest = p.rest; first = ap₂ (λ (c : ℕ) (l : List ℕ). c ∷ l) (head-eq_of_cons-eq e) p.first; then = p.then; ends = p.ends }
 
 -- THE LAWS for things that are written as lines, one behind the other
 module _ {A : Type 0} (write : A → List ℕ) (text : List A → List ℕ) (none : text [] ≡ [])

@@ -7,13 +7,14 @@ ghost use Rattle.std.specs.Prelude.{◌≡◌, ◌+◌, ◌^◌, ◌<◌, ◌≤
 ghost use Rattle.law_any_two.specs.Reached.{Reached};
 
 use layout::WORDS;
-use libc::{STDIN_FILENO, STDOUT_FILENO};
 use read_file::{Bytes, JOB_BYTES};
 use runner_words::RUNNER_WORDS;
 use spec_serial::End;
+use std::io::{Read, Result, Write};
 
 // Makes the calls of the tasks, with words for their numbers and answers, and prints their lines; `before` calls were made before.
-fn print_made(
+fn print_made<O: Write>(
+    to: &mut O,
     job: &[u8],
     m: &mut [u32],
     r: &mut [u32],
@@ -21,7 +22,7 @@ fn print_made(
     words: &mut [u32],
     answers: &mut [u64],
     before: u64,
-) -> bool
+) -> Result<()>
     requires { Reached job.now m.old r.old × (length tasks.now ≤ 1024) × (length words.old ≡ length tasks.now)
         × (length answers.old ≡ length tasks.now) × (before + 1024 < 2 ^ 64) }
     ensures { Reached job.now m.new r.new }
@@ -29,37 +30,63 @@ fn print_made(
     overlap_text::widen(tasks, words);
     let mut out = io::large_buffer();
     let n = overlap_text::call_lines(&mut out, job, m, r, words, answers, before);
-    io::write_all(STDOUT_FILENO, &out[..n])
+    to.write_all(&out[..n])
 }
 
 // The same with words of its own.
-fn print_block(job: &[u8], tasks: &[u8], m: &mut [u32], r: &mut [u32], before: u64) -> bool
+fn print_block<O: Write>(
+    to: &mut O,
+    job: &[u8],
+    tasks: &[u8],
+    m: &mut [u32],
+    r: &mut [u32],
+    before: u64,
+) -> Result<()>
     requires { Reached job.now m.old r.old × (length tasks.now ≤ 1024) × (before + 1024 < 2 ^ 64) }
     ensures { Reached job.now m.new r.new }
 {
     let n = tasks.len();
     let mut words = [0u32; 1024];
     let mut answers = [0u64; 1024];
-    print_made(job, m, r, tasks, &mut words[..n], &mut answers[..n], before)
+    print_made(
+        to,
+        job,
+        m,
+        r,
+        tasks,
+        &mut words[..n],
+        &mut answers[..n],
+        before,
+    )
 }
 
 // Makes and prints the calls of standard input, as many at a time as one read gives.
-fn print_calls(job: &[u8], tasks: &mut [u8], m: &mut [u32], r: &mut [u32]) -> bool
+fn print_calls<I: Read, O: Write, E: Write>(
+    input: &mut I,
+    to: &mut O,
+    errors: &mut E,
+    job: &[u8],
+    tasks: &mut [u8],
+    m: &mut [u32],
+    r: &mut [u32],
+) -> bool
     requires { Reached job.now m.old r.old × (length tasks.old ≤ 1024) }
 {
     let mut before: u64 = 0;
     // No run gets to the bound. It keeps the number of a call within 64 bits.
     while before < 9223372036854775808 {
-        let some = read_file::read_some(STDIN_FILENO, tasks);
-        let Bytes::Read(k) = some else {
-            os::fail(b"standard input");
-            return false;
+        let k = match read_file::read_some(input, tasks) {
+            Bytes::Read(k) => k,
+            Bytes::Unread(e) => {
+                read_file::fail(errors, b"standard input", &e);
+                return false;
+            }
         };
         if k == 0 {
             return true;
         }
-        if !print_block(job, &tasks[..k], m, r, before) {
-            os::fail(b"standard output");
+        if let Err(e) = print_block(to, job, &tasks[..k], m, r, before) {
+            read_file::fail(errors, b"standard output", &e);
             return false;
         }
         before += k as u64;
@@ -68,74 +95,82 @@ fn print_calls(job: &[u8], tasks: &mut [u8], m: &mut [u32], r: &mut [u32]) -> bo
 }
 
 // Prints a line for each value left, queues in order.
-fn print_left(m: &[u32]) -> bool {
+fn print_left<O: Write>(to: &mut O, m: &[u32]) -> Result<()> {
     let mut values = [0u32; WORDS];
     let mut out = [0u8; WORDS * 27];
     for q in 0..4 {
         let r = overlap_text::queue_lines(&mut out, &mut values, m, q);
-        if !io::write_all(STDOUT_FILENO, &out[..r]) {
-            return false;
-        }
+        to.write_all(&out[..r])?;
     }
-    true
+    Ok(())
 }
 
 // Prints how many tasks are unfinished.
-fn print_open(m: &[u32]) -> bool {
+fn print_open<O: Write>(to: &mut O, m: &[u32]) -> Result<()> {
     let mut out = io::large_buffer();
     let n = overlap_text::open_line(&mut out, m);
-    io::write_all(STDOUT_FILENO, &out[..n])
+    to.write_all(&out[..n])
 }
 
 // Prints the end of a run: the values left, or that the top is unfinished.
-fn print_end(m: &[u32]) -> bool {
+fn print_end<O: Write>(to: &mut O, m: &[u32]) -> Result<()> {
     if walks::unfinished(m, 0) {
-        return print_open(m);
+        return print_open(to, m);
     }
-    print_left(m)
+    print_left(to, m)
 }
 
 // Prints the line of a job that was refused with number k.
-fn print_refused(k: u32) -> bool {
+fn print_refused<O: Write>(to: &mut O, k: u32) -> Result<()> {
     let mut out = io::large_buffer();
     let n = block_text::end_line(&mut out, End::Refused(k));
-    io::write_all(STDOUT_FILENO, &out[..n])
+    to.write_all(&out[..n])
 }
 
 // Makes the calls of standard input and prints the run.
-fn run_open(job: &[u8], m: &mut [u32], r: &mut [u32])
+fn run_open<I: Read, O: Write, E: Write>(
+    input: &mut I,
+    to: &mut O,
+    errors: &mut E,
+    job: &[u8],
+    m: &mut [u32],
+    r: &mut [u32],
+)
     requires { Reached job.now m.old r.old }
 {
     let mut tasks = [0u8; 1024];
-    if !print_calls(job, &mut tasks, m, r) {
+    if !print_calls(input, to, errors, job, &mut tasks, m, r) {
         return;
     }
-    if !print_end(m) {
-        os::fail(b"standard output");
+    if let Err(e) = print_end(to, m) {
+        read_file::fail(errors, b"standard output", &e);
     }
 }
 
 // Opens a job and runs it.
-fn run(job: &[u8]) {
+fn run<I: Read, O: Write, E: Write>(input: &mut I, to: &mut O, errors: &mut E, job: &[u8]) {
     let mut m = [0u32; WORDS];
     let mut r = [0u32; RUNNER_WORDS];
     let k = runner_open::open(job, &mut m, &mut r);
     if k == 0 {
-        run_open(job, &mut m, &mut r);
+        run_open(input, to, errors, job, &mut m, &mut r);
         return;
     }
-    if !print_refused(k) {
-        os::fail(b"standard output");
+    if let Err(e) = print_refused(to, k) {
+        read_file::fail(errors, b"standard output", &e);
     }
 }
 
-fn main() {
+fn main(rt: HostRuntime) {
+    let mut errors = rt.stderr();
     let mut file = [0u8; JOB_BYTES];
     let got = read_file::read_job(
+        &rt,
+        &mut errors,
         b"usage: overlap FILE, with task numbers as bytes on standard input\n",
         &mut file,
     );
     if let Bytes::Read(n) = got {
-        run(&file[..n]);
+        run(&mut rt.stdin(), &mut rt.stdout(), &mut errors, &file[..n]);
     }
 }

@@ -6,7 +6,7 @@ use Rattle.read_file.specs.declared.Bytes.TheVariants.{Read, Unread}
 
 abbrev pub Inside : Bytes → List ℕ → Type 0
 Inside (Read n) file = IsPrefixLen n file
-Inside Unread file = Unit
+Inside (Unread e) file = Unit
 
 -- what a read of k bytes says
 pub read_counts : (r : Bytes) (k : ℕ) (ys : List ℕ) → Inside r ys → r ≡ Read k → IsPrefixLen k ys

@@ -1,67 +1,110 @@
-// Reading a file: once, its start as far as lent bytes go, or the job of a program.
+// Reading a file: once, its start as far as lent bytes go, or the job of a program; and the line that says why it was not read.
 #![tactic(auto)]
 
+ghost use Rattle.std.specs.Prelude.{◌≤◌, length};
 ghost use Rattle.read_file.specs.Inside.{Inside};
+
+use std::env::Env;
+use std::fs;
+use std::fs::Files;
+use std::io::{Error, ErrorKind, Read, Write};
 
 // The largest job has 49,540 bytes. A longer file is none, and is refused by its first 49,541 bytes as by all of them.
 pub const JOB_BYTES: usize = 49541;
 
-// How many bytes were read.
+// How many bytes were read, or why none were.
 #[derive(Clone, Copy)]
 pub enum Bytes {
     Read(usize),
-    Unread,
+    Unread(Error),
 }
 
 // Reads once, at most as many bytes as are lent; none at the end of the file.
-pub fn read_some(fd: i32, bytes: &mut [u8]) -> Bytes
+pub fn read_some<R: Read>(file: &mut R, bytes: &mut [u8]) -> Bytes
     ensures { Inside result bytes.new }
 {
-    let got = libc::read(fd, bytes);
-    if got < 0 {
-        return Bytes::Unread;
+    match file.read(bytes) {
+        Ok(n) => Bytes::Read(n),
+        Err(e) => Bytes::Unread(e),
     }
-    Bytes::Read(io::count(got, bytes))
 }
 
 // Reads the start of a file, as far as the lent bytes go.
-fn read_start(fd: i32, bytes: &mut [u8]) -> Bytes
+fn read_start<R: Read>(file: &mut R, bytes: &mut [u8]) -> Bytes
     ensures { Inside result bytes.new }
 {
     let mut n: usize = 0;
     while n < bytes.len() {
-        let some = read_some(fd, &mut bytes[n..]);
-        let Bytes::Read(k) = some else {
-            return Bytes::Unread;
-        };
-        if k == 0 {
-            return Bytes::Read(n);
+        match read_some(file, &mut bytes[n..]) {
+            Bytes::Read(0) => return Bytes::Read(n),
+            Bytes::Read(k) => n += k,
+            Bytes::Unread(e) => return Bytes::Unread(e),
         }
-        n += k;
     }
     Bytes::Read(n)
 }
 
+// Reads the start of the file of that name.
+fn read_path<F: Files>(files: &F, path: &[u8], bytes: &mut [u8]) -> Bytes
+    ensures { Inside result bytes.new }
+{
+    let Ok(name) = str::from_utf8(path) else {
+        return Bytes::Unread(Error::new(ErrorKind::InvalidInput, "the name is not UTF-8"));
+    };
+    match fs::open(files, name) {
+        Ok(file) => {
+            let mut file = file;
+            read_start(&mut file, bytes)
+        }
+        Err(e) => Bytes::Unread(e),
+    }
+}
+
 // Reads the start of the file that the program's first argument names. Where there is no argument it writes `usage` to
 // standard error, and where the file cannot be read it says there why.
-pub fn read_job(usage: &[u8], bytes: &mut [u8]) -> Bytes
+pub fn read_job<R: Env + Files, W: Write>(
+    rt: &R,
+    errors: &mut W,
+    usage: &[u8],
+    bytes: &mut [u8],
+) -> Bytes
     ensures { Inside result bytes.new }
 {
     let mut path = io::buffer();
-    let length = os::arg(1, &mut path);
-    if os::errno() != 0 {
-        io::write_all(libc::STDERR_FILENO, usage);
-        return Bytes::Unread;
+    let Ok(length) = rt.arg(1, &mut path) else {
+        let _ = errors.write_all(usage);
+        return Bytes::Unread(Error::new(ErrorKind::InvalidInput, "no argument"));
+    };
+    let got = read_path(rt, &path[..length], bytes);
+    if let Bytes::Unread(e) = got {
+        fail(errors, &path[..length], &e);
     }
-    let fd = os::open_read(&path[..length]);
-    if fd < 0 {
-        os::fail(&path[..length]);
-        return Bytes::Unread;
-    }
-    let got = read_start(fd, bytes);
-    if let Bytes::Unread = got {
-        os::fail(&path[..length]);
-    }
-    libc::close(fd);
     got
+}
+
+// Writes a line to standard error: what failed, as the caller names it, a colon and why.
+pub fn fail<W: Write>(errors: &mut W, what: &[u8], error: &Error) {
+    let mut text = [0u8; 320];
+    let n = why(error, &mut text);
+    let _ = errors.write_all(what);
+    let _ = errors.write_all(b": ");
+    let _ = errors.write_all(&text[..n]);
+    let _ = errors.write_all(b"\n");
+}
+
+// Puts the words of an error at the start of the lent bytes, without the system's number behind them, and gives their length.
+fn why(error: &Error, text: &mut [u8]) -> usize
+    ensures { result ≤ length text.new }
+{
+    let all = text.len();
+    let mut room = &mut *text;
+    let _ = write!(room, "{error}");
+    let n = all.saturating_sub(room.len());
+    if error.raw_os_error().is_none() {
+        return n;
+    }
+    match text[..n].iter().rposition(|b| *b == b'(') {
+        Some(i) if i > 0 => i - 1,
+        _ => n,
+    }
 }

@@ -4,100 +4,93 @@
 
 ghost use Rattle.std.specs.Prelude.{◌+◌, ◌^◌, ◌<◌, ◌≤◌};
 
-use libc::STDOUT_FILENO;
 use read_file::{Bytes, JOB_BYTES};
 use serial_queues::WORKING;
 use serial_runner::ANSWERS;
 use spec_serial::End;
+use std::io::{Result, Write};
 
 // Prints the lines of n steps from step `first` on.
-fn print_step_block(a: &[u32], first: u32, n: u32) -> bool
+fn print_step_block<O: Write>(to: &mut O, a: &[u32], first: u32, n: u32) -> Result<()>
     requires { (first + n < 2 ^ 32) × (n ≤ 1024) }
 {
     let mut out = io::large_buffer();
     let r = serial_text::step_lines(&mut out, a, first, n);
-    io::write_all(STDOUT_FILENO, &out[..r])
+    to.write_all(&out[..r])
 }
 
 // Prints a line for each step.
-fn print_steps(a: &[u32], steps: u32) -> bool {
+fn print_steps<O: Write>(to: &mut O, a: &[u32], steps: u32) -> Result<()> {
     let mut first: u32 = 0;
     while first < steps {
         let n = block_text::part(steps, first);
-        if !print_step_block(a, first, n) {
-            return false;
-        }
+        print_step_block(to, a, first, n)?;
         first += n;
     }
-    true
+    Ok(())
 }
 
 // Prints the lines of the values left in queue q from value `first` on, at most 1,024.
-fn print_value_block(w: &[u32], q: u32, first: usize) -> bool
+fn print_value_block<O: Write>(to: &mut O, w: &[u32], q: u32, first: usize) -> Result<()>
     requires { first < 2 ^ 32 }
 {
     let mut out = io::large_buffer();
     let r = serial_text::value_lines(&mut out, w, q, first);
-    io::write_all(STDOUT_FILENO, &out[..r])
+    to.write_all(&out[..r])
 }
 
 // Prints a line for each value left in queue q.
-fn print_queue(w: &[u32], q: u32) -> bool {
+fn print_queue<O: Write>(to: &mut O, w: &[u32], q: u32) -> Result<()> {
     let count = serial_queues::count(w, q) as usize;
     let mut first: usize = 0;
     while first < count {
-        if !print_value_block(w, q, first) {
-            return false;
-        }
+        print_value_block(to, w, q, first)?;
         first += 1024;
     }
-    true
+    Ok(())
 }
 
 // Prints a line for each value left, queues in order.
-fn print_left(w: &[u32]) -> bool {
+fn print_left<O: Write>(to: &mut O, w: &[u32]) -> Result<()> {
     for q in 0..4 {
-        if !print_queue(w, q) {
-            return false;
-        }
+        print_queue(to, w, q)?;
     }
-    true
+    Ok(())
 }
 
 // Prints the line of a run that did not end.
-fn print_end(e: End) -> bool {
+fn print_end<O: Write>(to: &mut O, e: End) -> Result<()> {
     let mut out = io::large_buffer();
     let r = block_text::end_line(&mut out, e);
-    io::write_all(STDOUT_FILENO, &out[..r])
+    to.write_all(&out[..r])
 }
 
 // Prints the steps, and then the values left or why the run stopped.
-fn print_run(w: &[u32], a: &[u32], e: End, steps: u32) -> bool {
-    if !print_steps(a, steps) {
-        return false;
-    }
+fn print_run<O: Write>(to: &mut O, w: &[u32], a: &[u32], e: End, steps: u32) -> Result<()> {
+    print_steps(to, a, steps)?;
     match e {
-        End::Ended => print_left(w),
-        _ => print_end(e),
+        End::Ended => print_left(to, w),
+        _ => print_end(to, e),
     }
 }
 
 // Runs a job and prints the run.
-fn run(job: &[u8]) {
+fn run<O: Write, E: Write>(to: &mut O, errors: &mut E, job: &[u8]) {
     let mut w = [0u32; WORKING];
     let mut a = [0u32; ANSWERS];
     let s = serial_runner::run_serially(job, &mut w, &mut a);
     let e = s.end;
     let steps = s.steps;
-    if !print_run(&w, &a, e, steps) {
-        os::fail(b"standard output");
+    if let Err(why) = print_run(to, &w, &a, e, steps) {
+        read_file::fail(errors, b"standard output", &why);
     }
 }
 
-fn main() {
+fn main(rt: HostRuntime) {
+    let mut errors = rt.stderr();
     let mut file = [0u8; JOB_BYTES];
-    let got = read_file::read_job(b"usage: serial_program FILE\n", &mut file);
+    let got = read_file::read_job(&rt, &mut errors, b"usage: serial_program FILE\n", &mut file);
     if let Bytes::Read(n) = got {
-        run(&file[..n]);
+        run(&mut rt.stdout(), &mut errors, &file[..n]);
     }
 }

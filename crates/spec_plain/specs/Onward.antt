@@ -93,7 +93,7 @@ module _ (j : List ℕ) (acc : Accepted j) (t : Task) (here : Stands j t) where
       from Onward 0 (λ w x f a b l. tt)
       (from Onward 1 (λ w x f a b l. goes _ (onwards 1 refl refl l))
       (from Onward 2 (λ w x f a b l. goes _ (onwards 2 refl refl l))
-      (from Onward 3 (λ w x f a b l. goes _ (pop_next _ _ _ _ (onwards 3 refl refl l) f))
+      (from Onward 3 (λ w x f a b l. goes _ (pop_next _ _ _ x (onwards 3 refl refl l) f))
       (from Onward 4 (λ w x f a b l. goes _ (empty_next _ _ _ _ (onwards 4 refl refl l) (ltb-true _ _ b) f))
       (from Onward 5 (λ w x f a b l. goes _ (ltb-true _ _ b))
       (from Onward 6 (λ w x f a b l. goes _ (zero_next _ _ 0 _ (onwards 6 refl refl l) (ltb-true _ _ b) (eqb t.register 0)))

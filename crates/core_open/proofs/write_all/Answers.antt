@@ -1,0 +1,12 @@
+use Rattle.core_open.specs.Stores.{all_made}
+use borrow.Author.Rules.{rules}
+use Rattle.core_open.proofs.write_all.Goals as goal
+
+pub returns : goal.returns
+returns c =
+    all_made
+    c.args.m.now _ _ _ _ _ _ _
+    c.requires.0
+    c.clear.ensures c.write_header.ensures
+    c.stack.ensures
+    c.segment.ensures c.top.ensures

@@ -1,0 +1,34 @@
+use native.Mathlib.Omega.{arith}
+use Rattle.core_push.proofs.RunsOut.{few_values, none_free, enough, too_few, by_link}
+use borrow.Author.Rules.{rules}
+use Rattle.core_push.proofs.room.empty_runs_out.Goals as goal
+
+pub returns-then-f-eq0 : goal.returns-then-f-eq0
+returns-then-f-eq0 c = none_free _ _ _ _ c.requires.3 c.free_segments-f.ensures c.if-f-eq0.true c.requires.2
+
+pub overflow_mul-most : goal.overflow_mul-most
+overflow_mul-most c =
+    let w = few_values _ _ _ c.next_free.result _ _ c.requires.0
+    c.free_segments-f.ensures c.length_of-l.ensures in let a = w.0 in omega (arith, a)
+
+pub returns-then-n-most : goal.returns-then-n-most
+returns-then-n-most c =
+    enough _ _ _ _ c.requires.3 c.free_segments-f.ensures
+    c.if-f-eq0.false c.next_free.ensures c.length_of-l.ensures c.if-n-most.true
+
+pub overflow_add-most : goal.overflow_add-most
+overflow_add-most c =
+    let w = few_values _ _ _ c.next_free.result _ _ c.requires.0
+    c.free_segments-f.ensures c.length_of-l.ensures in let a = w.0 in let b = w.1 in omega (arith, a, b)
+
+pub returns-then-most-l : goal.returns-then-most-l
+returns-then-most-l c =
+    too_few _ _ _ _ c.requires.3 c.free_segments-f.ensures
+    c.if-f-eq0.false c.next_free.ensures c.length_of-l.ensures c.if-most-l.true
+
+pub returns : goal.returns
+returns c =
+    by_link _ _ _ _ c.requires.3
+    c.free_segments-f.ensures c.if-f-eq0.false
+    c.next_free.ensures c.length_of-l.ensures c.if-n-most.false
+    c.if-most-l.false c.link_frees.ensures

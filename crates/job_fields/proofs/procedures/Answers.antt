@@ -1,0 +1,7 @@
+use Rattle.spec_job.specs.Fields.{procedures}
+use borrow.Author.Rules.{rules}
+use Rattle.job_fields.proofs.procedures.Goals as goal
+
+pub returns : goal.returns
+unfolding procedures
+returns c = c.bytes2.ensures

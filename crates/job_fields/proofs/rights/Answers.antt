@@ -1,0 +1,7 @@
+use Rattle.spec_job.specs.Fields.{rights}
+use borrow.Author.Rules.{rules}
+use Rattle.job_fields.proofs.rights.Goals as goal
+
+pub returns : goal.returns
+unfolding rights
+returns c = c.byte.ensures

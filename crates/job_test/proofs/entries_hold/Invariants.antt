@@ -1,0 +1,19 @@
+-- The invariant: what is left to test from entry p on decides as all entries do, and each entry passed moves a by at most 768 bytes.
+use mathlib.Core.Path.{◌≡◌, ap, sym, ◌∙◌}
+use Prim.Native.Nat.{ℕ, ◌≤◌, ◌+◌, ◌*◌, ◌-◌}
+use native.Mathlib.Omega.{arith}
+use borrow.Author.Tests.{not-true, not-false}
+use borrow.Author.Rules.{rules}
+use Rattle.spec_words.specs.Words.{size}
+use Rattle.spec_job.specs.Fields.{entry_at}
+use Rattle.spec_job.specs.Test.{entries_hold}
+use Rattle.job_test.proofs.Fields.{few}
+use Rattle.job_test.proofs.Loops.{entries_start, entries_next, entries_stop, entries_end}
+use Rattle.std.proofs.Common.{not}
+use Rattle.job_test.proofs.entries_hold.Given as goal
+
+abbrev pub invariant-loop-p : goal.invariant-loop-p
+invariant-loop-p l = (l.p ≤ l.n) × (l.a ≤ 4 + l.n * 6 + l.p * 768) × (entries_hold l.job (l.n - l.p) l.p l.a ≡ entries_hold l.job l.n 0 (entry_at l.n))
+
+abbrev pub decreases-loop-p : goal.decreases-loop-p
+decreases-loop-p l = l.n - l.p

@@ -1,0 +1,11 @@
+use Rattle.spec_words.specs.Words.{both_on, both_off}
+use borrow.Author.Tests.{lt-ltb, le-ltb}
+use mathlib.Core.Path.{sym, ◌∙◌}
+use borrow.Author.Rules.{rules}
+use Rattle.job_test.proofs.popped_queue.Goals as goal
+
+pub returns-then-w-ge4 : goal.returns-then-w-ge4
+returns-then-w-ge4 c = sym (both_off _ (le-ltb _ _ c.if-w-ge4.true))
+
+pub returns : goal.returns
+returns c = c.pops.ensures ∙ sym (both_on (lt-ltb _ _ c.if-w-ge4.false))

@@ -1,0 +1,16 @@
+-- The words before i are 0, the others as found.
+use lib.ListN.{length-set}
+use mathlib.Core.Path.{◌≡◌, refl, ◌∙◌}
+use Prim.Native.Nat.{◌≤◌, ◌-◌}
+use mathlib.Core.List.{◌++◌}
+use lib.ListN.{length, drop, replicate}
+use native.Mathlib.Omega.{arith}
+use borrow.Author.Rules.{rules}
+use Rattle.memory.proofs.Clearing.{clear_more, clear_done}
+use Rattle.memory.proofs.clear.Given as goal
+
+abbrev pub invariant-loop-i : goal.invariant-loop-i
+invariant-loop-i l = (l.n ≡ length l.initial.m) × (l.i ≤ l.n) × (length l.m ≡ length l.initial.m) × (l.m ≡ replicate l.i 0 ++ drop l.i l.initial.m)
+
+abbrev pub decreases-loop-i : goal.decreases-loop-i
+decreases-loop-i l = l.n - l.i

@@ -1,0 +1,7 @@
+use Rattle.spec_layout.specs.Layout.{read, address}
+use borrow.Author.Rules.{rules}
+use Rattle.memory.proofs.header.Goals as goal
+
+pub returns : goal.returns
+unfolding read address
+returns c = c.get.ensures

@@ -1,0 +1,7 @@
+use Rattle.spec_layout.specs.Layout.{address}
+use borrow.Author.Rules.{rules}
+use Rattle.memory.proofs.set_four.Goals as goal
+
+pub returns : goal.returns
+unfolding address
+returns c = c.put_four.ensures

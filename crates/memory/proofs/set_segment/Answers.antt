@@ -1,0 +1,7 @@
+use Rattle.spec_layout.specs.Layout.{write, address}
+use borrow.Author.Rules.{rules}
+use Rattle.memory.proofs.set_segment.Goals as goal
+
+pub returns : goal.returns
+unfolding write address
+returns c = c.put.ensures

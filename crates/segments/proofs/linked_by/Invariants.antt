@@ -1,0 +1,16 @@
+-- No segment before y is held with s as its next, so seeking from y gives what seeking all gives.
+use mathlib.Core.Path.{◌≡◌, refl, sym, ◌∙◌}
+use Prim.Native.Nat.{◌≤◌, ◌<◌, ◌-◌, ◌^◌}
+use native.Mathlib.Omega.{arith}
+use borrow.Author.Rules.{rules}
+use Rattle.spec_layout.specs.Layout.{segments_of}
+use Rattle.spec_outcomes.specs.Segments.{linked_by}
+use Rattle.segments.specs.Names.{free_marks}
+use Rattle.segments.proofs.Links.{by_start, by_found, by_next, by_end}
+use Rattle.segments.proofs.linked_by.Given as goal
+
+abbrev pub invariant-loop-y : goal.invariant-loop-y
+invariant-loop-y l = (l.y ≤ l.n) × (l.n < 2 ^ 32) × (linked_by (l.n - l.y) l.m l.q l.s l.y ≡ linked_by (segments_of l.m l.q) l.m l.q l.s 0)
+
+abbrev pub decreases-loop-y : goal.decreases-loop-y
+decreases-loop-y l = l.n - l.y

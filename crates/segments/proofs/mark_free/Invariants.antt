@@ -1,0 +1,17 @@
+-- The entries before i are marked; marking the rest gives the marks of all.
+use mathlib.Core.Path.{◌≡◌, refl, ◌∙◌}
+use Prim.Native.Nat.{◌≤◌, ◌<◌, ◌-◌, ◌^◌}
+use native.Mathlib.Omega.{arith}
+use borrow.Author.Rules.{rules}
+use lib.ListN.{length}
+use Rattle.spec_lists.specs.Marks.{marking}
+use Rattle.spec_layout.specs.Layout.{free_stack}
+use Rattle.spec_rules.specs.Stack.{rest, rest_end}
+use Rattle.segments.proofs.Free.{rest_out, marks_start, marks_next, marks_none}
+use Rattle.segments.proofs.mark_free.Given as goal
+
+abbrev pub invariant-loop-i : goal.invariant-loop-i
+invariant-loop-i l = (l.i ≤ l.h) × (l.h < 2 ^ 32) × (length l.d ≡ length l.initial.d) × (marking (rest l.m l.h l.i) l.d ≡ marking (free_stack l.m l.q) l.initial.d)
+
+abbrev pub decreases-loop-i : goal.decreases-loop-i
+decreases-loop-i l = l.h - l.i

@@ -1,0 +1,21 @@
+use mathlib.Core.Path.{◌≡◌, refl, ◌∙◌}
+use mathlib.Core.List.{◌++◌}
+use Prim.Native.Nat.{◌-◌, ◌≤◌}
+use native.Mathlib.Omega.{arith}
+use lib.ListN.{length, take, drop, length-set}
+use borrow.Author.Rules.{rules}
+use Rattle.segments.proofs.Copying.{copy_more, copy_done}
+use Rattle.segments.proofs.ring.copy.Goals as goal
+
+pub loop-i-init : goal.loop-i-init
+loop-i-init c = (omega arith, refl, refl)
+
+pub loop-i-preserved : goal.loop-i-preserved
+loop-i-preserved c = (
+  omega arith,
+  length-set c.loop-i.to c.loop-i.i _ ∙ c.loop-i.invariant.1,
+  copy_more _ _ _ _ c.requires c.loop-i.invariant.2 c.loop-i-test.true,
+)
+
+pub returns : goal.returns
+returns c = copy_done _ _ _ _ c.requires c.loop-i.invariant.2 c.loop-i-test.false

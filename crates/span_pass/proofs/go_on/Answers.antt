@@ -1,0 +1,6 @@
+use Rattle.span_pass.proofs.Going.{gone}
+use borrow.Author.Rules.{rules}
+use Rattle.span_pass.proofs.go_on.Goals as goal
+
+pub returns : goal.returns
+returns c = gone _ _ _ _ _ _ c.requires c.ticks_for.ensures c.sum-t.ensures c.set_task.ensures c.set_task-2.ensures c.set_task-3.ensures

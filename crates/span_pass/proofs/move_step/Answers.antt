@@ -1,0 +1,6 @@
+use Rattle.span_pass.proofs.Going.{moves_alone}
+use borrow.Author.Rules.{rules}
+use Rattle.span_pass.proofs.move_step.Goals as goal
+
+pub returns : goal.returns
+returns c = moves_alone _ _ _ _ _ _ _ _ _ _ c.requires.2 c.requires.0 c.later.ensures c.effect-e.ensures c.go_on.ensures

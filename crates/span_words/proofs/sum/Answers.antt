@@ -1,0 +1,7 @@
+use Rattle.spec_job.specs.Effects.{sum}
+use Rattle.std.proofs.Common.{rules}
+use Rattle.span_words.proofs.sum.Goals as goal
+
+pub returns : goal.returns
+unfolding sum
+returns c = c.wrapping_add_u32.ensures.value

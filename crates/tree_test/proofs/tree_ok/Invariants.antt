@@ -1,0 +1,15 @@
+-- The marks written so far are the tour's, and the links followed are right; what is left of the test is the test from x on.
+use Rattle.tree_test.specs.Led.{Same, same_here, same_on, walk_none, walk_fails, walk_ends}
+use Rattle.spec_rules.specs.Contents.{decode}
+use lib.ListN.{length, length-set}
+use Prim.Native.Nat.{◌<◌, ◌-◌}
+use native.Mathlib.Omega.{arith}
+use borrow.Author.Rules.{rules}
+use mathlib.Core.Path.{◌≡◌, sym, ◌∙◌}
+use Rattle.tree_test.proofs.tree_ok.Given as goal
+
+abbrev pub invariant-loop-i : goal.invariant-loop-i
+invariant-loop-i l = (l.x < 128) × (length l.xs ≡ 256) × Same (decode l.m) l.n 0 0 l.initial.xs l.x l.i l.xs
+
+abbrev pub decreases-loop-i : goal.decreases-loop-i
+decreases-loop-i l = l.n - l.i

@@ -1,0 +1,13 @@
+-- Placing the chain from s with k segments done gives what placing it from its head gives.
+use Rattle.spec_view_events.specs.Placing.{place_start}
+use Rattle.spec_view_events.specs.Placing.{place_far, place_again, place_last, place_empty, place_more, place_out}
+use Rattle.spec_view_events.specs.Place.{placing}
+use Rattle.spec_rules.specs.Contents.{decode}
+use Rattle.std.proofs.Common.{◌≡◌, ◌-◌, ◌^◌, ◌<◌, ◌≤◌, sym, ◌∙◌, arith, rules}
+use Rattle.view_steps.proofs.place.Given as goal
+
+abbrev pub invariant-loop-k : goal.invariant-loop-k
+invariant-loop-k l = (l.s < 2 ^ 32) × (l.k ≤ l.n) × (placing (decode l.m) (l.n - l.k) l.s l.k l.d ≡ placing (decode l.m) l.n l.h 0 l.initial.d)
+
+abbrev pub decreases-loop-k : goal.decreases-loop-k
+decreases-loop-k l = l.n - l.k
