@@ -78,7 +78,7 @@ fn print_calls<I: Read, O: Write, E: Write>(
         let k = match read_file::read_some(input, tasks) {
             Bytes::Read(k) => k,
             Bytes::Unread(e) => {
-                read_file::fail(errors, b"standard input", &e);
+                let _ = read_file::fail(errors, b"standard input", &e);
                 return false;
             }
         };
@@ -86,7 +86,7 @@ fn print_calls<I: Read, O: Write, E: Write>(
             return true;
         }
         if let Err(e) = print_block(to, job, &tasks[..k], m, r, before) {
-            read_file::fail(errors, b"standard output", &e);
+            let _ = read_file::fail(errors, b"standard output", &e);
             return false;
         }
         before += k as u64;
@@ -143,7 +143,7 @@ fn run_open<I: Read, O: Write, E: Write>(
         return;
     }
     if let Err(e) = print_end(to, m) {
-        read_file::fail(errors, b"standard output", &e);
+        let _ = read_file::fail(errors, b"standard output", &e);
     }
 }
 
@@ -157,7 +157,7 @@ fn run<I: Read, O: Write, E: Write>(input: &mut I, to: &mut O, errors: &mut E, j
         return;
     }
     if let Err(e) = print_refused(to, k) {
-        read_file::fail(errors, b"standard output", &e);
+        let _ = read_file::fail(errors, b"standard output", &e);
     }
 }
 

@@ -1,13 +1,14 @@
 // Reading a file: once, its start as far as lent bytes go, or the job of a program; and the line that says why it was not read.
 #![tactic(auto)]
 
-ghost use Rattle.std.specs.Prelude.{◌≤◌, length};
+ghost use Rattle.std.specs.Prelude.{◌≤◌, length, OnOk};
 ghost use Rattle.read_file.specs.Inside.{Inside};
+ghost use Rattle.read_file.specs.Said.{Says};
 
 use std::env::Env;
 use std::fs;
 use std::fs::Files;
-use std::io::{Error, ErrorKind, Read, Write};
+use std::io::{Error, ErrorKind, Read, Result, Write};
 
 // The largest job has 49,540 bytes. A longer file is none, and is refused by its first 49,541 bytes as by all of them.
 pub const JOB_BYTES: usize = 49541;
@@ -77,19 +78,21 @@ pub fn read_job<R: Env + Files, W: Write>(
     };
     let got = read_path(rt, &path[..length], bytes);
     if let Bytes::Unread(e) = got {
-        fail(errors, &path[..length], &e);
+        let _ = fail(errors, &path[..length], &e);
     }
     got
 }
 
 // Writes a line to standard error: what failed, as the caller names it, a colon and why.
-pub fn fail<W: Write>(errors: &mut W, what: &[u8], error: &Error) {
+pub fn fail<W: Write>(errors: &mut W, what: &[u8], error: &Error) -> Result<()>
+    ensures { OnOk result (Says (W.contents errors.old) (W.contents errors.new) what.now) }
+{
     let mut text = [0u8; 320];
     let n = why(error, &mut text);
-    let _ = errors.write_all(what);
-    let _ = errors.write_all(b": ");
-    let _ = errors.write_all(&text[..n]);
-    let _ = errors.write_all(b"\n");
+    errors.write_all(what)?;
+    errors.write_all(b": ")?;
+    errors.write_all(&text[..n])?;
+    errors.write_all(b"\n")
 }
 
 // Puts the words of an error at the start of the lent bytes, without the system's number behind them, and gives their length.

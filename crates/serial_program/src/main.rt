@@ -82,7 +82,7 @@ fn run<O: Write, E: Write>(to: &mut O, errors: &mut E, job: &[u8]) {
     let e = s.end;
     let steps = s.steps;
     if let Err(why) = print_run(to, &w, &a, e, steps) {
-        read_file::fail(errors, b"standard output", &why);
+        let _ = read_file::fail(errors, b"standard output", &why);
     }
 }
 
