@@ -146,6 +146,7 @@ module _ (m : List ℕ) (rules : TaskRules (decode m)) where
   noted_told : (n x w : ℕ) (a : List ℕ) → size a ≡ 128 → Unfinished c x → Tells m x w → (t : ℕ) → Reaches n x t ⊎ Told a t → Told (noted n m x w a) t
   unfolding noted
   noted_told zero x w a sized u told t (inr h) = h
+  noted_told zero x w a sized u told t (inl x7) = elim x7 [ ]
   noted_told (suc n) x w a sized u told t h =
       subst (λ (b : List ℕ). Told b t) (sym (noted_step n m x w a u.0))
       (⊎_elim
@@ -175,6 +176,7 @@ module _ (m : List ℕ) (rules : TaskRules (decode m)) where
   wider (suc n) (suc k) x t (here q) l = here q
   wider (suc n) (suc k) x t (on h r) l = on h (wider n k _ t r (le_of_suc-le-suc l))
   wider (suc n) zero x t r l = let z : ⊥ = omega (arith, l) in absurd z
+  wider zero k x t r l = elim r [ ]
 
   from_oldest : (k t : ℕ) → walk (λ x. load (record_of m x) OLDER) k t ≡ NONE → Unfinished c t
       → (s : ℕ) × Unfinished c s × (128 ≤ older s) × Reaches k s t

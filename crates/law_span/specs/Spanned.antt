@@ -28,7 +28,7 @@ use Rattle.law_serial_times.specs.Went.{Went, returned, pushed, pushed_sum, popp
 use Rattle.law_span.specs.Chains.{Longest, latest_none, latest_both, longest_step}
 use Rattle.law_span.specs.Heard.{Matched, a_push, a_finish, nothing, matched_more, matched_taken, Seeks, heard}
 use Rattle.law_span.specs.Owned.{Fresh, fresh_below, fresh_own, fresh_child, Owns, owns_below, owns_step, owns_child}
-use Rattle.law_span.specs.Covered.{Known, covered_on, covered_return, covered_last}
+use Rattle.law_span.specs.Covered.{Covered, Known, covered_on, covered_return, covered_last}
 
 module _ (j table : List ℕ) where
   -- The history h of a run that stands at the front f and the stack st; its last step was done at `last`.
@@ -89,7 +89,7 @@ module _ (j table : List ℕ) where
           matched = m;
           fresh = (fresh_own k h u v named_so name more sp.fresh.0, fresh_rest);
           owns = (owns_step j table k h v.task.name t d (named_so ∙ sym name) after (rw name sp.owns.0) longest, below);
-          known = knows (ended f') (frame d v ∷ st) (inl (omega arith)) (λ y c. rw e (covered_on (ended f) t d u v st y name after c));
+          known = knows (ended f') (frame d v ∷ st) (inl (omega arith)) (λ y c. subst (λ (o : List (Over Runner)). Covered o (frame d v ∷ st) y) (sym e) (covered_on (ended f) t d u v st y name after c));
           latest = λ _. longest;
         }
 

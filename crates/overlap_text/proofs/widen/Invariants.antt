@@ -1,0 +1,14 @@
+-- The invariant: the first i words are the first i bytes.
+use Rattle.overlap_text.proofs.Widening.{one_widened, all_widened}
+use Prim.Native.Nat.{◌-◌, ◌≤◌}
+use native.Mathlib.Omega.{arith}
+use lib.ListN.{length, take, length-set}
+use mathlib.Core.Path.{◌≡◌, refl, ◌∙◌}
+use borrow.Author.Rules.{rules}
+use Rattle.overlap_text.proofs.widen.Given as goal
+
+abbrev pub invariant-loop-i : goal.invariant-loop-i
+invariant-loop-i l = (l.i ≤ length l.bytes) × (length l.words ≡ length l.bytes) × (length l.words ≡ length l.initial.words) × (take l.i l.words ≡ take l.i l.bytes)
+
+abbrev pub decreases-loop-i : goal.decreases-loop-i
+decreases-loop-i l = length l.bytes - l.i

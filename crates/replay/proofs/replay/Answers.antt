@@ -1,0 +1,37 @@
+-- The job, then the form, are decided before a word is written; the words that the opening leaves are where a run begins.
+use Rattle.runner_run.specs.Made.{opened_reached}
+use Rattle.replay.specs.At.{starts}
+use Rattle.replay.specs.Whole.{stays_shut, other_form, agrees, differs}
+use mathlib.Core.Path.{refl, sym, ◌∙◌}
+use borrow.Author.Tests.{not-true, not-false}
+use borrow.Author.Rules.{rules}
+use Rattle.std.proofs.Common.{ap, not}
+use Rattle.replay.proofs.replay.Goals as goal
+
+pub returns-then-k-ne0 : goal.returns-then-k-ne0
+returns-then-k-ne0 c = stays_shut _ _ _ _ c.refusal-k.ensures c.if-k-ne0.true
+
+pub returns-then-not-has_form : goal.returns-then-not-has_form
+returns-then-not-has_form c = other_form _ _ _ _ c.refusal-k.ensures c.if-k-ne0.false (sym
+    c.has_form.ensures ∙ not-true _ (ap not c.if-not-has_form.true))
+
+pub open_tested-requires : goal.open_tested-requires
+open_tested-requires c = sym c.if-k-ne0.false ∙ c.refusal-k.ensures
+
+pub first_difference-n-requires : goal.first_difference-n-requires
+first_difference-n-requires c = (
+  opened_reached _ _ _ c.open_tested.ensures refl,
+  (starts _ (sym
+      c.has_form.ensures ∙ not-false _
+      (ap not c.if-not-has_form.false))).1,
+)
+
+pub returns-then-n-eq0 : goal.returns-then-n-eq0
+returns-then-n-eq0 c =
+    agrees _ _ _ _ c.open_tested.ensures (sym
+    c.has_form.ensures ∙ not-false _ (ap not c.if-not-has_form.false)) c.first_difference-n.ensures c.if-n-eq0.true
+
+pub returns : goal.returns
+returns c =
+    differs _ _ _ _ c.open_tested.ensures (sym
+    c.has_form.ensures ∙ not-false _ (ap not c.if-not-has_form.false)) c.first_difference-n.ensures c.if-n-eq0.false

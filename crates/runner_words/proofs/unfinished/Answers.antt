@@ -1,0 +1,6 @@
+use Rattle.runner_words.proofs.Records.{unfinished_at}
+use borrow.Author.Rules.{rules}
+use Rattle.runner_words.proofs.unfinished.Goals as goal
+
+pub returns : goal.returns
+returns c = unfinished_at c.args.m.now c.args.t c.requires.1

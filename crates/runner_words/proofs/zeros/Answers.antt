@@ -1,0 +1,6 @@
+use Rattle.runner_words.proofs.Records.{zeros_at}
+use borrow.Author.Rules.{rules}
+use Rattle.runner_words.proofs.zeros.Goals as goal
+
+pub returns : goal.returns
+returns c = zeros_at c.args.r.now c.args.t

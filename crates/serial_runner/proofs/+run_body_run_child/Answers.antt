@@ -1,0 +1,232 @@
+use borrow.Enum.Refused.{opened}
+use Rattle.serial_runner.proofs.Arms.{inner, inner_some, eight_some, none_low}
+use Rattle.serial_runner.proofs.Measures.{body_falls, child_falls, size_kept}
+use Rattle.serial_runner.specs.Child.{child_too_deep, child_runs}
+use Rattle.serial_runner.specs.Body.{position_small, Goes, goes_start, body_spent, body_full, body_returns, body_stops, goes_inner, child_less}
+use Rattle.serial_runner.specs.Body.{goes_child}
+use Rattle.spec_serial.specs.Working.{lists}
+use Rattle.std.proofs.Common.{◌≡◌, ℕ, ◌+◌, ◌^◌, ◌<◌, length, sym, refl, ◌∙◌, inr, ⊎_elim, arith, rules}
+use Rattle.serial_runner.proofs.+run_body_run_child.Goals as goal
+
+pub run_body-loop-left-init : goal.run_body-loop-left-init
+run_body-loop-left-init t c = (refl, refl, omega arith, search rules, goes_start _ _ _ _ _ _ _ _ _)
+
+pub run_body-run_child-child-requires : goal.run_body-run_child-child-requires
+run_body-run_child-child-requires t c =
+    let f = c.loop-left.invariant.4.fewer in
+    let g = c.loop-left.invariant.4.tasks in (
+      body_falls _ _ _ c.decreases f,
+      (
+        size_kept _ _ _ c.loop-left.invariant.0
+            c.requires.0,
+        c.requires.1,
+        c.requires.2,
+        c.loop-left-test.true,
+        omega (arith, f, c.requires.3),
+        omega (arith, g, c.requires.4),
+      ),
+    )
+
+pub run_body-shape_of-w-in_default-end : goal.run_body-shape_of-w-in_default-end
+run_body-shape_of-w-in_default-end t c =
+    c.run_child-child.auto.w
+    ∙ c.loop-left.invariant.0
+
+pub run_body-shape_of-a-in_default-end : goal.run_body-shape_of-a-in_default-end
+run_body-shape_of-a-in_default-end t c =
+    c.run_child-child.auto.a
+    ∙ c.loop-left.invariant.1
+
+pub run_body-returns-in_default-end : goal.run_body-returns-in_default-end
+run_body-returns-in_default-end t c =
+    body_stops _ _ _ _ _ _ _ _ _ c.loop-left.invariant.4
+    c.requires.3 _
+    c.instruction_at-s.ensures
+    c.loop-left-test.true _ _ _ _
+    c.in-8.is
+    c.wrapping_add_u32-x.ensures.value
+    c.run_child-child.ensures (opened c.in_default-end.in_default-end-own.keys2)
+
+pub run_body-overflow_add-i : goal.run_body-overflow_add-i
+run_body-overflow_add-i t c =
+    let z = position_small _ _ _ _ _ c.instruction_at-s.ensures
+    (eight_some _ c.in-8.is)
+    c.requires.1 in
+    omega (arith, z)
+
+pub run_body-loop-left-smaller-in-8 : goal.run_body-loop-left-smaller-in-8
+run_body-loop-left-smaller-in-8 t c =
+    child_less _ _ _ _ _ _ _ _ _ c.loop-left.invariant.4
+    c.requires.3 _
+    c.instruction_at-s.ensures
+    c.loop-left-test.true _ _ _ _
+    c.in-8.is
+    c.wrapping_add_u32-x.ensures.value
+    c.run_child-child.ensures c.in-Ended.in-Ended-own.keys1
+
+pub run_body-loop-left-preserved-in-8 : goal.run_body-loop-left-preserved-in-8
+run_body-loop-left-preserved-in-8 t c =
+    let z = position_small _ _ _ _ _ c.instruction_at-s.ensures
+    (eight_some _ c.in-8.is)
+    c.requires.1 in (
+      c.run_child-child.auto.w
+          ∙ c.loop-left.invariant.0,
+      c.run_child-child.auto.a
+          ∙ c.loop-left.invariant.1,
+      omega (arith, z),
+      c.loop-left.invariant.3,
+      goes_child _ _ _ _ _ _ _ _ _ c.loop-left.invariant.4
+          c.requires.3 _
+          c.instruction_at-s.ensures
+          c.loop-left-test.true _ _ _ _
+          c.in-8.is
+          c.wrapping_add_u32-x.ensures.value
+          c.run_child-child.ensures c.in-Ended.in-Ended-own.keys1,
+    )
+
+pub run_body-shape_of-w-then-is_full : goal.run_body-shape_of-w-then-is_full
+run_body-shape_of-w-then-is_full t c = c.loop-left.invariant.0
+
+pub run_body-shape_of-a-then-is_full : goal.run_body-shape_of-a-then-is_full
+run_body-shape_of-a-then-is_full t c = c.loop-left.invariant.1
+
+pub run_body-returns-then-is_full : goal.run_body-returns-then-is_full
+run_body-returns-then-is_full t c =
+    body_full _ _ _ _ _ _ _ _ _ c.loop-left.invariant.4
+    c.requires.3 _
+    c.instruction_at-s.ensures
+    c.loop-left-test.true c.in-1-to-10.in_default-own.rest.1
+    (sym c.is_full.ensures ∙ c.if-is_full.true)
+
+pub run_body-step-m-requires : goal.run_body-step-m-requires
+run_body-step-m-requires t c =
+    let h = inner _ c.in-1-to-10.if-k-lt1-own.false c.in-1-to-10.if-k-lt11-own.true
+    c.in-1-to-10.in_default-own.rest.1 in (
+      size_kept _ _ _ c.loop-left.invariant.0
+          c.requires.0,
+      h,
+      sym c.is_full.ensures ∙ c.if-is_full.false,
+      position_small _ _ _ _ _ c.instruction_at-s.ensures (inner_some _ h)
+          c.requires.1,
+    )
+
+pub run_body-overflow_sub-left : goal.run_body-overflow_sub-left
+run_body-overflow_sub-left t c = let f =
+    c.loop-left.invariant.4.fewer in omega (
+      arith,
+      f,
+      c.requires.3,
+    )
+
+pub run_body-overflow_sub-left-in-1-to-10 : goal.run_body-overflow_sub-left-in-1-to-10
+run_body-overflow_sub-left-in-1-to-10 t c =
+    c.loop-left-test.true
+
+pub run_body-loop-left-smaller : goal.run_body-loop-left-smaller
+run_body-loop-left-smaller t c = omega (
+  arith,
+  c.loop-left-test.true,
+)
+
+pub run_body-loop-left-preserved : goal.run_body-loop-left-preserved
+run_body-loop-left-preserved t c = (
+  c.step-m.auto.w ∙
+      c.loop-left.invariant.0,
+  c.write_answer.auto.a ∙
+      c.loop-left.invariant.1,
+  search rules,
+  search rules,
+  goes_inner _ _ _ _ _ _ _ _ _
+      c.loop-left.invariant.4
+      c.requires.3 _
+      c.instruction_at-s.ensures
+      c.loop-left-test.true _ _
+      (inner _ c.in-1-to-10.if-k-lt1-own.false
+      c.in-1-to-10.if-k-lt11-own.true
+      c.in-1-to-10.in_default-own.rest.1) (sym
+      c.is_full.ensures ∙
+      c.if-is_full.false) c.step-m.ensures
+      c.write_answer.ensures,
+)
+
+pub run_body-overflow_sub-left-in_default : goal.run_body-overflow_sub-left-in_default
+run_body-overflow_sub-left-in_default t c = let f = c.loop-left.invariant.4.fewer in omega (
+  arith,
+  f,
+  c.requires.3,
+)
+
+pub run_body-overflow_sub-left-in_default-2 : goal.run_body-overflow_sub-left-in_default-2
+run_body-overflow_sub-left-in_default-2 t c = c.loop-left-test.true
+
+pub run_body-shape_of-w-in_default : goal.run_body-shape_of-w-in_default
+run_body-shape_of-w-in_default t c = c.loop-left.invariant.0
+
+pub run_body-shape_of-a-in_default : goal.run_body-shape_of-a-in_default
+run_body-shape_of-a-in_default t c = c.write_answer-in_default.auto.a ∙ c.loop-left.invariant.1
+
+pub run_body-returns-in_default : goal.run_body-returns-in_default
+run_body-returns-in_default t c =
+    body_returns _ _ _ _ _ _ _ _ _ c.loop-left.invariant.4
+    c.requires.3 _
+    c.instruction_at-s.ensures
+    c.loop-left-test.true
+    (⊎_elim (λ s. none_low _ s.if-k-lt1-1.true) (λ s. inr s.if-k-lt11-1.false) c.in_default.branch-raw) c.write_answer-in_default.ensures
+
+pub run_body-shape_of-w : goal.run_body-shape_of-w
+run_body-shape_of-w t c = c.loop-left.invariant.0
+
+pub run_body-shape_of-a : goal.run_body-shape_of-a
+run_body-shape_of-a t c = c.loop-left.invariant.1
+
+pub run_body-returns : goal.run_body-returns
+run_body-returns t c = body_spent _ _ _ _ _ _ _ _ _ c.loop-left.invariant.4 c.requires.3 c.loop-left-test.false
+
+pub run_child-returns-then-depth-ge-DEPTH : goal.run_child-returns-then-depth-ge-DEPTH
+run_child-returns-then-depth-ge-DEPTH t c =
+    child_too_deep _ _ _ _ _ _ _ _ _ c.requires.3 c.requires.4 c.if-depth-ge-DEPTH.true
+
+pub run_child-overflow_sub-left : goal.run_child-overflow_sub-left
+run_child-overflow_sub-left t c = c.requires.4
+
+pub run_child-overflow_add-depth : goal.run_child-overflow_add-depth
+run_child-overflow_add-depth t c = omega (arith, c.if-depth-ge-DEPTH.false)
+
+pub run_child-overflow_sub-left-2 : goal.run_child-overflow_sub-left-2
+run_child-overflow_sub-left-2 t c = c.requires.3
+
+pub run_child-overflow_add-made : goal.run_child-overflow_add-made
+run_child-overflow_add-made t c = omega (arith, c.requires.5)
+
+pub run_child-run_body-requires : goal.run_child-run_body-requires
+run_child-run_body-requires t c = (
+  child_falls _ _ c.decreases
+      c.requires.3,
+  (
+    c.requires.0,
+    c.requires.1,
+    omega (arith, c.if-depth-ge-DEPTH.false),
+    omega (arith, c.requires.4),
+    omega (
+      arith,
+      c.requires.3,
+      c.requires.5,
+    ),
+  ),
+)
+
+pub run_child-shape_of-w : goal.run_child-shape_of-w
+run_child-shape_of-w t c = c.run_body.auto.w
+
+pub run_child-shape_of-a : goal.run_child-shape_of-a
+run_child-shape_of-a t c =
+    c.run_body.auto.a
+    ∙ c.write_answer.auto.a
+
+pub run_child-returns : goal.run_child-returns
+run_child-returns t c =
+    child_runs _ _ _ _ _ _ _ _ _
+    c.requires.3
+    c.requires.4 _ _ _
+    c.if-depth-ge-DEPTH.false
+    c.write_answer.ensures c.run_body.ensures

@@ -1,0 +1,15 @@
+use mathlib.Core.Path.{◌≡◌, refl, sym, ◌∙◌}
+use native.Mathlib.Omega.{arith}
+use borrow.Author.Rules.{rules}
+use Rattle.spec_simulate.specs.Machine.{soonest}
+use Rattle.simulate.specs.Listed.{listed}
+use Rattle.simulate.specs.Leaves.{soonest_more, soonest_end}
+use Rattle.simulate.proofs.due.Goals as goal
+
+pub loop-i-preserved : goal.loop-i-preserved
+loop-i-preserved c =
+    let b = c.loop-i-test.true in
+    soonest_more _ _ _ _ _ (omega (arith, b)) c.get-t.ensures c.get.ensures c.earlier-d.ensures ∙ c.loop-i.invariant
+
+pub returns : goal.returns
+returns c = sym (soonest_end _ _ _ _ c.loop-i-test.false) ∙ c.loop-i.invariant

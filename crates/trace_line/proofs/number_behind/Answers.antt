@@ -1,0 +1,6 @@
+use borrow.Author.Rules.{rules}
+use Rattle.trace_line.proofs.Lines.{number_on}
+use Rattle.trace_line.proofs.number_behind.Goals as goal
+
+pub returns : goal.returns
+returns c = number_on c.behind_text-p.ensures c.number.ensures
