@@ -14,7 +14,7 @@ use Rattle.spec_words.specs.Words.{load, store, size, pick, either, pass, halt, 
 use Rattle.spec_lists.specs.Counting.{equal?, below?}
 use Rattle.spec_lists.specs.Marks.{zeros}
 use Rattle.spec_layout.specs.Layout.{NONE, STATUS, PARENT, OLDER, YOUNGER, task, rights_of, read, record_of}
-use Rattle.spec_layout.specs.Frame.{record_word}
+use Rattle.spec_layout.proofs.Frame.{record_word}
 use Rattle.spec_tree.specs.Rights.{pops, shares_pop}
 use Rattle.spec_rules.specs.Contents.{Contents, word, decode, scan_decodes}
 use Rattle.spec_rules.specs.Rules.{Unfinished, Child, TaskRules, walk}

@@ -15,7 +15,7 @@ use Rattle.spec_rules.specs.Views.{view}
 use Rattle.spec_outcomes.specs.Segments.{has_none_free, next_free}
 use Rattle.spec_outcomes.specs.Views.{view_of, is_empty, tail_of, frees, task_at, kind_at, just_before}
 use Rattle.spec_outcomes.specs.Push.{link_frees, capacity, ends_away, runs_out}
-use Rattle.spec_outcomes.specs.RunOfOne.{empty_none, empty_room, filled_room}
+use Rattle.spec_outcomes.proofs.RunOfOne.{empty_none, empty_room, filled_room}
 use Rattle.law_push_runs.specs.Pushable.{Pushable}
 
 pub link_is : (m : List ℕ) (t q : ℕ) {x y k h e s : ℕ} {b : Bool} → x ≡ just_before m q t → y ≡ task_at x → k ≡ kind_at x → h ≡ read m (head k y q)

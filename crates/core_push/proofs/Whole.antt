@@ -17,8 +17,8 @@ use Rattle.spec_answers.specs.Answers.{Outcome, outcome, words_of, when_moved}
 use Rattle.spec_outcomes.specs.Segments.{stored_all, has_none_free}
 use Rattle.spec_outcomes.specs.Views.{view_of, is_empty, tail_of, just_before}
 use Rattle.spec_outcomes.specs.Push.{pushed_apart, pushed, pushed_all, capacity, ends_away, runs_out, pushed_run}
-use Rattle.spec_outcomes.specs.Keeps.{Keeps, keeps_pushed}
-use Rattle.spec_outcomes.specs.RunOfOne.{some_free, empty_none}
+use Rattle.spec_outcomes.proofs.Keeps.{Keeps, keeps_pushed}
+use Rattle.spec_outcomes.proofs.RunOfOne.{some_free, empty_none}
 use Rattle.law_push_runs.specs.Pushable.{Pushable}
 use Rattle.law_push_runs.specs.Runs.{pushed_words, words_append, Filled, ends_here, Next, fits, Starts, goes, stops, leaves_out, starts}
 use Rattle.segments.specs.Runs.{Storable, fitting}

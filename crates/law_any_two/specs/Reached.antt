@@ -10,7 +10,7 @@ use Rattle.spec_answers.specs.declared.Answer.TheVariants.{Moved}
 use Rattle.spec_rules.specs.Test.{rules_hold}
 use Rattle.spec_lists.specs.Maps.{All, all_behind}
 use Rattle.spec_order.specs.Waits.{unfinished as unfinishedBy}
-use Rattle.law_in_order.specs.State.{state_rules, state_size}
+use Rattle.law_in_order.proofs.State.{state_rules, state_size}
 use Rattle.spec_job.specs.Test.{job_answer}
 use Rattle.spec_line.specs.Line.{Item, spot}
 use Rattle.law_job_order.specs.Beside.{Numbered, standing}
@@ -23,12 +23,12 @@ use Rattle.spec_runner.specs.Answers.{outcome, core_of, runner_of}
 use Rattle.spec_runner.specs.Open.{open_outcome}
 use Rattle.spec_runner.specs.Step.{step_tested, step_outcome}
 use Rattle.law_any_order.specs.Statement.{Stand, stand_after, stepped, after_calls, fresh}
-use Rattle.law_any_order.specs.Written.{Holds}
-use Rattle.law_any_order.specs.Tested.{stands_at, nobody, tests_pass}
-use Rattle.law_any_order.specs.Running.{Running}
-use Rattle.law_any_order.specs.Called.{stood}
-use Rattle.law_any_order.specs.Fresh.{fresh_runs}
-use Rattle.law_any_order.specs.AnyOrder.{calls, no_ticks}
+use Rattle.law_any_order.proofs.Written.{Holds}
+use Rattle.law_any_order.proofs.Tested.{stands_at, nobody, tests_pass}
+use Rattle.law_any_order.proofs.Running.{Running}
+use Rattle.law_any_order.proofs.Called.{stood}
+use Rattle.law_any_order.proofs.Fresh.{fresh_runs}
+use Rattle.law_any_order.proofs.AnyOrder.{calls, no_ticks}
 
 pub record Reached (j m r : List ℕ) : Type 0 where
   pub accept : job_answer j ≡ Moved 0

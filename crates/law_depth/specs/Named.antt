@@ -20,12 +20,12 @@ use Rattle.spec_runner.specs.Words.{RUNNER}
 use Rattle.law_job_order.specs.Beside.{Numbered, task_of, Beside}
 use Rattle.law_job_order.specs.Located.{top_numbered, located, stands_unfinished}
 use Rattle.law_any_order.specs.Statement.{Stand, name_at, event_for, stand_after, stepped, after_calls, fresh, step_answer}
-use Rattle.law_any_order.specs.States.{still}
-use Rattle.law_any_order.specs.Running.{Running}
-use Rattle.law_any_order.specs.Names.{name_is}
-use Rattle.law_any_order.specs.Called.{Mover, Called, absent, held, went}
-use Rattle.law_any_order.specs.Fresh.{fresh_runs}
-use Rattle.law_any_order.specs.AnyOrder.{call, calls, no_ticks}
+use Rattle.law_any_order.proofs.States.{still}
+use Rattle.law_any_order.proofs.Running.{Running}
+use Rattle.law_any_order.proofs.Names.{name_is}
+use Rattle.law_any_order.proofs.Called.{Mover, Called, absent, held, went}
+use Rattle.law_any_order.proofs.Fresh.{fresh_runs}
+use Rattle.law_any_order.proofs.AnyOrder.{call, calls, no_ticks}
 use Rattle.law_depth.specs.Ancestors.{name_short}
 
 -- how much longer than 127 numbers the name of an event is

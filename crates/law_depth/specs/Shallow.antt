@@ -9,10 +9,10 @@ use Rattle.spec_job.specs.Test.{job_answer}
 use Rattle.spec_job.specs.Accepted.{accepted}
 use Rattle.spec_plain.specs.Machine.{begin}
 use Rattle.spec_plain.specs.Run.{stack_of, run, events}
-use Rattle.spec_plain.specs.Kept.{begin_stands}
+use Rattle.spec_plain.proofs.Kept.{begin_stands}
 use Rattle.spec_runner.specs.Words.{RUNNER}
 use Rattle.law_any_order.specs.Statement.{after_calls, fresh, AllFinished}
-use Rattle.law_any_two.specs.Sums.{run_sum}
+use Rattle.law_any_two.proofs.Sums.{run_sum}
 use Rattle.law_depth.specs.Named.{excess, named}
 use Rattle.law_depth.specs.Stacked.{stack_few}
 

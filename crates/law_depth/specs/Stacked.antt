@@ -11,9 +11,9 @@ use Rattle.spec_lists.specs.Counting.{over}
 use Rattle.spec_job.specs.Accepted.{Accepted}
 use Rattle.spec_plain.specs.Machine.{Task, State, state, event_of, does, step}
 use Rattle.spec_plain.specs.Run.{stack_of, event_in, next, run_from, events_from}
-use Rattle.spec_plain.specs.Laws.{ended_stays}
+use Rattle.spec_plain.proofs.Laws.{ended_stays}
 use Rattle.spec_plain.specs.Stack.{Stack}
-use Rattle.spec_plain.specs.Kept.{next_kept}
+use Rattle.spec_plain.proofs.Kept.{next_kept}
 use Rattle.law_depth.specs.Named.{excess}
 
 -- the name of the first task

@@ -8,7 +8,7 @@ use Rattle.spec_lists.specs.Counting.{occurrences, occurs_here, occurs_cons}
 use Rattle.spec_layout.specs.Layout.{NONE, NL, FREE_SEGMENTS, FREE_TASKS, STATUS, UNFINISHED, QUEUE_HEADS, TAILS, HEAD_WORDS, TAIL_WORDS, number_word}
 use Rattle.spec_layout.specs.Layout.{free_segments, free_tasks, free_segment, free_task, task, first, count, next, length_of, Opened, ValuesFit}
 use Rattle.spec_layout.specs.Layout.{segments_of, free_height, address, read}
-use Rattle.spec_layout.specs.Frame.{record_word}
+use Rattle.spec_layout.proofs.Frame.{record_word}
 use Rattle.spec_tree.specs.Tour.{entered}
 use Rattle.spec_rules.specs.Contents.{decode, scan_decodes, word, part_word, heads, tails}
 use Rattle.spec_rules.specs.Rules.{Holder, TaskRules}

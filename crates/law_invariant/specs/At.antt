@@ -15,9 +15,9 @@ use Rattle.law_order_queue.specs.Points.{Point, user, Timeline}
 use Rattle.spec_lists.specs.Maps.{All}
 use Rattle.law_gaps.specs.Line.{Line, entered, marks}
 use Rattle.law_gaps.specs.Store.{Laid, values_in, timeline}
-use Rattle.law_gaps.specs.Timelines.{timeline_at}
-use Rattle.law_gaps.specs.Pool.{mine}
-use Rattle.law_gaps.specs.Splits.{Proper, all_proper, small_entries, entered_part}
+use Rattle.law_gaps.proofs.Timelines.{timeline_at}
+use Rattle.law_gaps.proofs.Pool.{mine}
+use Rattle.law_gaps.proofs.Splits.{Proper, all_proper, small_entries, entered_part}
 use Rattle.law_links.specs.Linked.{spot_unfinished}
 use Rattle.law_links.specs.Places.{Place, place}
 use Rattle.law_links.specs.Waits.{same_rights}

@@ -5,7 +5,7 @@ use Rattle.spec_lists.specs.Counting.{occurrences}
 use Rattle.spec_lists.specs.Maps.{All}
 use Rattle.law_gaps.specs.Line.{vacant, Line, marks, exits, entries, Fits}
 use Rattle.law_gaps.specs.Store.{Memory}
-use Rattle.law_gaps.specs.Splits.{small_entries}
+use Rattle.law_gaps.proofs.Splits.{small_entries}
 use Rattle.law_invariant.specs.Represents.{uses_in}
 use Rattle.law_invariant.specs.Views.{entered_in, exited_in, uses_small}
 

@@ -8,7 +8,7 @@ use Rattle.spec_rules.specs.Rules.{Unfinished}
 use Rattle.spec_order.specs.Steps.{Item}
 use Rattle.law_order_waits.specs.Poppers.{popper_says}
 use Rattle.law_gaps.specs.Line.{segments, first_chain}
-use Rattle.law_gaps.specs.Pool.{mine}
+use Rattle.law_gaps.proofs.Pool.{mine}
 use Rattle.law_links.specs.Linked.{spot_unfinished}
 use Rattle.law_links.specs.Marks.{mark_exited, unfinished_entered, mark_entered}
 use Rattle.law_maps.specs.Meaning.{store_in}

@@ -7,9 +7,9 @@ use Rattle.spec_layout.specs.Layout.{CHILDREN, USER, RIGHT}
 use Rattle.spec_lists.specs.Maps.{All, put_other, all_at}
 use Rattle.law_gaps.specs.Line.{End, nonlocal, local, extent, Line, exits, entries, first_chain, base, exited, entered, pass, segments}
 use Rattle.law_gaps.specs.Store.{head_of}
-use Rattle.law_gaps.specs.Names.{OnlyHead, only_head, Unnamed, unnamed}
-use Rattle.law_gaps.specs.Pool.{mine}
-use Rattle.law_gaps.specs.Frames.{clash}
+use Rattle.law_gaps.proofs.Names.{OnlyHead, only_head, Unnamed, unnamed}
+use Rattle.law_gaps.proofs.Pool.{mine}
+use Rattle.law_gaps.proofs.Frames.{clash}
 use Rattle.law_maps.specs.Meaning.{meaning_of, heads_in, view_in, store_in}
 use Rattle.law_invariant.specs.Represents.{alive, of_tasks, queue_memory}
 use Rattle.law_invariant.specs.Laids.{Laids, apart, mine_one}

@@ -15,7 +15,7 @@ use Rattle.spec_lists.specs.Maps.{All, put_other}
 use Rattle.law_gaps.specs.Line.{Extent, vacant, extent, Line, base, exited, entered, pass, exits, entries, Fits}
 use Rattle.law_gaps.specs.Moves.{Place, children_of, right_of, view_at, reduced, children_with, rights_with}
 use Rattle.law_gaps.specs.Places.{In}
-use Rattle.law_gaps.specs.Search.{first_of, place_at}
+use Rattle.law_gaps.proofs.Search.{first_of, place_at}
 use Rattle.law_links.specs.Marks.{mark_held}
 use Rattle.law_maps.specs.Meaning.{view_in}
 use Rattle.law_invariant.specs.Represents.{alive, of_tasks, queue_memory, uses_in, Represents}

@@ -12,11 +12,11 @@ use Rattle.spec_lists.specs.Maps.{All, all_behind}
 use Rattle.law_gaps.specs.Line.{vacant, Line, entered, Fits, settled, Views}
 use Rattle.law_gaps.specs.Store.{Laid}
 use Rattle.law_gaps.specs.Places.{Target, target_in}
-use Rattle.law_gaps.specs.Search.{first_of, place_at, stands_at as viewStands, Ends, ends_behind, target_found}
-use Rattle.law_gaps.specs.Find.{Found, find, user_settled}
-use Rattle.law_gaps.specs.Frames.{split}
-use Rattle.law_gaps.specs.Pool.{mine}
-use Rattle.law_gaps.specs.Splits.{small_entries}
+use Rattle.law_gaps.proofs.Search.{first_of, place_at, stands_at as viewStands, Ends, ends_behind, target_found}
+use Rattle.law_gaps.proofs.Find.{Found, find, user_settled}
+use Rattle.law_gaps.proofs.Frames.{split}
+use Rattle.law_gaps.proofs.Pool.{mine}
+use Rattle.law_gaps.proofs.Splits.{small_entries}
 use Rattle.law_invariant.specs.Represents.{queue_memory, uses_in, Represents}
 use Rattle.law_invariant.specs.Parts.{holders, parts_of}
 use Rattle.law_invariant.specs.At.{At, where_it_stands, laid_at, task_unfinished}

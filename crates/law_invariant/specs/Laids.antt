@@ -8,8 +8,8 @@ use Rattle.spec_tree.specs.Queues.{by_four}
 use Rattle.spec_lists.specs.Maps.{All, put, put_same, put_other, all_in}
 use Rattle.law_gaps.specs.Line.{Line, segments}
 use Rattle.law_gaps.specs.Store.{Store, Memory, Laid, Segments, timeline}
-use Rattle.law_gaps.specs.Stores.{Kept}
-use Rattle.law_gaps.specs.Pool.{Pool, mine, laid_mine, pool_row, other_queue}
+use Rattle.law_gaps.proofs.Stores.{Kept}
+use Rattle.law_gaps.proofs.Pool.{Pool, mine, laid_mine, pool_row, other_queue}
 use Rattle.law_maps.specs.Update.{shared}
 
 -- the four lines

@@ -5,10 +5,10 @@ use Rattle.std.proofs.lemmas.Bool.{false≢true}
 use Rattle.spec_words.specs.Words.{load, pick, halt, pass, both, true_both, both_true}
 use Rattle.spec_lists.specs.Counting.{occurrences, occurs_nil, occurs_here, occurs_past, equal?, occurs_later}
 use Rattle.spec_layout.specs.Layout.{QUEUE_HEADS, task, queue_head, read, record_of}
-use Rattle.spec_layout.specs.Frame.{record_word}
+use Rattle.spec_layout.proofs.Frame.{record_word}
 use Rattle.spec_tree.specs.Tour.{MARKS, tour}
 use Rattle.spec_outcomes.specs.Segments.{index_of, head_index}
-use Rattle.law_gaps.specs.Search.{first_of}
+use Rattle.law_gaps.proofs.Search.{first_of}
 use Rattle.law_links.specs.Places.{seek_first}
 use Rattle.law_maps.specs.Links.{NamedBy}
 

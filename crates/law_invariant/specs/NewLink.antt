@@ -13,11 +13,11 @@ use Rattle.spec_order.specs.Steps.{Task, Item, spot, number_of}
 use Rattle.spec_lists.specs.Maps.{put_other, last_of, last_in, all_behind}
 use Rattle.law_gaps.specs.Line.{Line, entered, segments, first_chain}
 use Rattle.law_gaps.specs.Store.{Chain, Laid}
-use Rattle.law_gaps.specs.Chains.{Gap, count_gap, sole_first}
-use Rattle.law_gaps.specs.Joins.{is_sole}
+use Rattle.law_gaps.proofs.Chains.{Gap, count_gap, sole_first}
+use Rattle.law_gaps.proofs.Joins.{is_sole}
 use Rattle.law_gaps.specs.Lines.{count_segments, first_behind}
-use Rattle.law_gaps.specs.Frames.{no_base}
-use Rattle.law_gaps.specs.Pool.{mine}
+use Rattle.law_gaps.proofs.Frames.{no_base}
+use Rattle.law_gaps.proofs.Pool.{mine}
 use Rattle.law_links.specs.Linked.{tour_is}
 use Rattle.law_links.specs.Frame.{keeps_linked}
 use Rattle.law_maps.specs.Meaning.{Meaning, meaning_of, contents_in, free_in}

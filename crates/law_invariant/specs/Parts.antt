@@ -17,7 +17,7 @@ use Rattle.law_order_queue.specs.Points.{Timeline}
 use Rattle.spec_lists.specs.Maps.{All}
 use Rattle.law_gaps.specs.Line.{vacant, Line, marks, Fits}
 use Rattle.law_gaps.specs.Store.{Laid, timeline}
-use Rattle.law_gaps.specs.Pool.{mine}
+use Rattle.law_gaps.proofs.Pool.{mine}
 use Rattle.law_links.specs.Linked.{Linked}
 use Rattle.law_maps.specs.Meaning.{next_in, contents_in, store_in, Sized}
 use Rattle.law_maps.specs.Kept.{Kept}

@@ -22,8 +22,8 @@ use Rattle.law_order_queue.specs.Laws.{plain_line}
 use Rattle.spec_lists.specs.Maps.{All, put, put_same, put_other}
 use Rattle.law_gaps.specs.Line.{vacant, Line, marks, Fits}
 use Rattle.law_gaps.specs.Store.{Store, Memory, Laid, timeline}
-use Rattle.law_gaps.specs.After.{After, after_marks, after_fits}
-use Rattle.law_gaps.specs.Pool.{mine}
+use Rattle.law_gaps.proofs.After.{After, after_marks, after_fits}
+use Rattle.law_gaps.proofs.Pool.{mine}
 use Rattle.law_links.specs.Linked.{numbers_back, back_append, Linked}
 use Rattle.law_links.specs.Frame.{SameLinks, keeps_linked}
 use Rattle.law_maps.specs.Meaning.{next_in, contents_in, store_in, Sized}

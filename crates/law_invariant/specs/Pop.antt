@@ -28,12 +28,12 @@ use Rattle.spec_lists.specs.Maps.{put_same, all_behind}
 use Rattle.law_gaps.specs.Line.{vacant, Line, base, exited, entered, pass, first_chain}
 use Rattle.law_gaps.specs.Store.{Memory, Chain, Start, sole, full, head_of, Laid, values_in, timeline}
 use Rattle.law_gaps.specs.Lines.{NoBase, first_behind}
-use Rattle.law_gaps.specs.Frames.{bottomed, no_base}
-use Rattle.law_gaps.specs.Timelines.{timeline_append}
+use Rattle.law_gaps.proofs.Frames.{bottomed, no_base}
+use Rattle.law_gaps.proofs.Timelines.{timeline_append}
 use Rattle.law_gaps.specs.Moves.{popped_to, popped as memoryPopped}
-use Rattle.law_gaps.specs.After.{After}
-use Rattle.law_gaps.specs.PopRow.{pop_row}
-use Rattle.law_gaps.specs.Pool.{mine}
+use Rattle.law_gaps.proofs.After.{After}
+use Rattle.law_gaps.proofs.PopRow.{pop_row}
+use Rattle.law_gaps.proofs.Pool.{mine}
 use Rattle.law_links.specs.Searches.{same_pusher}
 use Rattle.law_maps.specs.Meaning.{meaning_of, memory_of, memory_in, contents_in, next_in, heads_in, store_in}
 use Rattle.law_maps.specs.Update.{memory_shared, shared}

@@ -15,9 +15,9 @@ use Rattle.spec_lists.specs.Maps.{put, put_other}
 use Rattle.law_gaps.specs.Line.{End, local, Extent, vacant, extent, Line, entered}
 use Rattle.law_gaps.specs.Store.{Memory, timeline}
 use Rattle.law_gaps.specs.Moves.{pushed_into, taken as taken-store, pushed_behind}
-use Rattle.law_gaps.specs.After.{After}
-use Rattle.law_gaps.specs.PushRows.{into_row, behind_row}
-use Rattle.law_gaps.specs.Pool.{mine}
+use Rattle.law_gaps.proofs.After.{After}
+use Rattle.law_gaps.proofs.PushRows.{into_row, behind_row}
+use Rattle.law_gaps.proofs.Pool.{mine}
 use Rattle.law_maps.specs.Meaning.{Meaning, meaning_of, memory_of, memory_in, contents_in, free_in, view_in}
 use Rattle.law_maps.specs.Update.{with_contents, shared}
 use Rattle.law_maps.specs.Kept.{Becomes}

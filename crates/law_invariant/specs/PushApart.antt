@@ -13,13 +13,13 @@ use Rattle.law_order_waits.specs.Played.{Played}
 use Rattle.spec_lists.specs.Maps.{last_of, last_in}
 use Rattle.law_gaps.specs.Line.{nonlocal, local, Extent, vacant, extent, Line}
 use Rattle.law_gaps.specs.Store.{Memory}
-use Rattle.law_gaps.specs.Chains.{count_gap}
+use Rattle.law_gaps.proofs.Chains.{count_gap}
 use Rattle.law_gaps.specs.Moves.{view_at, taken as taken-store, pushed_apart}
 use Rattle.law_gaps.specs.Places.{target_in}
-use Rattle.law_gaps.specs.Search.{place_at}
-use Rattle.law_gaps.specs.Find.{Found, nothing}
-use Rattle.law_gaps.specs.PushRows.{apart_row}
-use Rattle.law_gaps.specs.Pool.{mine}
+use Rattle.law_gaps.proofs.Search.{place_at}
+use Rattle.law_gaps.proofs.Find.{Found, nothing}
+use Rattle.law_gaps.proofs.PushRows.{apart_row}
+use Rattle.law_gaps.proofs.Pool.{mine}
 use Rattle.law_maps.specs.Meaning.{extent_of, meaning_of, memory_of, memory_in, free_in, view_in}
 use Rattle.law_maps.specs.Reads.{view_at_lem}
 use Rattle.law_maps.specs.Extents.{reduces, reducible_extents, tailed_extent, end_local, end_nonlocal}

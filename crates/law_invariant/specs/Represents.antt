@@ -12,7 +12,7 @@ use Rattle.law_order_queue.specs.Points.{Timeline}
 use Rattle.spec_lists.specs.Maps.{All}
 use Rattle.law_gaps.specs.Line.{vacant, Line, marks, Fits}
 use Rattle.law_gaps.specs.Store.{Memory, Laid, timeline}
-use Rattle.law_gaps.specs.Pool.{Pool, mine}
+use Rattle.law_gaps.proofs.Pool.{Pool, mine}
 use Rattle.law_links.specs.Linked.{Linked}
 use Rattle.law_maps.specs.Meaning.{contents_in, store_in, memory_in, Sized}
 

@@ -12,7 +12,7 @@ use Rattle.spec_rules.specs.Contents.{decode}
 use Rattle.spec_rules.specs.Rules.{Unfinished}
 use Rattle.spec_lists.specs.Maps.{All}
 use Rattle.law_gaps.specs.Line.{base, exited, entered, pass, Line, marks, exits, entries, Fits}
-use Rattle.law_gaps.specs.Search.{task_at, task_entered, task_exited}
+use Rattle.law_gaps.proofs.Search.{task_at, task_entered, task_exited}
 use Rattle.law_links.specs.Linked.{word_is}
 use Rattle.law_maps.specs.Meaning.{heads_in, view_in}
 use Rattle.law_invariant.specs.Represents.{alive, uses_in, of_tasks, queue_memory}

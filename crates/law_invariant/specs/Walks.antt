@@ -14,7 +14,7 @@ use Rattle.law_rules_tasks.specs.Tested.{top_says}
 use Rattle.spec_outcomes.specs.Views.{has_part, stands_at}
 use Rattle.spec_order.specs.Steps.{Item}
 use Rattle.law_gaps.specs.Line.{vacant}
-use Rattle.law_gaps.specs.Search.{first_of, task_at, has_part as partTaken, stands_at as viewStands, Ends, same_views}
+use Rattle.law_gaps.proofs.Search.{first_of, task_at, has_part as partTaken, stands_at as viewStands, Ends, same_views}
 use Rattle.law_links.specs.Row.{Row, leads_on}
 use Rattle.law_links.specs.Linked.{word_is}
 use Rattle.law_links.specs.Marks.{mark_held}

@@ -13,7 +13,7 @@ use Rattle.spec_outcomes.specs.Waits.{has_child}
 use Rattle.spec_outcomes.specs.Views.{has_part, stands_at}
 use Rattle.spec_order.specs.Steps.{Task, Item, spot, number_of}
 use Rattle.law_gaps.specs.Line.{Line}
-use Rattle.law_gaps.specs.Search.{first_of, task_at, has_part as partTaken, stands_at as viewStands, Ends, ends_behind, same_views}
+use Rattle.law_gaps.proofs.Search.{first_of, task_at, has_part as partTaken, stands_at as viewStands, Ends, ends_behind, same_views}
 use Rattle.law_links.specs.Places.{search_behind}
 use Rattle.law_maps.specs.Find.{part_taken, view_stands}
 use Rattle.law_invariant.specs.Represents.{queue_memory, uses_in, Represents}

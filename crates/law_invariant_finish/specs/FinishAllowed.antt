@@ -16,8 +16,8 @@ use Rattle.law_order_waits.specs.Popper.{first_popper}
 use Rattle.law_gaps.specs.Line.{End, local, Extent, vacant, extent, exited, entered, Line, marks}
 use Rattle.law_gaps.specs.Store.{Memory}
 use Rattle.law_gaps.specs.Moves.{view_at, reduced, returned}
-use Rattle.law_gaps.specs.Search.{place_at}
-use Rattle.law_gaps.specs.Pool.{mine}
+use Rattle.law_gaps.proofs.Search.{place_at}
+use Rattle.law_gaps.proofs.Pool.{mine}
 use Rattle.law_maps.specs.Meaning.{end_of, extent_of, listed, contents_in, view_in}
 use Rattle.law_maps.specs.Reads.{view_at_lem, contents_at}
 use Rattle.law_maps.specs.Segment.{number_below}

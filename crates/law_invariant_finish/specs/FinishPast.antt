@@ -16,9 +16,9 @@ use Rattle.law_gaps.specs.Line.{Extent, vacant, pass, Line, marks, Fits, first_c
 use Rattle.law_gaps.specs.Store.{Memory, Laid, head_of, timeline}
 use Rattle.law_gaps.specs.Lines.{marks_append}
 use Rattle.law_gaps.specs.Moves.{reduced, joined}
-use Rattle.law_gaps.specs.After.{After, after_marks, after_fits}
-use Rattle.law_gaps.specs.TaskRows.{finish_past_row}
-use Rattle.law_gaps.specs.Pool.{mine}
+use Rattle.law_gaps.proofs.After.{After, after_marks, after_fits}
+use Rattle.law_gaps.proofs.TaskRows.{finish_past_row}
+use Rattle.law_gaps.proofs.Pool.{mine}
 use Rattle.law_maps.specs.Meaning.{Meaning, meaning_of, store_of, contents_in, heads_in, view_in}
 use Rattle.law_maps.specs.Update.{with_store, with_view, store_self, view_self}
 use Rattle.law_maps.specs.Kept.{Becomes, becomes_as, becomes_at}

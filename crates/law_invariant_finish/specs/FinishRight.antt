@@ -17,11 +17,11 @@ use Rattle.law_gaps.specs.Line.{Extent, vacant, Mark, exited, entered, Line, mar
 use Rattle.law_gaps.specs.Store.{Memory, Laid, values_in, timeline}
 use Rattle.law_gaps.specs.Lines.{marks_append, count_segments}
 use Rattle.law_gaps.specs.Moves.{view_at, reduced, joined, finished_with, finished}
-use Rattle.law_gaps.specs.After.{After, after_marks, after_fits}
-use Rattle.law_gaps.specs.FinishRow.{finish_row}
-use Rattle.law_gaps.specs.Frames.{split}
-use Rattle.law_gaps.specs.Timelines.{timeline_at}
-use Rattle.law_gaps.specs.Pool.{mine}
+use Rattle.law_gaps.proofs.After.{After, after_marks, after_fits}
+use Rattle.law_gaps.proofs.FinishRow.{finish_row}
+use Rattle.law_gaps.proofs.Frames.{split}
+use Rattle.law_gaps.proofs.Timelines.{timeline_at}
+use Rattle.law_gaps.proofs.Pool.{mine}
 use Rattle.law_maps.specs.Meaning.{memory_of, memory_in, contents_in}
 use Rattle.law_maps.specs.Update.{shared}
 use Rattle.law_invariant.specs.Represents.{alive, of_tasks, queue_memory, uses_in, Represents}

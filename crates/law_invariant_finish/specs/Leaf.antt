@@ -7,7 +7,7 @@ use Rattle.spec_outcomes.specs.Waits.{has_child}
 use Rattle.spec_order.specs.Steps.{Task, Item, spot, number_of}
 use Rattle.spec_lists.specs.Maps.{All}
 use Rattle.law_gaps.specs.Line.{Extent, exited, entered, pass, Line, marks, Fits, Mode, Views}
-use Rattle.law_gaps.specs.Splits.{all_proper, small_entries, entered_leaf, pass_leaf}
+use Rattle.law_gaps.proofs.Splits.{all_proper, small_entries, entered_leaf, pass_leaf}
 use Rattle.spec_tree.specs.Tour.{entered as entered_in}
 use Rattle.law_links.specs.Linked.{numbers_back}
 use Rattle.law_links.specs.Places.{Place, childless}

@@ -15,7 +15,7 @@ use Rattle.law_order_waits.specs.Spots.{same_number}
 use Rattle.law_order_waits.specs.Popper.{first_popper}
 use Rattle.law_order_waits.specs.Poppers.{popper_says}
 use Rattle.law_gaps.specs.Line.{Line, segments}
-use Rattle.law_gaps.specs.Pool.{mine}
+use Rattle.law_gaps.proofs.Pool.{mine}
 use Rattle.law_links.specs.Linked.{Linked, spot_unfinished}
 use Rattle.law_links.specs.Frame.{keeps_linked}
 use Rattle.law_maps.specs.Meaning.{free_in, store_in}

@@ -18,10 +18,10 @@ use Rattle.spec_lists.specs.Maps.{put, put_same, put_other}
 use Rattle.law_gaps.specs.Line.{Line, first_chain}
 use Rattle.law_gaps.specs.Store.{Memory, Laid, head_of, timeline}
 use Rattle.law_gaps.specs.Moves.{head_moved, queue_passed}
-use Rattle.law_gaps.specs.After.{After, after_marks, after_fits}
-use Rattle.law_gaps.specs.HolderRows.{queue_row}
-use Rattle.law_gaps.specs.Names.{first_chain_lem}
-use Rattle.law_gaps.specs.Pool.{mine}
+use Rattle.law_gaps.proofs.After.{After, after_marks, after_fits}
+use Rattle.law_gaps.proofs.HolderRows.{queue_row}
+use Rattle.law_gaps.proofs.Names.{first_chain_lem}
+use Rattle.law_gaps.proofs.Pool.{mine}
 use Rattle.law_links.specs.Linked.{Linked, spot_unfinished}
 use Rattle.law_links.specs.Frame.{keeps_linked}
 use Rattle.law_maps.specs.Meaning.{Meaning, memory_of, heads_in}

@@ -15,7 +15,7 @@ use Rattle.law_order_waits.specs.Popper.{first_popper}
 use Rattle.law_gaps.specs.Line.{Extent, vacant, exited, entered, Line, segments, first_chain}
 use Rattle.law_gaps.specs.Store.{Store, Memory, Laid}
 use Rattle.law_gaps.specs.Moves.{reduced, joined, returned}
-use Rattle.law_gaps.specs.Pool.{mine}
+use Rattle.law_gaps.proofs.Pool.{mine}
 use Rattle.law_links.specs.Frame.{keeps_linked}
 use Rattle.law_maps.specs.Meaning.{Meaning, meaning_of, store_of, contents_in, free_in, view_in}
 use Rattle.law_maps.specs.Update.{with_store, with_view, store_self}

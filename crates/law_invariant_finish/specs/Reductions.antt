@@ -8,13 +8,13 @@ use Rattle.law_gaps.specs.Line.{End, nonlocal, local, Extent, extent, exited, en
 use Rattle.law_gaps.specs.Line.{Begins, bare, whole, begun, Views, exiting, entering, passing}
 use Rattle.law_gaps.specs.Store.{Chain, Memory, Laid}
 use Rattle.law_gaps.specs.Lines.{count_segments, first_behind}
-use Rattle.law_gaps.specs.Frames.{split, no_base}
+use Rattle.law_gaps.proofs.Frames.{split, no_base}
 use Rattle.law_gaps.specs.Moves.{Place, children_of, right_of, view_at, reduced, returned}
 use Rattle.law_gaps.specs.Places.{Latest, Target, Returns}
-use Rattle.law_gaps.specs.Chains.{Gap, count_gap, sole_first}
-use Rattle.law_gaps.specs.Joins.{is_sole}
-use Rattle.law_gaps.specs.Find.{awaited, Found, nothing, tail, find}
-use Rattle.law_gaps.specs.Reductions.{fuse}
+use Rattle.law_gaps.proofs.Chains.{Gap, count_gap, sole_first}
+use Rattle.law_gaps.proofs.Joins.{is_sole}
+use Rattle.law_gaps.proofs.Find.{awaited, Found, nothing, tail, find}
+use Rattle.law_gaps.proofs.Reductions.{fuse}
 use Rattle.law_invariant_finish.specs.Meets.{Meets, Apart, Tails, Headless, meets_vacant, tails_reduced}
 
 -- Segments z and s of the line l, which may be linked.

@@ -13,7 +13,7 @@ use Rattle.law_gaps.specs.Line.{End, nonlocal, local, Extent, vacant, extent, ex
 use Rattle.law_gaps.specs.Store.{Store, Memory}
 use Rattle.law_gaps.specs.Moves.{Place, children_of, view_at, reduced, children_with, rights_with, joined, returned, finished}
 use Rattle.law_gaps.specs.Places.{Returns}
-use Rattle.law_gaps.specs.Search.{place_at}
+use Rattle.law_gaps.proofs.Search.{place_at}
 use Rattle.law_maps.specs.Meaning.{Meaning, meaning_of, store_of, memory_of, view_in}
 use Rattle.law_maps.specs.Update.{with_store, with_view, store_self, shared}
 use Rattle.law_maps.specs.Kept.{Becomes}

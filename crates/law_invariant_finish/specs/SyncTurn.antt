@@ -12,9 +12,9 @@ use Rattle.spec_lists.specs.Maps.{put_other}
 use Rattle.law_gaps.specs.Line.{Extent, vacant, exited, entered, Line, segments}
 use Rattle.law_gaps.specs.Store.{Memory, Laid, timeline}
 use Rattle.law_gaps.specs.Moves.{reduced, joined, synced}
-use Rattle.law_gaps.specs.After.{After, after_marks, after_fits}
-use Rattle.law_gaps.specs.SyncRow.{sync_row}
-use Rattle.law_gaps.specs.Pool.{mine}
+use Rattle.law_gaps.proofs.After.{After, after_marks, after_fits}
+use Rattle.law_gaps.proofs.SyncRow.{sync_row}
+use Rattle.law_gaps.proofs.Pool.{mine}
 use Rattle.law_maps.specs.Meaning.{Meaning, meaning_of, memory_of, memory_in, view_in, contents_in}
 use Rattle.law_maps.specs.Update.{with_store, with_view, store_self, view_self, shared}
 use Rattle.law_maps.specs.Kept.{Becomes, becomes_as}

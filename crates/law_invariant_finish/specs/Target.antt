@@ -16,13 +16,13 @@ use Rattle.spec_lists.specs.Maps.{All, put_other, all_behind, all_at}
 use Rattle.law_gaps.specs.Line.{nonlocal, local, Extent, vacant, extent, base, exited, entered, pass, Line, marks, exits, entries, Fits, Mode, Views, exiting, entering}
 use Rattle.law_gaps.specs.Store.{Memory, Laid}
 use Rattle.law_gaps.specs.Lines.{count_exits, count_entries}
-use Rattle.law_gaps.specs.Frames.{split}
+use Rattle.law_gaps.proofs.Frames.{split}
 use Rattle.law_gaps.specs.Moves.{Place, children_of, right_of, view_at, children_with, rights_with}
 use Rattle.law_gaps.specs.Places.{Returns, In, latest_in, target_in}
-use Rattle.law_gaps.specs.Search.{first_of, task_exited, place_at, has_part as partTaken, stands_at as viewStands, Ends, latest_found, target_found}
-use Rattle.law_gaps.specs.Absent.{entered_marks, exited_marks}
-use Rattle.law_gaps.specs.Pool.{mine}
-use Rattle.law_gaps.specs.Splits.{small_entries}
+use Rattle.law_gaps.proofs.Search.{first_of, task_exited, place_at, has_part as partTaken, stands_at as viewStands, Ends, latest_found, target_found}
+use Rattle.law_gaps.proofs.Absent.{entered_marks, exited_marks}
+use Rattle.law_gaps.proofs.Pool.{mine}
+use Rattle.law_gaps.proofs.Splits.{small_entries}
 use Rattle.law_links.specs.Marks.{mark_entered}
 use Rattle.law_maps.specs.Meaning.{extent_of, view_in}
 use Rattle.law_maps.specs.FinishTest.{returned_nonlocal, returned_local}

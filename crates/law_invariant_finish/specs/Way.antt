@@ -14,8 +14,8 @@ use Rattle.law_order_queue.specs.Points.{Timeline}
 use Rattle.spec_lists.specs.Maps.{All, put, put_same, put_other}
 use Rattle.law_gaps.specs.Line.{Line, marks, Fits}
 use Rattle.law_gaps.specs.Store.{Store, Chain, Memory, Laid, timeline}
-use Rattle.law_gaps.specs.Stores.{Kept as StoreKept}
-use Rattle.law_gaps.specs.Pool.{all_segments, mine}
+use Rattle.law_gaps.proofs.Stores.{Kept as StoreKept}
+use Rattle.law_gaps.proofs.Pool.{all_segments, mine}
 use Rattle.law_maps.specs.Meaning.{Meaning, next_in, contents_in, free_in, store_in, memory_of, Sized}
 use Rattle.law_maps.specs.Kept.{Kept, kept_all, kept_then, Becomes}
 use Rattle.law_maps.specs.Update.{shared}

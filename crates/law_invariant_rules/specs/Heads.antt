@@ -22,7 +22,7 @@ use Rattle.law_order_waits.specs.Poppers.{popper_says}
 use Rattle.spec_lists.specs.Maps.{put, put_same, put_other}
 use Rattle.law_gaps.specs.Line.{first_chain}
 use Rattle.law_gaps.specs.Store.{head_of}
-use Rattle.law_gaps.specs.Names.{first_chain_lem, count_parts}
+use Rattle.law_gaps.proofs.Names.{first_chain_lem, count_parts}
 use Rattle.law_links.specs.Linked.{word_is, spot_unfinished}
 use Rattle.law_maps.specs.Meaning.{optional}
 use Rattle.law_maps.specs.Free.{none_word, some_word, optional_some}

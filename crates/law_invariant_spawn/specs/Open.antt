@@ -21,8 +21,8 @@ use Rattle.law_order_queue.specs.Laws.{begins}
 use Rattle.spec_lists.specs.Maps.{put, put_same, put_other}
 use Rattle.law_gaps.specs.Line.{nonlocal, local, Extent, vacant, extent, base, exited, entered, Line}
 use Rattle.law_gaps.specs.Store.{Memory}
-use Rattle.law_gaps.specs.After.{After, after_marks, after_fits}
-use Rattle.law_gaps.specs.TaskRows.{Opened as OpenedQueue, open_row}
+use Rattle.law_gaps.proofs.After.{After, after_marks, after_fits}
+use Rattle.law_gaps.proofs.TaskRows.{Opened as OpenedQueue, open_row}
 use Rattle.law_links.specs.Linked.{word_is}
 use Rattle.law_maps.specs.Meaning.{Meaning, listed, next_in, free_in, heads_in, view_in}
 use Rattle.law_maps.specs.Kept.{Means}

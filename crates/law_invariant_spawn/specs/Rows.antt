@@ -14,7 +14,7 @@ use Rattle.law_order_queue.specs.Points.{Timeline}
 use Rattle.spec_lists.specs.Maps.{All}
 use Rattle.law_gaps.specs.Line.{vacant, Line, marks, segments, Fits}
 use Rattle.law_gaps.specs.Store.{Laid, timeline}
-use Rattle.law_gaps.specs.Pool.{laid_mine}
+use Rattle.law_gaps.proofs.Pool.{laid_mine}
 use Rattle.law_links.specs.Linked.{Linked}
 use Rattle.law_maps.specs.Meaning.{next_in, contents_in, free_in, Sized}
 use Rattle.law_invariant.specs.Represents.{of_tasks, queue_memory, uses_in, Queue, opened, Represents}

@@ -20,13 +20,13 @@ use Rattle.law_gaps.specs.Line.{Mark, exited, entered, pass, Line, marks, segmen
 use Rattle.law_gaps.specs.Store.{Memory, Laid, timeline}
 use Rattle.law_gaps.specs.Lines.{marks_append}
 use Rattle.law_gaps.specs.Moves.{spawned, queue_passed}
-use Rattle.law_gaps.specs.After.{After, after_marks, after_fits, after_then}
-use Rattle.law_gaps.specs.Absent.{new_unentered}
-use Rattle.law_gaps.specs.Search.{task_at, task_entered, task_exited}
-use Rattle.law_gaps.specs.Splits.{pass_part}
-use Rattle.law_gaps.specs.TaskRows.{spawn_row, spawn_past_row, pass_past_row}
-use Rattle.law_gaps.specs.HolderRows.{queue_row, queue_still_row}
-use Rattle.law_gaps.specs.Pool.{mine}
+use Rattle.law_gaps.proofs.After.{After, after_marks, after_fits, after_then}
+use Rattle.law_gaps.proofs.Absent.{new_unentered}
+use Rattle.law_gaps.proofs.Search.{task_at, task_entered, task_exited}
+use Rattle.law_gaps.proofs.Splits.{pass_part}
+use Rattle.law_gaps.proofs.TaskRows.{spawn_row, spawn_past_row, pass_past_row}
+use Rattle.law_gaps.proofs.HolderRows.{queue_row, queue_still_row}
+use Rattle.law_gaps.proofs.Pool.{mine}
 use Rattle.law_links.specs.Waits.{same_rights}
 use Rattle.law_maps.specs.Meaning.{contents_in}
 use Rattle.law_invariant.specs.Represents.{of_tasks, queue_memory, uses_in, Represents}

@@ -24,7 +24,7 @@ use Rattle.spec_plain.specs.Stack.{rights_of as jobRights}
 use Rattle.spec_line.specs.Line.{Item, value, spot, finished, gave, Action, puts, looks, returns, Search, seeking, found}
 use Rattle.spec_line.specs.Rights.{Passes}
 use Rattle.law_job_line.specs.Tasks.{can_push, can_pop, Runner, action, Pushing, Popping}
-use Rattle.law_job_line.specs.Within.{job_tasks}
+use Rattle.law_job_line.proofs.Within.{job_tasks}
 use Rattle.law_job_order.specs.Beside.{Numbered, unnumbered, task_of, points_of, Beside}
 use Rattle.law_job_order.specs.Located.{Located, located}
 use Rattle.law_job_order.specs.Points.{unnumbered_append, point_is, value_here, value_past, finished_past, gave_past}
@@ -33,12 +33,12 @@ use Rattle.law_job_order.specs.Searches.{value_waits, empty_waits, Spots, on_lin
 use Rattle.law_job_order.specs.Found.{no_popper}
 use Rattle.law_timed_line.specs.Times.{Timed, untimed}
 use Rattle.law_timed_line.specs.Walks.{Waits}
-use Rattle.law_timed_line.specs.Starts.{start_of}
-use Rattle.law_timed_line.specs.Agreement.{MoveOf}
-use Rattle.law_timed_line.specs.Reach.{Searched, Went, went}
+use Rattle.law_timed_line.proofs.Starts.{start_of}
+use Rattle.law_timed_line.proofs.Agreement.{MoveOf}
+use Rattle.law_timed_line.proofs.Reach.{Searched, Went, went}
 use Rattle.law_named_waits.specs.Names.{above, above_self}
 use Rattle.spec_line.specs.Fronts.{Fronts}
-use Rattle.law_job_line.specs.Agree.{none_back}
+use Rattle.law_job_line.proofs.Agree.{none_back}
 use Rattle.law_job_times.specs.Times.{job_waits}
 use Rattle.law_job_waits.specs.Before.{not_above, child_before, off_line}
 use Rattle.law_job_waits.specs.Halted.{never_blocked, never_awaited}

@@ -5,11 +5,11 @@ use Rattle.spec_order.specs.Steps.{Item as Mark}
 use Rattle.spec_line.specs.Line.{Item, spot, Search}
 use Rattle.law_timed_line.specs.Times.{Timed, untimed}
 use Rattle.law_timed_line.specs.Walks.{Waits}
-use Rattle.law_timed_line.specs.Agreement.{MoveOf}
+use Rattle.law_timed_line.proofs.Agreement.{MoveOf}
 use Rattle.law_job_line.specs.Tasks.{Runner}
-use Rattle.law_job_line.specs.Within.{job_tasks}
-use Rattle.law_job_line.specs.Front.{found_by}
-use Rattle.law_job_line.specs.Agree.{none_back}
+use Rattle.law_job_line.proofs.Within.{job_tasks}
+use Rattle.law_job_line.proofs.Front.{found_by}
+use Rattle.law_job_line.proofs.Agree.{none_back}
 use Rattle.law_job_times.specs.Kin.{Unhalted}
 use Rattle.law_job_times.specs.Times.{job_waits}
 use Rattle.law_job_order.specs.Beside.{Numbered, unnumbered, standing, Beside}

@@ -10,7 +10,7 @@ use Rattle.law_order_queue.specs.Points.{value as present, user}
 use Rattle.law_order_queue.specs.Finds.{nth_value, leaves}
 use Rattle.spec_plain.specs.Stack.{rights_of}
 use Rattle.spec_line.specs.Line.{Item, value, spot, finished, gave}
-use Rattle.law_job_line.specs.Front.{values_of}
+use Rattle.law_job_line.proofs.Front.{values_of}
 use Rattle.law_job_order.specs.Beside.{Numbered, unnumbered, points_of, Beside}
 
 nth_along : (j : List ℕ) (q i : ℕ) (l : List (Item Numbered)) → nth_value i (points_of j q l) ≡ get_elem? (values_of q (unnumbered l)) i

@@ -17,7 +17,7 @@ use Rattle.law_order_queue.specs.Laws.{begins as timeline-begins}
 use Rattle.spec_job.specs.Accepted.{Accepted}
 use Rattle.spec_plain.specs.Stack.{rights_of}
 use Rattle.spec_line.specs.Line.{Item, value, spot, finished, gave}
-use Rattle.law_job_line.specs.Agree.{top}
+use Rattle.law_job_line.proofs.Agree.{top}
 use Rattle.law_job_order.specs.Beside.{Numbered, standing, places, task_of, points_of, Beside}
 use Rattle.law_job_order.specs.Points.{places_append, standing_append}
 

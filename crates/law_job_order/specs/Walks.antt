@@ -10,12 +10,12 @@ use Rattle.spec_line.specs.Rights.{Passes}
 use Rattle.spec_line.specs.Fronts.{fronts_after}
 use Rattle.law_timed_line.specs.Times.{Timed, at, untimed, later}
 use Rattle.law_timed_line.specs.Walks.{Walk, heard}
-use Rattle.law_timed_line.specs.Starts.{start_of}
-use Rattle.law_timed_line.specs.Lift.{Lifted, lift_past, lift_finds, lift_here}
+use Rattle.law_timed_line.proofs.Starts.{start_of}
+use Rattle.law_timed_line.proofs.Lift.{Lifted, lift_past, lift_finds, lift_here}
 use Rattle.law_job_line.specs.Tasks.{Runner, action, Pushing, Popping}
-use Rattle.law_job_line.specs.Within.{job_tasks}
-use Rattle.law_job_line.specs.Front.{found_by}
-use Rattle.law_job_line.specs.Agree.{none_back}
+use Rattle.law_job_line.proofs.Within.{job_tasks}
+use Rattle.law_job_line.proofs.Front.{found_by}
+use Rattle.law_job_line.proofs.Agree.{none_back}
 use Rattle.law_job_times.specs.Kin.{Unhalted}
 use Rattle.law_job_times.specs.Times.{job_waits}
 use Rattle.law_job_order.specs.Beside.{Numbered, unnumbered, standing, Beside}

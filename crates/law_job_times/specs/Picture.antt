@@ -17,11 +17,11 @@ use Rattle.spec_plain.specs.Machine.{advanced, parent, child}
 use Rattle.spec_line.specs.Line.{value, spot, Search, free, found}
 use Rattle.law_timed_line.specs.Times.{Timed, at, later}
 use Rattle.law_timed_line.specs.Walks.{Walk}
-use Rattle.law_timed_line.specs.Starts.{start_at, fronts_of}
-use Rattle.law_timed_line.specs.Agreement.{Move, Moves, no_move, moves}
+use Rattle.law_timed_line.proofs.Starts.{start_at, fronts_of}
+use Rattle.law_timed_line.proofs.Agreement.{Move, Moves, no_move, moves}
 use Rattle.law_job_line.specs.Tasks.{can_push, can_pop, Runner, does, action, instruction_of, going_on, after_spawn, new_task}
-use Rattle.law_job_line.specs.Within.{job_tasks}
-use Rattle.law_job_line.specs.Agree.{start, none_back, top}
+use Rattle.law_job_line.proofs.Within.{job_tasks}
+use Rattle.law_job_line.proofs.Agree.{start, none_back, top}
 use Rattle.law_job_times.specs.Times.{job_waits}
 
 -- "Ticks per operation 0 to 10: 2, 3, 3, 3, 2, 1, 1, 1, 5, 1, 3."

@@ -14,7 +14,7 @@ use Rattle.spec_plain.specs.Stack.{rights_of}
 use Rattle.spec_line.specs.Line.{Action, puts, looks, returns}
 use Rattle.spec_line.specs.Rights.{Within}
 use Rattle.law_job_line.specs.Tasks.{can_pop, Runner, action_by, action, instruction_of, by_test, Pushing, Popping}
-use Rattle.law_job_line.specs.Within.{action_within}
+use Rattle.law_job_line.proofs.Within.{action_within}
 use Rattle.law_job_order.specs.Beside.{Numbered}
 use Rattle.law_job_order.specs.Instructions.{action_by_lem}
 use Rattle.law_job_times.specs.Kin.{awaits}

@@ -9,7 +9,7 @@ use Rattle.std.proofs.lemmas.Bool.{eqb-false}
 use Rattle.spec_words.specs.Words.{size, load_other, pick, pick_true, pick_false, pass, halt}
 use Rattle.spec_words.specs.Blocks.{store_all, size_store_all}
 use Rattle.spec_layout.specs.Layout.{WORDS, NONE, FREE, STATUS, PARENT, OLDER, YOUNGER, YOUNGEST, Field, task, free_tasks, free_task, address, read, write}
-use Rattle.spec_layout.specs.Frame.{size_write, read_same}
+use Rattle.spec_layout.proofs.Frame.{size_write, read_same}
 use Rattle.spec_outcomes.specs.Finish.{unlinked, freed_record}
 use Rattle.law_links.specs.Blocks.{block_in, block_task, block_front}
 use Rattle.law_links.specs.SpawnWords.{other_word, away}

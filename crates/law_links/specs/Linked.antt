@@ -4,7 +4,7 @@ use Rattle.std.proofs.Common.{ap, sym, ◌∙◌, subst, append_assoc, append-ni
 use Rattle.spec_words.specs.Words.{size}
 use Rattle.spec_lists.specs.Counting.{occurrences, occurs_nil, occurs_here, occurs_past, occurs_append, equal?}
 use Rattle.spec_layout.specs.Layout.{WORDS, STATUS, PARENT, OLDER, UNFINISHED, task, rights_of as rights_in, read, record_of}
-use Rattle.spec_layout.specs.Frame.{record_word}
+use Rattle.spec_layout.proofs.Frame.{record_word}
 use Rattle.spec_tree.specs.Tour.{MARKS, tour, entered}
 use Rattle.spec_rules.specs.Contents.{Contents, decode, word, holders}
 use Rattle.spec_rules.specs.Rules.{Unfinished, Holder, TaskRules}

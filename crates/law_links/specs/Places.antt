@@ -10,7 +10,7 @@ use Rattle.spec_rules.specs.Contents.{Contents, decode}
 use Rattle.law_rules_tasks.specs.Marks.{after_top, after_childless, tour_past}
 use Rattle.law_rules_tasks.specs.Tested.{top_says}
 use Rattle.law_rules_tasks.specs.Holders.{entered_here, entered_past}
-use Rattle.law_gaps.specs.Search.{first_of}
+use Rattle.law_gaps.proofs.Search.{first_of}
 use Rattle.spec_order.specs.Steps.{Task, Item, spot, number_of}
 use Rattle.law_order_waits.specs.Changes.{in_right}
 use Rattle.law_links.specs.Row.{Row, leads_after, row_behind, row_tour}

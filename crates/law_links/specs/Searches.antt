@@ -8,12 +8,12 @@ use borrow.Author.Tests.{lt-ltb, ltb-true, eq-eqb, ne_eqb}
 use Rattle.spec_words.specs.Words.{load, pass, halt, both, both_true, true_both, same_test}
 use Rattle.spec_lists.specs.Counting.{occurrences, occurs_nil, occurs_here, occurs_past, equal?, occurs_later}
 use Rattle.spec_layout.specs.Layout.{PARENT, OLDER, YOUNGEST, task, rights_of as rights_in, read, record_of}
-use Rattle.spec_layout.specs.Frame.{record_word}
+use Rattle.spec_layout.proofs.Frame.{record_word}
 use Rattle.spec_tree.specs.Rights.{pushes, pops, subset}
 use Rattle.spec_tree.specs.Tour.{END, oldest}
 use Rattle.spec_rules.specs.Rules.{walk}
 use Rattle.law_rules_tasks.specs.Holders.{entered_count}
-use Rattle.law_gaps.specs.Search.{first_of}
+use Rattle.law_gaps.proofs.Search.{first_of}
 use Rattle.spec_outcomes.specs.Waits.{pusher_before}
 use Rattle.spec_outcomes.specs.Finish.{heir}
 use Rattle.spec_order.specs.Steps.{Name, Task, Item, spot, name_of, number_of, rights_of}

@@ -10,7 +10,7 @@ use Rattle.spec_words.specs.Blocks.{store_all, size_store_all}
 use Rattle.spec_lists.specs.Counting.{equal?}
 use Rattle.spec_layout.specs.Layout.{WORDS, NONE, TASKS, TASK_WORDS, STATUS, RIGHTS, PARENT, OLDER, YOUNGER, YOUNGEST, UNFINISHED, USER, Field}
 use Rattle.spec_layout.specs.Layout.{free_tasks, free_task, task, queue_head, head, tail, address, read, write}
-use Rattle.spec_layout.specs.Frame.{size_write, read_same, read_other}
+use Rattle.spec_layout.proofs.Frame.{size_write, read_same, read_other}
 use Rattle.spec_outcomes.specs.Spawn.{for_queues, kept_queue, kept_user, child_views, passed_on, child_made}
 use Rattle.law_links.specs.Blocks.{block_in, block_task, block_word, block_front}
 use Rattle.law_links.specs.Spawn.{Spawned}

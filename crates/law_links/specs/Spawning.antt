@@ -4,7 +4,7 @@ use Rattle.std.proofs.Math.Path.{ap, sym}
 use Rattle.std.proofs.Common.{ap₂, ◌∙◌, inl, inr, ⊎_elim, arith}
 use mathlib.Core.List.{List, [], ◌∷◌, ◌++◌, append_assoc, tail-eq_of_cons-eq}
 use Rattle.spec_layout.specs.Layout.{STATUS, RIGHTS, PARENT, OLDER, YOUNGER, YOUNGEST, task, rights_of as rights_in, read, record_of}
-use Rattle.spec_layout.specs.Frame.{record_word}
+use Rattle.spec_layout.proofs.Frame.{record_word}
 use Rattle.spec_words.specs.Words.{load}
 use Rattle.spec_lists.specs.Counting.{occurrences, occurs_append, occurs_first}
 use Rattle.spec_tree.specs.Rights.{subset}

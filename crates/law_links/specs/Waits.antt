@@ -11,7 +11,7 @@ use borrow.Author.Tests.{ltb-true, lt-ltb, eqb-true, eq-eqb, ne_eqb}
 use Rattle.spec_words.specs.Words.{load, both, both_true, true_both, same_test}
 use Rattle.spec_lists.specs.Counting.{equal?}
 use Rattle.spec_layout.specs.Layout.{NONE, STATUS, OLDER, YOUNGEST, task, rights_of as rights_in, read, record_of}
-use Rattle.spec_layout.specs.Frame.{record_word}
+use Rattle.spec_layout.proofs.Frame.{record_word}
 use Rattle.spec_tree.specs.Rights.{pops, shares_pop}
 use Rattle.spec_tree.specs.Tour.{sibling}
 use Rattle.spec_rules.specs.Contents.{decode, word}

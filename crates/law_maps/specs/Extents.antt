@@ -8,7 +8,7 @@ use Rattle.spec_layout.specs.Layout.{NONE, NL}
 use Rattle.spec_rules.specs.Views.{View, view}
 use Rattle.spec_outcomes.specs.Views.{is_empty, head_of, tail_of, reducible}
 use Rattle.law_gaps.specs.Line.{End, nonlocal, local, Extent, vacant, extent}
-use Rattle.law_gaps.specs.Search.{occupied}
+use Rattle.law_gaps.proofs.Search.{occupied}
 use Rattle.law_maps.specs.Meaning.{end_of, extent_of}
 
 -- ENDS

@@ -12,7 +12,7 @@ use Rattle.spec_tree.specs.Rights.{uses}
 use Rattle.spec_outcomes.specs.Segments.{value_at}
 use Rattle.spec_outcomes.specs.Views.{view_of, task_at, has_part, stands_at}
 use Rattle.spec_outcomes.specs.Take.{has_value}
-use Rattle.law_gaps.specs.Search.{occupied, task_at as markedTask, has_part as partTaken, stands_at as viewStands}
+use Rattle.law_gaps.proofs.Search.{occupied, task_at as markedTask, has_part as partTaken, stands_at as viewStands}
 use Rattle.law_maps.specs.Meaning.{contents_in, heads_in, view_in, Sized}
 use Rattle.law_maps.specs.Reads.{head_at, view_at_lem}
 use Rattle.law_maps.specs.Ring.{count_length}

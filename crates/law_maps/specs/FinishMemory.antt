@@ -10,7 +10,7 @@ use Rattle.spec_lists.specs.Maps.{put}
 use Rattle.law_gaps.specs.Line.{End, nonlocal, local, Extent, vacant, extent}
 use Rattle.law_gaps.specs.Store.{Store, Memory}
 use Rattle.law_gaps.specs.Moves.{Place, children_of, right_of, view_at, reduced, children_with, rights_with, joined as storeJoined, finished, finished_with}
-use Rattle.law_gaps.specs.Search.{place_at}
+use Rattle.law_gaps.proofs.Search.{place_at}
 use Rattle.law_maps.specs.Meaning.{Meaning, memory_of}
 use Rattle.law_maps.specs.Update.{with_store, with_view, view_here, view_kind, memory_elsewhere, store_set, shared, memory_shared}
 use Rattle.law_maps.specs.Merges.{cleared_in, memory_cleared, whole, store2, store3, returned_in}

@@ -13,7 +13,7 @@ use Rattle.spec_rules.specs.Views.{View, view}
 use Rattle.spec_outcomes.specs.Views.{view_of, is_empty, head_of, tail_of, reducible, frees, behind, reduced, task_at, kind_at, has_part, stands_at, returned_to}
 use Rattle.spec_outcomes.specs.Finish.{returned, finishes}
 use Rattle.law_gaps.specs.Line.{End, nonlocal, local, Extent, vacant, extent}
-use Rattle.law_gaps.specs.Search.{occupied}
+use Rattle.law_gaps.proofs.Search.{occupied}
 use Rattle.law_gaps.specs.Moves.{reduced as reduceTo}
 use Rattle.law_maps.specs.Meaning.{end_of, extent_of, view_in}
 use Rattle.law_maps.specs.Reads.{view_at_lem}

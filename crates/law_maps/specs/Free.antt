@@ -9,7 +9,7 @@ use Rattle.spec_words.specs.Words.{store, size, pass, halt}
 use Rattle.spec_words.specs.Blocks.{store_all, store_more, store_none}
 use Rattle.spec_layout.specs.Layout.{WORDS, NONE, SEGMENTS, SEGMENT_WORDS, number_word, free_segments, free_segment, segment, value, first, count, next}
 use Rattle.spec_layout.specs.Layout.{length_of, value_word, Opened, segments_of, free_height, address, read, write}
-use Rattle.spec_layout.specs.Frame.{read_same, size_write}
+use Rattle.spec_layout.proofs.Frame.{read_same, size_write}
 use Rattle.spec_outcomes.specs.Segments.{value_at, next_free, taken, released}
 use Rattle.spec_outcomes.specs.Places.{place_low}
 use Rattle.law_maps.specs.Meaning.{optional, listed, stack, free_in, meaning_of, Sized}

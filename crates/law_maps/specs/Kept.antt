@@ -3,7 +3,7 @@ use Rattle.std.specs.Prelude.{◌≡◌, refl, List, ℕ, ◌<◌}
 use Rattle.std.proofs.Common.{ap, subst, ◌∙◌}
 use Rattle.spec_words.specs.Words.{size, load_other}
 use Rattle.spec_layout.specs.Layout.{Field, number_word, free_tasks, free_task, task, length_of, address, read, write}
-use Rattle.spec_layout.specs.Frame.{size_write}
+use Rattle.spec_layout.proofs.Frame.{size_write}
 use Rattle.law_maps.specs.Meaning.{Meaning, meaning_of, Sized}
 
 -- the size, L, the number of segments, the task tree and the stack of free records are the same

@@ -12,7 +12,7 @@ use Rattle.spec_lists.specs.Maps.{put, put_other}
 use Rattle.law_gaps.specs.Line.{End, nonlocal, local, Extent, extent}
 use Rattle.law_gaps.specs.Store.{Store}
 use Rattle.law_gaps.specs.Moves.{children_of, right_of, reduced, joined as storeJoined, taken as storeTaken, linked_holding, pushed_behind, pushed_apart}
-use Rattle.law_gaps.specs.Search.{place_at}
+use Rattle.law_gaps.proofs.Search.{place_at}
 use Rattle.law_maps.specs.Meaning.{Meaning, store_of, memory_of}
 use Rattle.law_maps.specs.Update.{with_next, with_store, with_view, view_here, view_kind, memory_user, memory_elsewhere, store_set, shared, memory_shared}
 use Rattle.law_maps.specs.Push.{taken_in, behind_in, apart_in}

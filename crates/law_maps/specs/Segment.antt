@@ -5,7 +5,7 @@ use Rattle.std.proofs.Math.Option.{Option}
 use Rattle.spec_lists.specs.Counting.{equal?}
 use Rattle.spec_layout.specs.Layout.{length_word, number_word, free_segments, free_segment, segment, value, first, count, next, length_of, value_word}
 use Rattle.spec_layout.specs.Layout.{Opened, address, read, write}
-use Rattle.spec_layout.specs.Frame.{read_same}
+use Rattle.spec_layout.proofs.Frame.{read_same}
 use Rattle.spec_lists.specs.Maps.{put}
 use Rattle.law_maps.specs.Meaning.{optional, next_in, contents_in, free_in, meaning_of, Sized}
 use Rattle.law_maps.specs.Update.{with_next}

@@ -3,7 +3,7 @@ use Rattle.std.specs.Prelude.{◌≡◌, refl, ℕ, zero, suc, ◌+◌, ◌-◌,
 use Rattle.std.proofs.Common.{ap, ap₂, sym, ◌∙◌, arith, add-one}
 use mathlib.Core.List.{List, [], ◌∷◌, ◌++◌, head-eq_of_cons-eq, tail-eq_of_cons-eq}
 use Rattle.spec_layout.specs.Layout.{segment, value, first, count, length_of, Opened, address, read, write}
-use Rattle.spec_layout.specs.Frame.{read_same, size_write}
+use Rattle.spec_layout.proofs.Frame.{read_same, size_write}
 use Rattle.spec_outcomes.specs.Segments.{place, value_at, stored, dropped}
 use Rattle.spec_outcomes.specs.Places.{place_below}
 use Rattle.law_maps.specs.Meaning.{listed, contents_in, meaning_of, Sized}

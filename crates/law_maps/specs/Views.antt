@@ -4,7 +4,7 @@ use Rattle.std.proofs.Common.{ap, ap₂, ◌∙◌, arith}
 use Rattle.std.proofs.Math.Path.{fun_ext}
 use Rattle.std.proofs.Math.Option.{Option}
 use Rattle.spec_layout.specs.Layout.{task, head, tail, queue_head, address, read, write}
-use Rattle.spec_layout.specs.Frame.{read_same, size_write}
+use Rattle.spec_layout.proofs.Frame.{read_same, size_write}
 use Rattle.spec_rules.specs.Views.{View, view}
 use Rattle.spec_outcomes.specs.Views.{view_of, set_view}
 use Rattle.spec_lists.specs.Maps.{put}

@@ -21,9 +21,9 @@ use Rattle.spec_runner.specs.Answers.{Outcome, has_moved, answer_of, core_of, ru
 use Rattle.spec_runner.specs.Open.{job_opened, open_outcome}
 use Rattle.spec_runner.specs.Run.{Steps, steps_from}
 use Rattle.law_any_order.specs.Statement.{fresh, after_calls}
-use Rattle.law_any_order.specs.Fresh.{opened_is}
-use Rattle.law_any_order.specs.Fold.{same_words}
-use Rattle.law_any_order.specs.AnyOrder.{any_order}
+use Rattle.law_any_order.proofs.Fresh.{opened_is}
+use Rattle.law_any_order.proofs.Fold.{same_words}
+use Rattle.law_any_order.proofs.AnyOrder.{any_order}
 use Rattle.spec_serial.specs.declared.End.TheVariants.{Ended}
 use Rattle.serial_text.specs.Whole.{end_text as lastLines}
 use Rattle.overlap_text.specs.Whole.{call_lines, text_from, overlap_text}

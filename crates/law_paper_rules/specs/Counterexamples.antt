@@ -45,32 +45,12 @@ unfoldable pub seen : (List ℕ → List ℕ) → Option (List ℕ) → List ℕ
 seen f none = []
 seen f (some m) = f m
 
-seen_after : (f : List ℕ → List ℕ) (c : Case) (m : List ℕ) (l : List ℕ) → tried c lent ≡ some m → seen f (computed c lent) ≡ l → f m ≡ l
-unfolding seen
-seen_after f c m l e h = ap (seen f) (sym (computes c lent ∙ e)) ∙ h
-
--- the calls of the case get the answers that stand there
-moves : (c : Case) → is_some (computed c lent) ≡ true → (m : List ℕ) × (tried c lent ≡ some m)
-moves c h = go (tried c lent) (ap is_some (sym (computes c lent)) ∙ h)
-  where
-    go : (o : Option (List ℕ)) → is_some o ≡ true → (m : List ℕ) × (o ≡ some m)
-    go none e = unfold is_some in absurd (false≢true e)
-    go (some m) e = (m, refl)
-
--- a view by its two words, and an unfinished task by its status
-view_of_lem : (m : List ℕ) (k t h e : ℕ) → k < 3 → t < 128 → read m (head k t 0) ≡ h → read m (tail k t 0) ≡ e → view_in m 0 k t ≡ extent_of (view h e)
-unfolding view_of
-view_of_lem m k t h e lk lt i j = view_at_lem m 0 k t (omega arith) lk lt ∙ ap₂ (λ (x y : ℕ). extent_of (view x y)) i j
-
-busy : (m : List ℕ) (t : ℕ) → t < 128 → read m (task t STATUS) ≡ UNFINISHED → Holder (decode m) t
-busy m t l e = inr (l, word_is m t STATUS ∙ e)
-
 -- RULE 6. Two children of the top that push, and the younger one does first: task 1 has the head of the new segment 4 in its
 -- right view, task 2 the tail, and neither may pop. The paper's Figure 4 (a) has the same with its Tasks 2 and 3.
 abbrev pub younger_pushes : Case
 younger_pushes = row (open_call 4 8) (Moved 0) ∷ row (spawn_call 0 1) (Moved 1) ∷ row (spawn_call 0 1) (Moved 2) ∷ row (push_call 2 0 (9 ∷ [])) (Moved 9) ∷ []
 
-abbrev shared : List ℕ → List ℕ
+abbrev pub shared : List ℕ → List ℕ
 shared m =
     read m (head RIGHT 1 0) ∷ read m (tail RIGHT 1 0) ∷ read m (head USER 2 0) ∷ read m (tail USER 2 0) ∷ read m (task 1 STATUS) ∷ read m (task 2 STATUS)
     ∷ rights_of m 1 ∷ []
@@ -79,33 +59,6 @@ pub shared_words : seen shared (computed younger_pushes lent) ≡ 4 ∷ NL ∷ N
 unfolding computed seen read load address
 shared_words = refl
 
-pub rule_6_false : (m : List ℕ) → tried younger_pushes lent ≡ some m → Rule6 m 0 → ⊥
-rule_6_false m e rule =
-    let l = seen_after shared younger_pushes m _ e shared_words in
-    let hr : read m (head RIGHT 1 0) ≡ 4 = cc in
-    let tr : read m (tail RIGHT 1 0) ≡ NL = cc in
-    let hu : read m (head USER 2 0) ≡ NL = cc in
-    let tu : read m (tail USER 2 0) ≡ 4 = cc in
-    let s1 : read m (task 1 STATUS) ≡ UNFINISHED = cc in
-    let s2 : read m (task 2 STATUS) ≡ UNFINISHED = cc in
-    let r1 : rights_of m 1 ≡ 1 = cc in
-    let w = rule (right 1) (user 2) 4 nonlocal nonlocal (busy m 1 (omega arith) s1) (busy m 2 (omega arith) s2)
-    (view_of_lem m RIGHT 1 4 NL (omega arith) (omega arith) hr tr ∙ head_four) (view_of_lem m USER 2 NL 4 (omega arith) (omega arith) hu tu ∙ tail_four)
-    (λ z. omega (arith, z)) in
-    false≢true (sym no_pop ∙ ap (λ (x : ℕ). pops x 0) (sym r1) ∙ w.0)
-  where
-    head_four : extent_of (view 4 NL) ≡ extent (local 4) nonlocal
-    head_four = unfold extent_of is_empty end_of pick both in refl
-
-    tail_four : extent_of (view NL 4) ≡ extent nonlocal (local 4)
-    tail_four = unfold extent_of is_empty end_of pick both in refl
-
-    no_pop : pops 1 0 ≡ false
-    no_pop = unfold pops bits pick in refl
-
-pub rule_6_case : (m : List ℕ) × (tried younger_pushes lent ≡ some m)
-rule_6_case = moves younger_pushes (unfold computed is_some in refl)
-
 -- RULE 7. The same, and the younger child finishes: its views are reduced into the right view of task 1, which then has both
 -- the head and the tail of segment 4.
 abbrev pub younger_finished : Case
@@ -113,48 +66,19 @@ younger_finished =
     row (open_call 4 8) (Moved 0) ∷ row (spawn_call 0 1) (Moved 1) ∷ row (spawn_call 0 1) (Moved 2) ∷ row (push_call 2 0 (9 ∷ [])) (Moved 9)
     ∷ row (finish_call 2) (Moved 0) ∷ []
 
-abbrev returned : List ℕ → List ℕ
+abbrev pub returned : List ℕ → List ℕ
 returned m = read m (head RIGHT 1 0) ∷ read m (tail RIGHT 1 0) ∷ read m (next 4) ∷ read m (task 1 STATUS) ∷ []
 
 pub returned_words : seen returned (computed younger_finished lent) ≡ 4 ∷ 4 ∷ NONE ∷ UNFINISHED ∷ []
 unfolding computed seen read load address
 returned_words = refl
 
-pub rule_7_false : (m : List ℕ) → tried younger_finished lent ≡ some m → Rule7 m 0 → ⊥
-rule_7_false m e rule =
-    let l = seen_after returned younger_finished m _ e returned_words in
-    let hr : read m (head RIGHT 1 0) ≡ 4 = cc in
-    let tr : read m (tail RIGHT 1 0) ≡ 4 = cc in
-    let n4 : read m (next 4) ≡ NONE = cc in
-    let s1 : read m (task 1 STATUS) ≡ UNFINISHED = cc in
-    let v = view_of_lem m RIGHT 1 4 4 (omega arith) (omega arith) hr tr ∙ both_four in
-    let u = busy m 1 (omega arith) s1 in
-    let w = rule (right 1) (right 1) tt
-    (record {
-      start = 4;
-      rest = [];
-      linked = next_at m 4 (omega arith) ∙ ap optional n4 ∙ optional_none;
-      head_end = local 4;
-      tail_end = local 4;
-      head_in = v;
-      tail_in = v;
-      head_task = u;
-      tail_task = u;
-    }) in
-    omega (arith, w)
-  where
-    both_four : extent_of (view 4 4) ≡ extent (local 4) (local 4)
-    both_four = unfold extent_of is_empty end_of pick both in refl
-
-pub rule_7_case : (m : List ℕ) × (tried younger_finished lent ≡ some m)
-rule_7_case = moves younger_finished (unfold computed is_some in refl)
-
 -- RULE 8. The top spawns a child that may only pop: the child gets the queue view and, to hide it, the user view, whose tail is
 -- the same segment 0. By the paper's own order its queue view stands before its user view.
 abbrev pub one_popper : Case
 one_popper = row (open_call 4 8) (Moved 0) ∷ row (spawn_call 0 2) (Moved 1) ∷ []
 
-abbrev handed : List ℕ → List ℕ
+abbrev pub handed : List ℕ → List ℕ
 handed m =
     read m (queue_head 1 0) ∷ read m (head USER 1 0) ∷ read m (tail USER 1 0) ∷ read m (next 0) ∷ read m (task 1 STATUS) ∷ rights_of m 1
     ∷ place m (queue 1) ∷ place m (user 1) ∷ []
@@ -162,42 +86,3 @@ handed m =
 pub handed_words : seen handed (computed one_popper lent) ≡ 0 ∷ NL ∷ 0 ∷ NONE ∷ UNFINISHED ∷ 2 ∷ 2 ∷ 4 ∷ []
 unfolding computed seen read load address place place_in behind pick record_of exiting entering after tour
 handed_words = refl
-
-pub rule_8_false : (m : List ℕ) → tried one_popper lent ≡ some m → Rule8 m 0 → ⊥
-rule_8_false m e rule =
-    let l = seen_after handed one_popper m _ e handed_words in
-    let hq : read m (queue_head 1 0) ≡ 0 = cc in
-    let hu : read m (head USER 1 0) ≡ NL = cc in
-    let tu : read m (tail USER 1 0) ≡ 0 = cc in
-    let n0 : read m (next 0) ≡ NONE = cc in
-    let s1 : read m (task 1 STATUS) ≡ UNFINISHED = cc in
-    let r1 : rights_of m 1 ≡ 2 = cc in
-    let pq : place m (queue 1) ≡ 2 = cc in
-    let pu : place m (user 1) ≡ 4 = cc in
-    let u = busy m 1 (omega arith) s1 in
-    let w = rule 1 (user 1)
-    (record {
-      start = 0;
-      rest = [];
-      linked = next_at m 0 (omega arith) ∙ ap optional n0 ∙ optional_none;
-      head_end = nonlocal;
-      tail_end = nonlocal;
-      head_in = ap head_only (head_at m 0 1 (omega arith) (omega arith) ∙ ap optional hq ∙ zero_there);
-      tail_in = view_of_lem m USER 1 NL 0 (omega arith) (omega arith) hu tu ∙ tail_zero;
-      head_task = u;
-      tail_task = u;
-    })
-    (ap (λ (x : ℕ). both (pushes x 0) (pops x 0)) r1 ∙ pop_only) in
-    omega (arith, w, pq, pu)
-  where
-    zero_there : optional 0 ≡ some 0
-    zero_there = unfold optional pick in refl
-
-    tail_zero : extent_of (view NL 0) ≡ extent nonlocal (local 0)
-    tail_zero = unfold extent_of is_empty end_of pick both in refl
-
-    pop_only : both (pushes 2 0) (pops 2 0) ≡ false
-    pop_only = unfold pushes pops bits pick both in refl
-
-pub rule_8_case : (m : List ℕ) × (tried one_popper lent ≡ some m)
-rule_8_case = moves one_popper (unfold computed is_some in refl)

@@ -1,15 +1,4 @@
 pub mod Order
 pub mod Slots
-pub mod Along
 pub mod Words
-pub mod OrderLaws
-pub mod Spans
-pub mod Tails
-pub mod Rules123
-pub mod Rules45
-pub mod Rules79
-pub mod Rule6
-pub mod Rule8
-pub mod Finished
-pub mod AfterCalls
 pub mod Counterexamples

@@ -9,8 +9,8 @@ use Rattle.law_gaps.specs.Line.{End, nonlocal, local, Extent, vacant, extent, ba
 use Rattle.law_gaps.specs.Line.{close, Begins, bare, whole, begun, Views, exiting, entering, passing}
 use Rattle.law_gaps.specs.Line.Views.{queue as beginning}
 use Rattle.law_gaps.specs.Store.{Linked, Chain}
-use Rattle.law_gaps.specs.Names.{later_segments}
-use Rattle.law_gaps.specs.Frames.{clash}
+use Rattle.law_gaps.proofs.Names.{later_segments}
+use Rattle.law_gaps.proofs.Frames.{clash}
 use Rattle.law_paper_rules.specs.Order.{ViewName, queue, children, user, right}
 
 -- a view, and the chain that it begins

@@ -10,7 +10,7 @@ use Rattle.spec_words.specs.Blocks.{store_all, size_store_all}
 use Rattle.spec_lists.specs.Counting.{one}
 use Rattle.spec_layout.specs.Layout.{WORDS, free_segments, free_segment, segment, task, next, Opened}
 use Rattle.spec_layout.specs.Layout.{free_height, head, address, read, write}
-use Rattle.spec_layout.specs.Frame.{read_same, size_write}
+use Rattle.spec_layout.proofs.Frame.{read_same, size_write}
 use Rattle.spec_rules.specs.Views.{view}
 use Rattle.spec_outcomes.specs.Segments.{taken, released, renamed}
 use Rattle.law_maps.specs.Kept.{Only, only_then, read_away}

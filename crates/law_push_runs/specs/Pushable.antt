@@ -6,7 +6,7 @@ use Rattle.std.proofs.Math.Logic.{⊎_elim, inl, inr}
 use Rattle.spec_words.specs.Words.{size}
 use Rattle.spec_layout.specs.Layout.{WORDS, NL, STATUS, USER, TAILS, number_word, free_segment, task, first, count, length_of, Opened, ValuesFit}
 use Rattle.spec_layout.specs.Layout.{free_height, tail, read}
-use Rattle.spec_layout.specs.Frame.{record_word}
+use Rattle.spec_layout.proofs.Frame.{record_word}
 use Rattle.spec_rules.specs.Contents.{decode, word}
 use Rattle.spec_rules.specs.Rules.{Holder}
 use Rattle.spec_rules.specs.Test.{rules_hold}

@@ -6,7 +6,7 @@ use Rattle.std.proofs.Math.Bool.{true, false, false≢true}
 use Rattle.std.proofs.lemmas.Bool.{lt-leb}
 use Rattle.spec_words.specs.Words.{pick, pass, halt, true_both, true_left, true_right}
 use Rattle.spec_layout.specs.Layout.{RIGHTS, rights_of}
-use Rattle.spec_layout.specs.Frame.{record_word}
+use Rattle.spec_layout.proofs.Frame.{record_word}
 use Rattle.spec_tree.specs.Rights.{uses}
 use Rattle.spec_tree.specs.Queues.{all_used}
 use Rattle.spec_tree.specs.Tour.{END, MARKS, after, seek}

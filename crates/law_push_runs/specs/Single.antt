@@ -13,7 +13,7 @@ use Rattle.spec_answers.specs.Answers.{Outcome, outcome}
 use Rattle.spec_outcomes.specs.Segments.{stored, has_none_free, next_free}
 use Rattle.spec_outcomes.specs.Views.{view_of, is_empty, tail_of, reducible, task_at, kind_at, just_before}
 use Rattle.spec_outcomes.specs.Push.{pushed_apart, pushed_behind, pushed, capacity, ends_away}
-use Rattle.spec_outcomes.specs.RunOfOne.{some_free, empty_none}
+use Rattle.spec_outcomes.proofs.RunOfOne.{some_free, empty_none}
 use Rattle.law_push_runs.specs.Pushable.{Pushable}
 use Rattle.law_push_runs.specs.NewTail.{new_low}
 use Rattle.law_push_runs.specs.Ways.{tail_room, into_tail, into_pushable, into_capacity, end_behind, behind_pushable, behind_capacity}

@@ -9,12 +9,12 @@ use Rattle.spec_words.specs.Words.{pick, pass, halt, both, both_true, both_on, b
 use Rattle.spec_lists.specs.Counting.{one, one_true, one_false}
 use Rattle.spec_layout.specs.Layout.{Field, header, NL, USER, free_segment, value, task, first, count, next, length_of, Opened, free_height}
 use Rattle.spec_layout.specs.Layout.{head, tail, address, read, write}
-use Rattle.spec_layout.specs.Frame.{read_same, size_write}
+use Rattle.spec_layout.proofs.Frame.{read_same, size_write}
 use Rattle.spec_rules.specs.Views.{View, view}
 use Rattle.spec_outcomes.specs.Segments.{stored, has_none_free, taken, linked}
 use Rattle.spec_outcomes.specs.Views.{view_of, is_empty, head_of, tail_of, reducible, frees, set_view, joined, task_at, kind_at, just_before}
 use Rattle.spec_outcomes.specs.Push.{link_frees, capacity}
-use Rattle.spec_outcomes.specs.RunOfOne.{empty_room, filled_room}
+use Rattle.spec_outcomes.proofs.RunOfOne.{empty_room, filled_room}
 use Rattle.law_maps.specs.Finish.{kind_below}
 use Rattle.law_maps.specs.Kept.{read_away}
 use Rattle.law_push_runs.specs.Pushable.{Pushable, SoundBefore}

@@ -12,7 +12,7 @@ use Rattle.spec_runner.specs.Words.{RUNNER}
 use Rattle.spec_runner.specs.Answers.{has_moved, status_of, Outcome, answer_of, core_of, runner_of}
 use Rattle.spec_runner.specs.Rules.{refused, job_tested}
 use Rattle.spec_runner.specs.Open.{job_opened, open_outcome}
-use Rattle.spec_runner.specs.Laws.{job_passes}
+use Rattle.spec_runner.proofs.Laws.{job_passes}
 use Rattle.overlap_text.specs.Whole.{text_from, overlap_text}
 use Rattle.law_trace.specs.Digits.{either_way}
 use Rattle.spec_replay.specs.Expected.{printed_from, printed_text}

@@ -6,7 +6,8 @@ use Rattle.spec_tree.specs.Tour.{entered}
 use Rattle.spec_rules.specs.Contents.{Contents, heads, tails, decode, scan_decodes}
 use Rattle.spec_rules.specs.Rules.{SegmentRules, OpeningRules}
 use Rattle.spec_rules.specs.Test.{test, rules_hold}
-use Rattle.spec_rules.specs.Held.{stack_test, held_count, held_free}
+use Rattle.spec_rules.specs.Held.{stack_test, held_count}
+use Rattle.spec_rules.proofs.Held.{held_free}
 use Rattle.law_rules_segments.specs.Segments.{segments_say}
 use Rattle.law_rules_same.specs.Passed.{toured, opening_says, Passed, test_says}
 

@@ -14,9 +14,9 @@ use Rattle.spec_line.specs.Rights.{Passes, Tasks}
 use Rattle.law_job_line.specs.Tasks.{by_test}
 use Rattle.law_timed_line.specs.Times.{Timed, at, later, later_bounds, later_least}
 use Rattle.law_timed_line.specs.Walks.{given, Waits, Walk}
-use Rattle.law_timed_line.specs.Once.{ends}
-use Rattle.law_timed_line.specs.Back.{given_more}
-use Rattle.law_timed_line.specs.Agreement.{Bare}
+use Rattle.law_timed_line.proofs.Once.{ends}
+use Rattle.law_timed_line.proofs.Back.{given_more}
+use Rattle.law_timed_line.proofs.Agreement.{Bare}
 use Rattle.law_serial_times.specs.Ended.{ended, Among, Every}
 
 -- the search that a search was at first

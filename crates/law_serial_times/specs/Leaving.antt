@@ -11,8 +11,8 @@ use Rattle.spec_line.specs.Line.{Item, value, spot, finished, gave, Search, free
 use Rattle.spec_line.specs.Rights.{Passes, Tasks}
 use Rattle.law_timed_line.specs.Times.{picked, Timed, at, later, stamp, leave_at}
 use Rattle.law_timed_line.specs.Walks.{given, Waits, Walk}
-use Rattle.law_timed_line.specs.Once.{ends}
-use Rattle.law_timed_line.specs.Agreement.{Bare}
+use Rattle.law_timed_line.proofs.Once.{ends}
+use Rattle.law_timed_line.proofs.Agreement.{Bare}
 use Rattle.law_serial_times.specs.Ended.{Over, over, ended}
 
 module _ {S : Type 0} where

@@ -9,11 +9,11 @@ use Rattle.spec_line.specs.Rights.{Within}
 use Rattle.spec_line.specs.Fronts.{Fronts}
 use Rattle.law_timed_line.specs.Times.{Timed, at, later, later_bounds, later_least}
 use Rattle.law_timed_line.specs.Walks.{Waits}
-use Rattle.law_timed_line.specs.Starts.{start_of}
-use Rattle.law_timed_line.specs.Agreement.{MoveOf, Bare}
+use Rattle.law_timed_line.proofs.Starts.{start_of}
+use Rattle.law_timed_line.proofs.Agreement.{MoveOf, Bare}
 use Rattle.law_job_line.specs.Tasks.{Runner, action, Pushing, Popping}
-use Rattle.law_job_line.specs.Within.{job_tasks, action_within}
-use Rattle.law_job_line.specs.Agree.{none_back}
+use Rattle.law_job_line.proofs.Within.{job_tasks, action_within}
+use Rattle.law_job_line.proofs.Agree.{none_back}
 use Rattle.law_named_waits.specs.Named.{halts}
 use Rattle.law_job_times.specs.Kin.{awaits_of, ticks_of, halts as haltsOf}
 use Rattle.law_job_times.specs.Times.{job_waits}

@@ -15,10 +15,10 @@ use Rattle.spec_plain.specs.Stack.{rights_of}
 use Rattle.spec_line.specs.Line.{value, spot, finished, Search}
 use Rattle.spec_line.specs.Fronts.{Fronts}
 use Rattle.law_job_line.specs.Tasks.{can_pop, Runner, answering, after_spawn, new_task, instruction_of}
-use Rattle.law_job_line.specs.Within.{job_tasks}
-use Rattle.law_job_line.specs.Agree.{none_back}
+use Rattle.law_job_line.proofs.Within.{job_tasks}
+use Rattle.law_job_line.proofs.Agree.{none_back}
 use Rattle.law_timed_line.specs.Times.{Timed, at}
-use Rattle.law_timed_line.specs.Agreement.{MoveOf, Bare}
+use Rattle.law_timed_line.proofs.Agreement.{MoveOf, Bare}
 use Rattle.law_job_times.specs.Kin.{awaits, ticks_of}
 use Rattle.law_job_times.specs.Times.{job_waits}
 use Rattle.law_serial_times.specs.Ended.{Over, over, ended, ended_append}

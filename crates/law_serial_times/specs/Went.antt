@@ -21,11 +21,11 @@ use Rattle.spec_line.specs.Line.{Item, value, spot, finished, Action, puts, look
 use Rattle.spec_line.specs.Fronts.{Fronts}
 use Rattle.law_timed_line.specs.Times.{Timed, at, stamp}
 use Rattle.law_timed_line.specs.Walks.{Waits, Walk}
-use Rattle.law_timed_line.specs.Starts.{start_of}
-use Rattle.law_timed_line.specs.Agreement.{MoveOf, Bare}
+use Rattle.law_timed_line.proofs.Starts.{start_of}
+use Rattle.law_timed_line.proofs.Agreement.{MoveOf, Bare}
 use Rattle.law_job_line.specs.Tasks.{can_push, can_pop, Runner, does, answering, going_on, after_spawn, new_task, instruction, action_by, action, instruction_of}
-use Rattle.law_job_line.specs.Within.{job_tasks}
-use Rattle.law_job_line.specs.Agree.{none_back}
+use Rattle.law_job_line.proofs.Within.{job_tasks}
+use Rattle.law_job_line.proofs.Agree.{none_back}
 use Rattle.law_serial_times.specs.Dominated.{Frame, frame, spots_of}
 use Rattle.spec_span.specs.Kinds.{looks_in}
 use Rattle.law_serial_times.specs.Leaving.{first_value, value_taken, finding, leaving, Leaves, leaves}

@@ -12,20 +12,20 @@ use Rattle.spec_answers.specs.declared.Answer.TheVariants.{Moved}
 use Rattle.spec_job.specs.Test.{job_answer}
 use Rattle.spec_line.specs.Line.{NoSpot}
 use Rattle.law_timed_line.specs.Times.{last_time}
-use Rattle.law_timed_line.specs.Agreement.{Bare}
-use Rattle.law_timed_line.specs.Bound.{Slot, Kept, bound}
+use Rattle.law_timed_line.proofs.Agreement.{Bare}
+use Rattle.law_timed_line.proofs.Bound.{Slot, Kept, bound}
 use Rattle.law_job_line.specs.Tasks.{Runner}
-use Rattle.law_job_line.specs.Within.{job_tasks}
-use Rattle.law_job_line.specs.Agree.{none_back}
+use Rattle.law_job_line.proofs.Within.{job_tasks}
+use Rattle.law_job_line.proofs.Agree.{none_back}
 use Rattle.spec_runner.specs.Words.{RUNNER}
 use Rattle.spec_runner.specs.Answers.{has_moved}
 use Rattle.law_any_order.specs.Statement.{step_answer, AllFinished}
-use Rattle.law_any_order.specs.AnyOrder.{gone}
+use Rattle.law_any_order.proofs.AnyOrder.{gone}
 use Rattle.spec_simulate.specs.Machine.{Event}
 use Rattle.law_simulate.specs.Schedule.{calls_of, tick_of, end_of, busy, stand_at, Schedule, begins, takes, falls}
-use Rattle.law_simulate.specs.Keeps.{small_task}
-use Rattle.law_simulate.specs.Calls.{facts}
-use Rattle.law_simulate.specs.Simulation.{at_most}
+use Rattle.law_simulate.proofs.Keeps.{small_task}
+use Rattle.law_simulate.proofs.Calls.{facts}
+use Rattle.law_simulate.proofs.Simulation.{at_most}
 use Rattle.law_span.specs.Ticks.{ticks_by, waits_by}
 use Rattle.law_simulated_time.specs.Statement.{TimedEnd}
 use Rattle.law_simulated_time.specs.Latest.{last_by}

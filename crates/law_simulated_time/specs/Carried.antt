@@ -15,22 +15,22 @@ use Rattle.spec_job.specs.Test.{job_answer}
 use Rattle.spec_line.specs.Line.{Item, spot, Search}
 use Rattle.spec_line.specs.Fronts.{Fronts}
 use Rattle.law_timed_line.specs.Times.{Timed, untimed, last_time}
-use Rattle.law_timed_line.specs.Agreement.{MoveOf, Moves, Bare}
-use Rattle.law_timed_line.specs.Bound.{Kept, total, begins}
+use Rattle.law_timed_line.proofs.Agreement.{MoveOf, Moves, Bare}
+use Rattle.law_timed_line.proofs.Bound.{Kept, total, begins}
 use Rattle.law_job_line.specs.Tasks.{Runner}
-use Rattle.law_job_line.specs.Within.{job_tasks}
-use Rattle.law_job_line.specs.Agree.{start, none_back}
+use Rattle.law_job_line.proofs.Within.{job_tasks}
+use Rattle.law_job_line.proofs.Agree.{start, none_back}
 use Rattle.law_job_order.specs.Beside.{Numbered, unnumbered}
 use Rattle.law_job_order.specs.Located.{top_numbered}
 use Rattle.spec_runner.specs.Words.{RUNNER}
 use Rattle.law_any_order.specs.Statement.{Stand, after_calls, fresh}
-use Rattle.law_any_order.specs.Running.{Running}
-use Rattle.law_any_order.specs.Fresh.{fresh_runs}
-use Rattle.law_any_two.specs.Stands.{At}
+use Rattle.law_any_order.proofs.Running.{Running}
+use Rattle.law_any_order.proofs.Fresh.{fresh_runs}
+use Rattle.law_any_two.proofs.Stands.{At}
 use Rattle.spec_simulate.specs.Ticks.{ticks_for}
 use Rattle.spec_simulate.specs.Machine.{Event}
 use Rattle.law_simulate.specs.Schedule.{calls_of, Hold, held_by, is_some, busy, ticks_together, stand_at}
-use Rattle.law_simulate.specs.Holds.{nobody_busy}
+use Rattle.law_simulate.proofs.Holds.{nobody_busy}
 use Rattle.law_span.specs.Ticks.{ticks_by, waits_by}
 use Rattle.law_simulated_time.specs.Latest.{By}
 use Rattle.law_simulated_time.specs.Top.{TopLast, start_top}

@@ -11,24 +11,24 @@ use Rattle.spec_answers.specs.declared.Answer.TheVariants.{Moved}
 use Rattle.spec_job.specs.Test.{job_answer}
 use Rattle.spec_plain.specs.Machine.{Event as Step}
 use Rattle.law_timed_line.specs.Times.{last_time}
-use Rattle.law_timed_line.specs.Once.{once}
-use Rattle.law_timed_line.specs.Agreement.{MoveOf, stable, one_more, Bare}
-use Rattle.law_timed_line.specs.Bound.{Leaves, Kept, idle_before, done}
-use Rattle.law_job_line.specs.Within.{job_tasks}
-use Rattle.law_job_line.specs.Agree.{none_back}
+use Rattle.law_timed_line.proofs.Once.{once}
+use Rattle.law_timed_line.proofs.Agreement.{MoveOf, stable, one_more, Bare}
+use Rattle.law_timed_line.proofs.Bound.{Leaves, Kept, idle_before, done}
+use Rattle.law_job_line.proofs.Within.{job_tasks}
+use Rattle.law_job_line.proofs.Agree.{none_back}
 use Rattle.law_job_order.specs.Beside.{Numbered, unnumbered}
 use Rattle.law_job_order.specs.After.{Moved as Moved-by}
 use Rattle.spec_runner.specs.Answers.{has_moved}
 use Rattle.law_any_order.specs.Statement.{Stand, event_for, fresh, stepped, step_answer}
-use Rattle.law_any_order.specs.Running.{Running}
-use Rattle.law_any_order.specs.Called.{Mover, after_goes}
-use Rattle.law_any_two.specs.Stands.{At, still_stands}
+use Rattle.law_any_order.proofs.Running.{Running}
+use Rattle.law_any_order.proofs.Called.{Mover, after_goes}
+use Rattle.law_any_two.proofs.Stands.{At, still_stands}
 use Rattle.spec_simulate.specs.Ticks.{ticks_for}
 use Rattle.spec_simulate.specs.Machine.{Event, fallen}
 use Rattle.law_simulate.specs.Schedule.{calls_of, Hold, held_by, is_some, end_of, ticks_together}
-use Rattle.law_simulate.specs.Holds.{falls_it, falls_other, falls_busy}
-use Rattle.law_simulate.specs.Keeps.{calls_more}
-use Rattle.law_simulate.specs.Falling.{events_more}
+use Rattle.law_simulate.proofs.Holds.{falls_it, falls_other, falls_busy}
+use Rattle.law_simulate.proofs.Keeps.{calls_more}
+use Rattle.law_simulate.proofs.Falling.{events_more}
 use Rattle.law_span.specs.Ticks.{ticks_by, waits_by}
 use Rattle.law_simulated_time.specs.Latest.{kept_by}
 use Rattle.law_simulated_time.specs.Top.{top_kept, last_done}

@@ -15,16 +15,16 @@ use Rattle.spec_job.specs.Test.{job_answer}
 use Rattle.spec_job.specs.Accepted.{accepted}
 use Rattle.spec_plain.specs.Run.{stack_of, run}
 use Rattle.law_timed_line.specs.Times.{Timed, last_time}
-use Rattle.law_timed_line.specs.Agreement.{all_finished}
+use Rattle.law_timed_line.proofs.Agreement.{all_finished}
 use Rattle.law_job_line.specs.Tasks.{Runner}
-use Rattle.law_job_line.specs.Within.{job_tasks}
+use Rattle.law_job_line.proofs.Within.{job_tasks}
 use Rattle.spec_runner.specs.Words.{RUNNER}
 use Rattle.law_depth.specs.Shallow.{shallow}
 use Rattle.spec_simulate.specs.declared.Simulated.TheVariants.{Ended}
 use Rattle.spec_simulate.specs.Ticks.{ticks_for, EachTakesTime}
 use Rattle.spec_simulate.specs.Machine.{Event, Outcomes, simulation, workers_right, simulate_outcome}
 use Rattle.law_simulate.specs.Schedule.{calls_of, Schedule, begins, takes, falls, Answered, ended}
-use Rattle.law_simulate.specs.Simulation.{Promised, simulation_keeps, work_is_plain}
+use Rattle.law_simulate.proofs.Simulation.{Promised, simulation_keeps, work_is_plain}
 use Rattle.spec_span.specs.Pass.{SPAN, span_pass}
 use Rattle.spec_span.specs.Needs.{history_of, Span}
 use Rattle.spec_span.specs.Listing.{SIMULATE, listing, ceiling_of, span_for, with_span, listed_outcome}

@@ -7,7 +7,7 @@ use Rattle.std.proofs.Common.{⊎_elim, arith}
 use Prim.Native.Nat.{ℕ, suc, ◌+◌, ◌<◌}
 use Rattle.spec_lists.specs.Counting.{one, equal?, occurrences, occurs_nil, occurs_cons, occurs_past, occurs_not}
 use Rattle.spec_lists.specs.Maps.{All}
-use Rattle.law_timed_line.specs.Bound.{Slot, slot, Underway, aged, total, Leaves, first, behind_it}
+use Rattle.law_timed_line.proofs.Bound.{Slot, slot, Underway, aged, total, Leaves, first, behind_it}
 use Rattle.law_job_line.specs.Tasks.{Runner}
 use Rattle.law_job_order.specs.Beside.{Numbered}
 

@@ -10,11 +10,11 @@ use Rattle.law_job_order.specs.Beside.{Numbered, unnumbered}
 use Rattle.law_job_order.specs.After.{Moved as Moved-by}
 use Rattle.spec_runner.specs.Answers.{has_moved}
 use Rattle.law_any_order.specs.Statement.{Stand, step_answer}
-use Rattle.law_any_order.specs.Goes.{instruction_is}
-use Rattle.law_any_order.specs.Running.{Running}
-use Rattle.law_any_order.specs.Called.{Mover, its_move}
-use Rattle.law_any_order.specs.AnyOrder.{mover}
-use Rattle.law_any_two.specs.Stands.{At}
+use Rattle.law_any_order.proofs.Goes.{instruction_is}
+use Rattle.law_any_order.proofs.Running.{Running}
+use Rattle.law_any_order.proofs.Called.{Mover, its_move}
+use Rattle.law_any_order.proofs.AnyOrder.{mover}
+use Rattle.law_any_two.proofs.Stands.{At}
 use Rattle.spec_simulate.specs.Ticks.{ticks_for, operation_of}
 use Rattle.spec_simulate.specs.Machine.{Event}
 use Rattle.law_span.specs.Ticks.{ticks_by, waits_by}

@@ -9,13 +9,13 @@ use Rattle.spec_lists.specs.Maps.{All}
 use Rattle.spec_answers.specs.declared.Answer.TheVariants.{Moved}
 use Rattle.spec_outcomes.specs.Waits.{unfinished}
 use Rattle.spec_job.specs.Test.{job_answer}
-use Rattle.law_timed_line.specs.Agreement.{MoveOf}
-use Rattle.law_timed_line.specs.Bound.{Slot, Underway, aged, aged_total, total, OfReady, Kept, works, idles}
+use Rattle.law_timed_line.proofs.Agreement.{MoveOf}
+use Rattle.law_timed_line.proofs.Bound.{Slot, Underway, aged, aged_total, total, OfReady, Kept, works, idles}
 use Rattle.law_job_line.specs.Tasks.{Runner}
-use Rattle.law_job_line.specs.Within.{job_tasks}
-use Rattle.law_job_line.specs.Agree.{none_back}
+use Rattle.law_job_line.proofs.Within.{job_tasks}
+use Rattle.law_job_line.proofs.Agree.{none_back}
 use Rattle.law_job_order.specs.Beside.{Numbered}
-use Rattle.law_any_two.specs.Stands.{At}
+use Rattle.law_any_two.proofs.Stands.{At}
 use Rattle.spec_simulate.specs.Machine.{Event}
 use Rattle.law_simulate.specs.Schedule.{Hold, held_by, is_some, busy, Passed, NoneIdle}
 use Rattle.law_span.specs.Ticks.{ticks_by, waits_by}

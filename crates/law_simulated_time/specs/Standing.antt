@@ -20,11 +20,11 @@ use Rattle.spec_line.specs.Line.{Item, value, spot, finished, gave, Search, NoSp
 use Rattle.spec_line.specs.Fronts.{Fronts}
 use Rattle.law_timed_line.specs.Times.{Timed, at, Some, untimed}
 use Rattle.law_timed_line.specs.Walks.{Waits, Walk}
-use Rattle.law_timed_line.specs.Parts.{parted}
-use Rattle.law_timed_line.specs.Agreement.{MoveOf, Bare}
+use Rattle.law_timed_line.proofs.Parts.{parted}
+use Rattle.law_timed_line.proofs.Agreement.{MoveOf, Bare}
 use Rattle.law_job_line.specs.Tasks.{Runner}
-use Rattle.law_job_line.specs.Within.{job_tasks}
-use Rattle.law_job_line.specs.Agree.{none_back}
+use Rattle.law_job_line.proofs.Within.{job_tasks}
+use Rattle.law_job_line.proofs.Agree.{none_back}
 use Rattle.law_job_times.specs.Times.{job_waits}
 use Rattle.law_job_order.specs.Beside.{Numbered, unnumbered, standing, task_of}
 use Rattle.law_job_order.specs.Points.{standing_append, unnumbered_append}
@@ -33,16 +33,16 @@ use Rattle.law_job_moves.specs.MovesAble.{moves_able}
 use Rattle.spec_runner.specs.declared.StepAnswer.TheVariants as Step
 use Rattle.spec_runner.specs.Answers.{answer_of}
 use Rattle.law_any_order.specs.Statement.{Stand, step_answer}
-use Rattle.law_any_order.specs.States.{state_unfinished}
-use Rattle.law_any_order.specs.Goes.{Place, StaysOrGoes, stays, goes, represents}
-use Rattle.law_any_order.specs.Looking.{step_does}
-use Rattle.law_any_order.specs.Written.{Other}
-use Rattle.law_any_order.specs.Numbers.{others}
-use Rattle.law_any_order.specs.Running.{Running}
-use Rattle.law_any_order.specs.Called.{place, has_gone}
-use Rattle.law_any_order.specs.AnyOrder.{stayed}
-use Rattle.law_any_two.specs.Stands.{At}
-use Rattle.law_simulate.specs.Keeps.{waits_still, waits_not_refused, wanted}
+use Rattle.law_any_order.proofs.States.{state_unfinished}
+use Rattle.law_any_order.proofs.Goes.{Place, StaysOrGoes, stays, goes, represents}
+use Rattle.law_any_order.proofs.Looking.{step_does}
+use Rattle.law_any_order.proofs.Written.{Other}
+use Rattle.law_any_order.proofs.Numbers.{others}
+use Rattle.law_any_order.proofs.Running.{Running}
+use Rattle.law_any_order.proofs.Called.{place, has_gone}
+use Rattle.law_any_order.proofs.AnyOrder.{stayed}
+use Rattle.law_any_two.proofs.Stands.{At}
+use Rattle.law_simulate.proofs.Keeps.{waits_still, waits_not_refused, wanted}
 use Rattle.law_simulated_time.specs.Top.{EndsTop, NotTop, TopLast}
 
 -- what holds of all holds of a member

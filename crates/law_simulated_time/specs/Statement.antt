@@ -2,10 +2,10 @@
 -- time when the top's last step is done in a run that waits for nothing but what its steps need. It is proved in Bounds.antt.
 use Rattle.std.specs.Prelude.{List, ℕ, ◌+◌, ◌-◌, ◌*◌, ◌≤◌}
 use Rattle.law_timed_line.specs.Times.{Timed, last_time}
-use Rattle.law_timed_line.specs.Agreement.{Moves, Bare}
+use Rattle.law_timed_line.proofs.Agreement.{Moves, Bare}
 use Rattle.law_job_line.specs.Tasks.{Runner}
-use Rattle.law_job_line.specs.Within.{job_tasks}
-use Rattle.law_job_line.specs.Agree.{start, none_back}
+use Rattle.law_job_line.proofs.Within.{job_tasks}
+use Rattle.law_job_line.proofs.Agree.{start, none_back}
 use Rattle.spec_simulate.specs.Machine.{Event}
 use Rattle.law_span.specs.Ticks.{waits_by}
 use Rattle.law_simulate.specs.Schedule.{tick_of, ticks_together, stand_at}

@@ -10,18 +10,18 @@ use Rattle.spec_lists.specs.Maps.{all_map}
 use Rattle.spec_answers.specs.declared.Answer.TheVariants.{Moved}
 use Rattle.spec_job.specs.Operations.{Operation}
 use Rattle.spec_job.specs.Test.{job_answer}
-use Rattle.law_timed_line.specs.Bound.{Underway, takes}
-use Rattle.law_job_line.specs.Within.{job_tasks}
-use Rattle.law_job_line.specs.Agree.{none_back}
+use Rattle.law_timed_line.proofs.Bound.{Underway, takes}
+use Rattle.law_job_line.proofs.Within.{job_tasks}
+use Rattle.law_job_line.proofs.Agree.{none_back}
 use Rattle.law_job_order.specs.Beside.{Numbered, unnumbered}
 use Rattle.law_job_order.specs.After.{Moved as Moved-by}
 use Rattle.spec_runner.specs.Answers.{has_moved}
 use Rattle.law_any_order.specs.Statement.{Stand, step_answer}
-use Rattle.law_any_order.specs.Called.{Mover}
+use Rattle.law_any_order.proofs.Called.{Mover}
 use Rattle.spec_simulate.specs.Ticks.{operation_of}
 use Rattle.spec_simulate.specs.Machine.{Event, taken}
 use Rattle.law_simulate.specs.Schedule.{calls_of, Hold, held_by, is_some}
-use Rattle.law_simulate.specs.Holds.{some_not_none, takes_it, takes_other, takes_busy}
+use Rattle.law_simulate.proofs.Holds.{some_not_none, takes_it, takes_other, takes_busy}
 use Rattle.law_span.specs.Ticks.{ticks_by, waits_by}
 use Rattle.law_simulated_time.specs.Latest.{done_by}
 use Rattle.law_simulated_time.specs.Standing.{one_runner}

@@ -11,10 +11,10 @@ use Rattle.spec_plain.specs.Machine.{advanced, parent}
 use Rattle.spec_line.specs.Line.{Item, value, spot, finished, gave, Action, Search, found, Acts, Every, acts_every}
 use Rattle.law_timed_line.specs.Times.{Timed, at, stamp, leave_at, last_from, last_time}
 use Rattle.law_timed_line.specs.Walks.{Waits, Goes, Walk}
-use Rattle.law_timed_line.specs.Agreement.{Bare}
+use Rattle.law_timed_line.proofs.Agreement.{Bare}
 use Rattle.law_job_line.specs.Tasks.{Runner, action_by, action, instruction_of, by_test}
-use Rattle.law_job_line.specs.Within.{job_tasks}
-use Rattle.law_job_line.specs.Agree.{start}
+use Rattle.law_job_line.proofs.Within.{job_tasks}
+use Rattle.law_job_line.proofs.Agree.{start}
 use Rattle.law_named_waits.specs.Names.{above, above_self}
 use Rattle.law_named_waits.specs.Named.{Kin}
 use Rattle.law_job_times.specs.Kin.{name_of, pushes_of, pops_of, shares_of, awaits_of, puts_kept}

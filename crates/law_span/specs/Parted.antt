@@ -10,7 +10,7 @@ use Rattle.spec_lists.specs.Maps.{All}
 use Rattle.spec_line.specs.Line.{Item, spot, NoSpot}
 use Rattle.law_timed_line.specs.Times.{Timed, at, untimed}
 use Rattle.law_job_line.specs.Tasks.{can_pop, Runner}
-use Rattle.law_job_line.specs.Plain.{tasks_of, spots_of}
+use Rattle.law_job_line.proofs.Plain.{tasks_of, spots_of}
 use Rattle.law_serial_times.specs.Dominated.{Frame, frame, spots_of as stackSpots, Pop}
 use Rattle.law_serial_times.specs.Returned.{Nested}
 

@@ -12,18 +12,18 @@ use Rattle.spec_job.specs.Accepted.{Accepted}
 use Rattle.spec_plain.specs.Machine.{State, state, step}
 use Rattle.spec_plain.specs.Run.{stack_of, event_in, next, run_from}
 use Rattle.spec_plain.specs.Stack.{Stack, Stands, first_stands}
-use Rattle.spec_plain.specs.Kept.{next_kept}
+use Rattle.spec_plain.proofs.Kept.{next_kept}
 use Rattle.spec_line.specs.Line.{Item, value, spot, NoSpot, found_by, Action, puts, looks, returns}
 use Rattle.spec_line.specs.Fronts.{Fronts, fronts_after}
 use Rattle.law_timed_line.specs.Times.{Timed, at, untimed, last_time, last_time_lem}
-use Rattle.law_timed_line.specs.Starts.{start_of}
+use Rattle.law_timed_line.proofs.Starts.{start_of}
 use Rattle.law_timed_line.specs.Walks.{Waits}
-use Rattle.law_timed_line.specs.Agreement.{MoveOf, Moves, no_move, moves, Bare}
+use Rattle.law_timed_line.proofs.Agreement.{MoveOf, Moves, no_move, moves, Bare}
 use Rattle.law_job_line.specs.Tasks.{Runner, action, instruction_of}
-use Rattle.law_job_line.specs.Within.{job_tasks}
-use Rattle.law_job_line.specs.Events.{event_with}
-use Rattle.law_job_line.specs.Plain.{tasks_of, Serially, Stepped, plain_step}
-use Rattle.law_job_line.specs.Agree.{none_back}
+use Rattle.law_job_line.proofs.Within.{job_tasks}
+use Rattle.law_job_line.proofs.Events.{event_with}
+use Rattle.law_job_line.proofs.Plain.{tasks_of, Serially, Stepped, plain_step}
+use Rattle.law_job_line.proofs.Agree.{none_back}
 use Rattle.law_job_times.specs.Kin.{ticks_of}
 use Rattle.law_job_moves.specs.AbleMoves.{NoReturn, no_return}
 use Rattle.law_serial_times.specs.Ended.{ended}

@@ -8,13 +8,13 @@ use Prim.Native.Nat.{ℕ, zero, suc}
 use Rattle.spec_job.specs.Accepted.{Accepted}
 use Rattle.spec_plain.specs.Machine.{Task, State, state, Event, begin, event_of, step}
 use Rattle.spec_plain.specs.Run.{stack_of, event_in, next, after, run}
-use Rattle.spec_plain.specs.Kept.{begin_stands}
+use Rattle.spec_plain.proofs.Kept.{begin_stands}
 use Rattle.law_timed_line.specs.Times.{Timed, last_time}
-use Rattle.law_timed_line.specs.Agreement.{Moves, Bare, all_finished}
+use Rattle.law_timed_line.proofs.Agreement.{Moves, Bare, all_finished}
 use Rattle.law_job_line.specs.Tasks.{Runner}
-use Rattle.law_job_line.specs.Within.{job_tasks}
-use Rattle.law_job_line.specs.Events.{event_with}
-use Rattle.law_job_line.specs.Agree.{top, start, none_back, begins as line-begins}
+use Rattle.law_job_line.proofs.Within.{job_tasks}
+use Rattle.law_job_line.proofs.Events.{event_with}
+use Rattle.law_job_line.proofs.Agree.{top, start, none_back, begins as line-begins}
 use Rattle.law_serial_times.specs.Ended.{ended}
 use Rattle.law_serial_times.specs.Dominated.{Frame, frame}
 use Rattle.spec_span.specs.Needs.{Made, History, recorded, history_from, history_of, marks, previous, spawn_of, Chain, alone, link, Span}

@@ -14,7 +14,7 @@ use Rattle.spec_job.specs.Accepted.{Accepted}
 use Rattle.spec_plain.specs.Machine.{Task, advanced, parent, child}
 use Rattle.spec_line.specs.Line.{value, finished, Search}
 use Rattle.law_timed_line.specs.Times.{Timed, at}
-use Rattle.law_timed_line.specs.Agreement.{Bare}
+use Rattle.law_timed_line.proofs.Agreement.{Bare}
 use Rattle.law_job_line.specs.Tasks.{Runner, instruction_of, answering, after_spawn, new_task}
 use Rattle.law_job_times.specs.Kin.{awaits, ticks_of}
 use Rattle.law_serial_times.specs.Ended.{Over, Among, ended, ended_append}

@@ -2,7 +2,7 @@
 use Rattle.std.specs.Prelude.{List, ℕ}
 use Rattle.spec_job.specs.Operations.{operation_at}
 use Rattle.law_timed_line.specs.Walks.{Waits}
-use Rattle.law_job_line.specs.Within.{job_tasks}
+use Rattle.law_job_line.proofs.Within.{job_tasks}
 use Rattle.law_job_times.specs.Times.{job_waits}
 use Rattle.spec_simulate.specs.Ticks.{ticks_for}
 

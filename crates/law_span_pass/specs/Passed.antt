@@ -15,8 +15,8 @@ use Rattle.spec_plain.specs.Machine.{Task, State}
 use Rattle.spec_plain.specs.Run.{stack_of, run_from, run}
 use Rattle.law_timed_line.specs.Times.{Timed, last_time}
 use Rattle.law_job_line.specs.Tasks.{Runner}
-use Rattle.law_job_line.specs.Plain.{tasks_of}
-use Rattle.law_job_line.specs.Agree.{top}
+use Rattle.law_job_line.proofs.Plain.{tasks_of}
+use Rattle.law_job_line.proofs.Agree.{top}
 use Rattle.law_serial_times.specs.Ended.{ended}
 use Rattle.law_serial_times.specs.Dominated.{Frame, frame}
 use Rattle.spec_simulate.specs.Ticks.{ticks_for}

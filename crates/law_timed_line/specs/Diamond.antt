@@ -5,7 +5,8 @@ use Rattle.std.proofs.Common.{sym, subst, ne_eqb}
 use Rattle.spec_words.specs.Words.{pass}
 use Rattle.spec_lists.specs.Maps.{All}
 use Rattle.spec_line.specs.Line.{Item, value, spot, finished, gave, Search, free, seeking, found, putting, Apart, Acts}
-use Rattle.spec_line.specs.Rights.{looks_alone, Tasks, Passing, put_passes}
+use Rattle.spec_line.specs.Rights.{looks_alone, Tasks, Passing}
+use Rattle.spec_line.proofs.Rights.{put_passes}
 use Rattle.law_timed_line.specs.Times.{Timed, at, later, stamp, leave_at}
 use Rattle.law_timed_line.specs.Walks.{Awaits, given, Clear, Waits, Goes, Still, heard, Walk}
 

@@ -21,8 +21,8 @@ use Rattle.spec_outcomes.specs.Spawn.{spawned, spawn_tested}
 use Rattle.spec_order.specs.Steps.{Act, Item as Mark, spawns, pushes, pops, tests, syncs, finishes, advance, pushes_all, pushes_run, counted}
 use Rattle.spec_order.specs.Ordered.{for_task, for_queue, ordered}
 use Rattle.law_in_order.specs.Answered.{answered}
-use Rattle.law_in_order.specs.State.{State, state_size, state_rules}
-use Rattle.law_in_order.specs.InOrder.{call_does}
+use Rattle.law_in_order.proofs.State.{State, state_size, state_rules}
+use Rattle.law_in_order.proofs.InOrder.{call_does}
 use Rattle.spec_job.specs.declared.Instruction.{Instruction}
 use Rattle.spec_job.specs.Fields.{bytes2, bytes4, instruction_from, instruction_at}
 use Rattle.spec_job.specs.Operations.{Operation, return, push, push_sum, pop, go_if_empty, go, go_if_zero, add, spawn, sync, take_or_go, operation_at}
@@ -38,13 +38,13 @@ use Rattle.spec_runner.specs.Run.{steps_from}
 use Rattle.law_job_order.specs.Beside.{Numbered}
 use Rattle.law_job_order.specs.Located.{top_numbered}
 use Rattle.law_any_order.specs.Statement.{Stand, core_call, noted_by, stand_after, stepped, after_calls, fresh}
-use Rattle.law_any_order.specs.States.{behind_test}
-use Rattle.law_any_order.specs.Tested.{tests_pass}
-use Rattle.law_any_order.specs.Running.{Running}
-use Rattle.law_any_order.specs.Called.{stood}
-use Rattle.law_any_order.specs.Fresh.{fresh_runs}
-use Rattle.law_any_order.specs.AnyOrder.{calls, under_way, no_ticks}
-use Rattle.law_any_order.specs.Fold.{same_words}
+use Rattle.law_any_order.proofs.States.{behind_test}
+use Rattle.law_any_order.proofs.Tested.{tests_pass}
+use Rattle.law_any_order.proofs.Running.{Running}
+use Rattle.law_any_order.proofs.Called.{stood}
+use Rattle.law_any_order.proofs.Fresh.{fresh_runs}
+use Rattle.law_any_order.proofs.AnyOrder.{calls, under_way, no_ticks}
+use Rattle.law_any_order.proofs.Fold.{same_words}
 use Rattle.law_in_range.specs.Sound.{rules_sound}
 use Rattle.overlap_text.specs.Whole.{left_at, given, value_in}
 use Rattle.law_timed_line.specs.Times.{picked}

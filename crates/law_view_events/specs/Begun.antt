@@ -13,7 +13,8 @@ use Rattle.spec_layout.specs.Layout.{WORDS, length_word, number_word, address, r
 use Rattle.spec_tree.specs.Tour.{END, after, tour}
 use Rattle.spec_rules.specs.Contents.{decode}
 use Rattle.spec_rules.specs.Test.{within, in_range, top_test, idle_test, tree_test, segment_test, view_tests}
-use Rattle.spec_rules.specs.Held.{stack_test, held_count, held_free, free_left}
+use Rattle.spec_rules.specs.Held.{stack_test, held_count}
+use Rattle.spec_rules.proofs.Held.{held_free, free_left}
 use Rattle.law_rules_views.specs.Marks.{yes_no}
 use Rattle.spec_view_events.specs.Events.{events}
 use Rattle.spec_view_events.specs.Run.{PLACED, run}

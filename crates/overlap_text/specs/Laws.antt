@@ -9,7 +9,8 @@ use Rattle.std.proofs.Math.ListN.{get_or}
 use Rattle.spec_lists.specs.Maps.{All}
 use Rattle.spec_runner.specs.declared.StepAnswer.{StepAnswer}
 use Rattle.spec_runner.specs.Answers.{status_of, value_of}
-use Rattle.spec_runner.specs.Packed.{packed_step, ValueFits, status_half, value_half}
+use Rattle.spec_runner.specs.Packed.{packed_step, ValueFits}
+use Rattle.spec_runner.proofs.Packed.{status_half, value_half}
 use Rattle.spec_runner.specs.Run.{Steps, steps_from, steps_append, as_many}
 use Rattle.text.specs.Puts.{Puts}
 use Rattle.run_text.specs.Lines.{line}

@@ -6,7 +6,8 @@ use mathlib.Core.List.{List, ◌∷◌, ◌++◌}
 use Rattle.spec_words.specs.Words.{pick, halt, pass}
 use Rattle.spec_runner.specs.declared.StepAnswer.{StepAnswer}
 use Rattle.spec_runner.specs.Answers.{status_of, value_of, Outcome, outcome, answer_of, core_of, runner_of}
-use Rattle.spec_runner.specs.Packed.{Packs, status_half, value_half}
+use Rattle.spec_runner.specs.Packed.{Packs}
+use Rattle.spec_runner.proofs.Packed.{status_half, value_half}
 use Rattle.spec_runner.specs.Step.{step_tested, step_outcome}
 use Rattle.run_text.specs.Lines.{line}
 use Rattle.spec_trace.specs.declared.Line.{Line}

@@ -15,7 +15,7 @@ use Rattle.spec_runner.specs.declared.StepAnswer.TheVariants.{Moved}
 use Rattle.spec_runner.specs.Answers.{outcome}
 use Rattle.spec_runner.specs.Rules.{refused}
 use Rattle.spec_runner.specs.Open.{segments_for, job_opened, open_outcome}
-use Rattle.spec_runner.specs.Opens.{in_range_lem}
+use Rattle.spec_runner.proofs.Opens.{in_range_lem}
 use Rattle.runner_words.specs.Refusals.{job_refusal, turned_down, goes_on, fits}
 use Rattle.runner_open.specs.Opens.{Opens}
 

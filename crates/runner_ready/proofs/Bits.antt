@@ -14,7 +14,7 @@ use Rattle.spec_words.specs.Words.{pass, halt}
 use Rattle.spec_lists.specs.Counting.{one, over, one_true, one_false}
 use Rattle.spec_layout.specs.Layout.{NONE}
 use Rattle.spec_runner.specs.Ready.{bits_from, lowest_from}
-use Rattle.spec_runner.specs.ReadyLaws.{bits_more, bits_below}
+use Rattle.spec_runner.proofs.ReadyLaws.{bits_more, bits_below}
 
 module _ (w k : ℕ) {b : Bool} where
   pub bit_set : w < 2 ^ k → k < 32 → b ≡ true → bit_or w (1 * 2 ^ k % 2 ^ 32) ≡ w + one b * 2 ^ k

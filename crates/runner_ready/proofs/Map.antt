@@ -19,7 +19,7 @@ use Rattle.spec_runner.specs.Answers.{has_moved, answer_of}
 use Rattle.spec_runner.specs.Rules.{runner_holds}
 use Rattle.spec_runner.specs.Ready.{bits_from, words_for, lowest_from, map_of, ready_map, no_map, test_answer, mapped, ready_outcome}
 use Rattle.spec_runner.specs.Moves.{step_moves}
-use Rattle.spec_runner.specs.MovesLaws.{ready_moves}
+use Rattle.spec_runner.proofs.MovesLaws.{ready_moves}
 use Rattle.runner_words.specs.Refusals.{job_refusal}
 use Rattle.runner_ready.specs.Refusals.{map_refusal, refused_with, tests_pass, rules_held, held_size}
 

@@ -7,14 +7,14 @@ use Rattle.spec_answers.specs.declared.Answer.TheVariants.{Moved, Empty, Waits, 
 use Rattle.spec_answers.specs.Answers.{Outcome, outcome as answered}
 use Rattle.spec_answers.specs.Calls.{Call}
 use Rattle.spec_rules.specs.Test.{rules_hold}
-use Rattle.spec_outcomes.specs.Keeps.{Keeps, keeps}
+use Rattle.spec_outcomes.proofs.Keeps.{Keeps, keeps}
 use Rattle.spec_job.specs.declared.Instruction.{Instruction}
 use Rattle.spec_job.specs.Operations.{operation_at}
 use Rattle.spec_runner.specs.declared.StepAnswer.{StepAnswer}
 use Rattle.spec_runner.specs.declared.StepAnswer.TheVariants as Step
 use Rattle.spec_runner.specs.Words.{register_of, instruction_for}
 use Rattle.spec_runner.specs.Answers.{outcome}
-use Rattle.spec_runner.specs.Laws.{core_outcome_lem}
+use Rattle.spec_runner.proofs.Laws.{core_outcome_lem}
 use Rattle.spec_runner.specs.Step.{call_of, reply_of, replied, core_outcome, replied_to, makes}
 use Rattle.job_effect.specs.Made.{found_with}
 use Rattle.runner_step.specs.Parts.{called, acted, Makes}

@@ -21,14 +21,14 @@ use Rattle.spec_runner.specs.declared.StepAnswer.TheVariants as Step
 use Rattle.spec_runner.specs.Words.{register_of, instruction_for}
 use Rattle.spec_runner.specs.Answers.{has_moved, Outcome, answer_of}
 use Rattle.spec_runner.specs.Step.{call_of, reply_of, done, replied, core_outcome, replied_to, makes, step_tested, step_outcome}
-use Rattle.spec_runner.specs.Laws.{has_moved_lem, blocked_waits}
+use Rattle.spec_runner.proofs.Laws.{has_moved_lem, blocked_waits}
 use Rattle.spec_runner.specs.Moves.{instruction_moves, step_moves}
-use Rattle.spec_runner.specs.MovesLaws.{step_moves_lem}
+use Rattle.spec_runner.proofs.MovesLaws.{step_moves_lem}
 use Rattle.spec_simulate.specs.declared.Would.{Would}
 use Rattle.spec_simulate.specs.declared.Would.TheVariants.{Moves, Waits, Refused}
 use Rattle.spec_simulate.specs.Machine.{would_be}
 use Rattle.law_any_order.specs.Statement.{core_call, step_answer, Wants, a_record, a_segment}
-use Rattle.law_any_order.specs.AnyOrder.{Kept, only, no_ticks}
+use Rattle.law_any_order.proofs.AnyOrder.{Kept, only, no_ticks}
 use Rattle.law_any_two.specs.Reached.{Reached, reached_size, reached_rules, reached_tested}
 use Rattle.runner_would.specs.Held.{unmoved}
 use Rattle.runner_would.specs.Decides.{waits?, Decides, push_decides, spawn_decides}

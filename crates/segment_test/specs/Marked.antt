@@ -16,7 +16,8 @@ use Rattle.spec_lists.specs.Tests.{each_says, says_each}
 use Rattle.spec_layout.specs.Layout.{address, read}
 use Rattle.spec_rules.specs.Contents.{Contents, decode}
 use Rattle.spec_rules.specs.Stack.{stack_height}
-use Rattle.spec_rules.specs.Held.{stack_test, held_count, held_free, free_held}
+use Rattle.spec_rules.specs.Held.{stack_test, held_count}
+use Rattle.spec_rules.proofs.Held.{held_free, free_held}
 use Rattle.spec_view_events.specs.Parts.{number_at}
 use Rattle.spec_view_events.specs.Sees.{Ready}
 use Rattle.segment_test.specs.Stack.{all_below}

@@ -11,7 +11,7 @@ use Rattle.spec_runner.specs.declared.StepAnswer.{StepAnswer}
 use Rattle.spec_runner.specs.declared.StepAnswer.TheVariants as Step
 use Rattle.spec_runner.specs.Answers.{has_moved, Outcome, outcome, answer_of, core_of, runner_of}
 use Rattle.spec_runner.specs.Step.{step_tested, step_outcome}
-use Rattle.spec_runner.specs.Laws.{step_keeps}
+use Rattle.spec_runner.proofs.Laws.{step_keeps}
 use Rattle.law_any_two.specs.Reached.{Reached, reached_tested, reached_step}
 use Rattle.spec_simulate.specs.declared.Would.{Would}
 use Rattle.spec_simulate.specs.declared.Would.TheVariants.{Moves, Waits, Refused}

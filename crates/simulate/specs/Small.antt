@@ -12,7 +12,7 @@ use Rattle.spec_words.specs.Words.{load, store, size, pick, either, halt, pass, 
 use Rattle.spec_lists.specs.Counting.{equal?, below?}
 use Rattle.spec_outcomes.specs.Waits.{unfinished}
 use Rattle.spec_runner.specs.Answers.{answer_of}
-use Rattle.law_simulate.specs.Soonest.{soonest_is}
+use Rattle.law_simulate.proofs.Soonest.{soonest_is}
 use Rattle.spec_simulate.specs.declared.Would.{Would}
 use Rattle.spec_simulate.specs.declared.Would.TheVariants.{Moves, Waits, Refused}
 use Rattle.spec_simulate.specs.declared.Simulated.{Simulated}

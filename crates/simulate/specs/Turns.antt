@@ -9,10 +9,10 @@ use Rattle.spec_lists.specs.Maps.{All, all_in}
 use Rattle.spec_outcomes.specs.Waits.{unfinished}
 use Rattle.spec_runner.specs.declared.StepAnswer.TheVariants as Step
 use Rattle.spec_runner.specs.Answers.{outcome, core_of, runner_of}
-use Rattle.law_any_order.specs.Fresh.{no_word}
+use Rattle.law_any_order.proofs.Fresh.{no_word}
 use Rattle.law_any_two.specs.Reached.{Reached}
-use Rattle.law_any_order.specs.Unfinished.{toured_unfinished}
-use Rattle.law_simulate.specs.Calls.{order_occurs}
+use Rattle.law_any_order.proofs.Unfinished.{toured_unfinished}
+use Rattle.law_simulate.proofs.Calls.{order_occurs}
 use Rattle.spec_simulate.specs.declared.Simulated.{Simulated}
 use Rattle.spec_simulate.specs.declared.Simulated.TheVariants as Simulated
 use Rattle.spec_simulate.specs.declared.Phase.{Phase}

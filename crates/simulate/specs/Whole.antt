@@ -15,7 +15,7 @@ use Rattle.spec_runner.specs.Open.{job_opened, open_outcome}
 use Rattle.runner_words.specs.Refusals.{job_refusal, turned_down, goes_on, fits}
 use Rattle.runner_open.specs.Opens.{Opens}
 use Rattle.law_any_order.specs.Statement.{fresh}
-use Rattle.law_simulate.specs.Calls.{facts}
+use Rattle.law_simulate.proofs.Calls.{facts}
 use Rattle.spec_simulate.specs.declared.Simulated.{Simulated}
 use Rattle.spec_simulate.specs.declared.Simulated.TheVariants.{Refused}
 use Rattle.spec_simulate.specs.Machine.{simulation, workers_right, simulated, simulate_outcome}

@@ -49,7 +49,7 @@ module _ {S : Type 0} (Pushes Pops : S → ℕ → Type 0) where
   no_pop q s (finished t) u p = tt
   no_pop q s (gave r) u p = tt
 
-  passes_item : (n : Search) (s : S) (x : Item S) → Under s x → Passes n (spot s) → Passes n x
+  pub passes_item : (n : Search) (s : S) (x : Item S) → Under s x → Passes n (spot s) → Passes n x
   passes_item free s x u p = tt
   passes_item (seeking b q) s (value r v) u p = λ e. p.1 (subst (Pushes s) e u)
   passes_item (seeking b q) s (spot t) u p = (λ h. p.0 (u.1 q h), λ h. p.1 (u.0 q h))
@@ -57,10 +57,6 @@ module _ {S : Type 0} (Pushes Pops : S → ℕ → Type 0) where
   passes_item (seeking b q) s (gave r) u p = tt
   passes_item (found b q w) s x u p = no_pop q s x u p
   passes_item (putting q w) s x u p = no_pop q s x u p
-
-  passes_all : (n : Search) (s : S) (xs : List (Item S)) → All (Under s) xs → Passes n (spot s) → All (Passes n) xs
-  passes_all n s [] u p = tt
-  passes_all n s (x ∷ xs) u p = (passes_item n s x u.0 p, passes_all n s xs u.1 p)
 
   puts_under : (s : S) (i : Action S) → Within s i → Line.Every (λ o. All (Under s)) i
   puts_under s (puts xs) w = w
@@ -98,7 +94,3 @@ module _ {S : Type 0} (T : Tasks S) where
   -- what a search of these tasks may go past
   abbrev pub Passing : Search → Item S → Type 0
   Passing = Passes T.Pushes T.Pops
-
-  pub put_passes : (s : S) (m n : Search) (xs : List (Item S)) → Acts m (T.next s) xs → Passing n (spot s) → All (Passing n) xs
-  put_passes s m n xs d p =
-      passes_all T.Pushes T.Pops n s xs (put_under T.Pushes T.Pops s (T.next s) m xs (T.within s) d) p

@@ -10,8 +10,5 @@ pub mod Sync
 pub mod Finish
 pub mod Left
 pub mod Outcomes
-pub mod Keeps
-pub mod SevenByLeft
-pub mod RunOfOne
 pub mod Table
 pub mod Cases

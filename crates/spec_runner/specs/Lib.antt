@@ -3,15 +3,7 @@ pub mod Packed
 pub mod Words
 pub mod Rules
 pub mod Open
-pub mod Opens
 pub mod Step
-pub mod Laws
-pub mod NotSeven
 pub mod Ready
-pub mod ReadyLaws
-pub mod MapLaws
 pub mod Moves
-pub mod MovesLaws
-pub mod Held
 pub mod Run
-pub mod RunLaws

@@ -33,12 +33,6 @@ step_halves (Refused k) = refl
 abbrev pub ValueFits : StepAnswer → Type 0
 ValueFits a = value_of a < 4294967296
 
-pub status_half : (a : StepAnswer) → ValueFits a → packed_step a / 4294967296 ≡ status_of a
-status_half a h = let e = step_halves a in omega (arith, e, h)
-
-pub value_half : (a : StepAnswer) → ValueFits a → packed_step a % 4294967296 ≡ value_of a
-value_half a h = let e = step_halves a in omega (arith, e, h)
-
 -- the number p is answer a
 pub record Packs (a : StepAnswer) (p : ℕ) : Type 0 where
   pub whole : p ≡ packed_step a

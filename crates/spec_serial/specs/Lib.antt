@@ -1,5 +1,4 @@
 pub mod Serial
-pub mod Laws
 pub mod Answers
 pub mod Working
 pub mod Outcome

@@ -12,7 +12,7 @@ use Rattle.spec_job.specs.Examples.{full_run}
 use Rattle.spec_runner.specs.Words.{RUNNER}
 use Rattle.spec_runner.specs.Answers.{has_moved, Outcome, answer_of, core_of, runner_of}
 use Rattle.spec_runner.specs.Open.{job_opened, open_outcome}
-use Rattle.spec_runner.specs.Laws.{job_passes}
+use Rattle.spec_runner.proofs.Laws.{job_passes}
 use Rattle.text.specs.Text.{ascii, digits, decimal}
 use Rattle.run_text.specs.Lines.{word_row, answer_text, call_line, spaced, ended, left_line, open_line}
 use Rattle.spec_trace.specs.declared.Line.{Line}

@@ -16,7 +16,7 @@ use Rattle.spec_simulate.specs.Ticks.{number, ticks_for, our_ticks}
 use Rattle.spec_simulate.specs.Machine.{Outcomes, simulation, workers_right, simulate_outcome}
 use Rattle.spec_simulate.specs.Cases.{our_ticks_lem}
 use Rattle.law_simulate.specs.Schedule.{Answered}
-use Rattle.law_simulate.specs.Simulation.{simulation_keeps}
+use Rattle.law_simulate.proofs.Simulation.{simulation_keeps}
 use Rattle.spec_span.specs.Pass.{SPAN, span_pass}
 use Rattle.spec_span.specs.Listing.{SIMULATE, Listing, listing, span_for, with_span, listed_outcome}
 use Rattle.spec_span.specs.Cases.{passes}

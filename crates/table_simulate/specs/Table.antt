@@ -30,7 +30,7 @@ use Rattle.spec_runner.specs.Words.{procedure_of, position_of, register_of, put,
 use Rattle.spec_runner.specs.Answers.{answer_with, answer_of, core_of, runner_of, has_moved, Outcome}
 use Rattle.spec_runner.specs.Open.{segments_for, job_opened, open_outcome}
 use Rattle.spec_runner.specs.Step.{call_of, reply_of, runner_after, done, replied, core_outcome, replied_to, makes, step_tested}
-use Rattle.law_any_order.specs.Fresh.{opened_is}
+use Rattle.law_any_order.proofs.Fresh.{opened_is}
 use Rattle.law_any_two.specs.Reached.{Reached, reached_open}
 use Rattle.spec_simulate.specs.declared.Simulated.{Simulated}
 use Rattle.spec_simulate.specs.Ticks.{number, ticks_for, our_ticks}

@@ -5,7 +5,7 @@ use Rattle.std.proofs.Common.{◌∙◌, mul-le-mul}
 use borrow.Author.Tests.{le-leb, lt-leb, ne_eqb, eq-eqb}
 use Rattle.spec_words.specs.Words.{both, both_on, both_off, both_right_off, true_left, true_right, neither}
 use Rattle.spec_layout.specs.Layout.{NONE, STATUS, RIGHTS, PARENT, OLDER, YOUNGER, YOUNGEST, UNFINISHED, FINISHED, task, rights_of, read}
-use Rattle.spec_layout.specs.Frame.{record_word}
+use Rattle.spec_layout.proofs.Frame.{record_word}
 use Rattle.spec_rules.specs.Contents.{decode, word, task_rights}
 use Rattle.spec_rules.specs.Test.{within, in_range, top_test}
 

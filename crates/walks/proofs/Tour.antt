@@ -8,7 +8,7 @@ use lib.Dec.{eqb}
 use borrow.Author.Tests.{lt-ltb, le-ltb, eq-eqb, ne_eqb, not-true, not-false}
 use Rattle.spec_words.specs.Words.{both, either, pass, halt, true_left, true_right, both_on, both_off, both_right_on, both_right_off}
 use Rattle.spec_layout.specs.Layout.{NONE, NL, CHILDREN, RIGHT, PARENT, OLDER, YOUNGEST, task, rights_of, head, tail, read, record_of}
-use Rattle.spec_layout.specs.Frame.{record_word}
+use Rattle.spec_layout.proofs.Frame.{record_word}
 use Rattle.spec_tree.specs.Rights.{uses}
 use Rattle.spec_tree.specs.Tour.{MARKS, entering, after, seek}
 use Rattle.spec_rules.specs.Views.{view}

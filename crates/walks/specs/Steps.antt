@@ -8,7 +8,7 @@ use native.Mathlib.Omega.{arith}
 use Rattle.std.proofs.lemmas.Bool.{lt-leb}
 use Rattle.spec_words.specs.Words.{load, pick, pass, halt}
 use Rattle.spec_layout.specs.Layout.{NONE, OLDER, task, read, record_of}
-use Rattle.spec_layout.specs.Frame.{record_word}
+use Rattle.spec_layout.proofs.Frame.{record_word}
 use Rattle.spec_tree.specs.Tour.{END, after, seek, sibling, oldest}
 
 one_less : (n : ℕ) → n ≡ suc n - 1

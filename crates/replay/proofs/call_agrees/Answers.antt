@@ -15,9 +15,9 @@ step_tested-x-requires c = (
 
 pub answer_agrees-requires : goal.answer_agrees-requires
 answer_agrees-requires c = (
-      c.requires.1,
-      c.requires.2,
-    )
+  c.requires.1,
+  c.requires.2,
+)
 
 pub returns : goal.returns
 returns c = call_stepped _ _ _ _ _ _ _ _ c.requires.0 c.step_tested-x.ensures c.pack_step-a.ensures

@@ -17,14 +17,14 @@ pub loop-s-preserved : goal.loop-s-preserved
 unfolding load
 loop-s-preserved c =
     elim c.if-d-s-eq0.branch [
-      then-d-s-eq0 w ↦
-        let a = unmarked_more c.args.d.now c.loop-s.s w.if-d-s-eq0.true in
-        let b = c.loop-s.invariant in
-        (omega arith, omega arith, omega (arith, a, b))
-    | else-d-s-eq0 w ↦
-        let a = unmarked_past c.args.d.now c.loop-s.s w.if-d-s-eq0.false in
-        let b = c.loop-s.invariant in
-        (omega arith, omega arith, omega (arith, a, b))
+      | then-d-s-eq0 w ↦
+          let a = unmarked_more c.args.d.now c.loop-s.s w.if-d-s-eq0.true in
+          let b = c.loop-s.invariant in
+          (omega arith, omega arith, omega (arith, a, b))
+      | else-d-s-eq0 w ↦
+          let a = unmarked_past c.args.d.now c.loop-s.s w.if-d-s-eq0.false in
+          let b = c.loop-s.invariant in
+          (omega arith, omega arith, omega (arith, a, b))
     ]
 
 pub returns : goal.returns

@@ -47,6 +47,6 @@ shape_of-ends c = c.loop-i.invariant.0
 pub returns : goal.returns
 returns c =
     elim c.loop-i-test.branch [
-      else-loop-i-test w ↦ chosen_all _ _ _ _ _ _ _ _ c.loop-i.invariant.1 w.loop-i-test.false c.goes_on.ensures
-    | then-loop-i-test+then-f-eq0 w ↦ chosen_full _ _ _ _ _ _ _ _ c.loop-i.invariant.1 w.if-f-eq0.true c.goes_on.ensures
+      | else-loop-i-test w ↦ chosen_all _ _ _ _ _ _ _ _ c.loop-i.invariant.1 w.loop-i-test.false c.goes_on.ensures
+      | then-loop-i-test+then-f-eq0 w ↦ chosen_full _ _ _ _ _ _ _ _ c.loop-i.invariant.1 w.if-f-eq0.true c.goes_on.ensures
     ]

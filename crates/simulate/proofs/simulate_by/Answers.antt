@@ -19,8 +19,8 @@ returns-then-k-ne0 c = stays_shut _ _ _ _ _ _ c.if-ends.false c.refusal-k.ensure
 pub returns-then-workers-lt1 : goal.returns-then-workers-lt1
 returns-then-workers-lt1 c =
     wrong_workers _ _ _ _ _ _ c.if-ends.false c.refusal-k.ensures c.if-k-ne0.false (elim c.then-workers-lt1.branch [
-      then-workers-lt1-via-then-workers-lt1 w ↦ inl w.if-workers-lt1.true
-    | then-workers-lt1-via-else-workers-lt1+then-workers-gt-MOST_WORKERS w ↦ inr w.if-workers-gt-MOST_WORKERS.true
+      | then-workers-lt1-via-then-workers-lt1 w ↦ inl w.if-workers-lt1.true
+      | then-workers-lt1-via-else-workers-lt1+then-workers-gt-MOST_WORKERS w ↦ inr w.if-workers-gt-MOST_WORKERS.true
     ])
 
 pub open_tested-requires : goal.open_tested-requires

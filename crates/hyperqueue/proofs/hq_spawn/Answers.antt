@@ -1,0 +1,6 @@
+use Rattle.hyperqueue.specs.Packed.{handed}
+use borrow.Author.Rules.{rules}
+use Rattle.hyperqueue.proofs.hq_spawn.Goals as goal
+
+pub returns : goal.returns
+returns c = handed c.spawn.ensures c.pack.ensures

@@ -1,0 +1,15 @@
+use Rattle.hyperqueue.specs.Packed.{turned_down, goes_on}
+use Rattle.spec_outcomes.specs.Left.{left_outcome}
+use mathlib.Core.Path.{◌∙◌}
+use borrow.Author.Rules.{rules}
+use Rattle.hyperqueue.proofs.left.Goals as goal
+
+pub returns-then-k-ne0 : goal.returns-then-k-ne0
+unfolding left_outcome
+returns-then-k-ne0 c = turned_down _ _ _ c.refusal-k.ensures c.if-k-ne0.true
+
+pub returns : goal.returns
+unfolding left_outcome
+returns c =
+    c.left.ensures
+    ∙ goes_on _ _ _ c.refusal-k.ensures c.if-k-ne0.false

@@ -1,0 +1,17 @@
+pub mod Written
+pub mod Rewritten
+pub mod States
+pub mod Tested
+pub mod Answered
+pub mod Numbers
+pub mod Goes
+pub mod Operations
+pub mod Looking
+pub mod Running
+pub mod Unfinished
+pub mod Names
+pub mod Called
+pub mod Fresh
+pub mod AnyOrder
+pub mod Fold
+pub mod StepsOrdered

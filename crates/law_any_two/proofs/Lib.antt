@@ -1,0 +1,4 @@
+pub mod Stands
+pub mod Stable
+pub mod Determined
+pub mod Sums

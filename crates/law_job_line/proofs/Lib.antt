@@ -1,0 +1,15 @@
+pub mod Within
+pub mod Lasting
+pub mod Front
+pub mod Lists
+pub mod Events
+pub mod Plain
+pub mod Serial
+pub mod Agree
+pub mod Ends
+pub mod Put
+pub mod Stood
+pub mod Named
+pub mod Log
+pub mod Answered
+pub mod NewNames

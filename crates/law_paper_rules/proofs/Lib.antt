@@ -1,0 +1,13 @@
+pub mod Along
+pub mod Words
+pub mod Counterexamples
+pub mod OrderLaws
+pub mod Spans
+pub mod Tails
+pub mod Rules123
+pub mod Rules45
+pub mod Rules79
+pub mod Rule6
+pub mod Rule8
+pub mod Finished
+pub mod AfterCalls

@@ -1,0 +1,9 @@
+pub mod Holds
+pub mod Facts
+pub mod Keeps
+pub mod Choosing
+pub mod Falling
+pub mod Soonest
+pub mod Rounds
+pub mod Calls
+pub mod Simulation

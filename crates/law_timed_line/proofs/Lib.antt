@@ -1,0 +1,10 @@
+pub mod Parts
+pub mod Starts
+pub mod Once
+pub mod Agreement
+pub mod Back
+pub mod Bound
+pub mod Lift
+pub mod First
+pub mod Reach
+pub mod Answers

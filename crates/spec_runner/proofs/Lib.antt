@@ -1,0 +1,9 @@
+pub mod Packed
+pub mod Opens
+pub mod Laws
+pub mod NotSeven
+pub mod ReadyLaws
+pub mod MapLaws
+pub mod MovesLaws
+pub mod Held
+pub mod RunLaws
