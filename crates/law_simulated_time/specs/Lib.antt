@@ -8,5 +8,4 @@ pub mod Moving
 pub mod Taking
 pub mod Passing
 pub mod Falling
-pub mod Bounds
 pub mod Guarantee

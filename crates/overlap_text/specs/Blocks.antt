@@ -1,18 +1,15 @@
 -- What the blocks of a run's text are: the lines of calls with the words that they leave, and the line of unfinished tasks.
-use Rattle.std.specs.Prelude.{◌≡◌, refl, Bool, true, false, List, ℕ, ◌+◌, ◌≤◌, length, take}
+use Rattle.std.specs.Prelude.{◌≡◌, refl, Bool, true, false, List, ℕ, ◌+◌, ◌≤◌, take}
 use Rattle.std.proofs.Common.{ap, ◌∙◌, le_antisymm, add-one, arith}
 use Rattle.spec_words.specs.Words.{pick}
 use Rattle.spec_lists.specs.Counting.{one, total}
 use Rattle.spec_outcomes.specs.Waits.{unfinished}
-use Rattle.spec_runner.specs.Run.{steps_from, as_many}
+use Rattle.spec_runner.specs.Run.{steps_from}
 use Rattle.law_any_two.specs.Reached.{Reached}
-use Rattle.runner_run.specs.Made.{Made}
 use Rattle.run_text.specs.Lines.{open_line}
-use Rattle.block_text.specs.Lines.{lines_from}
 use Rattle.block_text.specs.Blocks.{Block}
 use Rattle.block_text.specs.Values.{value_lines, lines_of, read_from}
 use Rattle.overlap_text.specs.Whole.{call_lines, value_in, queue_lines, unfinished_in}
-use Rattle.overlap_text.specs.Laws.{packed_line, packed_lines}
 
 -- A BLOCK OF CALLS of tasks ts, where c calls were made before: its text, and the words that the steps leave
 pub record Called (j ts m r : List ℕ) (c : ℕ) (out : List ℕ) (n : ℕ) (m' r' : List ℕ) : Type 0 where
@@ -26,16 +23,6 @@ pub queue_block : (m : List ℕ) (q : ℕ) {out us : List ℕ} {r n k : ℕ} →
     → Block out r (value_lines q (take n us)) → Block out r (queue_lines m q)
 unfolding queue_lines
 queue_block m q e v b = lines_of q (v.text ∙ ap (λ (k : ℕ). read_from (value_in m q) k 0) e) b
-
-pub called : (j ts m r : List ℕ) (c : ℕ) {out m1 r1 ps : List ℕ} {k : ℕ} → Made j ts m r m1 r1 ps
-    → Block out k (lines_from (packed_line ts ps c) 0 (length ts)) → Called j ts m r c out k m1 r1
-called j ts m r c p b =
-    record {
-      lines = rw (← packed_lines ts (steps_from j ts m r).answers c (as_many j ts m r) p.values, ← p.answers) b;
-      core = p.core;
-      runner = p.runner;
-      reached = p.reached;
-    }
 
 -- THE COUNT OF UNFINISHED TASKS, one after the other
 abbrev pub unfinished_to : ℕ → List ℕ → ℕ

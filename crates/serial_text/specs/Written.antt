@@ -15,12 +15,9 @@ use Rattle.block_text.specs.Values.{read_from, read_list}
 use Rattle.serial_text.specs.Whole.{step_line}
 
 -- the line of a step is that of its row, with no calls before
-step_row : (a : List ℕ) (i : ℕ) → row_line a 0 i ≡ step_line a i
+pub step_row : (a : List ℕ) (i : ℕ) → row_line a 0 i ≡ step_line a i
 unfolding step_line row_line
 step_row a i = ap (λ (n : ℕ). line (n + 1) (load a (i * 3)) (load a (i * 3 + 1)) (load a (i * 3 + 2))) (zero-add i)
-
-pub step_rows : {m : List ℕ} {r : ℕ} (a : List ℕ) (i n : ℕ) → Block m r (lines_from (row_line a 0) i n) → Block m r (lines_from (step_line a) i n)
-step_rows a i n b = rw (← lines_same (step_row a) i n) b
 
 -- value number i of queue q, and the values read one by one as a part of the list
 unfoldable pub value_in : List ℕ → ℕ → ℕ → Option ℕ

@@ -107,22 +107,14 @@ unfoldable pub opens : ℕ → List ℕ
 opens zero = []
 opens (suc n) = ascii "open 0\n" ++ opens n
 
-one_more : (n : ℕ) (e : Bool) → lines_in n e (opens (suc n)) ≡ none
+pub one_more : (n : ℕ) (e : Bool) → lines_in n e (opens (suc n)) ≡ none
 unfolding pick both ascii front behind_byte behind_text digit_of number_at behind_feed open_at line_at is_call in_front followed lines_in opens
 one_more zero e = refl
 one_more (suc n) true = ap (in_front (Open 0)) (one_more n true)
 one_more (suc n) false = ap (in_front (Open 0)) (one_more n true)
 
-pub lines_65536 : trace_lines (opens 65536) ≡ none
-unfolding trace_lines
-lines_65536 = one_more 65535 false
-
-as_many : (n : ℕ) (e : Bool) → lines_in n e (opens n) ≡ some (replicate n (Open 0))
+pub as_many : (n : ℕ) (e : Bool) → lines_in n e (opens n) ≡ some (replicate n (Open 0))
 unfolding pick both ascii front behind_byte behind_text digit_of number_at behind_feed open_at line_at is_call in_front followed lines_in opens
 as_many zero e = refl
 as_many (suc n) true = ap (in_front (Open 0)) (as_many n true)
 as_many (suc n) false = ap (in_front (Open 0)) (as_many n true)
-
-pub lines_65535 : trace_lines (opens 65535) ≡ some (replicate 65535 (Open 0))
-unfolding trace_lines
-lines_65535 = as_many 65535 false

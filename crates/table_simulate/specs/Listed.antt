@@ -20,7 +20,7 @@ use Rattle.law_simulate.proofs.Simulation.{simulation_keeps}
 use Rattle.spec_span.specs.Pass.{SPAN, span_pass}
 use Rattle.spec_span.specs.Listing.{SIMULATE, Listing, listing, span_for, with_span, listed_outcome}
 use Rattle.spec_span.specs.Cases.{passes}
-use Rattle.law_simulated_time.specs.Guarantee.{pass_same}
+use Rattle.law_simulated_time.proofs.Guarantee.{pass_same}
 use Rattle.table_simulate.specs.Table.{answer_in}
 use Rattle.table_simulate.specs.Cases.{accepted, full_run_lem}
 

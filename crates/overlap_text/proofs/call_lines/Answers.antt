@@ -1,5 +1,4 @@
-use Rattle.overlap_text.specs.Blocks.{called}
-use borrow.Author.Rules.{rules}
+use Rattle.overlap_text.proofs.Laws.{called}
 use Rattle.overlap_text.proofs.call_lines.Goals as goal
 
 pub returns : goal.returns
