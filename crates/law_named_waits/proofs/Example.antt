@@ -1,14 +1,12 @@
 -- The example's tasks are tasks with names and rights that may fall, and its pop is done at 9.
-use Rattle.std.specs.Prelude.{refl, Bool, true, false, List, [], ◌∷◌, ℕ, zero, suc, eqb}
+use Rattle.std.specs.Prelude.{refl, true, false, [], ◌∷◌, eqb}
 use Rattle.std.proofs.lemmas.Bool.{false≢true}
 use Rattle.std.proofs.Common.{inl, inr, eqb-true}
 use Rattle.spec_words.specs.Words.{both, either, pick}
-use Rattle.spec_order.specs.Steps.{Name}
 use Rattle.spec_order.specs.Waits.{same_name, is_child, is_older}
-use Rattle.spec_line.specs.Line.{Item, spot, finished, gave, Action, puts, looks, free, seeking, Every, acts_every}
+use Rattle.spec_line.specs.Line.{spot, Action, free, seeking, Every, acts_every}
 use Rattle.spec_line.specs.Rights.{Within, Tasks}
-use Rattle.spec_line.specs.Fronts.{Fronts}
-use Rattle.law_timed_line.specs.Times.{Timed, at, later}
+use Rattle.law_timed_line.specs.Times.{at, later}
 use Rattle.law_timed_line.specs.Walks.{Waits, Walk}
 use Rattle.law_timed_line.proofs.Agreement.{Move, Moves, no_move, moves}
 use Rattle.law_named_waits.specs.Names.{above}

@@ -5,14 +5,13 @@ use Rattle.std.proofs.Common.{ap, ◌∙◌}
 use Rattle.std.proofs.lemmas.Bool.{false≢true}
 use mathlib.Core.List.{List, [], ◌∷◌}
 use Rattle.std.proofs.Math.Logic.{inl, inr, ⊎_elim}
-use Rattle.spec_words.specs.Words.{both, either, both_true, either_true, neither, neither_true, refuted, true_left, true_right}
+use Rattle.spec_words.specs.Words.{either, both_true, either_true, neither, neither_true, refuted, true_left, true_right}
 use Rattle.spec_lists.specs.Maps.{All}
 use Rattle.spec_order.specs.Steps.{Name}
 use Rattle.spec_order.specs.Waits.{is_child, is_older}
-use Rattle.spec_line.specs.Line.{Item, value, spot, finished, gave, Action, Search, free, seeking, found, putting, Acts}
-use Rattle.spec_line.specs.Rights.{Within, Tasks}
+use Rattle.spec_line.specs.Line.{Item, value, spot, finished, gave, Action, Search, free, seeking, found, putting}
 use Rattle.law_timed_line.specs.Times.{Some}
-use Rattle.law_timed_line.specs.Walks.{Awaits, Past, Quiet, Remains, Waits}
+use Rattle.law_timed_line.specs.Walks.{Awaits, Waits}
 use Rattle.law_named_waits.specs.Names.{above, above_self, above_parent, child_apart}
 use Rattle.law_named_waits.specs.Named as named
 

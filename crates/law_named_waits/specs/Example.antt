@@ -1,19 +1,11 @@
 -- AN EXAMPLE: what a give-up is for. The top spawns a child, which may push to queue 0, and then pops there. The child gives up its right
 -- and goes on. The pop need not wait for the child's finish, only for the give-up: it is done 3 ticks after that, at 9. No operation of a
 -- job gives up a right yet (request 8).
-use Rattle.std.specs.Prelude.{refl, Bool, true, false, List, [], ◌∷◌, ℕ, zero, suc, eqb}
-use Rattle.std.proofs.lemmas.Bool.{false≢true}
-use Rattle.std.proofs.Common.{inl, inr, eqb-true}
-use Rattle.spec_words.specs.Words.{both, either, pick}
+use Rattle.std.specs.Prelude.{Bool, true, false, List, [], ◌∷◌, ℕ, zero, suc, eqb}
 use Rattle.spec_order.specs.Steps.{Name}
-use Rattle.spec_order.specs.Waits.{same_name, is_child, is_older}
-use Rattle.spec_line.specs.Line.{Item, spot, finished, gave, Action, puts, looks, free, seeking, Every, acts_every}
-use Rattle.spec_line.specs.Rights.{Within, Tasks}
+use Rattle.spec_line.specs.Line.{Item, spot, finished, gave, Action, puts, looks}
 use Rattle.spec_line.specs.Fronts.{Fronts}
-use Rattle.law_timed_line.specs.Times.{Timed, at, later}
-use Rattle.law_timed_line.specs.Walks.{Waits, Walk}
-use Rattle.law_timed_line.proofs.Agreement.{Move, Moves, no_move, moves}
-use Rattle.law_named_waits.specs.Names.{above}
+use Rattle.law_timed_line.specs.Times.{Timed, at}
 use Rattle.law_named_waits.specs.Named as named
 
 -- the top before its spawn, its pop and its return; the child before its give-up and its return

@@ -1,28 +1,25 @@
 -- For each of the three rules: it is false after the calls of its case, and the calls get the answers that stand there.
-use Rattle.std.specs.Prelude.{◌≡◌, true, false, List, [], ◌∷◌, ℕ, ◌<◌}
+use Rattle.std.specs.Prelude.{◌≡◌, true, false, List, [], ℕ, ◌<◌}
 use Rattle.std.proofs.Math.Path.{refl}
 use Rattle.std.proofs.Common.{ap, ap₂, sym, ◌∙◌, inr, arith}
 use Rattle.std.proofs.lemmas.Bool.{false≢true}
 use Rattle.std.proofs.Math.Option.{Option, none, some}
-use Rattle.spec_words.specs.Words.{load, pick, both}
-use Rattle.spec_layout.specs.Layout.{NONE, NL, STATUS, UNFINISHED, USER, RIGHT, task, next, rights_of, queue_head, head, tail, address, read, record_of}
-use Rattle.spec_answers.specs.declared.Answer.TheVariants.{Moved}
-use Rattle.spec_answers.specs.Calls.{open_call, spawn_call, push_call, finish_call}
+use Rattle.spec_words.specs.Words.{pick, both}
+use Rattle.spec_layout.specs.Layout.{NONE, NL, STATUS, UNFINISHED, USER, RIGHT, task, next, rights_of, queue_head, head, tail, read}
 use Rattle.spec_tree.specs.Rights.{bits, pushes, pops}
-use Rattle.spec_tree.specs.Tour.{exiting, entering, after, tour}
 use Rattle.spec_rules.specs.Views.{view}
 use Rattle.spec_rules.specs.Contents.{decode}
 use Rattle.spec_rules.specs.Rules.{Holder}
-use Rattle.spec_cases.specs.Rows.{Case, row}
+use Rattle.spec_cases.specs.Rows.{Case}
 use Rattle.spec_outcomes.specs.Views.{view_of, is_empty}
 use Rattle.spec_outcomes.specs.Table.{lent, tried, is_some, computed, computes}
-use Rattle.law_gaps.specs.Line.{End, nonlocal, local, extent}
+use Rattle.law_gaps.specs.Line.{nonlocal, local, extent}
 use Rattle.law_links.specs.Linked.{word_is}
 use Rattle.law_maps.specs.Meaning.{optional, end_of, extent_of, view_in}
 use Rattle.law_maps.specs.Reads.{next_at, head_at, view_at_lem}
 use Rattle.law_maps.specs.Free.{optional_none}
-use Rattle.law_paper_rules.specs.Order.{ViewName, queue, user, right, behind, place_in, place, Before}
-use Rattle.law_paper_rules.specs.Words.{view_at, head_only, task_of, NotQueue, Current, LinkedList}
+use Rattle.law_paper_rules.specs.Order.{queue, user, right, place}
+use Rattle.law_paper_rules.specs.Words.{head_only}
 use Rattle.law_paper_rules.specs.Counterexamples.{Rule6, Rule7, Rule8, seen, younger_pushes, younger_finished, one_popper, shared, returned, handed, shared_words, returned_words, handed_words}
 
 seen_after : (f : List ℕ → List ℕ) (c : Case) (m : List ℕ) (l : List ℕ) → tried c lent ≡ some m → seen f (computed c lent) ≡ l → f m ≡ l

@@ -2,23 +2,20 @@
 use Rattle.std.specs.Prelude.{◌≡◌, refl, Bool, true, false, ◌⊎◌, ℕ, ◌+◌, ◌<◌, ◌≤◌}
 use Rattle.std.proofs.Math.Path.{ap}
 use Rattle.std.proofs.Common.{sym, ◌∙◌, subst, inl, inr, arith}
-use Rattle.std.proofs.Math.Option.{Option, none, some}
 use mathlib.Core.List.{List}
 use Rattle.spec_words.specs.Words.{halt}
 use Rattle.spec_lists.specs.Counting.{occurrences}
-use Rattle.spec_layout.specs.Layout.{CHILDREN, USER, RIGHT}
 use Rattle.spec_tree.specs.Tour.{tour}
 use Rattle.spec_rules.specs.Contents.{decode}
 use Rattle.spec_rules.specs.Rules.{Unfinished, Holder}
 use Rattle.spec_order.specs.Steps.{Item}
-use Rattle.law_gaps.specs.Line.{End, nonlocal, local, Extent, vacant, extent, first_chain}
-use Rattle.spec_lists.specs.Maps.{last_of}
-use Rattle.law_gaps.specs.Store.{LinkedFrom, Memory}
+use Rattle.law_gaps.specs.Line.{Extent, vacant, first_chain}
+use Rattle.law_gaps.specs.Store.{Memory}
 use Rattle.law_gaps.proofs.Names.{count_parts}
 use Rattle.law_gaps.proofs.Splits.{small_entries}
 use Rattle.law_links.specs.Linked.{tour_is, holder_unfinished}
 use Rattle.law_links.specs.Marks.{mark_once, mark_exited, mark_entered}
-use Rattle.law_maps.specs.Meaning.{next_in, heads_in, view_in}
+use Rattle.law_maps.specs.Meaning.{heads_in}
 use Rattle.law_invariant.specs.Represents.{queue_memory, of_tasks, uses_in, Represents}
 use Rattle.law_invariant.specs.Parts.{parts_of}
 use Rattle.law_invariant.specs.Views.{entered_in, exited_in, unfinished_alive, uses_small}
@@ -26,7 +23,7 @@ use Rattle.law_invariant.specs.FirstNamed.{one_mine}
 use Rattle.law_paper_rules.specs.Order.{ViewName, queue, children, user, right, place_in, place}
 use Rattle.law_paper_rules.specs.Slots.{slots, chains, chains_later, view_of}
 use Rattle.law_paper_rules.proofs.Along.{Stands, children_stands, entered_stands, Falling, falling}
-use Rattle.law_paper_rules.specs.Words.{head_only, view_at, task_of, NotQueue, Current, LinkedList}
+use Rattle.law_paper_rules.specs.Words.{view_at, task_of, NotQueue, Current}
 
 module _ (m : List ℕ) (xs : List Item) (r : Represents m xs) where
   -- the tour of the words is that of the invariant

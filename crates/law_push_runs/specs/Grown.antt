@@ -1,5 +1,5 @@
 -- WHAT IS FREE once a segment was taken and its head was reduced into the view just before: the link may free one.
-use Rattle.std.specs.Prelude.{◌≡◌, refl, Bool, not}
+use Rattle.std.specs.Prelude.{◌≡◌, refl, Bool}
 use Rattle.std.proofs.Math.Path.{ap, subst}
 use Rattle.std.proofs.Common.{sym, ◌∙◌, arith, lt-ltb}
 use Rattle.std.proofs.Math.Bool.{true, false}
@@ -7,11 +7,9 @@ use mathlib.Core.List.{List, [], ◌∷◌}
 use Prim.Native.Nat.{ℕ, ◌+◌, ◌-◌, ◌<◌, ◌≤◌}
 use Rattle.spec_words.specs.Words.{size, pick, halt}
 use Rattle.spec_words.specs.Blocks.{store_all, size_store_all}
-use Rattle.spec_lists.specs.Counting.{one}
 use Rattle.spec_layout.specs.Layout.{WORDS, free_segments, free_segment, segment, task, next, Opened}
-use Rattle.spec_layout.specs.Layout.{free_height, head, address, read, write}
+use Rattle.spec_layout.specs.Layout.{free_height, address, read, write}
 use Rattle.spec_layout.proofs.Frame.{read_same, size_write}
-use Rattle.spec_rules.specs.Views.{view}
 use Rattle.spec_outcomes.specs.Segments.{taken, released, renamed}
 use Rattle.law_maps.specs.Kept.{Only, only_then, read_away}
 use Rattle.law_push_runs.specs.Pushable.{Pushable}

@@ -9,7 +9,6 @@ use Rattle.spec_words.specs.Words.{size, pass, both_right_off}
 use Rattle.spec_layout.specs.Layout.{Field, WORDS, NONE, USER, length_word, number_word, free_segments, free_segment, first, count, next, length_of}
 use Rattle.spec_layout.specs.Layout.{value_word, Opened, free_height, tail, address, read, write}
 use Rattle.spec_layout.proofs.Frame.{read_same, size_write}
-use Rattle.spec_rules.specs.Views.{view}
 use Rattle.spec_outcomes.specs.Segments.{next_free, taken}
 use Rattle.spec_outcomes.specs.Views.{view_of, is_empty, tail_of}
 use Rattle.spec_outcomes.specs.Push.{capacity}

@@ -1,5 +1,5 @@
 -- A RUN AS SINGLE PUSHES, on words that can be pushed to.
-use Rattle.std.specs.Prelude.{◌≡◌, false, not}
+use Rattle.std.specs.Prelude.{◌≡◌, false}
 use Rattle.std.proofs.Math.Path.{refl, ap, subst}
 use Rattle.std.proofs.Common.{sym, ◌∙◌, true≢false, lt-ltb}
 use mathlib.Core.List.{List, [], ◌∷◌, ◌++◌}

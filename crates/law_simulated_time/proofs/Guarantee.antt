@@ -12,7 +12,7 @@ use Rattle.spec_answers.specs.declared.Answer.TheVariants.{Moved}
 use Rattle.spec_job.specs.Operations.{Operation}
 use Rattle.spec_job.specs.Test.{job_answer}
 use Rattle.spec_job.specs.Accepted.{accepted}
-use Rattle.spec_plain.specs.Run.{stack_of, run}
+use Rattle.spec_plain.specs.Run.{run}
 use Rattle.law_timed_line.specs.Times.{Timed, last_time}
 use Rattle.law_timed_line.proofs.Agreement.{all_finished}
 use Rattle.law_job_line.specs.Tasks.{Runner}
@@ -25,7 +25,6 @@ use Rattle.spec_simulate.specs.Machine.{Event, Outcomes, simulation, workers_rig
 use Rattle.law_simulate.specs.Schedule.{calls_of, Schedule, begins, takes, falls, Answered, ended}
 use Rattle.law_simulate.proofs.Simulation.{Promised, simulation_keeps, work_is_plain}
 use Rattle.spec_span.specs.Pass.{SPAN, span_pass}
-use Rattle.spec_span.specs.Needs.{history_of, Span}
 use Rattle.spec_span.specs.Listing.{SIMULATE, listing, ceiling_of, span_for, with_span, listed_outcome}
 use Rattle.law_span.specs.Ticks.{waits_by}
 use Rattle.law_span.specs.Span.{serial_ends, span_is}

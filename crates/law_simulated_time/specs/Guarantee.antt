@@ -7,7 +7,6 @@ use Rattle.spec_layout.specs.Layout.{WORDS}
 use Rattle.spec_answers.specs.declared.Answer.TheVariants.{Moved}
 use Rattle.spec_job.specs.Operations.{Operation}
 use Rattle.spec_job.specs.Test.{job_answer}
-use Rattle.spec_job.specs.Accepted.{accepted}
 use Rattle.spec_plain.specs.Run.{stack_of, run}
 use Rattle.spec_runner.specs.Words.{RUNNER}
 use Rattle.spec_simulate.specs.declared.Simulated.TheVariants.{Ended}

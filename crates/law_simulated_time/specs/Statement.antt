@@ -1,5 +1,5 @@
 -- WHAT IS PROMISED OF THE TICKS of a simulation that reaches the job's end, where the span is the time of the last item of the timed line: the
--- time when the top's last step is done in a run that waits for nothing but what its steps need. It is proved in Bounds.antt.
+-- time when the top's last step is done in a run that waits for nothing but what its steps need. It is proved in proofs/Bounds.antt.
 use Rattle.std.specs.Prelude.{List, ℕ, ◌+◌, ◌-◌, ◌*◌, ◌≤◌}
 use Rattle.law_timed_line.specs.Times.{Timed, last_time}
 use Rattle.law_timed_line.proofs.Agreement.{Moves, Bare}
@@ -20,7 +20,7 @@ pub record Bounded (w : ℕ) (line : List (Timed Runner)) (used work : ℕ) : Ty
   pub shared : work ≤ w * used
 
 -- A run of moves to the end, timed by the table, whose line bounds the ticks of the schedule h. Any two such runs end in one line
--- (`all_finished`, law_timed_line/specs/Agreement.antt).
+-- (`all_finished`, law_timed_line/proofs/Agreement.antt).
 pub record TimedEnd (j table : List ℕ) (w : ℕ) (m r : List ℕ) (h : List Event) : Type 0 where
   pub count : ℕ
   pub line : List (Timed Runner)

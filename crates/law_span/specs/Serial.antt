@@ -13,7 +13,7 @@ use Rattle.spec_plain.specs.Machine.{State, state, step}
 use Rattle.spec_plain.specs.Run.{stack_of, event_in, next, run_from}
 use Rattle.spec_plain.specs.Stack.{Stack, Stands, first_stands}
 use Rattle.spec_plain.proofs.Kept.{next_kept}
-use Rattle.spec_line.specs.Line.{Item, value, spot, NoSpot, found_by, Action, puts, looks, returns}
+use Rattle.spec_line.specs.Line.{Item, spot, NoSpot, found_by, Action, puts, looks, returns}
 use Rattle.spec_line.specs.Fronts.{Fronts, fronts_after}
 use Rattle.law_timed_line.specs.Times.{Timed, at, untimed, last_time, last_time_lem}
 use Rattle.law_timed_line.proofs.Starts.{start_of}

@@ -7,7 +7,6 @@ use Rattle.spec_words.specs.Words.{load, store, size, pick, load_same, load_othe
 use Rattle.spec_tree.specs.Rights.{pushes, pops}
 use Rattle.spec_tree.specs.Queues.{by_four}
 use Rattle.spec_line.specs.Later.{later}
-use Rattle.law_timed_line.specs.Times.{at}
 use Rattle.spec_span.specs.Pass.{task_at, queue_at, SPAN, CHILDREN, POPPING, PUSHERS, raised, finished_on}
 use Rattle.law_span_pass.specs.Raised.{raise}
 

@@ -14,7 +14,7 @@ use Rattle.law_job_line.specs.Tasks.{Runner}
 use Rattle.law_job_times.specs.Kin.{pushes_of}
 use Rattle.law_serial_times.specs.Ended.{Over, ended}
 use Rattle.law_serial_times.specs.Dominated.{Frame}
-use Rattle.spec_span.specs.Pass.{queue_at, SPAN, TAKEN, PUSHED, PUSHERS, VALUE, filled, unqueued}
+use Rattle.spec_span.specs.Pass.{queue_at, SPAN, TAKEN, PUSHED, PUSHERS, filled, unqueued}
 use Rattle.law_serial_times.specs.Leaving.{value_taken, ended_taken}
 use Rattle.law_span_pass.specs.Raised.{latest_by}
 use Rattle.law_span_pass.specs.Places.{Place, place, places_of, pushers_by, places_taken, places_kept}

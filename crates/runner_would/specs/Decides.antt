@@ -1,5 +1,5 @@
 -- A PUSH OR A SPAWN OF A TASK THAT IS NOT BLOCKED NEVER WAITS: it moves or is refused.
-use Rattle.std.specs.Prelude.{◌≡◌, refl, Bool, true, false, not, ℕ}
+use Rattle.std.specs.Prelude.{◌≡◌, refl, Bool, true, false, ℕ}
 use Rattle.std.proofs.Common.{sym, subst}
 use mathlib.Core.List.{List, [], ◌∷◌}
 use Rattle.spec_words.specs.Words.{pick, pass}

@@ -9,7 +9,6 @@ use Rattle.spec_serial.specs.Working.{lists}
 use Rattle.serial_queues.specs.declared.Found.{Found}
 use Rattle.serial_queues.specs.Found.{found_of}
 use Rattle.run_text.specs.Lines.{line}
-use Rattle.block_text.specs.Lines.{lines_from, lines_same}
 use Rattle.block_text.specs.Blocks.{Block, row_line}
 use Rattle.block_text.specs.Values.{read_from, read_list}
 use Rattle.serial_text.specs.Whole.{step_line}

@@ -1,7 +1,7 @@
 -- RIGHTS ALONG THE LINE: what a search may go past, and what a task may put. Where a search may go past a task, it may go past all
 -- that the task puts; so what one task does there changes nothing for the other.
 use Rattle.std.proofs.Common.{subst}
-use Rattle.std.specs.Prelude.{◌≢◌, List, [], ◌∷◌, ℕ}
+use Rattle.std.specs.Prelude.{◌≢◌, List, ℕ}
 use Rattle.std.proofs.Math.Option.{Option}
 use Rattle.spec_lists.specs.Maps.{All}
 use Rattle.spec_line.specs.Line.{Item, value, spot, finished, gave, Action, puts, looks, returns, Search, free, seeking, found, putting, About, Apart, Acts}

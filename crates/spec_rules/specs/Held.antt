@@ -1,9 +1,8 @@
 -- HOW MANY SEGMENTS ARE HELD. A segment opened is held where it is not on the stack of free ones (`Held`, Rules.antt).
-use Rattle.std.specs.Prelude.{◌≡◌, refl, Bool, ℕ, zero, suc, ◌+◌, ◌-◌, ◌<◌, ◌≤◌, eqb, length}
-use Rattle.std.proofs.Common.{sym, ◌∙◌, ⊎_elim, arith}
-use Rattle.spec_lists.specs.Counting.{one, occurrences, total, below?, one_yes, one_no, length_total, total_plus, total_ones}
-use Rattle.spec_lists.specs.Sums.{total_tight}
-use Rattle.spec_lists.specs.Distinct.{distinct, Distinct}
+use Rattle.std.specs.Prelude.{◌≡◌, Bool, ℕ, ◌+◌, ◌-◌, ◌<◌, eqb, length}
+use Rattle.std.proofs.Common.{arith}
+use Rattle.spec_lists.specs.Counting.{one, occurrences, total, length_total, total_plus}
+use Rattle.spec_lists.specs.Distinct.{distinct}
 use Rattle.spec_rules.specs.Contents.{Contents}
 
 -- THE STACK OF FREE SEGMENTS has segments opened, none of them twice.

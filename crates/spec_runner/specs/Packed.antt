@@ -1,6 +1,5 @@
 -- AN ANSWER AS ONE NUMBER of 64 bits, for hosts: the status in the high half, the value in the low half.
-use Rattle.std.specs.Prelude.{◌≡◌, refl, ℕ, ◌+◌, ◌*◌, ◌/◌, ◌%◌, ◌<◌}
-use Rattle.std.proofs.Common.{arith}
+use Rattle.std.specs.Prelude.{◌≡◌, refl, ℕ, ◌+◌, ◌*◌, ◌/◌, ◌<◌}
 use Rattle.spec_job.specs.Numbers.{WAITS, EMPTY, NOT_EMPTY, SPAWNED, PUSHED, TOOK, FINISHED, MOVED}
 use Rattle.spec_runner.specs.declared.StepAnswer.{StepAnswer}
 use Rattle.spec_runner.specs.declared.StepAnswer.TheVariants.{Spawned, Pushed, Took, Finished, Moved, Empty, NotEmpty, Waits, Refused}

@@ -1,5 +1,5 @@
 -- Small cases of needs, chains and ceilings, established by computation. An instruction is told by its number in its run, from 1.
-use Rattle.std.specs.Prelude.{◌≡◌, refl, List, [], ◌∷◌, ◌++◌, ℕ, ◌+◌, ◌-◌, length, replicate}
+use Rattle.std.specs.Prelude.{◌≡◌, refl, List, [], ◌∷◌, ◌++◌, ℕ, ◌+◌, length, replicate}
 use Rattle.std.proofs.Common.{inl}
 use Rattle.spec_words.specs.Words.{load, store, pick, both, either}
 use Rattle.spec_words.specs.Blocks.{store_all}
@@ -8,10 +8,10 @@ use Rattle.spec_order.specs.Steps.{Name}
 use Rattle.spec_order.specs.Waits.{same_name, is_child, is_older}
 use Rattle.spec_line.specs.Later.{later}
 use Rattle.spec_job.specs.Fields.{bytes2, bytes4, offset, rights, instruction_from, instruction_at}
-use Rattle.spec_job.specs.Operations.{Operation, return, push, pop, go_if_empty, add, spawn, sync, take_or_go, row_of, operation_of, operation_at}
+use Rattle.spec_job.specs.Operations.{Operation, return, push, pop, go_if_empty, add, spawn, take_or_go, row_of, operation_of, operation_at}
 use Rattle.spec_job.specs.Effects.{sum, effect, moved}
 use Rattle.spec_job.specs.Examples.{head, entry, ins, full_run}
-use Rattle.spec_plain.specs.Machine.{Task, begin, queue, front, queues_after, advanced, parent, child, stack_after, effect_on, event_of, does, step}
+use Rattle.spec_plain.specs.Machine.{begin, queue, front, queues_after, advanced, parent, child, stack_after, effect_on, event_of, does, step}
 use Rattle.spec_plain.specs.Run.{stack_of, after, event_in, next}
 use Rattle.spec_plain.specs.Stack.{rights_of}
 use Rattle.spec_simulate.specs.Ticks.{number, ticks_for, our_ticks}

@@ -1,6 +1,5 @@
 use native.Mathlib.Omega.{arith}
 use Rattle.block_text.specs.Blocks.{block}
-use borrow.Author.Rules.{rules}
 use Rattle.block_text.proofs.end_line.Goals as goal
 
 pub returns : goal.returns

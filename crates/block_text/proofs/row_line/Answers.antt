@@ -1,5 +1,4 @@
 use Rattle.block_text.specs.Blocks.{row_line_lem}
-use borrow.Author.Rules.{rules}
 use Rattle.block_text.proofs.row_line.Goals as goal
 
 pub returns : goal.returns

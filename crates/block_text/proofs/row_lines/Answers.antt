@@ -1,10 +1,7 @@
-use Rattle.block_text.specs.Lines.{lines_from}
 use Rattle.block_text.specs.Blocks.{row_line, no_lines, one_line, all_lines}
-use Rattle.text.specs.Puts.{Puts}
-use Prim.Native.Nat.{◌*◌, ◌-◌, ◌≤◌}
+use Prim.Native.Nat.{◌-◌}
 use native.Mathlib.Omega.{arith}
-use lib.ListN.{length}
-use mathlib.Core.Path.{◌≡◌, refl, ◌∙◌}
+use mathlib.Core.Path.{refl, ◌∙◌}
 use Rattle.block_text.proofs.row_lines.Goals as goal
 
 pub loop-i-init : goal.loop-i-init

@@ -1,11 +1,10 @@
 -- The invariant: the lines of the first i rows stand at the start, each of at most 52 bytes, so that all fit.
 use Rattle.block_text.specs.Lines.{lines_from}
-use Rattle.block_text.specs.Blocks.{row_line, no_lines, one_line, all_lines}
+use Rattle.block_text.specs.Blocks.{row_line}
 use Rattle.text.specs.Puts.{Puts}
 use Prim.Native.Nat.{◌*◌, ◌-◌, ◌≤◌}
-use native.Mathlib.Omega.{arith}
 use lib.ListN.{length}
-use mathlib.Core.Path.{◌≡◌, refl, ◌∙◌}
+use mathlib.Core.Path.{◌≡◌}
 use Rattle.block_text.proofs.row_lines.Given as goal
 
 abbrev pub invariant-loop-i : goal.invariant-loop-i

@@ -1,10 +1,7 @@
-use Rattle.block_text.specs.Values.{value_lines, no_values, next_value, all_values}
-use Rattle.text.specs.Puts.{Puts}
-use Prim.Native.Nat.{◌*◌, ◌-◌, ◌≤◌}
+use Rattle.block_text.specs.Values.{no_values, next_value, all_values}
+use Prim.Native.Nat.{◌-◌}
 use native.Mathlib.Omega.{arith}
-use lib.ListN.{length, take}
-use mathlib.Core.Path.{◌≡◌, refl, ◌∙◌}
-use borrow.Author.Rules.{rules}
+use mathlib.Core.Path.{refl, ◌∙◌}
 use Rattle.block_text.proofs.value_lines.Goals as goal
 
 pub loop-i-init : goal.loop-i-init

@@ -1,11 +1,9 @@
 -- The invariant: the lines of the first i values stand at the start, each of at most 27 bytes, so that all fit.
-use Rattle.block_text.specs.Values.{value_lines, no_values, next_value, all_values}
+use Rattle.block_text.specs.Values.{value_lines}
 use Rattle.text.specs.Puts.{Puts}
 use Prim.Native.Nat.{◌*◌, ◌-◌, ◌≤◌}
-use native.Mathlib.Omega.{arith}
 use lib.ListN.{length, take}
-use mathlib.Core.Path.{◌≡◌, refl, ◌∙◌}
-use borrow.Author.Rules.{rules}
+use mathlib.Core.Path.{◌≡◌}
 use Rattle.block_text.proofs.value_lines.Given as goal
 
 abbrev pub invariant-loop-i : goal.invariant-loop-i

@@ -1,10 +1,7 @@
-use Prim.Native.Nat.{◌-◌, ◌≤◌}
-use mathlib.Core.Path.{◌≡◌, refl, ◌∙◌}
+use Prim.Native.Nat.{◌-◌}
+use mathlib.Core.Path.{refl, ◌∙◌}
 use native.Mathlib.Omega.{arith}
-use lib.ListN.{length}
-use borrow.Author.Rules.{rules}
 use Rattle.core_blocked.specs.Told.{told}
-use Rattle.core_blocked.specs.Noted.{all_noted}
 use Rattle.core_blocked.proofs.Steps.{none_yet, one_more, all_of_them}
 use Rattle.core_blocked.proofs.blocked_all.Goals as goal
 

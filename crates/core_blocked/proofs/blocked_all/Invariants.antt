@@ -1,12 +1,8 @@
 -- The invariant: the families whose oldest is below t have their words.
 use Prim.Native.Nat.{◌-◌, ◌≤◌}
-use mathlib.Core.Path.{◌≡◌, refl, ◌∙◌}
-use native.Mathlib.Omega.{arith}
+use mathlib.Core.Path.{◌≡◌}
 use lib.ListN.{length}
-use borrow.Author.Rules.{rules}
-use Rattle.core_blocked.specs.Told.{told}
 use Rattle.core_blocked.specs.Noted.{all_noted}
-use Rattle.core_blocked.proofs.Steps.{none_yet, one_more, all_of_them}
 use Rattle.core_blocked.proofs.blocked_all.Given as goal
 
 abbrev pub invariant-loop-t : goal.invariant-loop-t

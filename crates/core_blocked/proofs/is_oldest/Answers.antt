@@ -1,5 +1,4 @@
 use Rattle.core_blocked.proofs.Steps.{not_unfinished, has_older, no_older}
-use borrow.Author.Rules.{rules}
 use Rattle.std.proofs.Common.{ap, not}
 use Rattle.core_blocked.proofs.is_oldest.Goals as goal
 

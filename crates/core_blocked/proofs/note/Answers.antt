@@ -1,8 +1,4 @@
-use mathlib.Core.Path.{◌≡◌, refl, ◌∙◌}
-use native.Mathlib.Omega.{arith}
-use lib.ListN.{length}
-use borrow.Author.Rules.{rules}
-use Rattle.core_blocked.specs.Noted.{noted}
+use mathlib.Core.Path.{refl, ◌∙◌}
 use Rattle.core_blocked.proofs.Steps.{none_left, past_youngest, one_noted}
 use Rattle.core_blocked.proofs.note.Goals as goal
 

@@ -1,10 +1,7 @@
 -- What is left to write for c and its younger siblings is what was to be written from the first on.
-use mathlib.Core.Path.{◌≡◌, refl, ◌∙◌}
-use native.Mathlib.Omega.{arith}
+use mathlib.Core.Path.{◌≡◌}
 use lib.ListN.{length}
-use borrow.Author.Rules.{rules}
 use Rattle.core_blocked.specs.Noted.{noted}
-use Rattle.core_blocked.proofs.Steps.{none_left, past_youngest, one_noted}
 use Rattle.core_blocked.proofs.note.Given as goal
 
 abbrev pub invariant-loop-n : goal.invariant-loop-n

@@ -1,5 +1,4 @@
 use Rattle.core_blocked.proofs.Steps.{family, no_family}
-use borrow.Author.Rules.{rules}
 use Rattle.core_blocked.proofs.note_family.Goals as goal
 
 pub returns-then-is_oldest : goal.returns-then-is_oldest

@@ -1,7 +1,6 @@
 use Rattle.core_finish.specs.Calls.{allowed}
 use Rattle.core_finish.specs.declared.Call.TheVariants.{Sync, FinishTop, Finish}
 use Rattle.core_finish.proofs.Answers.{allowed_same}
-use borrow.Author.Rules.{rules}
 use Rattle.core_finish.proofs.allowed.Goals as goal
 
 pub returns-in-Sync : goal.returns-in-Sync

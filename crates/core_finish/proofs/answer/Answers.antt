@@ -3,7 +3,6 @@ use Rattle.core_finish.proofs.Answers.{not_unfinished, waiting, left_out, moved,
 use mathlib.Core.Path.{ap}
 use Rattle.spec_answers.specs.Answers.{outcome}
 use Rattle.spec_answers.specs.declared.Answer.TheVariants.{Moved}
-use borrow.Author.Rules.{rules}
 use Rattle.std.proofs.Common.{not}
 use Rattle.core_finish.proofs.answer.Goals as goal
 

@@ -1,7 +1,6 @@
 use Rattle.core_finish.specs.Calls.{changed}
 use Rattle.core_finish.specs.declared.Call.TheVariants.{Sync, FinishTop, Finish}
 use Rattle.core_finish.proofs.Answers.{changed_same}
-use borrow.Author.Rules.{rules}
 use Rattle.core_finish.proofs.change.Goals as goal
 
 pub finished-requires : goal.finished-requires

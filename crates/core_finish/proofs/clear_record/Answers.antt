@@ -1,5 +1,4 @@
 use Rattle.core_finish.proofs.Records.{record_cleared}
-use borrow.Author.Rules.{rules}
 use Rattle.core_finish.proofs.clear_record.Goals as goal
 
 pub returns : goal.returns

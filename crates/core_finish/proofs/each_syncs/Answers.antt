@@ -1,5 +1,4 @@
 use Rattle.core_finish.proofs.Answers.{not_first, not_second, not_third, last_decides}
-use borrow.Author.Rules.{rules}
 use Rattle.std.proofs.Common.{ap, not}
 use Rattle.core_finish.proofs.each_syncs.Goals as goal
 

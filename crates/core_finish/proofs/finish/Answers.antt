@@ -1,7 +1,6 @@
 -- The top and the other tasks go through one list of tests with different reductions.
 use Rattle.core_finish.specs.Calls.{allowed, changed}
 use Rattle.core_finish.proofs.Answers.{top_other, top_finishes, task_finishes}
-use borrow.Author.Rules.{rules}
 use Rattle.core_finish.proofs.finish.Goals as goal
 
 pub answer-requires : goal.answer-requires

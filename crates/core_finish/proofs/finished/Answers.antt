@@ -1,5 +1,4 @@
 use Rattle.core_finish.proofs.Answers.{all_finished}
-use borrow.Author.Rules.{rules}
 use Rattle.core_finish.proofs.finished.Goals as goal
 
 pub returns : goal.returns

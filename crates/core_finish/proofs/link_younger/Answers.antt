@@ -1,5 +1,4 @@
 use Rattle.core_finish.proofs.Records.{no_older, older_linked}
-use borrow.Author.Rules.{rules}
 use Rattle.core_finish.proofs.link_younger.Goals as goal
 
 pub returns-then-o-eq-NONE : goal.returns-then-o-eq-NONE

@@ -1,5 +1,4 @@
 use Rattle.core_finish.proofs.Records.{no_place, place_taken}
-use borrow.Author.Rules.{rules}
 use Rattle.core_finish.proofs.record_freed.Goals as goal
 
 pub returns-then-h-ge-TASKS : goal.returns-then-h-ge-TASKS

@@ -1,7 +1,6 @@
 use Rattle.spec_outcomes.specs.Sync.{sync_tested}
 use Rattle.core_finish.specs.Calls.{allowed, changed}
 use Rattle.core_finish.proofs.Answers.{sync_other}
-use borrow.Author.Rules.{rules}
 use Rattle.core_finish.proofs.sync.Goals as goal
 
 pub answer-requires : goal.answer-requires

@@ -1,5 +1,4 @@
 use Rattle.core_finish.proofs.Answers.{top_done}
-use borrow.Author.Rules.{rules}
 use Rattle.core_finish.proofs.top_finished.Goals as goal
 
 pub returns : goal.returns

@@ -1,5 +1,4 @@
 use Rattle.core_finish.proofs.Records.{youngest_leaves, other_leaves}
-use borrow.Author.Rules.{rules}
 use Rattle.core_finish.proofs.unlink.Goals as goal
 
 pub returns-then-y : goal.returns-then-y

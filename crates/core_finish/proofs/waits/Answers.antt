@@ -1,5 +1,4 @@
 use Rattle.core_finish.proofs.Answers.{child_waits, sibling_waits}
-use borrow.Author.Rules.{rules}
 use Rattle.core_finish.proofs.waits.Goals as goal
 
 pub returns-then-has_child : goal.returns-then-has_child

@@ -1,5 +1,4 @@
 use Rattle.core_left.proofs.Chain.{no_queue, not_yet, found}
-use borrow.Author.Rules.{rules}
 use Rattle.core_left.proofs.left_at.Goals as goal
 
 pub returns-then-q-ge-QUEUES : goal.returns-then-q-ge-QUEUES

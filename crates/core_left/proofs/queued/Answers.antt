@@ -1,8 +1,6 @@
-use mathlib.Core.Path.{◌≡◌, refl, ◌∙◌}
-use Prim.Native.Nat.{◌≤◌, ◌<◌, ◌^◌}
+use mathlib.Core.Path.{refl, ◌∙◌}
 use native.Mathlib.Omega.{arith}
 use borrow.Author.Rules.{rules}
-use Rattle.spec_outcomes.specs.Left.{queued}
 use Rattle.core_left.proofs.Chain.{chain_end, chain_here, chain_on, chain_none}
 use Rattle.core_left.proofs.queued.Goals as goal
 

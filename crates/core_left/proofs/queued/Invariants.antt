@@ -1,10 +1,7 @@
 -- What the chain gives from segment s with index i is what it gives from the first: each segment passed takes its values off the index.
-use mathlib.Core.Path.{◌≡◌, refl, ◌∙◌}
+use mathlib.Core.Path.{◌≡◌}
 use Prim.Native.Nat.{◌≤◌, ◌<◌, ◌^◌}
-use native.Mathlib.Omega.{arith}
-use borrow.Author.Rules.{rules}
 use Rattle.spec_outcomes.specs.Left.{queued}
-use Rattle.core_left.proofs.Chain.{chain_end, chain_here, chain_on, chain_none}
 use Rattle.core_left.proofs.queued.Given as goal
 
 abbrev pub invariant-loop-k : goal.invariant-loop-k

@@ -1,10 +1,6 @@
-use mathlib.Core.Path.{◌≡◌, refl, sym, ◌∙◌}
-use Prim.Native.Nat.{◌≤◌, ◌-◌, ◌+◌}
-use lib.ListN.{length}
+use mathlib.Core.Path.{refl, sym, ◌∙◌}
+use Prim.Native.Nat.{◌-◌}
 use native.Mathlib.Omega.{arith}
-use borrow.Author.Rules.{rules}
-use Rattle.spec_outcomes.specs.Open.{down}
-use Rattle.spec_words.specs.Blocks.{store_all}
 use Rattle.core_open.specs.Stores.{down_start, down_step, down_done}
 use Rattle.core_open.proofs.count_down.Goals as goal
 

@@ -1,12 +1,9 @@
 -- The places before i have their numbers; the rest of the stack is still to be written.
-use mathlib.Core.Path.{◌≡◌, refl, sym, ◌∙◌}
+use mathlib.Core.Path.{◌≡◌}
 use Prim.Native.Nat.{◌≤◌, ◌-◌, ◌+◌}
 use lib.ListN.{length}
-use native.Mathlib.Omega.{arith}
-use borrow.Author.Rules.{rules}
 use Rattle.spec_outcomes.specs.Open.{down}
 use Rattle.spec_words.specs.Blocks.{store_all}
-use Rattle.core_open.specs.Stores.{down_start, down_step, down_done}
 use Rattle.core_open.proofs.count_down.Given as goal
 
 abbrev pub invariant-loop-i : goal.invariant-loop-i

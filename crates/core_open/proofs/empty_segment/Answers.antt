@@ -1,5 +1,4 @@
 use Rattle.core_open.specs.Stores.{one_made}
-use borrow.Author.Rules.{rules}
 use Rattle.core_open.proofs.empty_segment.Goals as goal
 
 pub returns : goal.returns

@@ -1,6 +1,5 @@
 use Rattle.core_open.proofs.Answers.{other_length, out_of_range, opens, number_fits}
 use Rattle.spec_words.specs.Words.{size}
-use borrow.Author.Rules.{rules}
 use Rattle.std.proofs.Common.{ap, not}
 use Rattle.core_open.proofs.open.Goals as goal
 

@@ -1,5 +1,4 @@
 use Rattle.core_open.specs.Stores.{segments_made}
-use borrow.Author.Rules.{rules}
 use Rattle.core_open.proofs.segment.Goals as goal
 
 pub returns : goal.returns

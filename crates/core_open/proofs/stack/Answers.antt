@@ -1,5 +1,4 @@
 use Rattle.core_open.specs.Stores.{stacks_made}
-use borrow.Author.Rules.{rules}
 use Rattle.core_open.proofs.stack.Goals as goal
 
 pub returns : goal.returns

@@ -1,6 +1,5 @@
 use Rattle.core_open.specs.Stores.{top_made}
 use mathlib.Core.Path.{◌∙◌}
-use borrow.Author.Rules.{rules}
 use Rattle.core_open.proofs.top.Goals as goal
 
 pub shape_of-m : goal.shape_of-m

@@ -1,5 +1,4 @@
 use Rattle.core_open.specs.Stores.{all_made}
-use borrow.Author.Rules.{rules}
 use Rattle.core_open.proofs.write_all.Goals as goal
 
 pub returns : goal.returns

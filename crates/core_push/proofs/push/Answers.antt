@@ -2,7 +2,6 @@
 use Rattle.core_push.proofs.Ways.{refused_4, refused_5, refused_6, waits, can_push_lem, goes_on}
 use borrow.Author.Tests.{not-false}
 use mathlib.Core.Path.{sym, ◌∙◌}
-use borrow.Author.Rules.{rules}
 use Rattle.std.proofs.Common.{ap, not}
 use Rattle.core_push.proofs.push.Goals as goal
 

@@ -1,6 +1,5 @@
 -- The reduction is decided on the words as found, then the segment is taken and its head reduced into the view just before.
 use Rattle.core_push.proofs.Ways.{left_out, apart}
-use borrow.Author.Rules.{rules}
 use Rattle.std.proofs.Common.{ap, not}
 use Rattle.core_push.proofs.push_apart.Goals as goal
 

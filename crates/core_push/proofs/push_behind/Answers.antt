@@ -1,5 +1,4 @@
 use Rattle.core_push.proofs.Ways.{behind}
-use borrow.Author.Rules.{rules}
 use Rattle.core_push.proofs.push_behind.Goals as goal
 
 pub returns : goal.returns

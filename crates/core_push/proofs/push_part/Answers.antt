@@ -2,7 +2,6 @@
 use mathlib.Core.Path.{refl}
 use native.Mathlib.Omega.{arith}
 use Rattle.core_push.proofs.Parts.{storable, part_into, can_take, new_filled, new_tail, part_of_one, part_behind, part_small}
-use borrow.Author.Rules.{rules}
 use Rattle.core_push.proofs.push_part.Goals as goal
 
 pub store_run-requires : goal.store_run-requires

@@ -1,9 +1,7 @@
-use mathlib.Core.Path.{◌≡◌, refl, ◌∙◌}
+use mathlib.Core.Path.{refl, ◌∙◌}
 use Prim.Native.Nat.{◌-◌}
 use native.Mathlib.Omega.{arith}
-use lib.ListN.{length}
-use borrow.Author.Rules.{rules}
-use Rattle.core_push.proofs.Whole.{Going, goes_on, part_asked, part_inside, all_pushed}
+use Rattle.core_push.proofs.Whole.{goes_on, part_asked, part_inside, all_pushed}
 use Rattle.core_push.proofs.push_rest.Goals as goal
 
 pub loop-i-init : goal.loop-i-init

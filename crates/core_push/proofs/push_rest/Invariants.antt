@@ -1,9 +1,7 @@
-use mathlib.Core.Path.{◌≡◌, refl, ◌∙◌}
+use mathlib.Core.Path.{◌≡◌}
 use Prim.Native.Nat.{◌-◌}
-use native.Mathlib.Omega.{arith}
 use lib.ListN.{length}
-use borrow.Author.Rules.{rules}
-use Rattle.core_push.proofs.Whole.{Going, goes_on, part_asked, part_inside, all_pushed}
+use Rattle.core_push.proofs.Whole.{Going}
 use Rattle.core_push.proofs.push_rest.Given as goal
 
 abbrev pub invariant-loop-i : goal.invariant-loop-i

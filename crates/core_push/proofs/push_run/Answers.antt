@@ -2,7 +2,6 @@
 use mathlib.Core.Path.{refl}
 use Rattle.core_push.proofs.Whole.{run_of_none, can_store, all_stored, run_refused, can_go, gone, ends_away_lem, can_take, left_out}
 use Rattle.core_push.proofs.Whole.{can_go_on, gone_on}
-use borrow.Author.Rules.{rules}
 use Rattle.std.proofs.Common.{ap, not}
 use Rattle.core_push.proofs.push_run.Goals as goal
 

@@ -1,5 +1,4 @@
 use Rattle.core_return.proofs.Deciding.{empty_is}
-use borrow.Author.Rules.{rules}
 use Rattle.core_return.proofs.empty_view.Goals as goal
 
 pub returns : goal.returns

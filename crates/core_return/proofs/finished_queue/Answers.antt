@@ -1,5 +1,4 @@
 use Rattle.core_return.proofs.Views.{queue_done}
-use borrow.Author.Rules.{rules}
 use Rattle.core_return.proofs.finished_queue.Goals as goal
 
 pub returns : goal.returns

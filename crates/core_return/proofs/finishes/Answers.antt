@@ -1,5 +1,4 @@
 use Rattle.core_return.proofs.Deciding.{nothing_finishes, user_stops, user_goes}
-use borrow.Author.Rules.{rules}
 use Rattle.std.proofs.Common.{ap, not}
 use Rattle.core_return.proofs.finishes.Goals as goal
 

@@ -1,5 +1,4 @@
 use Rattle.core_return.proofs.Deciding.{user_stands, children_stand, right_left}
-use borrow.Author.Rules.{rules}
 use Rattle.std.proofs.Common.{ap, not}
 use Rattle.core_return.proofs.no_views.Goals as goal
 

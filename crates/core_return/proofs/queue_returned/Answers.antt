@@ -1,5 +1,4 @@
 use Rattle.core_return.proofs.Views.{no_queue, queue_goes}
-use borrow.Author.Rules.{rules}
 use Rattle.core_return.proofs.queue_returned.Goals as goal
 
 pub returns-then-h : goal.returns-then-h

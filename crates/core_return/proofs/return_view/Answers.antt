@@ -1,5 +1,4 @@
 use Rattle.core_return.proofs.Views.{empty_stays, view_goes}
-use borrow.Author.Rules.{rules}
 use Rattle.core_return.proofs.return_view.Goals as goal
 
 pub returns-then-is_empty : goal.returns-then-is_empty

@@ -1,5 +1,4 @@
 use Rattle.core_return.proofs.Deciding.{right_stops, right_goes}
-use borrow.Author.Rules.{rules}
 use Rattle.std.proofs.Common.{ap, not}
 use Rattle.core_return.proofs.right_fits.Goals as goal
 

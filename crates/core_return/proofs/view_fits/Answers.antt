@@ -1,5 +1,4 @@
 use Rattle.core_return.proofs.Deciding.{nothing_fits, target_fits}
-use borrow.Author.Rules.{rules}
 use Rattle.core_return.proofs.view_fits.Goals as goal
 
 pub returns-then-is_empty : goal.returns-then-is_empty

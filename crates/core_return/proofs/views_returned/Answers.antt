@@ -1,6 +1,5 @@
 -- Both marks are sought before a word changes; the head that the reductions give chooses between them.
 use Rattle.core_return.proofs.Views.{nothing_returned, views_go}
-use borrow.Author.Rules.{rules}
 use Rattle.core_return.proofs.views_returned.Goals as goal
 
 pub returns-then-no_views : goal.returns-then-no_views

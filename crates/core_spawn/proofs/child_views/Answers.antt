@@ -1,5 +1,4 @@
 use Rattle.core_spawn.proofs.Child.{views_made}
-use borrow.Author.Rules.{rules}
 use Rattle.core_spawn.proofs.child_views.Goals as goal
 
 pub returns : goal.returns

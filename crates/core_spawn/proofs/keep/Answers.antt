@@ -1,5 +1,4 @@
 use Rattle.core_spawn.proofs.Queues.{by_queue_lem}
-use borrow.Author.Rules.{rules}
 use Rattle.core_spawn.proofs.keep.Goals as goal
 
 pub returns : goal.returns

@@ -1,6 +1,5 @@
 use Rattle.core_spawn.proofs.Queues.{chosen_not}
 use Rattle.spec_outcomes.specs.Spawn.{kept_user}
-use borrow.Author.Rules.{rules}
 use Rattle.core_spawn.proofs.kept.Goals as goal
 
 pub returns : goal.returns

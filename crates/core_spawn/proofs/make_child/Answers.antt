@@ -1,5 +1,4 @@
 use Rattle.core_spawn.proofs.Child.{first_child, next_child}
-use borrow.Author.Rules.{rules}
 use Rattle.core_spawn.proofs.make_child.Goals as goal
 
 pub returns-then-o : goal.returns-then-o

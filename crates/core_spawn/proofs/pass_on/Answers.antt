@@ -1,5 +1,4 @@
 use Rattle.core_spawn.proofs.Child.{kept_made}
-use borrow.Author.Rules.{rules}
 use Rattle.core_spawn.proofs.pass_on.Goals as goal
 
 pub returns : goal.returns

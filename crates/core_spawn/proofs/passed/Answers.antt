@@ -1,6 +1,5 @@
 use Rattle.core_spawn.proofs.Queues.{chosen}
 use Rattle.spec_outcomes.specs.Spawn.{passed_user}
-use borrow.Author.Rules.{rules}
 use Rattle.core_spawn.proofs.passed.Goals as goal
 
 pub returns : goal.returns

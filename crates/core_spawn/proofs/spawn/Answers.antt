@@ -1,6 +1,5 @@
 -- The tests are those of the definition, in its order.
 use Rattle.core_spawn.proofs.Answers.{not_unfinished, more_rights, waits, no_record, moved}
-use borrow.Author.Rules.{rules}
 use Rattle.std.proofs.Common.{ap, not}
 use Rattle.core_spawn.proofs.spawn.Goals as goal
 

@@ -1,6 +1,5 @@
 -- The tests are those of the definition, in its order.
 use Rattle.core_take.proofs.Findings.{sibling_waits, child_waits, value_found, pusher_waits, found_empty}
-use borrow.Author.Rules.{rules}
 use Rattle.core_take.proofs.find.Goals as goal
 
 pub returns-then-blocked : goal.returns-then-blocked

@@ -1,5 +1,4 @@
 use Rattle.core_take.proofs.Findings.{no_head, by_count}
-use borrow.Author.Rules.{rules}
 use Rattle.core_take.proofs.has_value.Goals as goal
 
 pub returns-then-s-ge-NL : goal.returns-then-s-ge-NL

@@ -1,5 +1,4 @@
 use Rattle.core_take.proofs.Findings.{refusal_4, refusal_5, refusal_6, refusal_0}
-use borrow.Author.Rules.{rules}
 use Rattle.std.proofs.Common.{ap, not}
 use Rattle.core_take.proofs.refusal.Goals as goal
 

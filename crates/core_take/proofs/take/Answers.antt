@@ -5,7 +5,6 @@ use Rattle.spec_answers.specs.Answers.{outcome}
 use Rattle.core_take.proofs.Findings.{take_refused, take_given, none_taken, value_kept, value_taken, value_there, may_pop}
 use mathlib.Core.Path.{◌∙◌}
 use mathlib.Core.List.{[]}
-use borrow.Author.Rules.{rules}
 use borrow.Enum.Refused.{opened}
 use Rattle.core_take.proofs.take.Goals as goal
 

@@ -1,6 +1,5 @@
 -- The value is dropped; the segment is freed where it is empty then and has a next, as the definition says.
 use Rattle.core_take.proofs.Findings.{last_segment, some_left, segment_freed, head_count}
-use borrow.Author.Rules.{rules}
 use Rattle.core_take.proofs.take_first.Goals as goal
 
 pub drop_one-requires : goal.drop_one-requires

@@ -1,5 +1,4 @@
 use mathlib.Core.Path.{sym, ◌∙◌}
-use borrow.Author.Rules.{rules}
 use borrow.Author.Tests.{not-false}
 use Rattle.core_return.proofs.Deciding.{empty_is}
 use Rattle.core_would_move.proofs.Before.{child_before, sibling_before}

@@ -1,6 +1,5 @@
 use mathlib.Core.Path.{refl}
 use native.Mathlib.Omega.{arith}
-use borrow.Author.Rules.{rules}
 use Rattle.core_would_move.proofs.Before.{used}
 use Rattle.std.proofs.Common.{ap, not}
 use Rattle.core_would_move.proofs.entered.Goals as goal

@@ -1,5 +1,4 @@
 use Rattle.core_would_move.proofs.Moves.{finish_waits, top_reduces, task_reduces}
-use borrow.Author.Rules.{rules}
 use Rattle.core_would_move.proofs.finish_moves.Goals as goal
 
 pub returns-then-has_child : goal.returns-then-has_child

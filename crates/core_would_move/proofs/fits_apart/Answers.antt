@@ -1,5 +1,4 @@
 use Rattle.core_would_move.proofs.Moves.{apart_fits}
-use borrow.Author.Rules.{rules}
 use Rattle.core_would_move.proofs.fits_apart.Goals as goal
 
 pub returns : goal.returns

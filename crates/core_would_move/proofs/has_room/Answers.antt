@@ -1,5 +1,4 @@
 use Rattle.core_would_move.proofs.Moves.{tail_room, free_room}
-use borrow.Author.Rules.{rules}
 use Rattle.core_would_move.proofs.has_room.Goals as goal
 
 pub returns-then-count-length_of : goal.returns-then-count-length_of

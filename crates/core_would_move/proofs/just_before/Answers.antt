@@ -1,4 +1,3 @@
-use borrow.Author.Rules.{rules}
 use Rattle.core_would_move.proofs.just_before.Goals as goal
 
 pub returns-then-x-lt-TASKS : goal.returns-then-x-lt-TASKS

@@ -1,5 +1,4 @@
 use mathlib.Core.Bool.{false≢true}
-use borrow.Author.Rules.{rules}
 use borrow.Author.Tests.{not-false}
 use Rattle.core_would_move.proofs.Moves.{blanks_finish}
 use Rattle.std.proofs.Common.{ap, not}

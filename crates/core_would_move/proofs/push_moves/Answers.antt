@@ -1,7 +1,6 @@
 use Rattle.spec_runner.specs.Moves.{push_moves}
 use Rattle.spec_tree.specs.Rights.{pushes}
 use Rattle.core_would_move.proofs.Moves.{no_queue, not_held, is_held}
-use borrow.Author.Rules.{rules}
 use Rattle.std.proofs.Common.{ap, not}
 use Rattle.core_would_move.proofs.push_moves.Goals as goal
 

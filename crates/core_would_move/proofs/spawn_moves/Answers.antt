@@ -1,5 +1,4 @@
 use Rattle.core_would_move.proofs.Moves.{given_more, record_free}
-use borrow.Author.Rules.{rules}
 use Rattle.std.proofs.Common.{ap, not}
 use Rattle.core_would_move.proofs.spawn_moves.Goals as goal
 

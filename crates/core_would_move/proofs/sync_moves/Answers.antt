@@ -1,5 +1,4 @@
 use Rattle.core_would_move.proofs.Moves.{sync_waits, sync_reduces}
-use borrow.Author.Rules.{rules}
 use Rattle.core_would_move.proofs.sync_moves.Goals as goal
 
 pub returns-then-has_child : goal.returns-then-has_child

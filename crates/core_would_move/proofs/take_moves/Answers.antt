@@ -2,7 +2,6 @@ use mathlib.Core.Path.{◌∙◌, ap}
 use Rattle.spec_runner.specs.Moves.{decided, take_moves}
 use Rattle.spec_tree.specs.Rights.{pops}
 use Rattle.core_would_move.proofs.Moves.{no_queue, not_held, is_held}
-use borrow.Author.Rules.{rules}
 use Rattle.std.proofs.Common.{not}
 use Rattle.core_would_move.proofs.take_moves.Goals as goal
 

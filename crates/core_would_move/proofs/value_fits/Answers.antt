@@ -1,6 +1,5 @@
 -- The ways of a push, decided without writing: apart, a non-local tail, room, or a free segment.
 use Rattle.core_would_move.proofs.Moves.{some_free, none_left, goes_apart, ends_away_lem, goes_behind}
-use borrow.Author.Rules.{rules}
 use Rattle.core_would_move.proofs.value_fits.Goals as goal
 
 pub returns-then-none_free : goal.returns-then-none_free

@@ -1,5 +1,4 @@
 use Rattle.hyperqueue.specs.Packed.{handed}
-use borrow.Author.Rules.{rules}
 use Rattle.hyperqueue.proofs.hq_finish.Goals as goal
 
 pub returns : goal.returns

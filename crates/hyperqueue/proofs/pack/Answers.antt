@@ -2,7 +2,6 @@ use mathlib.Core.Path.{ap, sym, ◌∙◌}
 use Rattle.spec_answers.specs.declared.Answer.TheVariants.{Moved, Refused}
 use Rattle.spec_answers.specs.Answers.{status_of, value_of}
 use Rattle.hyperqueue.specs.Packed.{packed, packed_halves}
-use borrow.Author.Rules.{rules}
 use Rattle.hyperqueue.proofs.pack.Goals as goal
 
 pub returns-in-Moved : goal.returns-in-Moved

@@ -2,7 +2,6 @@ use Rattle.hyperqueue.specs.Packed.{turned_down, goes_on, passes}
 use Rattle.spec_outcomes.specs.Push.{push_outcome}
 use Rattle.spec_words.specs.Words.{size}
 use mathlib.Core.Path.{◌∙◌}
-use borrow.Author.Rules.{rules}
 use Rattle.hyperqueue.proofs.push.Goals as goal
 
 pub returns-then-k-ne0 : goal.returns-then-k-ne0

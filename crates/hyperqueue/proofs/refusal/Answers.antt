@@ -1,6 +1,5 @@
 use Rattle.hyperqueue.specs.Packed.{other_length, rules_fail, may_call}
 use Rattle.spec_words.specs.Words.{size}
-use borrow.Author.Rules.{rules}
 use Rattle.std.proofs.Common.{ap, not}
 use Rattle.hyperqueue.proofs.refusal.Goals as goal
 

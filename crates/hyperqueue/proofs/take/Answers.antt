@@ -1,7 +1,6 @@
 use Rattle.hyperqueue.specs.Packed.{turned_down, goes_on}
 use Rattle.spec_outcomes.specs.Take.{take_outcome}
 use mathlib.Core.Path.{◌∙◌}
-use borrow.Author.Rules.{rules}
 use Rattle.hyperqueue.proofs.take.Goals as goal
 
 pub returns-then-k-ne0 : goal.returns-then-k-ne0

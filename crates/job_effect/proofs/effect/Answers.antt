@@ -1,6 +1,5 @@
 -- Each arm gives the effect of the operation that has its number; the last one has the numbers that return.
 use Rattle.job_effect.proofs.Effects.{pushes, pushes_sum, pops, tests, goes, goes_zero, adds, spawns, syncs, takes_or_goes, keyed, returns_done, others}
-use Rattle.std.proofs.Common.{rules}
 use Rattle.job_effect.proofs.effect.Goals as goal
 
 pub returns-in-1 : goal.returns-in-1

@@ -1,4 +1,4 @@
-use Rattle.std.proofs.Common.{sym, refl, ◌∙◌, rules}
+use Rattle.std.proofs.Common.{sym, refl, ◌∙◌}
 use Rattle.spec_words.specs.Words.{halt, pass}
 use Rattle.job_effect.proofs.take_effect.Goals as goal
 

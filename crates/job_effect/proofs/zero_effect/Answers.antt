@@ -1,4 +1,4 @@
-use Rattle.std.proofs.Common.{sym, refl, ap, ◌∙◌, rules, eq-eqb, ne_eqb}
+use Rattle.std.proofs.Common.{sym, refl, ap, ◌∙◌, eq-eqb, ne_eqb}
 use Rattle.spec_words.specs.Words.{halt, pass}
 use Rattle.spec_job.specs.Numbers.{MOVED}
 use Rattle.job_effect.specs.Made.{gives}

@@ -1,7 +1,6 @@
 use mathlib.Core.Path.{ap₂}
 use Prim.Native.Nat.{ℕ, ◌+◌, ◌*◌}
 use Rattle.spec_job.specs.Fields.{bytes2}
-use borrow.Author.Rules.{rules}
 use Rattle.job_fields.proofs.bytes2.Goals as goal
 
 pub returns : goal.returns

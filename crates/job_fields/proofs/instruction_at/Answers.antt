@@ -1,7 +1,6 @@
 use mathlib.Core.Path.{ap, ◌∙◌}
 use Prim.Native.Nat.{ℕ, ◌+◌, ◌*◌}
 use Rattle.spec_job.specs.Fields.{instruction_from, instruction_at}
-use borrow.Author.Rules.{rules}
 use Rattle.job_fields.proofs.instruction_at.Goals as goal
 
 pub returns-then-a-job : goal.returns-then-a-job

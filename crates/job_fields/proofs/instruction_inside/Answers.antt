@@ -1,5 +1,4 @@
 use Rattle.job_fields.proofs.Instructions.{from_fields}
-use borrow.Author.Rules.{rules}
 use Rattle.job_fields.proofs.instruction_inside.Goals as goal
 
 pub returns : goal.returns

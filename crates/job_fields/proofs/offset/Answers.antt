@@ -1,5 +1,4 @@
 use Rattle.spec_job.specs.Fields.{offset}
-use borrow.Author.Rules.{rules}
 use Rattle.job_fields.proofs.offset.Goals as goal
 
 pub returns : goal.returns

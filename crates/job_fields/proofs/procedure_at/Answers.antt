@@ -1,5 +1,4 @@
 use Rattle.spec_job.specs.Fields.{offset, count, rights, reserved}
-use borrow.Author.Rules.{rules}
 use Rattle.job_fields.proofs.procedure_at.Goals as goal
 
 pub returns : goal.returns

@@ -1,5 +1,4 @@
 use Rattle.spec_job.specs.Fields.{rights}
-use borrow.Author.Rules.{rules}
 use Rattle.job_fields.proofs.rights.Goals as goal
 
 pub returns : goal.returns

@@ -1,5 +1,4 @@
 use Rattle.spec_job.specs.Fields.{segment_length}
-use borrow.Author.Rules.{rules}
 use Rattle.job_fields.proofs.segment_length.Goals as goal
 
 pub returns : goal.returns

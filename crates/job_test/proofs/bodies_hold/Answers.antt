@@ -1,8 +1,7 @@
-use mathlib.Core.Path.{◌≡◌, ap, sym, ◌∙◌}
-use Prim.Native.Nat.{ℕ, ◌≤◌, ◌-◌}
+use mathlib.Core.Path.{ap, sym, ◌∙◌}
+use Prim.Native.Nat.{ℕ, ◌-◌}
 use native.Mathlib.Omega.{arith}
 use borrow.Author.Tests.{not-true, not-false}
-use borrow.Author.Rules.{rules}
 use Rattle.spec_lists.specs.Tests.{upto}
 use Rattle.spec_job.specs.Test.{body_holds}
 use Rattle.job_test.proofs.Loops.{upto_start, upto_next, upto_stop, upto_end}

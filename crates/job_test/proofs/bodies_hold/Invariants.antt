@@ -1,13 +1,8 @@
 -- The invariant: what is left to test from procedure p on decides as all bodies do.
-use mathlib.Core.Path.{◌≡◌, ap, sym, ◌∙◌}
-use Prim.Native.Nat.{ℕ, ◌≤◌, ◌-◌}
-use native.Mathlib.Omega.{arith}
-use borrow.Author.Tests.{not-true, not-false}
-use borrow.Author.Rules.{rules}
+use mathlib.Core.Path.{◌≡◌}
+use Prim.Native.Nat.{◌≤◌, ◌-◌}
 use Rattle.spec_lists.specs.Tests.{upto}
 use Rattle.spec_job.specs.Test.{body_holds}
-use Rattle.job_test.proofs.Loops.{upto_start, upto_next, upto_stop, upto_end}
-use Rattle.std.proofs.Common.{not}
 use Rattle.job_test.proofs.bodies_hold.Given as goal
 
 abbrev pub invariant-loop-p : goal.invariant-loop-p

@@ -1,10 +1,8 @@
-use mathlib.Core.Path.{◌≡◌, refl, sym, ◌∙◌}
-use Prim.Native.Nat.{◌≤◌, ◌-◌}
+use mathlib.Core.Path.{refl, sym, ◌∙◌}
+use Prim.Native.Nat.{◌-◌}
 use native.Mathlib.Omega.{arith}
 use borrow.Author.Tests.{not-true, not-false}
-use borrow.Author.Rules.{rules}
 use Rattle.spec_words.specs.Words.{both_off}
-use Rattle.spec_lists.specs.Tests.{upto}
 use Rattle.spec_job.specs.Test.{instruction_holds, body_holds}
 use Rattle.job_test.proofs.Fields.{instruction_says, body_says}
 use Rattle.job_test.proofs.Inside.{entry_inside, instruction_inside}

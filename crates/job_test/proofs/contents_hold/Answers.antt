@@ -5,7 +5,6 @@ use Rattle.job_test.proofs.Inside.{contents_inside}
 use borrow.Author.Tests.{eq-eqb, ne_eqb}
 use Prim.Native.Nat.{ℕ}
 use mathlib.Core.Path.{ap, sym, ◌∙◌}
-use borrow.Author.Rules.{rules}
 use Rattle.job_test.proofs.contents_hold.Goals as goal
 
 pub returns-then-rights-ne255 : goal.returns-then-rights-ne255

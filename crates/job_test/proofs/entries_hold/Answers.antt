@@ -1,10 +1,8 @@
-use mathlib.Core.Path.{◌≡◌, ap, sym, ◌∙◌}
-use Prim.Native.Nat.{ℕ, ◌≤◌, ◌+◌, ◌*◌, ◌-◌}
+use mathlib.Core.Path.{ap, sym, ◌∙◌}
+use Prim.Native.Nat.{ℕ, ◌+◌, ◌*◌, ◌-◌}
 use native.Mathlib.Omega.{arith}
 use borrow.Author.Tests.{not-true, not-false}
-use borrow.Author.Rules.{rules}
 use Rattle.spec_words.specs.Words.{size}
-use Rattle.spec_job.specs.Fields.{entry_at}
 use Rattle.spec_job.specs.Test.{entries_hold}
 use Rattle.job_test.proofs.Fields.{few}
 use Rattle.job_test.proofs.Loops.{entries_start, entries_next, entries_stop, entries_end}

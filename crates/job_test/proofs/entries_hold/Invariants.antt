@@ -1,15 +1,8 @@
 -- The invariant: what is left to test from entry p on decides as all entries do, and each entry passed moves a by at most 768 bytes.
-use mathlib.Core.Path.{◌≡◌, ap, sym, ◌∙◌}
-use Prim.Native.Nat.{ℕ, ◌≤◌, ◌+◌, ◌*◌, ◌-◌}
-use native.Mathlib.Omega.{arith}
-use borrow.Author.Tests.{not-true, not-false}
-use borrow.Author.Rules.{rules}
-use Rattle.spec_words.specs.Words.{size}
+use mathlib.Core.Path.{◌≡◌}
+use Prim.Native.Nat.{◌≤◌, ◌+◌, ◌*◌, ◌-◌}
 use Rattle.spec_job.specs.Fields.{entry_at}
 use Rattle.spec_job.specs.Test.{entries_hold}
-use Rattle.job_test.proofs.Fields.{few}
-use Rattle.job_test.proofs.Loops.{entries_start, entries_next, entries_stop, entries_end}
-use Rattle.std.proofs.Common.{not}
 use Rattle.job_test.proofs.entries_hold.Given as goal
 
 abbrev pub invariant-loop-p : goal.invariant-loop-p

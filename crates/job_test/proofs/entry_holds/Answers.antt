@@ -6,7 +6,6 @@ use lib.Dec.{eqb}
 use Prim.Native.Nat.{ℕ}
 use mathlib.Core.Path.{ap, sym, ◌∙◌}
 use Rattle.job_test.proofs.Fields.{in_range_lem}
-use borrow.Author.Rules.{rules}
 use Rattle.std.proofs.Common.{not}
 use Rattle.job_test.proofs.entry_holds.Goals as goal
 

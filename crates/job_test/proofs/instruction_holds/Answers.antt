@@ -4,7 +4,6 @@ use mathlib.Core.Logic.{inl, inr}
 use Prim.Native.Nat.{zero-le}
 use Rattle.spec_job.specs.Rows.{above}
 use Rattle.job_test.proofs.Rows.{and_both, call_and, nothing, pushed, popped, tested, gone_to, added, spawned, undefined, fits}
-use borrow.Author.Rules.{rules}
 use Rattle.job_test.proofs.instruction_holds.Goals as goal
 
 pub returns-in-0 : goal.returns-in-0

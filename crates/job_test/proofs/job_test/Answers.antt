@@ -4,7 +4,6 @@ use Rattle.spec_words.specs.Words.{pass, halt}
 use borrow.Author.Tests.{not-false}
 use mathlib.Core.Bool.{not}
 use mathlib.Core.Path.{refl, ap, sym, ◌∙◌}
-use borrow.Author.Rules.{rules}
 use Rattle.job_test.proofs.job_test.Goals as goal
 
 pub returns-then-not-head_holds : goal.returns-then-not-head_holds

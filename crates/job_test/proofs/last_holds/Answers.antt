@@ -2,7 +2,6 @@
 use Rattle.job_test.proofs.Fields.{last_yes, last_no}
 use Rattle.job_test.proofs.Inside.{entry_inside, some_instruction, last_inside}
 use mathlib.Core.Path.{refl}
-use borrow.Author.Rules.{rules}
 use Rattle.job_test.proofs.last_holds.Goals as goal
 
 pub procedure_at-e-requires : goal.procedure_at-e-requires

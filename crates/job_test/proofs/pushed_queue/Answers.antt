@@ -1,7 +1,6 @@
 use Rattle.spec_words.specs.Words.{both_on, both_off}
 use borrow.Author.Tests.{lt-ltb, le-ltb}
 use mathlib.Core.Path.{sym, ◌∙◌}
-use borrow.Author.Rules.{rules}
 use Rattle.job_test.proofs.pushed_queue.Goals as goal
 
 pub returns-then-w-ge4 : goal.returns-then-w-ge4

@@ -1,4 +1,3 @@
-use borrow.Author.Rules.{rules}
 use Rattle.job_ticks.specs.Numbered.{ticks_here, ticks_past}
 use Rattle.job_ticks.proofs.ticks_for.Goals as goal
 

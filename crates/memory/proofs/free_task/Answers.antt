@@ -1,5 +1,4 @@
 use Rattle.spec_layout.specs.Layout.{read, address}
-use borrow.Author.Rules.{rules}
 use Rattle.memory.proofs.free_task.Goals as goal
 
 pub returns : goal.returns

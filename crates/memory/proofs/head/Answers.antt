@@ -1,7 +1,6 @@
 use mathlib.Core.Path.{◌∙◌, ap}
 use Rattle.spec_words.specs.Words.{load}
 use Rattle.spec_layout.specs.Layout.{read}
-use borrow.Author.Rules.{rules}
 use Rattle.memory.proofs.head.Goals as goal
 
 pub returns : goal.returns

@@ -1,5 +1,4 @@
 use Rattle.spec_words.specs.Blocks.{store_four}
-use borrow.Author.Rules.{rules}
 use Rattle.memory.proofs.put_four.Goals as goal
 
 pub returns : goal.returns

@@ -1,5 +1,4 @@
 use Rattle.spec_layout.specs.Layout.{address}
-use borrow.Author.Rules.{rules}
 use Rattle.memory.proofs.set_four.Goals as goal
 
 pub returns : goal.returns

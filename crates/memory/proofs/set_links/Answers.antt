@@ -1,5 +1,4 @@
 use Rattle.memory.proofs.Links.{links_stored}
-use borrow.Author.Rules.{rules}
 use Rattle.memory.proofs.set_links.Goals as goal
 
 pub returns : goal.returns

@@ -1,5 +1,4 @@
 use Rattle.spec_layout.specs.Layout.{write}
-use borrow.Author.Rules.{rules}
 use Rattle.memory.proofs.set_tail.Goals as goal
 
 pub returns : goal.returns

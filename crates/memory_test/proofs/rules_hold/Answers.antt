@@ -1,7 +1,6 @@
 -- The memory passes where the test says how many segments are held.
 use Rattle.memory_test.proofs.Answers.{number_says, other_says}
 use mathlib.Core.Path.{sym}
-use borrow.Author.Rules.{rules}
 use Rattle.memory_test.proofs.rules_hold.Goals as goal
 
 pub returns-in_default : goal.returns-in_default

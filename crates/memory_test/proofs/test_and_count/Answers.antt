@@ -9,7 +9,6 @@ use native.Mathlib.Omega.{arith}
 use mathlib.Core.Path.{refl, ◌∙◌, ap}
 use lib.ListN.{set, replicate}
 use Rattle.spec_view_events.specs.Run.{PLACED}
-use borrow.Author.Rules.{rules}
 use Rattle.std.proofs.Common.{not}
 use Rattle.memory_test.proofs.test_and_count.Goals as goal
 

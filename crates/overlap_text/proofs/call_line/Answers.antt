@@ -1,5 +1,4 @@
 use Rattle.overlap_text.specs.Laws.{packed_line_lem}
-use borrow.Author.Rules.{rules}
 use Rattle.overlap_text.proofs.call_line.Goals as goal
 
 pub returns : goal.returns

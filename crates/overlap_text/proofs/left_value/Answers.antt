@@ -1,7 +1,6 @@
 use borrow.Enum.Refused.{opened}
 use Rattle.overlap_text.proofs.Given.{value_given, none_given}
 use Rattle.spec_words.specs.Words.{pick}
-use borrow.Author.Rules.{rules}
 use Rattle.overlap_text.proofs.left_value.Goals as goal
 
 pub returns-in_default : goal.returns-in_default

@@ -1,12 +1,9 @@
-use Rattle.block_text.specs.Values.{Read, read_none, read_one, read_ends, read_full}
-use Rattle.overlap_text.specs.Whole.{value_in}
+use Rattle.block_text.specs.Values.{read_none, read_one, read_ends, read_full}
 use Rattle.overlap_text.proofs.Given.{value_there, none_there}
 use Prim.Native.Nat.{◌-◌}
 use native.Mathlib.Omega.{arith}
-use lib.ListN.{length}
 use borrow.Author.Tests.{not-true, not-false}
-use borrow.Author.Rules.{rules}
-use Rattle.std.proofs.Common.{ap, not}
+use Rattle.std.proofs.Common.{not}
 use Rattle.overlap_text.proofs.left_values.Goals as goal
 
 pub loop-i-init : goal.loop-i-init

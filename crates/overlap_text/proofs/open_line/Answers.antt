@@ -1,7 +1,6 @@
 use Rattle.overlap_text.specs.Blocks.{open_block}
 use Rattle.block_text.specs.Blocks.{block}
 use native.Mathlib.Omega.{arith}
-use borrow.Author.Rules.{rules}
 use Rattle.overlap_text.proofs.open_line.Goals as goal
 
 pub returns : goal.returns

@@ -1,12 +1,8 @@
-use Rattle.block_text.specs.Lines.{lines_from}
 use Rattle.block_text.specs.Blocks.{no_lines, one_line, all_lines}
-use Rattle.overlap_text.specs.Laws.{packed_line}
-use Rattle.text.specs.Puts.{Puts}
-use Prim.Native.Nat.{◌*◌, ◌-◌, ◌≤◌}
+use Prim.Native.Nat.{◌-◌}
 use native.Mathlib.Nat.{zero-add}
 use native.Mathlib.Omega.{arith}
-use lib.ListN.{length}
-use mathlib.Core.Path.{◌≡◌, refl, ◌∙◌}
+use mathlib.Core.Path.{refl, ◌∙◌}
 use Rattle.overlap_text.proofs.packed_lines.Goals as goal
 
 pub loop-i-init : goal.loop-i-init

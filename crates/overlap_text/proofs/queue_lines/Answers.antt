@@ -1,5 +1,4 @@
 use Rattle.overlap_text.specs.Blocks.{queue_block}
-use borrow.Author.Rules.{rules}
 use Rattle.overlap_text.proofs.queue_lines.Goals as goal
 
 pub returns : goal.returns

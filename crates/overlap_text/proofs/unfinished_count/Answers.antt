@@ -1,8 +1,7 @@
-use Rattle.overlap_text.specs.Blocks.{unfinished_to, none_counted, one_small, one_counted, all_counted}
-use Prim.Native.Nat.{◌-◌, ◌≤◌}
+use Rattle.overlap_text.specs.Blocks.{none_counted, one_small, one_counted, all_counted}
+use Prim.Native.Nat.{◌-◌}
 use native.Mathlib.Omega.{arith}
-use mathlib.Core.Path.{◌≡◌, sym}
-use borrow.Author.Rules.{rules}
+use mathlib.Core.Path.{sym}
 use Rattle.overlap_text.proofs.unfinished_count.Goals as goal
 
 pub loop-t-init : goal.loop-t-init

@@ -1,9 +1,7 @@
 -- The invariant: n of the first t tasks are unfinished.
-use Rattle.overlap_text.specs.Blocks.{unfinished_to, none_counted, one_small, one_counted, all_counted}
+use Rattle.overlap_text.specs.Blocks.{unfinished_to}
 use Prim.Native.Nat.{◌-◌, ◌≤◌}
-use native.Mathlib.Omega.{arith}
-use mathlib.Core.Path.{◌≡◌, sym}
-use borrow.Author.Rules.{rules}
+use mathlib.Core.Path.{◌≡◌}
 use Rattle.overlap_text.proofs.unfinished_count.Given as goal
 
 abbrev pub invariant-loop-t : goal.invariant-loop-t

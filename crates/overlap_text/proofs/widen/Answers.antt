@@ -1,9 +1,8 @@
 use Rattle.overlap_text.proofs.Widening.{one_widened, all_widened}
-use Prim.Native.Nat.{◌-◌, ◌≤◌}
+use Prim.Native.Nat.{◌-◌}
 use native.Mathlib.Omega.{arith}
-use lib.ListN.{length, take, length-set}
-use mathlib.Core.Path.{◌≡◌, refl, ◌∙◌}
-use borrow.Author.Rules.{rules}
+use lib.ListN.{length, length-set}
+use mathlib.Core.Path.{refl, ◌∙◌}
 use Rattle.overlap_text.proofs.widen.Goals as goal
 
 pub loop-i-init : goal.loop-i-init

@@ -1,10 +1,7 @@
 -- The invariant: the first i words are the first i bytes.
-use Rattle.overlap_text.proofs.Widening.{one_widened, all_widened}
 use Prim.Native.Nat.{◌-◌, ◌≤◌}
-use native.Mathlib.Omega.{arith}
-use lib.ListN.{length, take, length-set}
-use mathlib.Core.Path.{◌≡◌, refl, ◌∙◌}
-use borrow.Author.Rules.{rules}
+use lib.ListN.{length, take}
+use mathlib.Core.Path.{◌≡◌}
 use Rattle.overlap_text.proofs.widen.Given as goal
 
 abbrev pub invariant-loop-i : goal.invariant-loop-i

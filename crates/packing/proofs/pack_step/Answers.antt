@@ -5,7 +5,6 @@ use native.Mathlib.Omega.{arith}
 use Rattle.spec_runner.specs.declared.StepAnswer.{StepAnswer}
 use Rattle.spec_runner.specs.Answers.{value_of}
 use Rattle.spec_runner.specs.Packed.{packed_step, Packs}
-use borrow.Author.Rules.{rules}
 use Rattle.packing.proofs.pack_step.Goals as goal
 
 packs : (b : StepAnswer) {a : StepAnswer} {p : ℕ} → a ≡ b → p ≡ packed_step b → value_of b < 4294967296 → Packs a p

@@ -1,7 +1,6 @@
 use Rattle.spec_words.specs.Words.{size}
 use Rattle.law_any_two.specs.Reached.{reached_size, reached_rules, reached_position}
 use Rattle.replay.specs.Judged.{call_stepped}
-use borrow.Author.Rules.{rules}
 use Rattle.replay.proofs.call_agrees.Goals as goal
 
 pub step_tested-x-requires : goal.step_tested-x-requires

@@ -1,11 +1,9 @@
 use Rattle.replay.specs.At.{next_line}
-use Rattle.replay.specs.Judged.{Going, begun, all_compared, calls_over, call_differs, call_same}
-use lib.ListN.{length}
+use Rattle.replay.specs.Judged.{begun, all_compared, calls_over, call_differs, call_same}
 use Prim.Native.Nat.{◌-◌}
-use mathlib.Core.Path.{◌≡◌, refl, sym, ◌∙◌}
+use mathlib.Core.Path.{refl, sym, ◌∙◌}
 use native.Mathlib.Omega.{arith}
 use borrow.Author.Tests.{not-true, not-false}
-use borrow.Author.Rules.{rules}
 use Rattle.std.proofs.Common.{ap, not}
 use Rattle.replay.proofs.calls.Goals as goal
 

@@ -1,13 +1,8 @@
 -- The invariant: n lines are compared up to position `at`, their tasks have moved, and what is left decides.
-use Rattle.replay.specs.At.{next_line}
-use Rattle.replay.specs.Judged.{Going, begun, all_compared, calls_over, call_differs, call_same}
+use Rattle.replay.specs.Judged.{Going}
 use lib.ListN.{length}
 use Prim.Native.Nat.{◌-◌}
-use mathlib.Core.Path.{◌≡◌, refl, sym, ◌∙◌}
-use native.Mathlib.Omega.{arith}
-use borrow.Author.Tests.{not-true, not-false}
-use borrow.Author.Rules.{rules}
-use Rattle.std.proofs.Common.{ap, not}
+use mathlib.Core.Path.{◌≡◌}
 use Rattle.replay.proofs.calls.Given as goal
 
 abbrev pub invariant-loop-at : goal.invariant-loop-at

@@ -1,6 +1,5 @@
 use Rattle.replay.specs.Ends.{top_open, top_over}
 use mathlib.Core.Path.{sym, ◌∙◌}
-use borrow.Author.Rules.{rules}
 use Rattle.replay.proofs.ends.Goals as goal
 
 pub returns-then-unfinished : goal.returns-then-unfinished

@@ -1,5 +1,4 @@
 use Rattle.replay.specs.Judged.{found_in_calls, found_at_end}
-use borrow.Author.Rules.{rules}
 use Rattle.replay.proofs.first_difference.Goals as goal
 
 pub returns-then-p : goal.returns-then-p

@@ -1,4 +1,4 @@
-use Rattle.replay.specs.Ends.{Queues, no_queue, queue_differs, queue_same, left_over, none_over}
+use Rattle.replay.specs.Ends.{no_queue, queue_differs, queue_same, left_over, none_over}
 use Prim.Native.Nat.{◌-◌}
 use native.Mathlib.Omega.{arith}
 use Rattle.replay.proofs.left_end.Goals as goal

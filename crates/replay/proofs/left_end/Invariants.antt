@@ -1,7 +1,6 @@
 -- The invariant: the queues before q are compared, up to position `at`, and what is left decides.
-use Rattle.replay.specs.Ends.{Queues, no_queue, queue_differs, queue_same, left_over, none_over}
+use Rattle.replay.specs.Ends.{Queues}
 use Prim.Native.Nat.{◌-◌}
-use native.Mathlib.Omega.{arith}
 use Rattle.replay.proofs.left_end.Given as goal
 
 abbrev pub invariant-loop-q : goal.invariant-loop-q

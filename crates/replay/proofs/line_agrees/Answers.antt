@@ -3,7 +3,6 @@ use Rattle.spec_trace.specs.Line.{Valid}
 use Rattle.spec_trace.specs.Form.{is_call}
 use Rattle.replay.specs.Judged.{line_stepped, no_call}
 use mathlib.Core.Path.{refl, subst}
-use borrow.Author.Rules.{rules}
 use Rattle.replay.proofs.line_agrees.Goals as goal
 
 pub call_agrees-requires : goal.call_agrees-requires

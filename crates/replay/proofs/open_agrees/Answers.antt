@@ -4,7 +4,6 @@ use Rattle.replay.specs.Same.{form, open_form, open_count}
 use mathlib.Core.Path.{ap}
 use lib.Dec.{eqb}
 use native.Mathlib.Omega.{arith}
-use borrow.Author.Rules.{rules}
 use Rattle.replay.proofs.open_agrees.Goals as goal
 
 pub returns-in-Call : goal.returns-in-Call

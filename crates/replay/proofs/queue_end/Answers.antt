@@ -1,9 +1,8 @@
 use Rattle.replay.specs.At.{next_line}
-use Rattle.replay.specs.Ends.{Passing, none_compared, all_read, no_value, no_lines, value_differs, value_same}
+use Rattle.replay.specs.Ends.{none_compared, all_read, no_value, no_lines, value_differs, value_same}
 use Prim.Native.Nat.{◌-◌}
 use native.Mathlib.Omega.{arith}
 use borrow.Author.Tests.{not-true, not-false}
-use borrow.Author.Rules.{rules}
 use Rattle.std.proofs.Common.{ap, not}
 use Rattle.replay.proofs.queue_end.Goals as goal
 

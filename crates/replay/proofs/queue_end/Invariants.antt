@@ -1,11 +1,6 @@
 -- The invariant: i values of the queue are compared, up to position `at`, and what is left decides.
-use Rattle.replay.specs.At.{next_line}
-use Rattle.replay.specs.Ends.{Passing, none_compared, all_read, no_value, no_lines, value_differs, value_same}
+use Rattle.replay.specs.Ends.{Passing}
 use Prim.Native.Nat.{◌-◌}
-use native.Mathlib.Omega.{arith}
-use borrow.Author.Tests.{not-true, not-false}
-use borrow.Author.Rules.{rules}
-use Rattle.std.proofs.Common.{ap, not}
 use Rattle.replay.proofs.queue_end.Given as goal
 
 abbrev pub invariant-loop-i : goal.invariant-loop-i

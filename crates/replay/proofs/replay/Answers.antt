@@ -4,7 +4,6 @@ use Rattle.replay.specs.At.{starts}
 use Rattle.replay.specs.Whole.{stays_shut, other_form, agrees, differs}
 use mathlib.Core.Path.{refl, sym, ◌∙◌}
 use borrow.Author.Tests.{not-true, not-false}
-use borrow.Author.Rules.{rules}
 use Rattle.std.proofs.Common.{ap, not}
 use Rattle.replay.proofs.replay.Goals as goal
 

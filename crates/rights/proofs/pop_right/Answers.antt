@@ -1,5 +1,4 @@
 use Rattle.rights.specs.Masks.{shares_one}
-use borrow.Author.Rules.{rules}
 use Rattle.rights.proofs.pop_right.Goals as goal
 
 pub returns : goal.returns

@@ -3,7 +3,6 @@ use Prim.Native.Nat.{ℕ, ◌/◌}
 use lib.Dec.{eqb}
 use Rattle.spec_tree.specs.Rights.{pops}
 use Rattle.rights.specs.Masks.{shift}
-use borrow.Author.Rules.{rules}
 use Rattle.rights.proofs.pops.Goals as goal
 
 pub returns : goal.returns

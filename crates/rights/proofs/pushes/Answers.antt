@@ -3,7 +3,6 @@ use Prim.Native.Nat.{ℕ, ◌%◌}
 use lib.Dec.{eqb}
 use Rattle.spec_tree.specs.Rights.{pushes}
 use Rattle.rights.specs.Masks.{shift}
-use borrow.Author.Rules.{rules}
 use Rattle.rights.proofs.pushes.Goals as goal
 
 pub returns : goal.returns

@@ -4,7 +4,6 @@ use Prim.Native.Nat.{ℕ}
 use lib.Dec.{eqb}
 use Rattle.spec_tree.specs.Rights.{uses}
 use Rattle.rights.specs.Masks.{shift}
-use borrow.Author.Rules.{rules}
 use Rattle.rights.proofs.uses.Goals as goal
 
 pub returns : goal.returns

@@ -6,7 +6,6 @@ use Rattle.spec_job.specs.Numbers.{SPAWNED, PUSHED, TOOK, FINISHED, MOVED, EMPTY
 use Rattle.text.specs.Text.{ascii}
 use Rattle.run_text.specs.Lines.{word_row, answer_text, printed_number, answered, spaced, ended}
 use Rattle.run_text.proofs.Parts.{said, said_refused}
-use borrow.Author.Rules.{rules}
 use Rattle.run_text.proofs.answer.Goals as goal
 
 pub returns-in-40 : goal.returns-in-40

@@ -3,7 +3,6 @@ use native.Mathlib.Omega.{arith}
 use mathlib.Core.Path.{refl}
 use Rattle.text.specs.Text.{ascii}
 use Rattle.run_text.proofs.Lines.{end_ended, end_spent, end_refused, end_job}
-use borrow.Author.Rules.{rules}
 use Rattle.run_text.proofs.end_line.Goals as goal
 
 pub returns-then-k-lt10 : goal.returns-then-k-lt10

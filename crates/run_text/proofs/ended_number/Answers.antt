@@ -3,7 +3,6 @@ use mathlib.Core.Path.{refl}
 use Rattle.text.specs.Text.{ascii}
 use Rattle.run_text.proofs.Parts.{ended_few}
 use Rattle.run_text.specs.Few.{number_ends}
-use borrow.Author.Rules.{rules}
 use Rattle.run_text.proofs.ended_number.Goals as goal
 
 pub put-requires : goal.put-requires

@@ -2,7 +2,6 @@ use native.Mathlib.Omega.{arith}
 use mathlib.Core.Path.{refl}
 use Rattle.text.specs.Text.{ascii}
 use Rattle.run_text.proofs.Lines.{whole_left}
-use borrow.Author.Rules.{rules}
 use Rattle.run_text.proofs.left_line.Goals as goal
 
 pub returns : goal.returns

@@ -1,6 +1,5 @@
 use native.Mathlib.Omega.{arith}
 use Rattle.run_text.proofs.Lines.{whole_line}
-use borrow.Author.Rules.{rules}
 use Rattle.run_text.proofs.line.Goals as goal
 
 pub returns : goal.returns

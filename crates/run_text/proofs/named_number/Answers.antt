@@ -1,6 +1,5 @@
 use native.Mathlib.Omega.{arith}
 use Rattle.text.specs.Puts.{puts_then}
-use borrow.Author.Rules.{rules}
 use Rattle.run_text.proofs.named_number.Goals as goal
 
 pub returns : goal.returns

@@ -1,6 +1,5 @@
 use Rattle.text.specs.Text.{ascii}
 use Rattle.run_text.specs.Lines.{open_line}
-use borrow.Author.Rules.{rules}
 use Rattle.run_text.proofs.open_line.Goals as goal
 
 pub returns : goal.returns

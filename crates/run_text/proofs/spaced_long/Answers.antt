@@ -3,7 +3,6 @@ use mathlib.Core.Path.{refl}
 use Rattle.text.specs.Text.{ascii}
 use Rattle.run_text.proofs.Parts.{spaced_long}
 use Rattle.run_text.specs.Few.{long_ends}
-use borrow.Author.Rules.{rules}
 use Rattle.run_text.proofs.spaced_long.Goals as goal
 
 pub put-requires : goal.put-requires

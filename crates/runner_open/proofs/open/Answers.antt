@@ -1,5 +1,4 @@
 use Rattle.runner_open.proofs.Openings.{stays_shut}
-use borrow.Author.Rules.{rules}
 use mathlib.Core.Path.{sym, ◌∙◌}
 use Rattle.runner_open.proofs.open.Goals as goal
 

@@ -1,5 +1,4 @@
 use Rattle.runner_open.proofs.Openings.{opens}
-use borrow.Author.Rules.{rules}
 use mathlib.Core.Path.{refl}
 use Rattle.runner_open.proofs.open_tested.Goals as goal
 

@@ -2,7 +2,6 @@ use Rattle.spec_runner.specs.Open.{segments_for}
 use Rattle.spec_words.specs.Words.{halt, pass}
 use borrow.Author.Tests.{le-leb, lt-leb}
 use mathlib.Core.Path.{refl, sym}
-use borrow.Author.Rules.{rules}
 use Rattle.runner_open.proofs.segments_for.Goals as goal
 
 pub returns-then-l-le32 : goal.returns-then-l-le32

@@ -2,7 +2,6 @@
 use mathlib.Core.Logic.{inl, inr, ⊎_elim}
 use mathlib.Core.Path.{◌∙◌}
 use Rattle.runner_ready.proofs.Steps.{pushing, taking, going, spawning, syncing, finishing}
-use borrow.Author.Rules.{rules}
 use Rattle.runner_ready.proofs.decides.Goals as goal
 
 pub returns-in-8 : goal.returns-in-8

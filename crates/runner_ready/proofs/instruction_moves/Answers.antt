@@ -1,6 +1,5 @@
 -- The words are lent as a part that is the whole.
 use Rattle.runner_ready.proofs.Steps.{lent_length, lent_decides}
-use borrow.Author.Rules.{rules}
 use Rattle.runner_ready.proofs.instruction_moves.Goals as goal
 
 pub decides-requires : goal.decides-requires

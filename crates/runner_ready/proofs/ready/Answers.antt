@@ -1,7 +1,6 @@
 use Rattle.spec_words.specs.Words.{size}
 use Rattle.runner_ready.specs.Refusals.{rules_held, held_size}
 use Rattle.runner_ready.proofs.Map.{other_length, map_refused, map_given}
-use borrow.Author.Rules.{rules}
 use mathlib.Core.Path.{refl}
 use Rattle.runner_ready.proofs.ready.Goals as goal
 

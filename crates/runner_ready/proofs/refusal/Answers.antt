@@ -2,7 +2,6 @@
 use Rattle.spec_words.specs.Words.{size}
 use Rattle.runner_words.specs.Refusals.{fits}
 use Rattle.runner_ready.proofs.Map.{job_refuses, rules_refuse, runner_refuses, none_refuses}
-use borrow.Author.Rules.{rules}
 use Rattle.std.proofs.Common.{ap, not}
 use Rattle.runner_ready.proofs.refusal.Goals as goal
 

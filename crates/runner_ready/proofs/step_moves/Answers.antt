@@ -2,7 +2,6 @@ use mathlib.Core.Path.{refl}
 use Rattle.spec_words.specs.Words.{load}
 use Rattle.core_finish.proofs.Answers.{below}
 use Rattle.runner_ready.proofs.Steps.{by_word, not_unfinished, is_blocked, goes_by}
-use borrow.Author.Rules.{rules}
 use Rattle.std.proofs.Common.{ap, not}
 use Rattle.runner_ready.proofs.step_moves.Goals as goal
 

@@ -1,5 +1,4 @@
 use Rattle.runner_ready.proofs.Bits.{bit_set, bit_unset}
-use borrow.Author.Rules.{rules}
 use Rattle.runner_ready.proofs.with_bit.Goals as goal
 
 pub returns-then-b : goal.returns-then-b

@@ -1,9 +1,7 @@
-use borrow.Author.Rules.{rules}
 use native.Mathlib.Omega.{arith}
-use Prim.Native.Nat.{◌-◌, ◌≤◌}
-use mathlib.Core.Path.{◌≡◌, sym}
+use Prim.Native.Nat.{◌-◌}
+use mathlib.Core.Path.{sym}
 use Rattle.spec_runner.proofs.ReadyLaws.{bits_none}
-use Rattle.spec_runner.specs.Ready.{bits_from}
 use Rattle.spec_runner.specs.Moves.{step_moves}
 use Rattle.runner_ready.proofs.Bits.{below, one_more, whole}
 use Rattle.runner_ready.proofs.Steps.{lent_known, lent_moves}

@@ -1,5 +1,4 @@
 use Rattle.runner_ready.proofs.Map.{six}
-use borrow.Author.Rules.{rules}
 use Rattle.runner_ready.proofs.write_map.Goals as goal
 
 pub returns : goal.returns

@@ -1,5 +1,4 @@
 use Rattle.runner_ready.proofs.Map.{map_written}
-use borrow.Author.Rules.{rules}
 use native.Mathlib.Omega.{arith}
 use Rattle.runner_ready.proofs.write_ready.Goals as goal
 

@@ -1,7 +1,6 @@
 use Rattle.spec_words.specs.Words.{size}
 use Rattle.law_any_two.specs.Reached.{reached_size, reached_rules, reached_position}
 use Rattle.runner_run.specs.Made.{step_made}
-use borrow.Author.Rules.{rules}
 use mathlib.Core.Path.{refl}
 use Rattle.runner_run.proofs.make.Goals as goal
 

@@ -1,6 +1,5 @@
 -- The lengths, then the opening, are decided in the order of `run_outcome`; the words that the opening leaves are where a run begins.
 use Rattle.runner_run.specs.Made.{other_length, stays_shut, opened_reached, runs}
-use borrow.Author.Rules.{rules}
 use Rattle.runner_run.proofs.run.Goals as goal
 
 pub returns-then-answers-tasks : goal.returns-then-answers-tasks

@@ -1,9 +1,7 @@
-use Rattle.runner_run.specs.Made.{Made, none_made, next_made, all_made}
-use lib.ListN.{length, take}
-use Prim.Native.Nat.{◌-◌, ◌≤◌}
-use mathlib.Core.Path.{◌≡◌, refl, ◌∙◌}
+use Rattle.runner_run.specs.Made.{none_made, next_made, all_made}
+use Prim.Native.Nat.{◌-◌}
+use mathlib.Core.Path.{refl, ◌∙◌}
 use native.Mathlib.Omega.{arith}
-use borrow.Author.Rules.{rules}
 use Rattle.runner_run.proofs.steps.Goals as goal
 
 pub loop-i-init : goal.loop-i-init

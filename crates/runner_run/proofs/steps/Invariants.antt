@@ -1,10 +1,8 @@
 -- The invariant: the first i tasks have made their steps, and their answers stand in the first i places.
-use Rattle.runner_run.specs.Made.{Made, none_made, next_made, all_made}
+use Rattle.runner_run.specs.Made.{Made}
 use lib.ListN.{length, take}
 use Prim.Native.Nat.{◌-◌, ◌≤◌}
-use mathlib.Core.Path.{◌≡◌, refl, ◌∙◌}
-use native.Mathlib.Omega.{arith}
-use borrow.Author.Rules.{rules}
+use mathlib.Core.Path.{◌≡◌}
 use Rattle.runner_run.proofs.steps.Given as goal
 
 abbrev pub invariant-loop-i : goal.invariant-loop-i

@@ -1,6 +1,5 @@
 -- The core's answer decides as `reply_of` says: the step goes on with what was found, or nothing was changed.
 use Rattle.runner_step.proofs.Replies.{moved, nothing, waits, turned_down}
-use Rattle.std.proofs.Common.{rules}
 use Rattle.runner_step.proofs.act.Goals as goal
 
 pub returns-in-Moved : goal.returns-in-Moved

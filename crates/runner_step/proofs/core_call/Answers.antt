@@ -1,6 +1,6 @@
 -- Each arm has the numbers of the operations that make the same core call, or none.
 use Rattle.runner_step.proofs.Calls.{queue_made, none_made, spawn_made, sync_made, finish_made}
-use Rattle.std.proofs.Common.{inl, inr, ⊎_elim, arith, rules}
+use Rattle.std.proofs.Common.{inl, inr, ⊎_elim, arith}
 use Rattle.spec_job.specs.Rows.{above}
 use Rattle.runner_step.proofs.core_call.Goals as goal
 

@@ -1,5 +1,4 @@
 use Rattle.runner_step.proofs.Writes.{does_it}
-use Rattle.std.proofs.Common.{rules}
 use Rattle.runner_step.proofs.done.Goals as goal
 
 pub returns : goal.returns

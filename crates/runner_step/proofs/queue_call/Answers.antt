@@ -1,6 +1,5 @@
 use Rattle.runner_step.proofs.Calls.{push_made, sum_made, kept_made, take_made}
 use Rattle.runner_step.proofs.Numbers.{three_or_ten}
-use Rattle.std.proofs.Common.{rules}
 use Rattle.runner_step.proofs.queue_call.Goals as goal
 
 pub returns-in-1 : goal.returns-in-1

@@ -2,7 +2,6 @@
 use Rattle.spec_words.specs.Words.{size}
 use Rattle.runner_step.proofs.Tests.{first_refused, core_fails, runner_fails, passes, ready}
 use Rattle.runner_words.specs.Refusals.{fits}
-use Rattle.std.proofs.Common.{rules}
 use Rattle.std.proofs.Common.{ap, not}
 use Rattle.runner_step.proofs.step.Goals as goal
 

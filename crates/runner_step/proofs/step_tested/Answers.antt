@@ -1,5 +1,5 @@
 -- The two tests are made in the order of `step_tested`.
-use Rattle.std.proofs.Common.{sym, ◌∙◌, rules}
+use Rattle.std.proofs.Common.{sym, ◌∙◌}
 use borrow.Author.Tests.{not-false}
 use Rattle.runner_step.proofs.Tests.{no_task, waits, acts}
 use Rattle.std.proofs.Common.{ap, not}

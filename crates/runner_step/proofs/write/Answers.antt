@@ -1,6 +1,6 @@
 -- Each arm has the numbers of the operations after which the runner's words are alike.
 use Rattle.runner_step.proofs.Writes.{spawn_writes, goes_writes, finish_writes}
-use Rattle.std.proofs.Common.{inl, inr, ⊎_elim, arith, rules}
+use Rattle.std.proofs.Common.{inl, inr, ⊎_elim, arith}
 use Rattle.runner_step.proofs.write.Goals as goal
 
 pub returns-in-8 : goal.returns-in-8

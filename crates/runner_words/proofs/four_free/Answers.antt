@@ -4,7 +4,6 @@ use mathlib.Core.Path.{sym, ◌∙◌}
 use Rattle.spec_runner.specs.Rules.{record_holds}
 use Rattle.runner_words.proofs.Records.{not_in_use}
 use Rattle.runner_words.proofs.Fours.{four_at}
-use borrow.Author.Rules.{rules}
 use Rattle.runner_words.proofs.four_free.Goals as goal
 
 pub returns-then-unfinished : goal.returns-then-unfinished

@@ -5,7 +5,6 @@ use native.Mathlib.Omega.{arith}
 use Rattle.spec_words.specs.Words.{size}
 use Rattle.spec_lists.specs.Tests.{upto}
 use Rattle.spec_runner.specs.Rules.{record_holds}
-use borrow.Author.Rules.{rules}
 use Rattle.runner_words.proofs.four_hold.Goals as goal
 
 pub four_free-requires : goal.four_free-requires

@@ -1,9 +1,8 @@
-use mathlib.Core.Path.{◌≡◌, refl, sym, ◌∙◌}
-use Prim.Native.Nat.{◌≤◌, ◌-◌, ◌%◌}
+use mathlib.Core.Path.{refl, sym, ◌∙◌}
+use Prim.Native.Nat.{◌-◌}
 use native.Mathlib.Omega.{arith}
 use borrow.Author.Tests.{not-true, not-false}
-use Rattle.spec_lists.specs.Tests.{upto}
-use Rattle.spec_runner.specs.Rules.{record_holds, runner_holds}
+use Rattle.spec_runner.specs.Rules.{runner_holds}
 use Rattle.job_test.proofs.Loops.{upto_end}
 use Rattle.runner_words.proofs.Fours.{four_next, four_stop}
 use Rattle.std.proofs.Common.{ap, not}

@@ -1,13 +1,8 @@
 -- The invariant: what is left to test from record t on decides as all 128 records do.
-use mathlib.Core.Path.{◌≡◌, refl, sym, ◌∙◌}
+use mathlib.Core.Path.{◌≡◌}
 use Prim.Native.Nat.{◌≤◌, ◌-◌, ◌%◌}
-use native.Mathlib.Omega.{arith}
-use borrow.Author.Tests.{not-true, not-false}
 use Rattle.spec_lists.specs.Tests.{upto}
 use Rattle.spec_runner.specs.Rules.{record_holds, runner_holds}
-use Rattle.job_test.proofs.Loops.{upto_end}
-use Rattle.runner_words.proofs.Fours.{four_next, four_stop}
-use Rattle.std.proofs.Common.{ap, not}
 use Rattle.runner_words.proofs.holds.Given as goal
 
 abbrev pub invariant-loop-t : goal.invariant-loop-t

@@ -1,5 +1,4 @@
 use Rattle.runner_words.proofs.Records.{instruction_for_lem}
-use borrow.Author.Rules.{rules}
 use Rattle.runner_words.proofs.instruction_for.Goals as goal
 
 pub returns : goal.returns

@@ -1,5 +1,4 @@
 use Rattle.spec_runner.specs.Words.{position_of}
-use borrow.Author.Rules.{rules}
 use Rattle.runner_words.proofs.position.Goals as goal
 
 pub returns : goal.returns

@@ -1,5 +1,4 @@
 use Rattle.spec_runner.specs.Words.{procedure_of}
-use borrow.Author.Rules.{rules}
 use Rattle.runner_words.proofs.procedure.Goals as goal
 
 pub returns : goal.returns

@@ -1,5 +1,4 @@
 use Rattle.runner_words.proofs.Records.{three}
-use borrow.Author.Rules.{rules}
 use Rattle.runner_words.proofs.put.Goals as goal
 
 pub returns : goal.returns

@@ -1,6 +1,5 @@
 use Rattle.spec_words.specs.Words.{size}
 use Rattle.runner_words.proofs.Records.{in_use, not_in_use}
-use borrow.Author.Rules.{rules}
 use Rattle.runner_words.proofs.record_holds.Goals as goal
 
 pub unfinished-requires : goal.unfinished-requires

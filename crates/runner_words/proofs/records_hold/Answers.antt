@@ -1,8 +1,7 @@
-use mathlib.Core.Path.{◌≡◌, refl, sym, ◌∙◌}
-use Prim.Native.Nat.{◌≤◌, ◌-◌}
+use mathlib.Core.Path.{refl, sym, ◌∙◌}
+use Prim.Native.Nat.{◌-◌}
 use native.Mathlib.Omega.{arith}
 use borrow.Author.Tests.{not-true, not-false}
-use Rattle.spec_lists.specs.Tests.{upto}
 use Rattle.spec_runner.specs.Rules.{record_holds}
 use Rattle.job_test.proofs.Loops.{upto_next, upto_stop, upto_end}
 use Rattle.std.proofs.Common.{ap, not}

@@ -1,5 +1,4 @@
 use Rattle.runner_words.proofs.Refusals.{other_core, other_runner, job_says}
-use borrow.Author.Rules.{rules}
 use Rattle.runner_words.proofs.refusal.Goals as goal
 
 pub returns-then-m-ne-WORDS : goal.returns-then-m-ne-WORDS

@@ -1,5 +1,4 @@
 use Rattle.spec_runner.specs.Words.{register_of}
-use borrow.Author.Rules.{rules}
 use Rattle.runner_words.proofs.register.Goals as goal
 
 pub returns : goal.returns

@@ -3,7 +3,6 @@ use Rattle.job_test.proofs.Inside.{accepted_head, entry_inside}
 use Rattle.spec_words.specs.Words.{size}
 use Rattle.runner_words.proofs.Records.{procedure_at, position_at, rights_at_lem, no_procedure, no_instruction, same_rights}
 use native.Mathlib.Omega.{arith}
-use borrow.Author.Rules.{rules}
 use Rattle.runner_words.proofs.task_holds.Goals as goal
 
 pub bounds-r-a : goal.bounds-r-a

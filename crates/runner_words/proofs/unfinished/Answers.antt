@@ -1,5 +1,4 @@
 use Rattle.runner_words.proofs.Records.{unfinished_at}
-use borrow.Author.Rules.{rules}
 use Rattle.runner_words.proofs.unfinished.Goals as goal
 
 pub returns : goal.returns

@@ -1,5 +1,4 @@
 use Rattle.runner_words.proofs.Records.{zeros_at}
-use borrow.Author.Rules.{rules}
 use Rattle.runner_words.proofs.zeros.Goals as goal
 
 pub returns : goal.returns

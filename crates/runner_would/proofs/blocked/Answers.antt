@@ -1,5 +1,4 @@
 use Rattle.runner_would.proofs.Asked.{pops_none}
-use borrow.Author.Rules.{rules}
 use Rattle.std.proofs.Common.{ap, not}
 use Rattle.runner_would.proofs.blocked.Goals as goal
 

@@ -2,7 +2,6 @@ use Rattle.spec_words.specs.Words.{size}
 use Rattle.law_in_range.specs.Sound.{unfinished_says}
 use Rattle.law_any_two.specs.Reached.{reached_size}
 use Rattle.runner_would.proofs.Asked.{waits_there, moves_there, held_there}
-use borrow.Author.Rules.{rules}
 use Rattle.runner_would.proofs.would.Goals as goal
 
 pub returns-then-blocked : goal.returns-then-blocked

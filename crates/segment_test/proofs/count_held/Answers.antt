@@ -1,7 +1,6 @@
 -- The marks are those of the stack, so the places without one are the held segments; the sum tells whether one stands there twice.
 use Rattle.segment_test.specs.Marked.{stack_high, stack_far, stack_twice, stack_right}
 use native.Mathlib.Omega.{arith}
-use borrow.Author.Rules.{rules}
 use Rattle.std.proofs.Common.{ap, not}
 use Rattle.segment_test.proofs.count_held.Goals as goal
 

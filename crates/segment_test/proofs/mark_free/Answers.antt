@@ -1,13 +1,11 @@
 use Rattle.segment_test.specs.Stack.{all_below, rest_all, below_far, below_more, marking_more, below_done, marking_done}
 use Rattle.spec_rules.specs.Contents.{decode}
 use Rattle.spec_lists.specs.Marks.{marking}
-use Prim.Native.Nat.{ℕ, ◌≤◌, ◌-◌}
+use Prim.Native.Nat.{ℕ, ◌-◌}
 use mathlib.Core.List.{List}
 use mathlib.Core.Bool.{false≢true}
-use mathlib.Core.Path.{◌≡◌, ap, ◌∙◌}
-use borrow.Author.Rules.{rules}
+use mathlib.Core.Path.{ap, ◌∙◌}
 use native.Mathlib.Omega.{arith}
-use Rattle.spec_rules.specs.Stack.{rest}
 use Rattle.segment_test.proofs.mark_free.Goals as goal
 
 pub loop-i-init : goal.loop-i-init

@@ -1,13 +1,9 @@
 -- Marking from place i on gives the marks, and the verdict, that marking the whole stack gives.
-use Rattle.segment_test.specs.Stack.{all_below, rest_all, below_far, below_more, marking_more, below_done, marking_done}
+use Rattle.segment_test.specs.Stack.{all_below}
 use Rattle.spec_rules.specs.Contents.{decode}
 use Rattle.spec_lists.specs.Marks.{marking}
-use Prim.Native.Nat.{ℕ, ◌≤◌, ◌-◌}
-use mathlib.Core.List.{List}
-use mathlib.Core.Bool.{false≢true}
-use mathlib.Core.Path.{◌≡◌, ap, ◌∙◌}
-use borrow.Author.Rules.{rules}
-use native.Mathlib.Omega.{arith}
+use Prim.Native.Nat.{◌≤◌, ◌-◌}
+use mathlib.Core.Path.{◌≡◌}
 use Rattle.spec_rules.specs.Stack.{rest}
 use Rattle.segment_test.proofs.mark_free.Given as goal
 

@@ -1,13 +1,10 @@
 -- Testing from segment s on says what testing all says.
-use Rattle.segment_test.specs.Records.{upto_more, upto_done, upto_start}
 use Rattle.spec_rules.specs.Test.{segment_test}
 use Rattle.spec_rules.specs.Contents.{decode}
 use Rattle.spec_lists.specs.Tests.{upto}
 use Rattle.spec_words.specs.Words.{both}
 use Prim.Native.Nat.{◌≤◌, ◌-◌}
-use mathlib.Core.Path.{◌≡◌, ◌∙◌}
-use borrow.Author.Rules.{rules}
-use native.Mathlib.Omega.{arith}
+use mathlib.Core.Path.{◌≡◌}
 use Rattle.segment_test.proofs.segments_hold.Given as goal
 
 abbrev pub invariant-loop-s : goal.invariant-loop-s

@@ -1,5 +1,4 @@
 use Rattle.segment_test.specs.Records.{sound_at}
-use borrow.Author.Rules.{rules}
 use Rattle.segment_test.proofs.sound.Goals as goal
 
 pub returns : goal.returns

@@ -1,12 +1,7 @@
 -- held is the number of those below s without a mark.
-use Rattle.spec_lists.specs.Counting.{total}
-use Rattle.segment_test.specs.Marked.{unmarked, unmarked_more, unmarked_past}
-use Rattle.spec_words.specs.Words.{load}
+use Rattle.segment_test.specs.Marked.{unmarked}
 use Prim.Native.Nat.{◌≤◌, ◌-◌}
-use native.Mathlib.Omega.{arith}
-use native.Mathlib.Nat.{le_antisymm}
-use mathlib.Core.Logic.{⊎_elim}
-use mathlib.Core.Path.{◌≡◌, refl, ◌∙◌, ap}
+use mathlib.Core.Path.{◌≡◌}
 use Rattle.segment_test.proofs.unmarked.Given as goal
 
 abbrev pub invariant-loop-s : goal.invariant-loop-s

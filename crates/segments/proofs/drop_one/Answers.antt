@@ -1,5 +1,4 @@
 use Rattle.segments.proofs.Values.{one_less}
-use borrow.Author.Rules.{rules}
 use Rattle.segments.proofs.drop_one.Goals as goal
 
 pub returns : goal.returns

@@ -1,5 +1,4 @@
 use Rattle.segments.proofs.Links.{head_elsewhere, head_tested}
-use borrow.Author.Rules.{rules}
 use Rattle.segments.proofs.head_here.Goals as goal
 
 pub returns-then-x-ge-TASKS : goal.returns-then-x-ge-TASKS

@@ -1,9 +1,7 @@
-use mathlib.Core.Path.{◌≡◌, ◌∙◌}
-use Prim.Native.Nat.{◌≤◌, ◌-◌}
+use mathlib.Core.Path.{◌∙◌}
+use Prim.Native.Nat.{◌-◌}
 use native.Mathlib.Omega.{arith}
-use borrow.Author.Rules.{rules}
-use Rattle.spec_outcomes.specs.Segments.{head_index}
-use Rattle.segments.proofs.Links.{head_from, head_start, head_found, head_next, head_none}
+use Rattle.segments.proofs.Links.{head_start, head_found, head_next, head_none}
 use Rattle.segments.proofs.head_index.Goals as goal
 
 pub loop-i-init : goal.loop-i-init

@@ -1,10 +1,8 @@
 -- None of the heads before i is s, so seeking from i gives what seeking all gives.
-use mathlib.Core.Path.{◌≡◌, ◌∙◌}
+use mathlib.Core.Path.{◌≡◌}
 use Prim.Native.Nat.{◌≤◌, ◌-◌}
-use native.Mathlib.Omega.{arith}
-use borrow.Author.Rules.{rules}
 use Rattle.spec_outcomes.specs.Segments.{head_index}
-use Rattle.segments.proofs.Links.{head_from, head_start, head_found, head_next, head_none}
+use Rattle.segments.proofs.Links.{head_from}
 use Rattle.segments.proofs.head_index.Given as goal
 
 abbrev pub invariant-loop-i : goal.invariant-loop-i

@@ -1,9 +1,6 @@
-use mathlib.Core.Path.{◌≡◌, refl, sym, ◌∙◌}
-use Prim.Native.Nat.{◌<◌, ◌^◌}
+use mathlib.Core.Path.{refl, sym, ◌∙◌}
 use native.Mathlib.Omega.{arith}
 use borrow.Author.Rules.{rules}
-use Rattle.spec_layout.specs.Layout.{record_of}
-use Rattle.spec_tree.specs.Tour.{MARKS, seek}
 use Rattle.segments.specs.Names.{head_here}
 use Rattle.walks.specs.Steps.{seek_none, seek_end, seek_here, seek_on}
 use Rattle.segments.proofs.head_task.Goals as goal

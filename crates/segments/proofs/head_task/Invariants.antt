@@ -1,12 +1,9 @@
 -- No mark before x has s as a head, so seeking from x gives what seeking from the start gives.
-use mathlib.Core.Path.{◌≡◌, refl, sym, ◌∙◌}
+use mathlib.Core.Path.{◌≡◌}
 use Prim.Native.Nat.{◌<◌, ◌^◌}
-use native.Mathlib.Omega.{arith}
-use borrow.Author.Rules.{rules}
 use Rattle.spec_layout.specs.Layout.{record_of}
 use Rattle.spec_tree.specs.Tour.{MARKS, seek}
 use Rattle.segments.specs.Names.{head_here}
-use Rattle.walks.specs.Steps.{seek_none, seek_end, seek_here, seek_on}
 use Rattle.segments.proofs.head_task.Given as goal
 
 abbrev pub invariant-loop-k : goal.invariant-loop-k

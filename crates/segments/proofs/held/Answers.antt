@@ -1,11 +1,8 @@
-use mathlib.Core.Path.{◌≡◌, ◌∙◌}
-use Prim.Native.Nat.{◌≤◌, ◌<◌, ◌-◌, ◌^◌}
+use mathlib.Core.Path.{◌∙◌}
+use Prim.Native.Nat.{◌-◌}
 use native.Mathlib.Omega.{arith}
 use borrow.Author.Rules.{rules}
-use lib.Dec.{eqb}
-use Rattle.spec_lists.specs.Counting.{occurrences}
-use Rattle.spec_rules.specs.Stack.{rest, rest_end}
-use Rattle.segments.specs.Names.{held}
+use Rattle.spec_rules.specs.Stack.{rest_end}
 use Rattle.segments.proofs.Free.{rest_out, held_start, held_found, held_next, held_none}
 use Rattle.segments.proofs.held.Goals as goal
 

@@ -1,13 +1,10 @@
 -- y is none of the entries before i; past the end of the words there are no more.
-use mathlib.Core.Path.{◌≡◌, ◌∙◌}
+use mathlib.Core.Path.{◌≡◌}
 use Prim.Native.Nat.{◌≤◌, ◌<◌, ◌-◌, ◌^◌}
-use native.Mathlib.Omega.{arith}
-use borrow.Author.Rules.{rules}
 use lib.Dec.{eqb}
 use Rattle.spec_lists.specs.Counting.{occurrences}
-use Rattle.spec_rules.specs.Stack.{rest, rest_end}
+use Rattle.spec_rules.specs.Stack.{rest}
 use Rattle.segments.specs.Names.{held}
-use Rattle.segments.proofs.Free.{rest_out, held_start, held_found, held_next, held_none}
 use Rattle.segments.proofs.held.Given as goal
 
 abbrev pub invariant-loop-i : goal.invariant-loop-i

@@ -1,5 +1,4 @@
 use Rattle.segments.proofs.Links.{link_full, link_empty}
-use borrow.Author.Rules.{rules}
 use Rattle.segments.proofs.link.Goals as goal
 
 pub returns-then-n-ne0 : goal.returns-then-n-ne0

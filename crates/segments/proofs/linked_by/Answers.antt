@@ -1,9 +1,7 @@
-use mathlib.Core.Path.{◌≡◌, refl, sym, ◌∙◌}
-use Prim.Native.Nat.{◌≤◌, ◌<◌, ◌-◌, ◌^◌}
+use mathlib.Core.Path.{sym, ◌∙◌}
+use Prim.Native.Nat.{◌-◌}
 use native.Mathlib.Omega.{arith}
 use borrow.Author.Rules.{rules}
-use Rattle.spec_layout.specs.Layout.{segments_of}
-use Rattle.spec_outcomes.specs.Segments.{linked_by}
 use Rattle.segments.specs.Names.{free_marks}
 use Rattle.segments.proofs.Links.{by_start, by_found, by_next, by_end}
 use Rattle.segments.proofs.linked_by.Goals as goal

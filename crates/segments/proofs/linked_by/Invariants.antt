@@ -1,12 +1,8 @@
 -- No segment before y is held with s as its next, so seeking from y gives what seeking all gives.
-use mathlib.Core.Path.{◌≡◌, refl, sym, ◌∙◌}
+use mathlib.Core.Path.{◌≡◌}
 use Prim.Native.Nat.{◌≤◌, ◌<◌, ◌-◌, ◌^◌}
-use native.Mathlib.Omega.{arith}
-use borrow.Author.Rules.{rules}
 use Rattle.spec_layout.specs.Layout.{segments_of}
 use Rattle.spec_outcomes.specs.Segments.{linked_by}
-use Rattle.segments.specs.Names.{free_marks}
-use Rattle.segments.proofs.Links.{by_start, by_found, by_next, by_end}
 use Rattle.segments.proofs.linked_by.Given as goal
 
 abbrev pub invariant-loop-y : goal.invariant-loop-y

@@ -1,11 +1,8 @@
-use mathlib.Core.Path.{◌≡◌, refl, ◌∙◌}
-use Prim.Native.Nat.{◌≤◌, ◌<◌, ◌-◌, ◌^◌}
+use mathlib.Core.Path.{refl, ◌∙◌}
+use Prim.Native.Nat.{◌-◌}
 use native.Mathlib.Omega.{arith}
 use borrow.Author.Rules.{rules}
-use lib.ListN.{length}
-use Rattle.spec_lists.specs.Marks.{marking}
-use Rattle.spec_layout.specs.Layout.{free_stack}
-use Rattle.spec_rules.specs.Stack.{rest, rest_end}
+use Rattle.spec_rules.specs.Stack.{rest_end}
 use Rattle.segments.proofs.Free.{rest_out, marks_start, marks_next, marks_none}
 use Rattle.segments.proofs.mark_free.Goals as goal
 

@@ -1,13 +1,10 @@
 -- The entries before i are marked; marking the rest gives the marks of all.
-use mathlib.Core.Path.{◌≡◌, refl, ◌∙◌}
+use mathlib.Core.Path.{◌≡◌}
 use Prim.Native.Nat.{◌≤◌, ◌<◌, ◌-◌, ◌^◌}
-use native.Mathlib.Omega.{arith}
-use borrow.Author.Rules.{rules}
 use lib.ListN.{length}
 use Rattle.spec_lists.specs.Marks.{marking}
 use Rattle.spec_layout.specs.Layout.{free_stack}
-use Rattle.spec_rules.specs.Stack.{rest, rest_end}
-use Rattle.segments.proofs.Free.{rest_out, marks_start, marks_next, marks_none}
+use Rattle.spec_rules.specs.Stack.{rest}
 use Rattle.segments.proofs.mark_free.Given as goal
 
 abbrev pub invariant-loop-i : goal.invariant-loop-i

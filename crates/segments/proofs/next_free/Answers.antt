@@ -1,5 +1,4 @@
 use Rattle.segments.proofs.Stack.{top_of}
-use borrow.Author.Rules.{rules}
 use Rattle.segments.proofs.next_free.Goals as goal
 
 pub returns : goal.returns

@@ -1,6 +1,5 @@
 use Rattle.segments.proofs.Free.{unmarked_held}
 use Rattle.segments.proofs.Links.{next_other, next_same}
-use borrow.Author.Rules.{rules}
 use Rattle.segments.proofs.next_is.Goals as goal
 
 pub returns-then-next-s : goal.returns-then-next-s

@@ -1,5 +1,4 @@
 use Rattle.segments.proofs.Stack.{none_left}
-use borrow.Author.Rules.{rules}
 use Rattle.segments.proofs.none_free.Goals as goal
 
 pub returns : goal.returns

@@ -1,5 +1,4 @@
 use Rattle.segments.proofs.Stack.{give_back, no_room}
-use borrow.Author.Rules.{rules}
 use Rattle.segments.proofs.release.Goals as goal
 
 pub returns-then-n-ge-SEGMENTS : goal.returns-then-n-ge-SEGMENTS

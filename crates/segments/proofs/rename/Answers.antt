@@ -1,6 +1,5 @@
 use native.Mathlib.Omega.{arith}
 use Rattle.segments.proofs.Links.{head_few, rename_head, rename_next, rename_none}
-use borrow.Author.Rules.{rules}
 use Rattle.segments.proofs.rename.Goals as goal
 
 pub overflow_add-i : goal.overflow_add-i

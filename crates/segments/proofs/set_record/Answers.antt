@@ -1,5 +1,4 @@
 use Rattle.segments.proofs.Stack.{three_words}
-use borrow.Author.Rules.{rules}
 use Rattle.segments.proofs.set_record.Goals as goal
 
 pub returns : goal.returns

@@ -1,6 +1,5 @@
 -- The run is stored from the place behind the last value on, and the count is raised once.
 use Rattle.segments.proofs.Runs.{run_fits, run_done}
-use borrow.Author.Rules.{rules}
 use Rattle.segments.proofs.store_run.Goals as goal
 
 pub store_from-requires : goal.store_from-requires

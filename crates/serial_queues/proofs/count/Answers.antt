@@ -1,7 +1,6 @@
 use Rattle.serial_queues.specs.Rings.{queue_none, queue_length}
 use lib.ListN.{length}
 use mathlib.Core.Path.{ap, sym, ◌∙◌}
-use borrow.Author.Rules.{rules}
 use Rattle.serial_queues.proofs.count.Goals as goal
 
 pub returns-then-q-ge4 : goal.returns-then-q-ge4

@@ -2,7 +2,6 @@ use Rattle.serial_queues.specs.Popped.{none_taken, popped}
 use Rattle.serial_queues.specs.Rings.{queue_there}
 use Rattle.serial_queues.proofs.Queues.{counted}
 use mathlib.Core.Path.{sym, ◌∙◌}
-use borrow.Author.Rules.{rules}
 use Rattle.serial_queues.proofs.pop.Goals as goal
 
 pub returns-then-n-eq0 : goal.returns-then-n-eq0

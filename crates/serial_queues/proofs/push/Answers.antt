@@ -2,7 +2,6 @@
 use Rattle.serial_queues.specs.Pushed.{pushed}
 use Rattle.serial_queues.proofs.Queues.{no_queue, fewer}
 use native.Mathlib.Omega.{arith}
-use borrow.Author.Rules.{rules}
 use Rattle.serial_queues.proofs.push.Goals as goal
 
 pub returns-then-q-ge4 : goal.returns-then-q-ge4

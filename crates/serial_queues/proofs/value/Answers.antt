@@ -1,6 +1,5 @@
 use Rattle.serial_queues.proofs.Queues.{value_none, value_there}
 use Rattle.serial_queues.specs.Found.{found_of}
-use borrow.Author.Rules.{rules}
 use Rattle.serial_queues.proofs.value.Goals as goal
 
 pub returns-then-n-i : goal.returns-then-n-i

@@ -2,10 +2,9 @@ use borrow.Enum.Refused.{opened}
 use Rattle.serial_runner.proofs.Arms.{inner, inner_some, eight_some, none_low}
 use Rattle.serial_runner.proofs.Measures.{body_falls, child_falls, size_kept}
 use Rattle.serial_runner.specs.Child.{child_too_deep, child_runs}
-use Rattle.serial_runner.specs.Body.{position_small, Goes, goes_start, body_spent, body_full, body_returns, body_stops, goes_inner, child_less}
+use Rattle.serial_runner.specs.Body.{position_small, goes_start, body_spent, body_full, body_returns, body_stops, goes_inner, child_less}
 use Rattle.serial_runner.specs.Body.{goes_child}
-use Rattle.spec_serial.specs.Working.{lists}
-use Rattle.std.proofs.Common.{◌≡◌, ℕ, ◌+◌, ◌^◌, ◌<◌, length, sym, refl, ◌∙◌, inr, ⊎_elim, arith, rules}
+use Rattle.std.proofs.Common.{sym, refl, ◌∙◌, inr, ⊎_elim, arith, rules}
 use Rattle.serial_runner.proofs.+run_body_run_child.Goals as goal
 
 pub run_body-loop-left-init : goal.run_body-loop-left-init

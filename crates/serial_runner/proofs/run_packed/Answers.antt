@@ -1,5 +1,4 @@
 use Rattle.serial_runner.specs.Handed.{handed}
-use Rattle.std.proofs.Common.{rules}
 use Rattle.serial_runner.proofs.run_packed.Goals as goal
 
 pub returns : goal.returns

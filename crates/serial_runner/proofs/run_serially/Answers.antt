@@ -3,7 +3,7 @@ use borrow.Enum.Refused.{opened}
 use Rattle.serial_runner.proofs.Measures.{size_cleared}
 use Rattle.serial_runner.specs.Whole.{wrong_working, wrong_answers, job_refused, job_accepted, job_short, cleared, top_runs}
 use Rattle.spec_serial.specs.Outcome.{turned_down}
-use Rattle.std.proofs.Common.{◌∙◌, arith, rules}
+use Rattle.std.proofs.Common.{◌∙◌, arith}
 use Rattle.serial_runner.proofs.run_serially.Goals as goal
 
 pub returns-then-w-ne-WORKING : goal.returns-then-w-ne-WORKING

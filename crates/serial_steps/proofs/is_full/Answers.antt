@@ -1,5 +1,4 @@
 use Rattle.serial_steps.proofs.Bound.{full_push, full_below, full_above}
-use borrow.Author.Rules.{rules}
 use Rattle.serial_steps.proofs.is_full.Goals as goal
 
 pub returns-in-1-to-2 : goal.returns-in-1-to-2

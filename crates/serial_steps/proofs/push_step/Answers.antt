@@ -1,5 +1,4 @@
 use Rattle.serial_steps.proofs.Operations.{push_does}
-use borrow.Author.Rules.{rules}
 use Rattle.serial_steps.proofs.push_step.Goals as goal
 
 pub returns : goal.returns

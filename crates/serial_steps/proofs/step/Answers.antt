@@ -2,7 +2,6 @@
 use Rattle.serial_steps.proofs.Operations.{keyed, plain_does, past_four, pop_takes, ten_takes}
 use Rattle.serial_steps.proofs.Bound.{room}
 use native.Mathlib.Omega.{arith}
-use borrow.Author.Rules.{rules}
 use Rattle.serial_steps.proofs.step.Goals as goal
 
 pub push_step-requires : goal.push_step-requires

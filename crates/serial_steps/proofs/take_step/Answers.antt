@@ -1,7 +1,6 @@
 use Rattle.serial_queues.specs.Rings.{elem_front}
 use mathlib.Core.Path.{◌∙◌}
 use Rattle.serial_steps.proofs.Operations.{some_taken, none_taken}
-use borrow.Author.Rules.{rules}
 use Rattle.serial_steps.proofs.take_step.Goals as goal
 
 pub returns-in-Value : goal.returns-in-Value

@@ -1,5 +1,4 @@
 use Rattle.serial_steps.proofs.Operations.{test_does}
-use borrow.Author.Rules.{rules}
 use Rattle.serial_steps.proofs.test_step.Goals as goal
 
 pub returns : goal.returns

@@ -1,5 +1,4 @@
 use Rattle.spec_words.specs.Blocks.{store_three}
-use borrow.Author.Rules.{rules}
 use Rattle.serial_steps.proofs.write_answer.Goals as goal
 
 pub returns : goal.returns

@@ -1,10 +1,8 @@
 use Rattle.serial_queues.specs.Found.{found_of}
-use Rattle.block_text.specs.Values.{Read, read_none, read_one, read_ends, read_full}
-use Rattle.serial_text.specs.Written.{value_in, in_list, found_is}
+use Rattle.block_text.specs.Values.{read_none, read_one, read_ends, read_full}
+use Rattle.serial_text.specs.Written.{in_list, found_is}
 use Prim.Native.Nat.{◌-◌}
 use native.Mathlib.Omega.{arith}
-use lib.ListN.{length}
-use borrow.Author.Rules.{rules}
 use Rattle.serial_text.proofs.left_values.Goals as goal
 
 pub loop-i-init : goal.loop-i-init

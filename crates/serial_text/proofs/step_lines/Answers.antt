@@ -1,6 +1,5 @@
 -- The lines of the steps before i stand at the start; each has at most 52 bytes, so the block has room.
 use Rattle.serial_text.proofs.Written.{step_rows}
-use borrow.Author.Rules.{rules}
 use Rattle.serial_text.proofs.step_lines.Goals as goal
 
 pub returns : goal.returns

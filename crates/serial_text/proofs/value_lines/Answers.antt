@@ -1,5 +1,4 @@
 use Rattle.block_text.specs.Values.{lines_of}
-use borrow.Author.Rules.{rules}
 use Rattle.serial_text.proofs.value_lines.Goals as goal
 
 pub returns : goal.returns

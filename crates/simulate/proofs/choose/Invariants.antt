@@ -1,10 +1,7 @@
 -- The invariant: what is left to do of the first i tasks, with f workers free, is what was to be done of all.
-use mathlib.Core.Path.{◌≡◌, refl, ◌∙◌}
-use mathlib.Core.Logic.{⊎_elim}
-use native.Mathlib.Omega.{arith}
+use mathlib.Core.Path.{◌≡◌}
 use lib.ListN.{length}
-use borrow.Author.Rules.{rules}
-use Rattle.simulate.specs.Choices.{listed_unfinished, Choosing, choosing_begins, chosen_all, chosen_full, chooses_move, chooses_wait, chooses_stop}
+use Rattle.simulate.specs.Choices.{Choosing}
 use Rattle.simulate.proofs.choose.Given as goal
 
 abbrev pub invariant-loop-i : goal.invariant-loop-i

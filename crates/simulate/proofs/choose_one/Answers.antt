@@ -1,5 +1,4 @@
 -- What is under way is passed; else what the step would be decides.
-use borrow.Author.Rules.{rules}
 use mathlib.Core.Path.{sym, ◌∙◌}
 use native.Mathlib.Omega.{arith}
 use Rattle.simulate.specs.Leaves.{few_ticks}

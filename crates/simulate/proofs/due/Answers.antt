@@ -1,8 +1,5 @@
-use mathlib.Core.Path.{◌≡◌, refl, sym, ◌∙◌}
+use mathlib.Core.Path.{sym, ◌∙◌}
 use native.Mathlib.Omega.{arith}
-use borrow.Author.Rules.{rules}
-use Rattle.spec_simulate.specs.Machine.{soonest}
-use Rattle.simulate.specs.Listed.{listed}
 use Rattle.simulate.specs.Leaves.{soonest_more, soonest_end}
 use Rattle.simulate.proofs.due.Goals as goal
 

@@ -1,10 +1,7 @@
 -- The invariant: the smallest end of the tasks that are left, with d, is the smallest of all.
-use mathlib.Core.Path.{◌≡◌, refl, sym, ◌∙◌}
-use native.Mathlib.Omega.{arith}
-use borrow.Author.Rules.{rules}
+use mathlib.Core.Path.{◌≡◌}
 use Rattle.spec_simulate.specs.Machine.{soonest}
 use Rattle.simulate.specs.Listed.{listed}
-use Rattle.simulate.specs.Leaves.{soonest_more, soonest_end}
 use Rattle.simulate.proofs.due.Given as goal
 
 abbrev pub invariant-loop-i : goal.invariant-loop-i

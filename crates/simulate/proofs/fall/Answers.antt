@@ -1,8 +1,6 @@
-use mathlib.Core.Path.{◌≡◌, refl, sym, ◌∙◌}
+use mathlib.Core.Path.{refl, sym, ◌∙◌}
 use native.Mathlib.Omega.{arith}
-use lib.ListN.{length}
-use borrow.Author.Rules.{rules}
-use Rattle.simulate.specs.Effects.{falls_none, Falling, falling_begins, fallen_all, fallen_more, fallen_stop}
+use Rattle.simulate.specs.Effects.{falls_none, falling_begins, fallen_all, fallen_more, fallen_stop}
 use Rattle.simulate.proofs.fall.Goals as goal
 
 pub loop-i-init : goal.loop-i-init

@@ -1,9 +1,7 @@
 -- The invariant: what is left of the first i tasks is what was to fall of all, and it is not over.
-use mathlib.Core.Path.{◌≡◌, refl, sym, ◌∙◌}
-use native.Mathlib.Omega.{arith}
+use mathlib.Core.Path.{◌≡◌}
 use lib.ListN.{length}
-use borrow.Author.Rules.{rules}
-use Rattle.simulate.specs.Effects.{falls_none, Falling, falling_begins, fallen_all, fallen_more, fallen_stop}
+use Rattle.simulate.specs.Effects.{Falling}
 use Rattle.simulate.proofs.fall.Given as goal
 
 abbrev pub invariant-loop-i : goal.invariant-loop-i

@@ -1,6 +1,5 @@
 -- An effect that is due is a step; what its answer says decides.
 use native.Mathlib.Omega.{arith}
-use borrow.Author.Rules.{rules}
 use Rattle.spec_words.specs.Words.{size}
 use Rattle.law_any_two.specs.Reached.{reached_size, reached_rules, reached_position}
 use Rattle.simulate.specs.Leaves.{few_ticks}

@@ -1,8 +1,6 @@
-use mathlib.Core.Path.{◌≡◌, refl, ◌∙◌}
+use mathlib.Core.Path.{refl, ◌∙◌}
 use native.Mathlib.Omega.{arith}
-use lib.ListN.{length}
-use borrow.Author.Rules.{rules}
-use Rattle.simulate.specs.Listed.{Listing, listing_begins, listing_ends, listing_spent, listing_more}
+use Rattle.simulate.specs.Listed.{listing_begins, listing_ends, listing_spent, listing_more}
 use Rattle.simulate.proofs.list_tasks.Goals as goal
 
 pub loop-k-init : goal.loop-k-init

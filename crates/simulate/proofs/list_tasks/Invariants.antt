@@ -1,9 +1,7 @@
 -- The invariant: n tasks are listed, and the marks from x on are left.
-use mathlib.Core.Path.{◌≡◌, refl, ◌∙◌}
-use native.Mathlib.Omega.{arith}
+use mathlib.Core.Path.{◌≡◌}
 use lib.ListN.{length}
-use borrow.Author.Rules.{rules}
-use Rattle.simulate.specs.Listed.{Listing, listing_begins, listing_ends, listing_spent, listing_more}
+use Rattle.simulate.specs.Listed.{Listing}
 use Rattle.simulate.proofs.list_tasks.Given as goal
 
 abbrev pub invariant-loop-k : goal.invariant-loop-k

@@ -1,5 +1,4 @@
 -- A mark where a task is entered is written behind the others.
-use borrow.Author.Rules.{rules}
 use mathlib.Core.Path.{sym, subst}
 use Rattle.spec_words.specs.Words.{size}
 use Rattle.simulate.specs.Listed.{Noted, noted_task, noted_none}

@@ -1,5 +1,4 @@
 -- Workers choose, the clock goes on, effects fall: each part leads where the definition leads.
-use borrow.Author.Rules.{rules}
 use Rattle.simulate.specs.Turns.{all_unfinished, still_small, round_stops, round_idle, round_falls}
 use Rattle.simulate.proofs.round.Goals as goal
 

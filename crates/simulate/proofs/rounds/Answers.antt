@@ -1,8 +1,6 @@
-use mathlib.Core.Path.{◌≡◌, refl, ◌∙◌}
+use mathlib.Core.Path.{refl, ◌∙◌}
 use native.Mathlib.Omega.{arith}
-use lib.ListN.{length}
-use borrow.Author.Rules.{rules}
-use Rattle.simulate.specs.Turns.{Turning, turning_begins, turned_out, turns, turned_over_last}
+use Rattle.simulate.specs.Turns.{turning_begins, turned_out, turns, turned_over_last}
 use Rattle.simulate.proofs.rounds.Goals as goal
 
 pub loop-n-init : goal.loop-n-init

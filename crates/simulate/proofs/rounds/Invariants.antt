@@ -1,9 +1,7 @@
 -- The invariant: what n rounds give is what all give, and the clock is small.
-use mathlib.Core.Path.{◌≡◌, refl, ◌∙◌}
-use native.Mathlib.Omega.{arith}
+use mathlib.Core.Path.{◌≡◌}
 use lib.ListN.{length}
-use borrow.Author.Rules.{rules}
-use Rattle.simulate.specs.Turns.{Turning, turning_begins, turned_out, turns, turned_over_last}
+use Rattle.simulate.specs.Turns.{Turning}
 use Rattle.simulate.proofs.rounds.Given as goal
 
 abbrev pub invariant-loop-n : goal.invariant-loop-n

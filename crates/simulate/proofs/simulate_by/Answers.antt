@@ -1,10 +1,9 @@
 -- The job, then the workers, are decided before a word is written; the words that the opening leaves are where a run begins.
 use mathlib.Core.Path.{refl, ap, sym, ◌∙◌}
-use mathlib.Core.Logic.{inl, inr, ⊎_elim}
+use mathlib.Core.Logic.{inl, inr}
 use Prim.Native.Nat.{ℕ}
 use lib.ListN.{replicate}
-use borrow.Author.Tests.{ltb-true, ltb-false}
-use borrow.Author.Rules.{rules}
+use borrow.Author.Tests.{ltb-false}
 use Rattle.runner_run.specs.Made.{opened_reached}
 use Rattle.simulate.specs.Whole.{other_length, stays_shut, wrong_workers, runs, top_unfinished}
 use Rattle.simulate.proofs.simulate_by.Goals as goal

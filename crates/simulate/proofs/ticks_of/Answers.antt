@@ -1,5 +1,4 @@
 -- The number of an operation is its place in the table of ticks.
-use borrow.Author.Rules.{rules}
 use Rattle.simulate.specs.Leaves.{ticks_here}
 use Rattle.simulate.proofs.ticks_of.Goals as goal
 

@@ -1,5 +1,4 @@
 -- Answer by answer.
-use borrow.Author.Rules.{rules}
 use mathlib.Core.Path.{ap, sym}
 use Rattle.spec_simulate.specs.Machine.{would_be}
 use Rattle.simulate.proofs.would_be.Goals as goal

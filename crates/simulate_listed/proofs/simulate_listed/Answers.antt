@@ -1,6 +1,5 @@
 use Rattle.simulate.specs.Whole.{few_numbers}
 use native.Mathlib.Omega.{arith}
-use borrow.Author.Rules.{rules}
 use Rattle.simulate_listed.proofs.simulate_listed.Goals as goal
 
 pub simulate_listed_by-requires : goal.simulate_listed_by-requires

@@ -1,5 +1,4 @@
 use Rattle.simulate_listed.proofs.Parts.{wrong_size, first_part, second_part, is_listed}
-use borrow.Author.Rules.{rules}
 use Rattle.simulate_listed.proofs.simulate_listed_by.Goals as goal
 
 pub returns-then-working-ne-WORKING : goal.returns-then-working-ne-WORKING

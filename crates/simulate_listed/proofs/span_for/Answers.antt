@@ -1,6 +1,5 @@
 use Rattle.spec_span.specs.Listing.{span_for}
 use mathlib.Core.Path.{ap, sym, ◌∙◌}
-use borrow.Author.Rules.{rules}
 use Rattle.simulate_listed.proofs.span_for.Goals as goal
 
 pub span-requires : goal.span-requires

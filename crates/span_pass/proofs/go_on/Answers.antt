@@ -1,5 +1,4 @@
 use Rattle.span_pass.proofs.Going.{gone}
-use borrow.Author.Rules.{rules}
 use Rattle.span_pass.proofs.go_on.Goals as goal
 
 pub returns : goal.returns

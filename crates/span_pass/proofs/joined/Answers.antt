@@ -1,5 +1,4 @@
 use Rattle.span_pass.proofs.Going.{joined_is}
-use borrow.Author.Rules.{rules}
 use Rattle.span_pass.proofs.joined.Goals as goal
 
 pub returns : goal.returns

@@ -1,5 +1,4 @@
 use Rattle.span_pass.proofs.Going.{looks_only}
-use borrow.Author.Rules.{rules}
 use Rattle.span_pass.proofs.look_step.Goals as goal
 
 pub returns : goal.returns

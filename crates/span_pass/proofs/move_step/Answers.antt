@@ -1,5 +1,4 @@
 use Rattle.span_pass.proofs.Going.{moves_alone}
-use borrow.Author.Rules.{rules}
 use Rattle.span_pass.proofs.move_step.Goals as goal
 
 pub returns : goal.returns

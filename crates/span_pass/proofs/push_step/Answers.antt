@@ -1,5 +1,4 @@
 use Rattle.span_pass.proofs.Going.{pushes_alone}
-use borrow.Author.Rules.{rules}
 use Rattle.span_pass.proofs.push_step.Goals as goal
 
 pub returns : goal.returns

@@ -1,5 +1,4 @@
 use Rattle.span_pass.proofs.Going.{is_returned, at_task}
-use borrow.Author.Rules.{rules}
 use Rattle.span_pass.proofs.return_step.Goals as goal
 
 pub returns : goal.returns

@@ -1,9 +1,5 @@
-use mathlib.Core.Path.{◌≡◌, refl, ◌∙◌}
-use lib.ListN.{length}
+use mathlib.Core.Path.{refl, ◌∙◌}
 use native.Mathlib.Omega.{arith}
-use Rattle.spec_span.specs.Pass.Stood.{stood}
-use Rattle.spec_span.specs.Pass.{pass_from}
-use Rattle.span_words.specs.Words.{Holds}
 use Rattle.span_pass.proofs.Rounds.{one_more, all_returned, no_more, from_opened, some_depth}
 use Rattle.span_pass.proofs.span.Goals as goal
 

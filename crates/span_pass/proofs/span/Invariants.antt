@@ -1,10 +1,8 @@
-use mathlib.Core.Path.{◌≡◌, refl, ◌∙◌}
+use mathlib.Core.Path.{◌≡◌}
 use lib.ListN.{length}
-use native.Mathlib.Omega.{arith}
 use Rattle.spec_span.specs.Pass.Stood.{stood}
 use Rattle.spec_span.specs.Pass.{pass_from}
 use Rattle.span_words.specs.Words.{Holds}
-use Rattle.span_pass.proofs.Rounds.{one_more, all_returned, no_more, from_opened, some_depth}
 use Rattle.span_pass.proofs.span.Given as goal
 
 abbrev pub invariant-loop-n : goal.invariant-loop-n

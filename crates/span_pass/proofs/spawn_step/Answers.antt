@@ -1,5 +1,4 @@
 use Rattle.span_pass.proofs.Going.{spawns_alone, too_deep_lem, child_spawned, at_task}
-use borrow.Author.Rules.{rules}
 use Rattle.span_pass.proofs.spawn_step.Goals as goal
 
 pub returns-then-h-ge-DEEPEST : goal.returns-then-h-ge-DEEPEST

@@ -1,6 +1,5 @@
 use Rattle.span_pass.proofs.Going.{at_task}
 use Rattle.span_pass.proofs.Arms.{steps, behind}
-use borrow.Author.Rules.{rules}
 use Rattle.span_pass.proofs.step.Goals as goal
 
 pub returns-then-h-lt-LONGEST : goal.returns-then-h-lt-LONGEST

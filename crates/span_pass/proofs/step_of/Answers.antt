@@ -1,6 +1,5 @@
 use Rattle.job_effect.proofs.Effects.{others}
 use Rattle.span_pass.proofs.Arms.{push_alone, sum_alone, go_alone, zero_alone, add_alone, pop_looks, test_looks, take_looks, is_push, is_sum, is_pop, is_take, is_test, is_go, is_zero, is_add, is_sync, is_spawn, is_return, arrives}
-use borrow.Author.Rules.{rules}
 use Rattle.span_pass.proofs.step_of.Goals as goal
 
 pub push_step-requires : goal.push_step-requires

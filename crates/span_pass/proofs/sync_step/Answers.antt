@@ -1,5 +1,4 @@
 use Rattle.span_pass.proofs.Going.{syncs}
-use borrow.Author.Rules.{rules}
 use Rattle.span_pass.proofs.sync_step.Goals as goal
 
 pub returns : goal.returns

@@ -1,5 +1,4 @@
 use Rattle.span_pass.proofs.Going.{looks_takes}
-use borrow.Author.Rules.{rules}
 use Rattle.span_pass.proofs.take_step.Goals as goal
 
 pub returns : goal.returns

@@ -1,5 +1,4 @@
 use Rattle.span_words.proofs.Written.{is_opened}
-use Rattle.std.proofs.Common.{rules}
 use Rattle.span_words.proofs.begin.Goals as goal
 
 pub returns : goal.returns

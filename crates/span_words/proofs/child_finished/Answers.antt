@@ -1,5 +1,4 @@
 use Rattle.span_words.proofs.Written.{all_finished}
-use Rattle.std.proofs.Common.{rules}
 use Rattle.span_words.proofs.child_finished.Goals as goal
 
 pub returns : goal.returns

@@ -1,5 +1,4 @@
 use Rattle.span_words.proofs.Written.{is_queued}
-use Rattle.std.proofs.Common.{rules}
 use Rattle.span_words.proofs.enqueue.Goals as goal
 
 pub returns : goal.returns

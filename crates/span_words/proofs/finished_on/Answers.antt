@@ -1,5 +1,4 @@
 use Rattle.span_words.proofs.Written.{queue_finished}
-use Rattle.std.proofs.Common.{rules}
 use Rattle.span_words.proofs.finished_on.Goals as goal
 
 pub returns : goal.returns

@@ -1,5 +1,4 @@
 use Rattle.span_words.proofs.Read.{found, unfound}
-use Rattle.std.proofs.Common.{rules}
 use Rattle.span_words.proofs.look.Goals as goal
 
 pub returns-then-n-queue : goal.returns-then-n-queue

@@ -1,5 +1,4 @@
 use Rattle.span_words.proofs.Read.{older_is}
-use Rattle.std.proofs.Common.{rules}
 use Rattle.span_words.proofs.older_for.Goals as goal
 
 pub returns : goal.returns

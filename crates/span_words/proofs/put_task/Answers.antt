@@ -1,4 +1,4 @@
-use Rattle.std.proofs.Common.{◌∙◌, arith, rules}
+use Rattle.std.proofs.Common.{◌∙◌, arith}
 use Rattle.span_words.proofs.Written.{ten_stored}
 use Rattle.span_words.proofs.put_task.Goals as goal
 

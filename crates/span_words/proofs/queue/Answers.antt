@@ -1,5 +1,4 @@
 use Rattle.span_words.proofs.Read.{loaded}
-use Rattle.std.proofs.Common.{rules}
 use Rattle.span_words.proofs.queue.Goals as goal
 
 pub returns : goal.returns

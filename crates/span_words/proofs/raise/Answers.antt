@@ -1,5 +1,4 @@
 use Rattle.span_words.proofs.Written.{is_raised}
-use Rattle.std.proofs.Common.{rules}
 use Rattle.span_words.proofs.raise.Goals as goal
 
 pub returns : goal.returns

@@ -1,5 +1,5 @@
 use Rattle.spec_words.specs.Words.{halt, pass}
-use Rattle.std.proofs.Common.{sym, refl, ◌∙◌, rules}
+use Rattle.std.proofs.Common.{sym, refl, ◌∙◌}
 use Rattle.span_words.proofs.raise_if.Goals as goal
 
 pub returns-then-go : goal.returns-then-go

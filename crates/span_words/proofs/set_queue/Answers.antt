@@ -1,5 +1,4 @@
 use Rattle.span_words.proofs.Written.{stored}
-use Rattle.std.proofs.Common.{rules}
 use Rattle.span_words.proofs.set_queue.Goals as goal
 
 pub returns : goal.returns

@@ -1,5 +1,4 @@
 use Rattle.span_words.proofs.Read.{shares, shares_none}
-use Rattle.std.proofs.Common.{rules}
 use Rattle.span_words.proofs.sharing.Goals as goal
 
 pub returns-then-pops : goal.returns-then-pops

@@ -1,5 +1,4 @@
 use Rattle.spec_job.specs.Effects.{sum}
-use Rattle.std.proofs.Common.{rules}
 use Rattle.span_words.proofs.sum.Goals as goal
 
 pub returns : goal.returns

@@ -1,5 +1,4 @@
 use Rattle.span_words.proofs.Written.{is_unqueued, none_unqueued}
-use Rattle.std.proofs.Common.{rules}
 use Rattle.span_words.proofs.unqueue.Goals as goal
 
 pub returns-then-n-queue : goal.returns-then-n-queue

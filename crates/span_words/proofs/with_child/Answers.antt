@@ -1,5 +1,4 @@
 use Rattle.span_words.proofs.Written.{child_made_lem}
-use Rattle.std.proofs.Common.{rules}
 use Rattle.span_words.proofs.with_child.Goals as goal
 
 pub returns : goal.returns

@@ -1,7 +1,6 @@
 use Rattle.trace_form.specs.Steps.{call_behind, behind}
 use mathlib.Core.Path.{refl, sym, ◌∙◌}
 use native.Mathlib.Omega.{arith}
-use borrow.Author.Rules.{rules}
 use Rattle.trace_form.proofs.after.Goals as goal
 
 pub read-x-requires : goal.read-x-requires

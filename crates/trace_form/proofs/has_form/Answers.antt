@@ -1,5 +1,4 @@
-use Rattle.trace_form.specs.Steps.{Tested, start, too_many, other_form, one_more, over}
-use lib.ListN.{length}
+use Rattle.trace_form.specs.Steps.{start, too_many, other_form, one_more, over}
 use Prim.Native.Nat.{◌-◌}
 use native.Mathlib.Omega.{arith}
 use Rattle.trace_form.proofs.has_form.Goals as goal

@@ -1,8 +1,7 @@
 -- The invariant: n lines are tested up to position `at`, and the trace has the form where the rest of it has.
-use Rattle.trace_form.specs.Steps.{Tested, start, too_many, other_form, one_more, over}
+use Rattle.trace_form.specs.Steps.{Tested}
 use lib.ListN.{length}
 use Prim.Native.Nat.{◌-◌}
-use native.Mathlib.Omega.{arith}
 use Rattle.trace_form.proofs.has_form.Given as goal
 
 abbrev pub invariant-loop-at : goal.invariant-loop-at

@@ -1,6 +1,5 @@
 use Rattle.spec_trace.specs.Form.{is_call}
 use mathlib.Core.Path.{ap, sym}
-use borrow.Author.Rules.{rules}
 use Rattle.trace_form.proofs.is_call.Goals as goal
 
 pub returns-in-Call : goal.returns-in-Call

@@ -1,4 +1,3 @@
-use borrow.Author.Rules.{rules}
 use Rattle.trace_line.proofs.Places.{byte_here, byte_other, byte_none}
 use Rattle.trace_line.proofs.behind_byte.Goals as goal
 

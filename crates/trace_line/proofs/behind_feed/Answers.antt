@@ -1,4 +1,3 @@
-use borrow.Author.Rules.{rules}
 use native.Mathlib.Omega.{arith}
 use Rattle.trace_line.proofs.Places.{feed_here, feed_other, feed_none}
 use Rattle.trace_line.proofs.behind_feed.Goals as goal

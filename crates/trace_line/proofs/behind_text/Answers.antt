@@ -1,9 +1,7 @@
-use mathlib.Core.Path.{◌≡◌, refl}
+use mathlib.Core.Path.{refl}
 use native.Mathlib.Nat.{add-zero}
 use native.Mathlib.Omega.{arith}
-use Prim.Native.Nat.{◌+◌, ◌-◌, ◌≤◌}
-use lib.ListN.{length, drop}
-use Rattle.spec_trace.specs.Read.{behind_text}
+use Prim.Native.Nat.{◌-◌}
 use Rattle.trace_line.proofs.Places.{text_more, text_short, text_other, text_all}
 use Rattle.trace_line.proofs.behind_text.Goals as goal
 

@@ -1,11 +1,8 @@
 -- The invariant: what is left of the text, looked for behind the i bytes that agree, leaves what the whole text leaves.
-use mathlib.Core.Path.{◌≡◌, refl}
-use native.Mathlib.Nat.{add-zero}
-use native.Mathlib.Omega.{arith}
+use mathlib.Core.Path.{◌≡◌}
 use Prim.Native.Nat.{◌+◌, ◌-◌, ◌≤◌}
 use lib.ListN.{length, drop}
 use Rattle.spec_trace.specs.Read.{behind_text}
-use Rattle.trace_line.proofs.Places.{text_more, text_short, text_other, text_all}
 use Rattle.trace_line.proofs.behind_text.Given as goal
 
 abbrev pub invariant-loop-i : goal.invariant-loop-i

@@ -1,5 +1,4 @@
 -- The parts in their order, each from the position behind the one before it.
-use borrow.Author.Rules.{rules}
 use Rattle.trace_line.proofs.Lines.{call_ends}
 use Rattle.trace_line.proofs.call.Goals as goal
 

@@ -1,4 +1,3 @@
-use borrow.Author.Rules.{rules}
 use Rattle.trace_line.proofs.Figures.{digit_low, digit_here}
 use Rattle.trace_line.proofs.digit.Goals as goal
 

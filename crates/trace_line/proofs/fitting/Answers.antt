@@ -1,4 +1,3 @@
-use borrow.Author.Rules.{rules}
 use Rattle.trace_line.proofs.Figures.{fits, too_much}
 use Rattle.trace_line.proofs.fitting.Goals as goal
 

@@ -1,4 +1,3 @@
-use borrow.Author.Rules.{rules}
 use Rattle.trace_line.proofs.Places.{front_here, front_none}
 use Rattle.trace_line.proofs.front.Goals as goal
 

@@ -1,4 +1,3 @@
-use borrow.Author.Rules.{rules}
 use Rattle.text.specs.Text.{ascii}
 use Rattle.trace_line.proofs.Lines.{left_ends}
 use Rattle.trace_line.proofs.left.Goals as goal

@@ -1,9 +1,7 @@
-use borrow.Author.Rules.{rules}
-use mathlib.Core.Path.{◌≡◌, refl, ◌∙◌, ap}
+use mathlib.Core.Path.{refl, ◌∙◌, ap}
 use native.Mathlib.Omega.{arith}
-use Prim.Native.Nat.{◌+◌, ◌-◌, ◌^◌, ◌<◌, ◌≤◌}
-use lib.ListN.{length, drop}
-use Rattle.spec_trace.specs.Read.{digit_of, more_digits}
+use Prim.Native.Nat.{◌-◌}
+use Rattle.spec_trace.specs.Read.{digit_of}
 use Rattle.trace_line.proofs.Figures.{digit_at, digits_one, digits_few, figures_none, figures_one, figures_nine}
 use Rattle.trace_line.proofs.more_digits.Goals as goal
 

@@ -1,11 +1,8 @@
 -- The invariant: v has k digits more than one, and the digits left, read from p on, give what all of them give.
-use borrow.Author.Rules.{rules}
-use mathlib.Core.Path.{◌≡◌, refl, ◌∙◌, ap}
-use native.Mathlib.Omega.{arith}
+use mathlib.Core.Path.{◌≡◌}
 use Prim.Native.Nat.{◌+◌, ◌-◌, ◌^◌, ◌<◌, ◌≤◌}
 use lib.ListN.{length, drop}
-use Rattle.spec_trace.specs.Read.{digit_of, more_digits}
-use Rattle.trace_line.proofs.Figures.{digit_at, digits_one, digits_few, figures_none, figures_one, figures_nine}
+use Rattle.spec_trace.specs.Read.{more_digits}
 use Rattle.trace_line.proofs.more_digits.Given as goal
 
 abbrev pub invariant-loop-k : goal.invariant-loop-k

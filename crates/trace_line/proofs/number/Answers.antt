@@ -1,5 +1,4 @@
 -- By the first digit; where there is one, the position is inside the trace.
-use borrow.Author.Rules.{rules}
 use mathlib.Core.Path.{◌∙◌, ap}
 use native.Mathlib.Omega.{arith}
 use Rattle.spec_trace.specs.Read.{digit_of}

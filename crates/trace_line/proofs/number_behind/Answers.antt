@@ -1,4 +1,3 @@
-use borrow.Author.Rules.{rules}
 use Rattle.trace_line.proofs.Lines.{number_on}
 use Rattle.trace_line.proofs.number_behind.Goals as goal
 

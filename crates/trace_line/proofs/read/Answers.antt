@@ -1,5 +1,4 @@
 -- Which line it is, by its first byte; each kind has been read whole.
-use borrow.Author.Rules.{rules}
 use Rattle.trace_line.proofs.Lines.{reads_call, reads_left, reads_open}
 use Rattle.trace_line.proofs.read.Goals as goal
 

@@ -1,5 +1,4 @@
 -- Each arm reads what goes with the word that has its number; any other number is that of a refusal.
-use borrow.Author.Rules.{rules}
 use mathlib.Core.Path.{refl}
 use Rattle.spec_words.specs.Words.{pick}
 use Rattle.spec_job.specs.Numbers.{SPAWNED, PUSHED, TOOK, FINISHED, MOVED, EMPTY, NOT_EMPTY, WAITS, word_numbered, none_numbered}

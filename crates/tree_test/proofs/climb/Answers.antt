@@ -2,9 +2,8 @@ use Rattle.tree_test.specs.Led.{Same, same_here, same_on, same_step, led_here, l
 use Rattle.tree_test.specs.Walk.{next_up}
 use Rattle.spec_rules.specs.Contents.{decode}
 use lib.ListN.{length, length-set}
-use Prim.Native.Nat.{ℕ, ◌≤◌, ◌<◌, ◌-◌, ◌+◌}
+use Prim.Native.Nat.{ℕ, ◌-◌, ◌+◌}
 use native.Mathlib.Omega.{arith}
-use borrow.Author.Rules.{rules}
 use mathlib.Core.Path.{◌≡◌, sym, ◌∙◌, subst}
 use Rattle.tree_test.proofs.climb.Goals as goal
 

@@ -1,12 +1,9 @@
 -- Every mark written is the next of the tour; it goes up while there is no older sibling, and ends at one or at the top.
-use Rattle.tree_test.specs.Led.{Same, same_here, same_on, same_step, led_here, led_wrong, walk_none, walk_wrong}
-use Rattle.tree_test.specs.Walk.{next_up}
+use Rattle.tree_test.specs.Led.{Same}
 use Rattle.spec_rules.specs.Contents.{decode}
-use lib.ListN.{length, length-set}
-use Prim.Native.Nat.{ℕ, ◌≤◌, ◌<◌, ◌-◌, ◌+◌}
-use native.Mathlib.Omega.{arith}
-use borrow.Author.Rules.{rules}
-use mathlib.Core.Path.{◌≡◌, sym, ◌∙◌, subst}
+use lib.ListN.{length}
+use Prim.Native.Nat.{◌≤◌, ◌<◌, ◌-◌, ◌+◌}
+use mathlib.Core.Path.{◌≡◌}
 use Rattle.tree_test.proofs.climb.Given as goal
 
 abbrev pub invariant-loop-i : goal.invariant-loop-i

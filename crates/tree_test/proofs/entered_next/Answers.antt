@@ -5,7 +5,6 @@ use Rattle.tree_test.specs.Records.{word_at}
 use Rattle.spec_rules.specs.Contents.{decode}
 use Rattle.spec_layout.specs.Layout.{NONE}
 use mathlib.Core.Path.{ap, sym, ◌∙◌}
-use borrow.Author.Rules.{rules}
 use Rattle.tree_test.proofs.entered_next.Goals as goal
 
 pub returns-then-u : goal.returns-then-u

@@ -6,7 +6,6 @@ use Rattle.spec_rules.specs.Contents.{decode}
 use lib.ListN.{get_or}
 use Prim.Native.Nat.{◌+◌, ◌*◌}
 use mathlib.Core.Path.{ap, sym, ◌∙◌}
-use borrow.Author.Rules.{rules}
 use Rattle.tree_test.proofs.exited_next.Goals as goal
 
 pub returns-then-p-gt-LAST_TASK : goal.returns-then-p-gt-LAST_TASK

@@ -4,7 +4,6 @@ use Rattle.tree_test.specs.Records.{word_at}
 use Rattle.spec_tree.specs.Rights.{subset}
 use Prim.Native.Nat.{ℕ}
 use mathlib.Core.Path.{ap, sym, ◌∙◌}
-use borrow.Author.Rules.{rules}
 use Rattle.tree_test.proofs.fitting.Goals as goal
 
 pub returns-then-t-lt1 : goal.returns-then-t-lt1

@@ -6,7 +6,6 @@ use native.Mathlib.Omega.{arith}
 use lib.Dec.{eqb}
 use Prim.Native.Nat.{ℕ}
 use mathlib.Core.Path.{ap, refl, ◌∙◌}
-use borrow.Author.Rules.{rules}
 use Rattle.tree_test.proofs.idle_ok.Goals as goal
 
 pub free_tasks-h-requires : goal.free_tasks-h-requires

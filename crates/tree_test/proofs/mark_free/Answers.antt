@@ -1,10 +1,9 @@
 use Rattle.tree_test.proofs.Turns.{faults_more, near_more, faults_done, near_done, faults_first}
-use Rattle.tree_test.specs.Counted.{faults_from, near_from}
 use Rattle.spec_words.specs.Words.{load, store}
 use lib.ListN.{length, length-set, get_or}
-use Prim.Native.Nat.{◌≤◌, ◌-◌, ◌+◌, ◌*◌, ◌%◌}
+use Prim.Native.Nat.{◌-◌, ◌+◌, ◌*◌, ◌%◌}
 use native.Mathlib.Omega.{arith}
-use mathlib.Core.Path.{◌≡◌, sym, ◌∙◌}
+use mathlib.Core.Path.{sym, ◌∙◌}
 use Rattle.tree_test.proofs.mark_free.Goals as goal
 
 pub loop-i-init : goal.loop-i-init

@@ -1,11 +1,8 @@
 -- The faults and marks from entry i on, with those so far, are those of the whole stack.
-use Rattle.tree_test.proofs.Turns.{faults_more, near_more, faults_done, near_done, faults_first}
 use Rattle.tree_test.specs.Counted.{faults_from, near_from}
-use Rattle.spec_words.specs.Words.{load, store}
-use lib.ListN.{length, length-set, get_or}
-use Prim.Native.Nat.{◌≤◌, ◌-◌, ◌+◌, ◌*◌, ◌%◌}
-use native.Mathlib.Omega.{arith}
-use mathlib.Core.Path.{◌≡◌, sym, ◌∙◌}
+use lib.ListN.{length}
+use Prim.Native.Nat.{◌≤◌, ◌-◌, ◌+◌, ◌*◌}
+use mathlib.Core.Path.{◌≡◌}
 use Rattle.tree_test.proofs.mark_free.Given as goal
 
 abbrev pub invariant-loop-i : goal.invariant-loop-i

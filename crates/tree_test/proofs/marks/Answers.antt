@@ -2,10 +2,10 @@ use Rattle.tree_test.proofs.Turns.{sum_more}
 use Rattle.spec_lists.specs.Counting.{total}
 use Rattle.tree_test.specs.Counted.{marks}
 use Rattle.spec_words.specs.Words.{load}
-use Prim.Native.Nat.{ℕ, ◌≤◌, ◌-◌, ◌*◌}
+use Prim.Native.Nat.{ℕ, ◌-◌}
 use native.Mathlib.Omega.{arith}
 use native.Mathlib.Nat.{le_antisymm}
-use mathlib.Core.Path.{◌≡◌, refl, ◌∙◌, ap}
+use mathlib.Core.Path.{refl, ◌∙◌, ap}
 use Rattle.tree_test.proofs.marks.Goals as goal
 
 pub loop-i-init : goal.loop-i-init

@@ -1,12 +1,8 @@
 -- n is the sum of the marks before i.
-use Rattle.tree_test.proofs.Turns.{sum_more}
 use Rattle.spec_lists.specs.Counting.{total}
-use Rattle.tree_test.specs.Counted.{marks}
 use Rattle.spec_words.specs.Words.{load}
-use Prim.Native.Nat.{ℕ, ◌≤◌, ◌-◌, ◌*◌}
-use native.Mathlib.Omega.{arith}
-use native.Mathlib.Nat.{le_antisymm}
-use mathlib.Core.Path.{◌≡◌, refl, ◌∙◌, ap}
+use Prim.Native.Nat.{◌≤◌, ◌-◌, ◌*◌}
+use mathlib.Core.Path.{◌≡◌}
 use Rattle.tree_test.proofs.marks.Given as goal
 
 abbrev pub invariant-loop-i : goal.invariant-loop-i

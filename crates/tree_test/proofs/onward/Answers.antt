@@ -6,7 +6,6 @@ use lib.ListN.{length-set}
 use Prim.Native.Nat.{◌-◌, ◌+◌}
 use native.Mathlib.Omega.{arith}
 use mathlib.Core.Path.{◌≡◌, ◌∙◌}
-use borrow.Author.Rules.{rules}
 use Rattle.tree_test.proofs.onward.Goals as goal
 
 pub bounds-xs-i : goal.bounds-xs-i

@@ -1,10 +1,9 @@
-use Rattle.tree_test.specs.Led.{Same, same_here, same_on, walk_none, walk_fails, walk_ends}
+use Rattle.tree_test.specs.Led.{same_here, same_on, walk_none, walk_fails, walk_ends}
 use Rattle.spec_rules.specs.Contents.{decode}
 use lib.ListN.{length, length-set}
-use Prim.Native.Nat.{◌<◌, ◌-◌}
+use Prim.Native.Nat.{◌-◌}
 use native.Mathlib.Omega.{arith}
-use borrow.Author.Rules.{rules}
-use mathlib.Core.Path.{◌≡◌, sym, ◌∙◌}
+use mathlib.Core.Path.{sym, ◌∙◌}
 use Rattle.tree_test.proofs.tree_ok.Goals as goal
 
 pub loop-i-init : goal.loop-i-init

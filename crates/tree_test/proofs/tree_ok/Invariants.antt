@@ -1,11 +1,9 @@
 -- The marks written so far are the tour's, and the links followed are right; what is left of the test is the test from x on.
-use Rattle.tree_test.specs.Led.{Same, same_here, same_on, walk_none, walk_fails, walk_ends}
+use Rattle.tree_test.specs.Led.{Same}
 use Rattle.spec_rules.specs.Contents.{decode}
-use lib.ListN.{length, length-set}
+use lib.ListN.{length}
 use Prim.Native.Nat.{◌<◌, ◌-◌}
-use native.Mathlib.Omega.{arith}
-use borrow.Author.Rules.{rules}
-use mathlib.Core.Path.{◌≡◌, sym, ◌∙◌}
+use mathlib.Core.Path.{◌≡◌}
 use Rattle.tree_test.proofs.tree_ok.Given as goal
 
 abbrev pub invariant-loop-i : goal.invariant-loop-i

@@ -1,5 +1,5 @@
 use Rattle.spec_view_events.specs.Parts.{part_at}
-use Rattle.std.proofs.Common.{arith, rules}
+use Rattle.std.proofs.Common.{arith}
 use Rattle.view_steps.proofs.count.Goals as goal
 
 pub returns : goal.returns

@@ -1,5 +1,4 @@
 use Rattle.spec_view_events.specs.Steps.{head_far, head_wrong, head_right}
-use Rattle.std.proofs.Common.{rules}
 use Rattle.view_steps.proofs.head.Goals as goal
 
 pub returns-then-h-ge-NL : goal.returns-then-h-ge-NL

@@ -1,5 +1,5 @@
 use Rattle.spec_rules.specs.Passed.{passed_none, passed_half, passed_open, passed_odd, passed_fit}
-use Rattle.std.proofs.Common.{sym, ◌∙◌, rules}
+use Rattle.std.proofs.Common.{sym, ◌∙◌}
 use Rattle.view_steps.proofs.passed.Goals as goal
 
 pub returns-then-e-eq-NONE : goal.returns-then-e-eq-NONE

@@ -1,8 +1,6 @@
 use Rattle.spec_view_events.specs.Placing.{place_start}
 use Rattle.spec_view_events.specs.Placing.{place_far, place_again, place_last, place_empty, place_more, place_out}
-use Rattle.spec_view_events.specs.Place.{placing}
-use Rattle.spec_rules.specs.Contents.{decode}
-use Rattle.std.proofs.Common.{◌≡◌, ◌-◌, ◌^◌, ◌<◌, ◌≤◌, sym, ◌∙◌, arith, rules}
+use Rattle.std.proofs.Common.{◌-◌, sym, ◌∙◌, arith, rules}
 use Rattle.view_steps.proofs.place.Goals as goal
 
 pub loop-k-init : goal.loop-k-init

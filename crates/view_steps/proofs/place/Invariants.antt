@@ -1,9 +1,7 @@
 -- Placing the chain from s with k segments done gives what placing it from its head gives.
-use Rattle.spec_view_events.specs.Placing.{place_start}
-use Rattle.spec_view_events.specs.Placing.{place_far, place_again, place_last, place_empty, place_more, place_out}
 use Rattle.spec_view_events.specs.Place.{placing}
 use Rattle.spec_rules.specs.Contents.{decode}
-use Rattle.std.proofs.Common.{◌≡◌, ◌-◌, ◌^◌, ◌<◌, ◌≤◌, sym, ◌∙◌, arith, rules}
+use Rattle.std.proofs.Common.{◌≡◌, ◌-◌, ◌^◌, ◌<◌, ◌≤◌}
 use Rattle.view_steps.proofs.place.Given as goal
 
 abbrev pub invariant-loop-k : goal.invariant-loop-k

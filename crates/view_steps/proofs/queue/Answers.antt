@@ -1,6 +1,6 @@
 -- The cases of one event: no queue view, one without a right, non-local or seen before, or one whose head is seen.
 use Rattle.spec_view_events.specs.Open.{queue_none, queue_refused, queue_far, queue_twice, queue_open}
-use Rattle.std.proofs.Common.{not, ap, ◌∙◌, rules, eq-eqb, ne_eqb}
+use Rattle.std.proofs.Common.{not, ap, ◌∙◌, eq-eqb, ne_eqb}
 use Rattle.view_steps.proofs.queue.Goals as goal
 
 pub returns-then-h : goal.returns-then-h

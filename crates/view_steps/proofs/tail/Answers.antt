@@ -1,6 +1,6 @@
 -- The cases of one event: a mark, a number that is no segment, a tail seen before or with a next, or one seen now.
 use Rattle.spec_view_events.specs.Steps.{tail_far, tail_out, tail_again, tail_inner, tail_right}
-use Rattle.std.proofs.Common.{sym, ◌∙◌, rules}
+use Rattle.std.proofs.Common.{sym, ◌∙◌}
 use Rattle.view_steps.proofs.tail.Goals as goal
 
 pub returns-then-e-ge-NL : goal.returns-then-e-ge-NL

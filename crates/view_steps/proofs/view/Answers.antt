@@ -1,5 +1,5 @@
 -- The cases of one event: an empty view, a view without a right, or one whose head and tail are seen in turn.
-use Rattle.std.proofs.Common.{◌+◌, not, ap, ◌∙◌, arith, rules, eq-eqb, ne_eqb}
+use Rattle.std.proofs.Common.{◌+◌, not, ap, ◌∙◌, arith, eq-eqb, ne_eqb}
 use Rattle.spec_view_events.specs.Open.{stops, goes, and_none, and_some, view_none, view_refused, view_open}
 use borrow.Author.Tests.{not-true, not-false}
 use Rattle.view_steps.proofs.view.Goals as goal

@@ -1,6 +1,5 @@
 use Rattle.spec_view_events.specs.Groups.{both_full}
 use borrow.Author.Tests.{eqb-true}
-use borrow.Author.Rules.{rules}
 use Rattle.view_test.proofs.empty.Goals as goal
 
 pub returns : goal.returns

@@ -2,7 +2,6 @@ use Rattle.spec_view_events.specs.Chain.{follow, end, queues_none}
 use borrow.Author.Tests.{not-true, not-false}
 use native.Mathlib.Omega.{arith}
 use mathlib.Core.Path.{refl}
-use borrow.Author.Rules.{rules}
 use Rattle.std.proofs.Common.{ap, not}
 use Rattle.view_test.proofs.entered.Goals as goal
 

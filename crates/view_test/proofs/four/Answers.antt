@@ -1,7 +1,5 @@
-use Rattle.spec_view_events.specs.Kinds.{Left, next_rights, left_start, left_more, left_stop, left_done}
-use lib.ListN.{get_or}
-use Prim.Native.Nat.{◌+◌, ◌-◌, ◌*◌, ◌/◌, ◌^◌, ◌<◌, ◌≤◌}
-use mathlib.Core.Path.{◌≡◌}
+use Rattle.spec_view_events.specs.Kinds.{next_rights, left_start, left_more, left_stop, left_done}
+use Prim.Native.Nat.{◌+◌, ◌-◌, ◌*◌}
 use borrow.Author.Tests.{not-true, not-false}
 use borrow.Author.Rules.{rules}
 use native.Mathlib.Omega.{arith}

@@ -1,12 +1,8 @@
 -- The views of the queues before q are seen; r is the rights shifted by q queues.
-use Rattle.spec_view_events.specs.Kinds.{Left, next_rights, left_start, left_more, left_stop, left_done}
+use Rattle.spec_view_events.specs.Kinds.{Left}
 use lib.ListN.{get_or}
 use Prim.Native.Nat.{◌+◌, ◌-◌, ◌*◌, ◌/◌, ◌^◌, ◌<◌, ◌≤◌}
 use mathlib.Core.Path.{◌≡◌}
-use borrow.Author.Tests.{not-true, not-false}
-use borrow.Author.Rules.{rules}
-use native.Mathlib.Omega.{arith}
-use Rattle.std.proofs.Common.{ap, not}
 use Rattle.view_test.proofs.four.Given as goal
 
 abbrev pub invariant-loop-q : goal.invariant-loop-q

@@ -1,5 +1,4 @@
 use Rattle.spec_view_events.specs.Chain.{mark_entered, mark_exited}
-use borrow.Author.Rules.{rules}
 use Rattle.view_test.proofs.mark.Goals as goal
 
 pub returns-then-x-lt-TASKS : goal.returns-then-x-lt-TASKS

@@ -2,7 +2,6 @@ use Rattle.spec_view_events.specs.Run.{four_ones}
 use Rattle.spec_words.specs.Words.{load, both_on, both_off}
 use borrow.Author.Tests.{eq-eqb, ne_eqb}
 use mathlib.Core.Path.{sym, ◌∙◌}
-use borrow.Author.Rules.{rules}
 use Rattle.view_test.proofs.ones.Goals as goal
 
 pub returns-then-w-a-ne1 : goal.returns-then-w-a-ne1

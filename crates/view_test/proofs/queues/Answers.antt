@@ -2,7 +2,6 @@
 use Rattle.spec_view_events.specs.Events.{queues_at}
 use Rattle.spec_view_events.specs.Chain.{follow, end, queue_first, queue_later}
 use borrow.Author.Tests.{not-true, not-false}
-use borrow.Author.Rules.{rules}
 use Rattle.std.proofs.Common.{ap, not}
 use Rattle.view_test.proofs.queues.Goals as goal
 

@@ -1,7 +1,6 @@
 use Rattle.spec_view_events.specs.Chain.{follow, end, kind_none}
 use borrow.Author.Tests.{not-true, not-false}
 use mathlib.Core.Path.{refl}
-use borrow.Author.Rules.{rules}
 use Rattle.std.proofs.Common.{ap, not}
 use Rattle.view_test.proofs.right.Goals as goal
 

@@ -1,7 +1,6 @@
 use Rattle.spec_view_events.specs.Groups.{full_blank}
 use Prim.Native.Nat.{◌+◌}
 use native.Mathlib.Omega.{arith}
-use borrow.Author.Rules.{rules}
 use Rattle.view_test.proofs.shared.Goals as goal
 
 pub returns : goal.returns

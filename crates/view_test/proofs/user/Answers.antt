@@ -1,5 +1,4 @@
 use Rattle.spec_view_events.specs.Chain.{kind_none}
-use borrow.Author.Rules.{rules}
 use Rattle.view_test.proofs.user.Goals as goal
 
 pub returns-then-empty : goal.returns-then-empty

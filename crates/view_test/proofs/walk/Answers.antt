@@ -1,10 +1,6 @@
 use Rattle.spec_view_events.specs.Walk.{walk_stop, walk_more, walk_done}
-use Rattle.spec_view_events.specs.Run.{run}
-use Rattle.spec_view_events.specs.Events.{events}
-use Rattle.spec_rules.specs.Contents.{decode}
-use lib.ListN.{length, drop}
-use Prim.Native.Nat.{◌≤◌, ◌-◌}
-use mathlib.Core.Path.{◌≡◌, refl, ◌∙◌}
+use Prim.Native.Nat.{◌-◌}
+use mathlib.Core.Path.{refl, ◌∙◌}
 use borrow.Author.Tests.{not-true, not-false}
 use borrow.Author.Rules.{rules}
 use native.Mathlib.Omega.{arith}

@@ -1,15 +1,10 @@
 -- Running the events of the marks from i on, from the state so far, says what running all from the start says.
-use Rattle.spec_view_events.specs.Walk.{walk_stop, walk_more, walk_done}
 use Rattle.spec_view_events.specs.Run.{run}
 use Rattle.spec_view_events.specs.Events.{events}
 use Rattle.spec_rules.specs.Contents.{decode}
 use lib.ListN.{length, drop}
 use Prim.Native.Nat.{◌≤◌, ◌-◌}
-use mathlib.Core.Path.{◌≡◌, refl, ◌∙◌}
-use borrow.Author.Tests.{not-true, not-false}
-use borrow.Author.Rules.{rules}
-use native.Mathlib.Omega.{arith}
-use Rattle.std.proofs.Common.{ap, not}
+use mathlib.Core.Path.{◌≡◌}
 use Rattle.view_test.proofs.walk.Given as goal
 
 abbrev pub invariant-loop-i : goal.invariant-loop-i

@@ -4,7 +4,6 @@ use Rattle.spec_layout.specs.Layout.{read, address}
 use Rattle.spec_words.specs.Words.{load, both_on, both_off}
 use borrow.Author.Tests.{eq-eqb, ne_eqb, not-true, not-false}
 use mathlib.Core.Path.{sym, ◌∙◌}
-use borrow.Author.Rules.{rules}
 use Rattle.std.proofs.Common.{ap, not}
 use Rattle.view_test.proofs.whole.Goals as goal
 

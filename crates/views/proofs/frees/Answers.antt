@@ -1,7 +1,6 @@
 use mathlib.Core.Path.{sym, ◌∙◌}
 use borrow.Author.Tests.{not-true, not-false}
 use Rattle.views.proofs.Reduce.{keeps_left, keeps_right, keeps_apart, frees_empty}
-use borrow.Author.Rules.{rules}
 use Rattle.std.proofs.Common.{ap, not}
 use Rattle.views.proofs.frees.Goals as goal
 

@@ -1,6 +1,5 @@
 use mathlib.Core.Path.{sym, ◌∙◌}
 use Rattle.views.proofs.Reduce.{head_other, head_freed, head_kept}
-use borrow.Author.Rules.{rules}
 use Rattle.views.proofs.head_behind.Goals as goal
 
 pub returns-then-h-e1 : goal.returns-then-h-e1

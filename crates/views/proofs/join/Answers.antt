@@ -1,7 +1,6 @@
 -- The four cases of the definition: nothing to join, nothing there, both ends local and linked, or non-local.
 use mathlib.Core.Path.{sym, ◌∙◌}
 use Rattle.views.proofs.Memory.{join_nothing, join_first, join_local, join_apart}
-use borrow.Author.Rules.{rules}
 use Rattle.views.proofs.join.Goals as goal
 
 pub returns-then-is_empty : goal.returns-then-is_empty

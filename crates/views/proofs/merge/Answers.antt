@@ -1,5 +1,4 @@
 use Rattle.views.proofs.Memory.{merge_two}
-use borrow.Author.Rules.{rules}
 use Rattle.views.proofs.merge.Goals as goal
 
 pub returns : goal.returns

@@ -1,6 +1,5 @@
 use mathlib.Core.Path.{sym, ◌∙◌}
 use Rattle.views.proofs.Reduce.{right_alone, left_alone, tail_reduced, tail_is}
-use borrow.Author.Rules.{rules}
 use Rattle.views.proofs.reduced_tail.Goals as goal
 
 pub returns-then-is_empty : goal.returns-then-is_empty

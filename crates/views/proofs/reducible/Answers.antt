@@ -1,6 +1,5 @@
 use mathlib.Core.Path.{sym, ◌∙◌}
 use Rattle.views.proofs.Reduce.{left_empty, right_empty, apart, half, distinct}
-use borrow.Author.Rules.{rules}
 use Rattle.views.proofs.reducible.Goals as goal
 
 pub returns-then-is_empty : goal.returns-then-is_empty

@@ -1,5 +1,4 @@
 use Rattle.views.proofs.Memory.{view_set}
-use borrow.Author.Rules.{rules}
 use Rattle.views.proofs.set_view.Goals as goal
 
 pub returns : goal.returns

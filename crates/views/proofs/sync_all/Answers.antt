@@ -1,5 +1,4 @@
 use Rattle.views.proofs.Memory.{sync_four}
-use borrow.Author.Rules.{rules}
 use Rattle.views.proofs.sync_all.Goals as goal
 
 pub returns : goal.returns

@@ -1,5 +1,4 @@
 use Rattle.views.proofs.Memory.{sync_one}
-use borrow.Author.Rules.{rules}
 use Rattle.views.proofs.sync_queue.Goals as goal
 
 pub returns : goal.returns

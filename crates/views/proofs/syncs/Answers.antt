@@ -1,5 +1,4 @@
 use Rattle.views.proofs.Memory.{sync_allowed}
-use borrow.Author.Rules.{rules}
 use Rattle.views.proofs.syncs.Goals as goal
 
 pub returns : goal.returns

@@ -1,5 +1,4 @@
 use Rattle.walks.proofs.Tour.{entered_counts, head_counts, tail_counts}
-use borrow.Author.Rules.{rules}
 use Rattle.walks.proofs.counts.Goals as goal
 
 pub returns-then-x-le-TASKS : goal.returns-then-x-le-TASKS

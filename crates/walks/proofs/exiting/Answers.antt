@@ -2,7 +2,6 @@ use mathlib.Core.Path.{refl, sym}
 use borrow.Author.Tests.{lt-ltb, le-ltb}
 use Rattle.spec_words.specs.Words.{pass, halt}
 use Rattle.spec_tree.specs.Tour.{exiting}
-use borrow.Author.Rules.{rules}
 use Rattle.walks.proofs.exiting.Goals as goal
 
 pub returns-then-p-lt-TASKS : goal.returns-then-p-lt-TASKS

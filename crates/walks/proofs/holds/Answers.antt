@@ -1,7 +1,6 @@
 use Rattle.walks.specs.Asked.{asked}
 use Rattle.walks.specs.declared.Asks.TheVariants.{Pushes, TakesPart, Stands}
 use Rattle.walks.proofs.Tour.{asks_same}
-use borrow.Author.Rules.{rules}
 use Rattle.walks.proofs.holds.Goals as goal
 
 pub returns-in-Pushes : goal.returns-in-Pushes

@@ -1,11 +1,4 @@
-use mathlib.Core.Path.{◌≡◌, refl, ◌∙◌}
-use mathlib.Core.Bool.{not}
-use lib.Dec.{eqb}
-use native.Mathlib.Omega.{arith}
-use Rattle.spec_words.specs.Words.{both}
-use Rattle.spec_layout.specs.Layout.{rights_of, record_of}
-use Rattle.spec_tree.specs.Tour.{oldest}
-use Rattle.spec_tree.specs.Rights.{pops}
+use mathlib.Core.Path.{◌∙◌}
 use Rattle.walks.specs.Steps.{oldest_none, oldest_end, oldest_on}
 use Rattle.walks.proofs.oldest_popping.Goals as goal
 

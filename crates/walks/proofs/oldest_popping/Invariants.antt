@@ -1,13 +1,11 @@
 -- d is the oldest so far; going on from c gives what going through all siblings gives.
-use mathlib.Core.Path.{◌≡◌, refl, ◌∙◌}
+use mathlib.Core.Path.{◌≡◌}
 use mathlib.Core.Bool.{not}
 use lib.Dec.{eqb}
-use native.Mathlib.Omega.{arith}
 use Rattle.spec_words.specs.Words.{both}
 use Rattle.spec_layout.specs.Layout.{rights_of, record_of}
 use Rattle.spec_tree.specs.Tour.{oldest}
 use Rattle.spec_tree.specs.Rights.{pops}
-use Rattle.walks.specs.Steps.{oldest_none, oldest_end, oldest_on}
 use Rattle.walks.proofs.oldest_popping.Given as goal
 
 abbrev pub invariant-loop-n : goal.invariant-loop-n

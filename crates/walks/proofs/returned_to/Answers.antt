@@ -1,5 +1,4 @@
 use Rattle.walks.proofs.Tour.{returned_part, returned_stands}
-use borrow.Author.Rules.{rules}
 use Rattle.walks.proofs.returned_to.Goals as goal
 
 pub after-x-requires : goal.after-x-requires

@@ -1,8 +1,4 @@
-use mathlib.Core.Path.{◌≡◌, refl, sym, ◌∙◌}
-use native.Mathlib.Omega.{arith}
-use Rattle.spec_layout.specs.Layout.{record_of}
-use Rattle.spec_tree.specs.Tour.{MARKS, seek}
-use Rattle.walks.specs.Asked.{asked}
+use mathlib.Core.Path.{sym, ◌∙◌}
 use Rattle.walks.specs.Steps.{seek_none, seek_end, seek_here, seek_on}
 use Rattle.walks.proofs.seek.Goals as goal
 

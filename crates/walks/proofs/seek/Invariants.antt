@@ -1,10 +1,8 @@
 -- No mark before x answers the question, so seeking from x gives what seeking from the start gives.
-use mathlib.Core.Path.{◌≡◌, refl, sym, ◌∙◌}
-use native.Mathlib.Omega.{arith}
+use mathlib.Core.Path.{◌≡◌}
 use Rattle.spec_layout.specs.Layout.{record_of}
 use Rattle.spec_tree.specs.Tour.{MARKS, seek}
 use Rattle.walks.specs.Asked.{asked}
-use Rattle.walks.specs.Steps.{seek_none, seek_end, seek_here, seek_on}
 use Rattle.walks.proofs.seek.Given as goal
 
 abbrev pub invariant-loop-n : goal.invariant-loop-n

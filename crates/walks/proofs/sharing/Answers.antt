@@ -1,8 +1,5 @@
 use Prim.Native.Nat.{ℕ}
-use mathlib.Core.Path.{◌≡◌, refl, sym, ◌∙◌, ap}
-use native.Mathlib.Omega.{arith}
-use Rattle.spec_layout.specs.Layout.{rights_of, record_of}
-use Rattle.spec_tree.specs.Tour.{sibling}
+use mathlib.Core.Path.{sym, ◌∙◌, ap}
 use Rattle.spec_tree.specs.Rights.{shares_pop}
 use Rattle.walks.specs.Steps.{sibling_none, sibling_end, sibling_here, sibling_on}
 use Rattle.walks.proofs.sharing.Goals as goal

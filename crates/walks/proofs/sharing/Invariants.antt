@@ -1,11 +1,8 @@
 -- No sibling before c shares a right, so seeking from c gives what seeking from the first gives.
-use Prim.Native.Nat.{ℕ}
-use mathlib.Core.Path.{◌≡◌, refl, sym, ◌∙◌, ap}
-use native.Mathlib.Omega.{arith}
+use mathlib.Core.Path.{◌≡◌}
 use Rattle.spec_layout.specs.Layout.{rights_of, record_of}
 use Rattle.spec_tree.specs.Tour.{sibling}
 use Rattle.spec_tree.specs.Rights.{shares_pop}
-use Rattle.walks.specs.Steps.{sibling_none, sibling_end, sibling_here, sibling_on}
 use Rattle.walks.proofs.sharing.Given as goal
 
 abbrev pub invariant-loop-n : goal.invariant-loop-n

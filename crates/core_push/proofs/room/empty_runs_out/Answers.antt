@@ -1,6 +1,5 @@
 use native.Mathlib.Omega.{arith}
 use Rattle.core_push.proofs.RunsOut.{few_values, none_free, enough, too_few, by_link}
-use borrow.Author.Rules.{rules}
 use Rattle.core_push.proofs.room.empty_runs_out.Goals as goal
 
 pub returns-then-f-eq0 : goal.returns-then-f-eq0

@@ -1,5 +1,4 @@
 use Rattle.core_push.proofs.RunsOut.{tail_count, not_local, tail_fits}
-use borrow.Author.Rules.{rules}
 use Rattle.core_push.proofs.room.fits_tail.Goals as goal
 
 pub returns-then-e-ge-NL : goal.returns-then-e-ge-NL

@@ -1,5 +1,4 @@
 use Rattle.core_push.proofs.RunsOut.{link_is}
-use borrow.Author.Rules.{rules}
 use Rattle.core_push.proofs.room.link_frees.Goals as goal
 
 pub returns : goal.returns

@@ -1,7 +1,6 @@
 use mathlib.Core.Path.{sym, ◌∙◌, refl}
 use native.Mathlib.Omega.{arith}
 use Rattle.core_push.proofs.RunsOut.{few_values, tail_count, empty_same, ends_away_lem, by_tail}
-use borrow.Author.Rules.{rules}
 use Rattle.core_push.proofs.room.runs_out.Goals as goal
 
 pub empty_runs_out-requires : goal.empty_runs_out-requires

@@ -1,6 +1,5 @@
 use mathlib.Core.Path.{ap, ◌∙◌}
 use Rattle.hyperqueue.specs.Packed.{packed}
-use borrow.Author.Rules.{rules}
 use Rattle.hyperqueue.proofs.jobs.hq_job_test.Goals as goal
 
 pub returns : goal.returns

@@ -1,5 +1,4 @@
 use Rattle.hyperqueue.specs.Replays.{replay_handed}
-use borrow.Author.Rules.{rules}
 use Rattle.hyperqueue.proofs.replays.hq_replay.Goals as goal
 
 pub returns : goal.returns

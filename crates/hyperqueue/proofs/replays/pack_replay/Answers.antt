@@ -1,6 +1,5 @@
 use Rattle.hyperqueue.specs.Replays.{packs}
 use native.Mathlib.Omega.{arith}
-use borrow.Author.Rules.{rules}
 use Rattle.hyperqueue.proofs.replays.pack_replay.Goals as goal
 
 pub returns-in-Agrees : goal.returns-in-Agrees

@@ -1,5 +1,4 @@
 use Rattle.hyperqueue.specs.Steps.{step_handed}
-use borrow.Author.Rules.{rules}
 use Rattle.hyperqueue.proofs.runs.hq_job_open.Goals as goal
 
 pub returns-then-k-ne0 : goal.returns-then-k-ne0

@@ -1,5 +1,4 @@
 use Rattle.hyperqueue.specs.Steps.{map_handed}
-use borrow.Author.Rules.{rules}
 use Rattle.hyperqueue.proofs.runs.hq_job_ready.Goals as goal
 
 pub returns : goal.returns

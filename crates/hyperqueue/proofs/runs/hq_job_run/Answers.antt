@@ -1,5 +1,4 @@
 use Rattle.hyperqueue.specs.Steps.{list_handed}
-use borrow.Author.Rules.{rules}
 use Rattle.hyperqueue.proofs.runs.hq_job_run.Goals as goal
 
 pub returns : goal.returns

@@ -1,6 +1,5 @@
 use mathlib.Core.Path.{refl}
 use Rattle.hyperqueue.specs.Simulations.{simulation_handed}
-use borrow.Author.Rules.{rules}
 use Rattle.hyperqueue.proofs.simulations.hq_simulate.Goals as goal
 
 pub returns : goal.returns

@@ -1,11 +1,8 @@
 -- The words before i are copied, the others as found.
-use mathlib.Core.Path.{◌≡◌, refl, ◌∙◌}
+use mathlib.Core.Path.{◌≡◌}
 use mathlib.Core.List.{◌++◌}
 use Prim.Native.Nat.{◌-◌, ◌≤◌}
-use native.Mathlib.Omega.{arith}
-use lib.ListN.{length, take, drop, length-set}
-use borrow.Author.Rules.{rules}
-use Rattle.segments.proofs.Copying.{copy_more, copy_done}
+use lib.ListN.{length, take, drop}
 use Rattle.segments.proofs.ring.copy.Given as goal
 
 abbrev pub invariant-loop-i : goal.invariant-loop-i

@@ -1,6 +1,5 @@
 -- The two branches are the run in one part and the run in two.
 use Rattle.segments.proofs.Rings.{one_part, two_parts}
-use borrow.Author.Rules.{rules}
 use Rattle.segments.proofs.ring.fill.Goals as goal
 
 pub returns-then-k-x : goal.returns-then-k-x

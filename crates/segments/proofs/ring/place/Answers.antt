@@ -1,6 +1,5 @@
 use mathlib.Core.Path.{sym}
 use Rattle.spec_outcomes.specs.Places.{place_low, place_high, place_past}
-use borrow.Author.Rules.{rules}
 use Rattle.segments.proofs.ring.place.Goals as goal
 
 pub returns-then-p-n : goal.returns-then-p-n
