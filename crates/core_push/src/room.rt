@@ -40,7 +40,8 @@ fn empty_runs_out(m: &[u32], t: u32, q: u32, n: usize) -> bool
     if n <= most {
         return false;
     }
-    if most + l < n {
+    let longest = most + l;
+    if longest < n {
         return true;
     }
     !link_frees(m, t, q)

@@ -28,14 +28,14 @@ pub loop-i-preserved-in-Moves : goal.loop-i-preserved-in-Moves
 loop-i-preserved-in-Moves c =
     let b = c.loop-i-test.true in (
       c.choose_one-x.auto.ends ∙ c.loop-i.invariant.0,
-      chooses_move _ _ _ _ _ _ _ _ c.loop-i.invariant.1 (search rules) (omega (arith, b)) c.get.ensures c.choose_one-x.ensures c.in-Moves.is,
+      chooses_move _ _ _ _ _ _ _ _ c.loop-i.invariant.1 (omega arith) (omega (arith, b)) c.get.ensures c.choose_one-x.ensures c.in-Moves.is,
     )
 
 pub loop-i-preserved : goal.loop-i-preserved
 loop-i-preserved c =
     let b = c.loop-i-test.true in (
       c.choose_one-x.auto.ends ∙ c.loop-i.invariant.0,
-      chooses_wait _ _ _ _ _ _ _ _ c.loop-i.invariant.1 (search rules) (omega (arith, b)) c.get.ensures c.choose_one-x.ensures c.in-Waits.is,
+      chooses_wait _ _ _ _ _ _ _ _ c.loop-i.invariant.1 (omega arith) (omega (arith, b)) c.get.ensures c.choose_one-x.ensures c.in-Waits.is,
     )
 
 pub shape_of-ends-in-Refused : goal.shape_of-ends-in-Refused
@@ -44,7 +44,7 @@ shape_of-ends-in-Refused c = c.choose_one-x.auto.ends ∙ c.loop-i.invariant.0
 pub returns-in-Refused : goal.returns-in-Refused
 returns-in-Refused c =
     let b = c.loop-i-test.true in
-    chooses_stop _ _ _ _ _ _ _ _ c.loop-i.invariant.1 (search rules) (omega (arith, b)) c.get.ensures c.choose_one-x.ensures _ c.in-Refused.is c.is_over.ensures
+    chooses_stop _ _ _ _ _ _ _ _ c.loop-i.invariant.1 (omega arith) (omega (arith, b)) c.get.ensures c.choose_one-x.ensures _ c.in-Refused.is c.is_over.ensures
 
 pub shape_of-ends : goal.shape_of-ends
 shape_of-ends c = c.loop-i.invariant.0

@@ -15,19 +15,19 @@ returns-then-n-most c =
     enough _ _ _ _ c.requires.3 c.free_segments-f.ensures
     c.if-f-eq0.false c.next_free.ensures c.length_of-l.ensures c.if-n-most.true
 
-pub overflow_add-most : goal.overflow_add-most
-overflow_add-most c =
+pub overflow_add-longest : goal.overflow_add-longest
+overflow_add-longest c =
     let w = few_values _ _ _ c.next_free.result _ _ c.requires.0
     c.free_segments-f.ensures c.length_of-l.ensures in let a = w.0 in let b = w.1 in omega (arith, a, b)
 
-pub returns-then-most-l : goal.returns-then-most-l
-returns-then-most-l c =
+pub returns-then-longest-n : goal.returns-then-longest-n
+returns-then-longest-n c =
     too_few _ _ _ _ c.requires.3 c.free_segments-f.ensures
-    c.if-f-eq0.false c.next_free.ensures c.length_of-l.ensures c.if-most-l.true
+    c.if-f-eq0.false c.next_free.ensures c.length_of-l.ensures c.if-longest-n.true
 
 pub returns : goal.returns
 returns c =
     by_link _ _ _ _ c.requires.3
     c.free_segments-f.ensures c.if-f-eq0.false
     c.next_free.ensures c.length_of-l.ensures c.if-n-most.false
-    c.if-most-l.false c.link_frees.ensures
+    c.if-longest-n.false c.link_frees.ensures
