@@ -21,10 +21,9 @@ use spec_answers::Answer;
 fn link_younger(m: &mut [u32], o: u32, y: u32)
     ensures { m.new ≡ pick (eqb o NONE) m.old (write m.old (task o YOUNGER) y) }
 {
-    if o == NONE {
-        return;
+    if o != NONE {
+        memory::set_younger(m, o, y);
     }
-    memory::set_younger(m, o, y);
 }
 
 // Task t leaves the list of its siblings.
@@ -37,9 +36,9 @@ fn unlink(m: &mut [u32], t: u32)
     link_younger(m, o, y);
     if y == NONE {
         memory::set_youngest(m, p, o);
-        return;
+    } else {
+        memory::set_older(m, y, o);
     }
-    memory::set_older(m, y, o);
 }
 
 fn clear_record(m: &mut [u32], t: u32)
@@ -57,11 +56,10 @@ fn record_freed(m: &mut [u32], t: u32)
 {
     let h = memory::free_tasks(m);
     clear_record(m, t);
-    if TASKS <= h {
-        return;
+    if h < TASKS {
+        memory::set_free_task(m, h, t);
+        memory::set_free_tasks(m, h + 1);
     }
-    memory::set_free_task(m, h, t);
-    memory::set_free_tasks(m, h + 1);
 }
 
 // What finish leaves of the memory.
@@ -88,98 +86,48 @@ fn top_finished(m: &mut [u32])
 pub fn each_syncs(m: &[u32], t: u32) -> bool
     ensures { result ≡ each_queue (syncs m.now t) }
 {
-    if !views::syncs(m, t, 0) {
-        return false;
-    }
-    if !views::syncs(m, t, 1) {
-        return false;
-    }
-    if !views::syncs(m, t, 2) {
-        return false;
-    }
-    views::syncs(m, t, 3)
+    views::syncs(m, t, 0)
+        && views::syncs(m, t, 1)
+        && views::syncs(m, t, 2)
+        && views::syncs(m, t, 3)
 }
 
 pub fn each_finishes(m: &[u32], t: u32) -> bool
     requires { t < 128 }
     ensures { result ≡ each_queue (finishes m.now t) }
 {
-    if !core_return::finishes(m, t, 0) {
-        return false;
-    }
-    if !core_return::finishes(m, t, 1) {
-        return false;
-    }
-    if !core_return::finishes(m, t, 2) {
-        return false;
-    }
-    core_return::finishes(m, t, 3)
+    core_return::finishes(m, t, 0)
+        && core_return::finishes(m, t, 1)
+        && core_return::finishes(m, t, 2)
+        && core_return::finishes(m, t, 3)
 }
 
-// The children are asked first: that takes no walk.
-fn waits(m: &[u32], t: u32) -> bool
-    ensures { result ≡ either (blocked m.now t) (has_child m.now t) }
-{
-    if walks::has_child(m, t) {
-        return true;
-    }
-    walks::blocked(m, t)
-}
-
-// What is asked of a task that no sibling and no child keeps waiting.
-#[derive(Clone, Copy)]
-enum Call {
-    Sync,
-    FinishTop,
-    Finish,
-}
-
-// The paper has the reductions of the call.
-fn allowed(m: &[u32], c: Call, t: u32) -> bool
-    requires { t < 128 }
-    ensures { result ≡ allowed c m.now t }
-{
-    match c {
-        Call::Sync => each_syncs(m, t),
-        Call::FinishTop => each_syncs(m, t),
-        Call::Finish => each_finishes(m, t),
-    }
-}
-
-fn change(m: &mut [u32], c: Call, t: u32)
-    requires { (t < 128) × (c ≡ Finish → length m.old ≡ 16384) }
-    ensures { m.new ≡ changed c m.old t }
-{
-    match c {
-        Call::Sync => views::sync_all(m, t),
-        Call::FinishTop => top_finished(m),
-        Call::Finish => finished(m, t),
-    }
-}
-
-fn answer(m: &mut [u32], c: Call, t: u32) -> Answer
-    requires { c ≡ Finish → length m.old ≡ 16384 }
-    ensures { outcome result m.new
-        ≡ when_reduced m.old t (allowed c m.old t) (outcome (Moved 0) (changed c m.old t)) }
+// Why task t may neither sync nor finish: it is not unfinished, or it waits for a child or an older sibling. The children are asked first:
+// that takes no walk.
+fn held(m: &[u32], t: u32) -> Option<Answer>
+    ensures { held_by result ≡ holding m.now t }
 {
     if !walks::unfinished(m, t) {
-        return Answer::Refused(4);
+        return Some(Answer::Refused(4));
     }
-    if waits(m, t) {
-        return Answer::Waits;
+    if walks::has_child(m, t) || walks::blocked(m, t) {
+        return Some(Answer::Waits);
     }
-    if !allowed(m, c, t) {
-        return Answer::Refused(2);
-    }
-    change(m, c, t);
-    Answer::Moved(0)
+    None
 }
 
 // Sync, on memory whose length and rules have been tested.
 pub fn sync(m: &mut [u32], t: u32) -> Answer
     ensures { outcome result m.new ≡ sync_tested m.old t }
 {
-    answer(m, Call::Sync, t)
+    if let Some(a) = held(m, t) {
+        return a;
+    }
+    if !each_syncs(m, t) {
+        return Answer::Refused(2);
+    }
+    views::sync_all(m, t);
+    Answer::Moved(0)
 }
 
 // Finish, on memory whose length and rules have been tested.
@@ -187,8 +135,15 @@ pub fn finish(m: &mut [u32], t: u32) -> Answer
     requires { length m.old ≡ 16384 }
     ensures { outcome result m.new ≡ finish_tested m.old t }
 {
-    if t == 0 {
-        return answer(m, Call::FinishTop, 0);
+    if let Some(a) = held(m, t) {
+        return a;
     }
-    answer(m, Call::Finish, t)
+    if t == 0 {
+        return finish_top(m);
+    }
+    if !each_finishes(m, t) {
+        return Answer::Refused(2);
+    }
+    finished(m, t);
+    Answer::Moved(0)
 }
