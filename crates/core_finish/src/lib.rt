@@ -1,18 +1,15 @@
 // sync (task) and finish (task)
-#![tactic(auto)]
+#![tactic(auto, unfolding(spec_words::specs::Words::both, spec_words::specs::Words::either, spec_words::specs::Words::pick, spec_tree::specs::Rights::each_queue, spec_outcomes::specs::Waits::unfinished, spec_outcomes::specs::Finish::unlinked, spec_outcomes::specs::Finish::freed_record, spec_outcomes::specs::Finish::finished, spec_outcomes::specs::Finish::top_finished, spec_outcomes::specs::Finish::finish_tested, spec_outcomes::specs::Sync::when_reduced, spec_outcomes::specs::Sync::sync_tested, crate::specs::Held::held))]
 
-ghost use Rattle.std.specs.Prelude.{◌≡◌, ◌<◌, eqb, length, replicate};
-ghost use Rattle.spec_words.specs.Words.{pick, either};
+ghost use Rattle.std.specs.Prelude.{◌≡◌, ◌<◌, eqb, length, replicate, None};
+ghost use Rattle.spec_words.specs.Words.{pick};
 ghost use Rattle.spec_words.specs.Blocks.{store_all};
 ghost use Rattle.spec_layout.specs.Layout.{NONE, YOUNGER, task, address, write};
-ghost use Rattle.spec_answers.specs.declared.Answer.TheVariants.{Moved};
 ghost use Rattle.spec_answers.specs.Answers.Outcome.{outcome};
 ghost use Rattle.spec_tree.specs.Rights.{each_queue};
-ghost use Rattle.spec_outcomes.specs.Waits.{blocked, has_child};
-ghost use Rattle.spec_outcomes.specs.Sync.{syncs, when_reduced, sync_tested};
+ghost use Rattle.spec_outcomes.specs.Sync.{syncs, sync_tested};
 ghost use Rattle.spec_outcomes.specs.Finish.{finishes, unlinked, freed_record, finished, top_finished, finish_tested};
-ghost use Rattle.core_finish.specs.declared.Call.TheVariants.{Finish};
-ghost use Rattle.core_finish.specs.Calls.{allowed, changed};
+ghost use Rattle.core_finish.specs.Held.{held};
 
 use layout::{FINISHED, NONE, TASK_RECORDS, TASK_WORDS, TASKS};
 use spec_answers::Answer;
@@ -41,6 +38,7 @@ fn unlink(m: &mut [u32], t: u32)
     }
 }
 
+#[tactic(auto, using(crate::proofs::Records::record_cleared))]
 fn clear_record(m: &mut [u32], t: u32)
     requires { (length m.old ≡ 16384) × (t < 128) }
     ensures { m.new ≡ store_all m.old (address (task t 0)) (replicate 48 0) }
@@ -86,10 +84,7 @@ fn top_finished(m: &mut [u32])
 pub fn each_syncs(m: &[u32], t: u32) -> bool
     ensures { result ≡ each_queue (syncs m.now t) }
 {
-    views::syncs(m, t, 0)
-        && views::syncs(m, t, 1)
-        && views::syncs(m, t, 2)
-        && views::syncs(m, t, 3)
+    views::syncs(m, t, 0) && views::syncs(m, t, 1) && views::syncs(m, t, 2) && views::syncs(m, t, 3)
 }
 
 pub fn each_finishes(m: &[u32], t: u32) -> bool
@@ -105,7 +100,7 @@ pub fn each_finishes(m: &[u32], t: u32) -> bool
 // Why task t may neither sync nor finish: it is not unfinished, or it waits for a child or an older sibling. The children are asked first:
 // that takes no walk.
 fn held(m: &[u32], t: u32) -> Option<Answer>
-    ensures { held_by result ≡ holding m.now t }
+    ensures { (result ≡ held m.now t) × (result ≡ None → t < 128) }
 {
     if !walks::unfinished(m, t) {
         return Some(Answer::Refused(4));
@@ -138,12 +133,18 @@ pub fn finish(m: &mut [u32], t: u32) -> Answer
     if let Some(a) = held(m, t) {
         return a;
     }
-    if t == 0 {
-        return finish_top(m);
-    }
-    if !each_finishes(m, t) {
+    let reduces = if t == 0 {
+        each_syncs(m, t)
+    } else {
+        each_finishes(m, t)
+    };
+    if !reduces {
         return Answer::Refused(2);
     }
-    finished(m, t);
+    if t == 0 {
+        top_finished(m);
+    } else {
+        finished(m, t);
+    }
     Answer::Moved(0)
 }
