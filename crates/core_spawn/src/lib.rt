@@ -1,8 +1,7 @@
 // spawn (task, rights)
-#![tactic(auto)]
+#![tactic(auto, unfolding(spec_words::specs::Words::pick, spec_outcomes::specs::Spawn::passed_user, spec_outcomes::specs::Spawn::kept_user, spec_outcomes::specs::Spawn::for_queues, spec_outcomes::specs::Spawn::child_made, spec_outcomes::specs::Spawn::spawned, spec_outcomes::specs::Spawn::spawn_tested))]
 
 ghost use Rattle.std.specs.Prelude.{◌≡◌, ◌+◌, ◌<◌, ◌≤◌};
-ghost use Rattle.spec_words.specs.Words.{pick};
 ghost use Rattle.spec_words.specs.Blocks.{store_all};
 ghost use Rattle.spec_layout.specs.Layout.{task, address, read};
 ghost use Rattle.spec_outcomes.specs.Spawn.{for_queues, passed_user, kept_user, no_words, child_views, passed_on, child_made, spawn_tested};
@@ -14,18 +13,16 @@ use layout::{
 };
 use spec_answers::Answer;
 
-fn choose(b: bool, v: u32, w: u32) -> u32
-    ensures { result ≡ pick b v w }
-{
-    if b { v } else { w }
-}
-
 // What the child gets of word k + q of the record of t: the word where a has a right to q.
 fn passed(m: &[u32], t: u32, a: u32, k: u32, q: u32) -> u32
     requires { (q < 4) × (k ≤ 40) }
     ensures { result ≡ passed_user a (read m.now (task t (k + q))) q }
 {
-    choose(rights::uses(a, q), memory::task(m, t, k + q), NONE)
+    if rights::uses(a, q) {
+        memory::task(m, t, k + q)
+    } else {
+        NONE
+    }
 }
 
 // What t keeps of it.
@@ -33,7 +30,11 @@ fn kept(m: &[u32], t: u32, a: u32, k: u32, q: u32) -> u32
     requires { (q < 4) × (k ≤ 40) }
     ensures { result ≡ kept_user a (read m.now (task t (k + q))) q }
 {
-    choose(rights::uses(a, q), NONE, memory::task(m, t, k + q))
+    if rights::uses(a, q) {
+        NONE
+    } else {
+        memory::task(m, t, k + q)
+    }
 }
 
 // The four words from word k on of the record of child c of t.
@@ -97,10 +98,9 @@ fn make_child(m: &mut [u32], t: u32, r: u32, c: u32)
     child_views(m, c, t, r);
     pass_on(m, t, r);
     memory::set_youngest(m, t, c);
-    if o == NONE {
-        return;
+    if o != NONE {
+        memory::set_younger(m, o, c);
     }
-    memory::set_younger(m, o, c);
 }
 
 // On any words; what the rules promise is tested by the calls before.
