@@ -1,5 +1,5 @@
 // left (queue, index)
-#![tactic(auto)]
+#![tactic(auto, unfolding(spec_words::specs::Words::pick, spec_outcomes::specs::Left::left_tested))]
 
 ghost use Rattle.std.specs.Prelude.{◌≡◌};
 ghost use Rattle.spec_answers.specs.Answers.Outcome.{outcome};
@@ -14,8 +14,7 @@ fn queued(m: &[u32], first: u32, index: u32) -> Answer
 {
     let mut s = first;
     let mut i = index;
-    let mut k: u32 = SEGMENTS;
-    while 0 < k {
+    for _ in 0..SEGMENTS {
         if s >= NL {
             return Answer::Refused(7);
         }
@@ -25,7 +24,6 @@ fn queued(m: &[u32], first: u32, index: u32) -> Answer
         }
         i -= n;
         s = memory::next(m, s);
-        k -= 1;
     }
     Answer::Refused(7)
 }

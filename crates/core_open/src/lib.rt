@@ -1,5 +1,5 @@
 // open (length, segments)
-#![tactic(auto)]
+#![tactic(auto, unfolding(spec_words::specs::Words::pick, spec_words::specs::Words::both, spec_words::specs::Words::size, spec_rules::specs::Test::in_range, spec_rules::specs::Test::within, spec_outcomes::specs::Open::stacked, spec_outcomes::specs::Open::segmented, spec_outcomes::specs::Open::open_outcome))]
 
 ghost use Rattle.std.specs.Prelude.{◌≡◌, ◌+◌, ◌<◌, ◌≤◌, length};
 ghost use Rattle.spec_words.specs.Blocks.{store_all};
@@ -18,10 +18,8 @@ fn count_down(m: &mut [u32], a: usize, n: u32, x: u32)
     requires { (a ≤ 320) × (n ≤ 256) × (n ≤ x + 1) }
     ensures { m.new ≡ store_all m.old a (down n x) }
 {
-    let mut i: u32 = 0;
-    while i < n {
+    for i in 0..n {
         memory::put(m, a + i as usize, x - i);
-        i += 1;
     }
 }
 
