@@ -12,6 +12,7 @@ ghost use Rattle.spec_outcomes.specs.Finish.{finishes, unlinked, freed_record, f
 ghost use Rattle.core_finish.specs.Held.{held};
 
 use layout::{FINISHED, NONE, TASK_RECORDS, TASK_WORDS, TASKS};
+use refusals::Refusal;
 use spec_answers::Answer;
 
 // The older sibling o, if any, has y as its younger one.
@@ -103,7 +104,7 @@ fn held(m: &[u32], t: u32) -> Option<Answer>
     ensures { (result ≡ held m.now t) × (result ≡ None → t < 128) }
 {
     if !walks::unfinished(m, t) {
-        return Some(Answer::Refused(4));
+        return Some(Refusal::NoSuchTask.into());
     }
     if walks::has_child(m, t) || walks::blocked(m, t) {
         return Some(Answer::Waits);
@@ -119,7 +120,7 @@ pub fn sync(m: &mut [u32], t: u32) -> Answer
         return a;
     }
     if !each_syncs(m, t) {
-        return Answer::Refused(2);
+        return Refusal::RulesFail.into();
     }
     views::sync_all(m, t);
     Answer::Moved(0)
@@ -139,7 +140,7 @@ pub fn finish(m: &mut [u32], t: u32) -> Answer
         each_finishes(m, t)
     };
     if !reduces {
-        return Answer::Refused(2);
+        return Refusal::RulesFail.into();
     }
     if t == 0 {
         top_finished(m);

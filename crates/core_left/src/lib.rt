@@ -6,6 +6,7 @@ ghost use Rattle.spec_answers.specs.Answers.Outcome.{outcome};
 ghost use Rattle.spec_outcomes.specs.Left.{queued, left_tested};
 
 use layout::{FINISHED, NL, QUEUES, SEGMENTS};
+use refusals::Refusal;
 use spec_answers::Answer;
 
 // Value number `index` of the chain from segment `first` on.
@@ -16,7 +17,7 @@ fn queued(m: &[u32], first: u32, index: u32) -> Answer
     let mut i = index;
     for _ in 0..SEGMENTS {
         if s >= NL {
-            return Answer::Refused(7);
+            return Refusal::PastTheEnd.into();
         }
         let n = memory::count(m, s);
         if i < n {
@@ -25,7 +26,7 @@ fn queued(m: &[u32], first: u32, index: u32) -> Answer
         i -= n;
         s = memory::next(m, s);
     }
-    Answer::Refused(7)
+    Refusal::PastTheEnd.into()
 }
 
 // Left on memory that passes the rules, for a caller that may only read it.
@@ -33,7 +34,7 @@ pub fn left_at(m: &[u32], q: u32, i: u32) -> Answer
     ensures { outcome result m.now ≡ left_tested m.now q i }
 {
     if q >= QUEUES {
-        return Answer::Refused(5);
+        return Refusal::NoSuchQueue.into();
     }
     if memory::status(m, 0) != FINISHED {
         return Answer::Waits;

@@ -11,6 +11,7 @@ use layout::{
     ALL_RIGHTS, CHILDREN_HEADS, CHILDREN_TAILS, LAST_TASK, NL, NONE, QUEUE_HEADS, QUEUES,
     RIGHT_HEADS, RIGHT_TAILS, SEGMENT_STACK, TASK_STACK, UNFINISHED, USER_HEADS, USER_TAILS, WORDS,
 };
+use refusals::Refusal;
 use spec_answers::Answer;
 
 // n numbers from x down, from address a on.
@@ -80,10 +81,10 @@ pub fn open(m: &mut [u32], l: u32, n: u32) -> Answer
     ensures { outcome result m.new ≡ open_outcome m.old l n }
 {
     if m.len() != WORDS {
-        return Answer::Refused(1);
+        return Refusal::LengthWrong.into();
     }
     if !tree_test::in_range(l, n) {
-        return Answer::Refused(3);
+        return Refusal::NumbersWrong.into();
     }
     write_all(m, l, n);
     Answer::Moved(0)

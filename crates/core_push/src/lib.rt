@@ -15,6 +15,7 @@ ghost use Rattle.law_push_runs.specs.Pushable.{Pushable};
 ghost use Rattle.law_push_runs.specs.Runs.{Filled, pushed_words};
 
 use layout::{NL, QUEUES, USER, WORDS};
+use refusals::Refusal;
 use spec_answers::Answer;
 use views::View;
 
@@ -94,17 +95,17 @@ fn push_run(m: &mut [u32], t: u32, q: u32, vs: &[u32]) -> Answer
         return Answer::Moved(last);
     }
     if room::runs_out(m, t, q, n) {
-        return Answer::Refused(9);
+        return Refusal::NoSegment.into();
     }
     if user.tail < NL {
         push_rest(m, t, q, vs);
         return Answer::Moved(last);
     }
     if !user.is_empty() {
-        return Answer::Refused(2);
+        return Refusal::RulesFail.into();
     }
     if !push_apart(m, t, q, vs[0], walks::just_before(m, q, t)) {
-        return Answer::Refused(2);
+        return Refusal::RulesFail.into();
     }
     push_rest(m, t, q, &vs[1..]);
     Answer::Moved(last)
@@ -116,13 +117,13 @@ pub fn push(m: &mut [u32], t: u32, q: u32, vs: &[u32]) -> Answer
     ensures { outcome result m.new ≡ push_tested m.old t q vs.now }
 {
     if !walks::unfinished(m, t) {
-        return Answer::Refused(4);
+        return Refusal::NoSuchTask.into();
     }
     if q >= QUEUES {
-        return Answer::Refused(5);
+        return Refusal::NoSuchQueue.into();
     }
     if !rights::pushes(memory::rights(m, t), q) {
-        return Answer::Refused(6);
+        return Refusal::NoRight.into();
     }
     if walks::blocked(m, t) {
         return Answer::Waits;

@@ -11,6 +11,7 @@ use layout::{
     CHILDREN_HEADS, CHILDREN_TAILS, NONE, QUEUE_HEADS, RIGHT_HEADS, RIGHT_TAILS, UNFINISHED,
     USER_HEADS, USER_TAILS,
 };
+use refusals::Refusal;
 use spec_answers::Answer;
 
 // What the child gets of word k + q of the record of t: the word where a has a right to q.
@@ -108,17 +109,17 @@ pub fn spawn(m: &mut [u32], t: u32, r: u32) -> Answer
     ensures { outcome result m.new ≡ spawn_tested m.old t r }
 {
     if !walks::unfinished(m, t) {
-        return Answer::Refused(4);
+        return Refusal::NoSuchTask.into();
     }
     if !rights::subset(r, memory::rights(m, t)) {
-        return Answer::Refused(6);
+        return Refusal::NoRight.into();
     }
     if walks::blocked(m, t) {
         return Answer::Waits;
     }
     let h = memory::free_tasks(m);
     if h == 0 {
-        return Answer::Refused(8);
+        return Refusal::NoRecord.into();
     }
     let c = memory::free_task(m, h - 1);
     memory::set_free_tasks(m, h - 1);

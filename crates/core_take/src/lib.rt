@@ -7,6 +7,7 @@ ghost use Rattle.spec_answers.specs.Answers.Outcome.{outcome};
 ghost use Rattle.spec_outcomes.specs.Take.{has_value, finding, popped, take_tested};
 
 use layout::{NL, NONE, QUEUES};
+use refusals::Refusal;
 use spec_answers::{Answer, Finding};
 
 // The chain from the queue head of task t holds a value.
@@ -54,13 +55,13 @@ pub fn take(m: &mut [u32], t: u32, q: u32, keep: bool) -> Answer
     ensures { outcome result m.new ≡ take_tested m.old t q keep }
 {
     if !walks::unfinished(m, t) {
-        return Answer::Refused(4);
+        return Refusal::NoSuchTask.into();
     }
     if q >= QUEUES {
-        return Answer::Refused(5);
+        return Refusal::NoSuchQueue.into();
     }
     if !rights::pops(memory::rights(m, t), q) {
-        return Answer::Refused(6);
+        return Refusal::NoRight.into();
     }
     match find(m, t, q) {
         Finding::Value(v) => {

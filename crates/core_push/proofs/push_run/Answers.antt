@@ -29,10 +29,11 @@ returns-then-fits_tail c =
 
 pub returns-then-runs_out : goal.returns-then-runs_out
 returns-then-runs_out c =
-    run_refused _ _ _ _ c.requires.0
+    rw c.into.ensures
+    (run_refused _ _ _ _ c.requires.0
     c.requires.1
     c.requires.2 refl c.runs_out.ensures
-    c.if-runs_out.true
+    c.if-runs_out.true)
 
 pub push_rest-requires : goal.push_rest-requires
 push_rest-requires c =
@@ -57,14 +58,15 @@ returns-then-user-lt-NL c =
 
 pub returns-then-not-is_empty : goal.returns-then-not-is_empty
 returns-then-not-is_empty c =
-    ends_away_lem _ _ _ _
+    rw c.into-then-not-is_empty.ensures
+    (ends_away_lem _ _ _ _
     c.requires.0
     c.requires.1
     c.requires.2 refl
     c.runs_out.ensures c.if-runs_out.false
     c.if-n-eq0.false
     (user_tail _ _ _ _ c.of-user.ensures)
-    c.if-user-lt-NL.false (user_head _ _ _ _ c.of-user.ensures) c.is_empty.ensures (ap not c.if-not-is_empty.true)
+    c.if-user-lt-NL.false (user_head _ _ _ _ c.of-user.ensures) c.is_empty.ensures (ap not c.if-not-is_empty.true))
 
 pub push_apart-requires : goal.push_apart-requires
 push_apart-requires c =
@@ -82,7 +84,8 @@ push_apart-requires c =
 
 pub returns-then-not-push_apart : goal.returns-then-not-push_apart
 returns-then-not-push_apart c =
-    left_out _ _ _ _
+    rw c.into-then-not-push_apart.ensures
+    (left_out _ _ _ _
     c.requires.0
     c.requires.1
     c.requires.2
@@ -94,7 +97,7 @@ returns-then-not-push_apart c =
     (user_head _ _ _ _ c.of-user.ensures)
     c.is_empty.ensures
     (ap not c.if-not-is_empty.false) _ c.just_before.ensures
-    c.push_apart.ensures (ap not c.if-not-push_apart.true)
+    c.push_apart.ensures (ap not c.if-not-push_apart.true))
 
 pub push_rest-requires-2 : goal.push_rest-requires-2
 push_rest-requires-2 c =
