@@ -1,6 +1,6 @@
 // Walks over tasks: the tour of the task tree, siblings, and what the calls ask of them. Each walk is bounded by the
 // number of its steps, so it ends on any memory.
-#![tactic(auto, unfolding(spec_words::specs::Words::pick, spec_words::specs::Words::both, spec_words::specs::Words::either, spec_tree::specs::Tour::exiting, spec_tree::specs::Tour::entering, spec_outcomes::specs::Views::task_at, spec_outcomes::specs::Views::kind_at, spec_outcomes::specs::Views::has_part, spec_outcomes::specs::Views::stands_at, spec_outcomes::specs::Views::just_before, spec_outcomes::specs::Views::returned_to, spec_outcomes::specs::Views::view_of, spec_outcomes::specs::Views::is_empty, spec_outcomes::specs::Views::head_of, spec_outcomes::specs::Finish::heir, spec_outcomes::specs::Waits::unfinished, spec_outcomes::specs::Waits::blocked, spec_outcomes::specs::Waits::child_pops, spec_outcomes::specs::Waits::has_child, spec_outcomes::specs::Waits::pusher_before, crate::specs::Asked::counts))]
+#![tactic(auto, using(crate::proofs::Found::or_end, crate::proofs::Found::some_before_end), unfolding(spec_words::specs::Words::pick, spec_words::specs::Words::both, spec_words::specs::Words::either, spec_tree::specs::Tour::exiting, spec_tree::specs::Tour::entering, spec_outcomes::specs::Views::task_at, spec_outcomes::specs::Views::kind_at, spec_outcomes::specs::Views::has_part, spec_outcomes::specs::Views::stands_at, spec_outcomes::specs::Views::just_before, spec_outcomes::specs::Views::returned_to, spec_outcomes::specs::Views::view_of, spec_outcomes::specs::Views::is_empty, spec_outcomes::specs::Views::head_of, spec_outcomes::specs::Finish::heir, spec_outcomes::specs::Waits::unfinished, spec_outcomes::specs::Waits::blocked, spec_outcomes::specs::Waits::child_pops, spec_outcomes::specs::Waits::has_child, spec_outcomes::specs::Waits::pusher_before, crate::specs::Asked::counts, crate::specs::Asked::found))]
 
 ghost use Rattle.std.specs.Prelude.{◌≡◌, ℕ, Bool, not, ◌<◌, ltb, eqb};
 ghost use Rattle.spec_words.specs.Words.{pick, both};
@@ -11,7 +11,7 @@ ghost use Rattle.spec_rules.specs.Views.{view};
 ghost use Rattle.spec_outcomes.specs.Waits.{unfinished, blocked, child_pops, has_child, pusher_before};
 ghost use Rattle.spec_outcomes.specs.Views.{task_at, kind_at, has_part, stands_at, just_before, returned_to};
 ghost use Rattle.spec_outcomes.specs.Finish.{heir};
-ghost use Rattle.walks.specs.Asked.{counts, Tests};
+ghost use Rattle.walks.specs.Asked.{counts, Tests, found};
 
 use layout::{CHILDREN, END, MARKS, NL, NONE, RIGHT, TASKS, UNFINISHED};
 
@@ -131,36 +131,36 @@ fn stands_at(m: &[u32], q: u32, x: u32) -> bool
     counts(m, q, x) && takes_part(m, q, x)
 }
 
-// The first mark from `from` on of which the test holds; END where there is none.
-pub fn seek<F: Fn(u32) -> bool>(m: &[u32], from: u32, test: F) -> u32
+// The first mark from `from` on of which the test holds.
+pub fn seek<F: Fn(u32) -> bool>(m: &[u32], from: u32, test: F) -> Option<u32>
     requires { F.IsAlwaysCallable test }
-    ensures { (f : ℕ → Bool) → Tests (F.post test) f → result ≡ seek MARKS f (record_of m.now) from }
+    ensures { (f : ℕ → Bool) → Tests (F.post test) f → result ≡ found MARKS (seek MARKS f (record_of m.now) from) }
 {
     let mut x = from;
     for _ in 0..MARKS {
         if END <= x {
-            return END;
+            return None;
         }
         if test(x) {
-            return x;
+            return Some(x);
         }
         x = after(m, x);
     }
-    END
+    None
 }
 
 pub fn pusher_before(m: &[u32], t: u32, q: u32) -> bool
     requires { q < 4 }
     ensures { result ≡ pusher_before m.now t q }
 {
-    seek(m, after(m, t), |x| meets_pusher(m, q, x)) != END
+    seek(m, after(m, t), |x| meets_pusher(m, q, x)).is_some()
 }
 
 pub fn just_before(m: &[u32], q: u32, t: u32) -> u32
     requires { q < 4 }
     ensures { result ≡ just_before m.now q t }
 {
-    seek(m, after(m, t), |x| stands_at(m, q, x))
+    seek(m, after(m, t), |x| stands_at(m, q, x)).unwrap_or(END)
 }
 
 // The view (h, e) goes by its head alone.
@@ -169,11 +169,12 @@ pub fn returned_to(m: &[u32], q: u32, t: u32, h: u32, e: u32) -> u32
     ensures { result ≡ returned_to m.now q t (view h e) }
 {
     let x = after(m, t + TASKS);
-    if h == NL {
+    let found = if h == NL {
         seek(m, x, |x| takes_part(m, q, x))
     } else {
         seek(m, x, |x| stands_at(m, q, x))
-    }
+    };
+    found.unwrap_or(END)
 }
 
 // c where c is a sibling of t that may pop q, else d.

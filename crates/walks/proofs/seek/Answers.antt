@@ -3,15 +3,19 @@ use native.Mathlib.Omega.{arith}
 use Rattle.spec_layout.specs.Layout.{record_of}
 use Rattle.spec_tree.specs.Tour.{seek}
 use Rattle.walks.specs.Steps.{seek_none, seek_end, seek_here, seek_on}
+use Rattle.spec_words.specs.Words.{pick}
+use Rattle.walks.specs.Asked.{found}
+use Rattle.walks.proofs.Found.{found_some}
 use Rattle.walks.proofs.seek.Goals as goal
 
 pub returns-then-x-ge-END : goal.returns-then-x-ge-END
-returns-then-x-ge-END g c = λ f t. seek_end _ _ _ _ (omega (arith, c.loop-test.true)) c.if-x-ge-END.true ∙ c.loop.invariant.1 f t
+unfolding found pick
+returns-then-x-ge-END g c = λ f t. ap (found 256) (seek_end _ _ _ _ (omega (arith, c.loop-test.true)) c.if-x-ge-END.true ∙ c.loop.invariant.1 f t)
 
 pub returns-then-test : goal.returns-then-test
 returns-then-test g c =
-    λ f t. seek_here _ _ _ _ (omega (arith, c.loop-test.true)) c.if-x-ge-END.false
-    (sym (t _ _ c.if-x-ge-END.false c.test.ensures) ∙ c.if-test.true) ∙ c.loop.invariant.1 f t
+    λ f t. found_some _ _ c.if-x-ge-END.false ∙ ap (found 256) (seek_here _ _ _ _ (omega (arith, c.loop-test.true)) c.if-x-ge-END.false
+    (sym (t _ _ c.if-x-ge-END.false c.test.ensures) ∙ c.if-test.true) ∙ c.loop.invariant.1 f t)
 
 pub loop-preserved : goal.loop-preserved
 loop-preserved g c = (
@@ -23,4 +27,5 @@ loop-preserved g c = (
 )
 
 pub returns : goal.returns
-returns g c = λ f t. seek_none _ _ _ _ (omega (arith, c.loop-test.false)) ∙ c.loop.invariant.1 f t
+unfolding found pick
+returns g c = λ f t. ap (found 256) (seek_none _ _ _ _ (omega (arith, c.loop-test.false)) ∙ c.loop.invariant.1 f t)
