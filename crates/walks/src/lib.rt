@@ -164,6 +164,7 @@ pub fn just_before(m: &[u32], q: u32, t: u32) -> u32
 }
 
 // The view (h, e) goes by its head alone.
+#[tactic(auto, using(crate::proofs::Found::or_end), unfolding(spec_words::specs::Words::pick, spec_outcomes::specs::Views::returned_to, spec_outcomes::specs::Views::head_of))]
 pub fn returned_to(m: &[u32], q: u32, t: u32, h: u32, e: u32) -> u32
     requires { (q < 4) × (t < 128) }
     ensures { result ≡ returned_to m.now q t (view h e) }
