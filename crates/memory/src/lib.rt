@@ -1,8 +1,9 @@
 // Reading and writing the fields of the layout. Every function is total: past the end a read gives 0 and a write
-// does nothing.
-#![tactic(auto)]
+// does nothing. A function named after a word is one call of `header`, `segment` or `task`, so that a caller names words and
+// not their numbers.
+#![tactic(auto, unfolding(spec_words::specs::Words::load, spec_words::specs::Words::store, spec_layout::specs::Layout::address, spec_layout::specs::Layout::read, spec_layout::specs::Layout::write))]
 
-ghost use Rattle.std.specs.Prelude.{◌≡◌, [], ◌∷◌, length, replicate, ◌<◌, ◌^◌};
+ghost use Rattle.std.specs.Prelude.{◌≡◌, [], ◌∷◌, length, replicate, ◌<◌, ◌^◌, ◌+◌, ◌*◌};
 ghost use Rattle.spec_words.specs.Words.{load, store};
 ghost use Rattle.spec_words.specs.Blocks.{store_all};
 ghost use Rattle.spec_layout.specs.Layout.{address, read, write, header, free_segment, free_task, segment, task};
@@ -29,6 +30,7 @@ pub fn put(m: &mut [u32], a: usize, v: u32)
 }
 
 // The words w0 to w3 from address a on.
+#[tactic(auto, using(spec_words::specs::Blocks::store_four))]
 fn put_four(m: &mut [u32], a: usize, w0: u32, w1: u32, w2: u32, w3: u32)
     requires { a < 2 ^ 48 }
     ensures { m.new ≡ store_all m.old a (w0 ∷ w1 ∷ w2 ∷ w3 ∷ []) }
@@ -50,12 +52,7 @@ pub fn put4(m: &mut [u32], a: u32, w0: u32, w1: u32, w2: u32, w3: u32)
 pub fn clear(m: &mut [u32])
     ensures { m.new ≡ replicate (length m.old) 0 }
 {
-    let n = m.len();
-    let mut i: usize = 0;
-    while i < n {
-        m[i] = 0;
-        i += 1;
-    }
+    m.fill(0);
 }
 
 fn header(m: &[u32], k: u32) -> u32
@@ -96,34 +93,45 @@ pub fn set_free_task(m: &mut [u32], i: u32, v: u32)
     put(m, TASK_STACK + i as usize, v);
 }
 
+// The address of word k of the record of segment s.
+fn segment_word(s: u32, k: u32) -> usize
+    ensures { result ≡ address (segment s k) }
+{
+    SEGMENT_RECORDS + s as usize * SEGMENT_WORDS + k as usize
+}
+
 // Word k of the record of segment s.
 fn segment(m: &[u32], s: u32, k: u32) -> u32
     ensures { result ≡ read m.now (segment s k) }
 {
-    get(m, SEGMENT_RECORDS + s as usize * SEGMENT_WORDS + k as usize)
+    get(m, segment_word(s, k))
 }
 
 fn set_segment(m: &mut [u32], s: u32, k: u32, v: u32)
     ensures { m.new ≡ write m.old (segment s k) v }
 {
-    put(
-        m,
-        SEGMENT_RECORDS + s as usize * SEGMENT_WORDS + k as usize,
-        v,
-    );
+    put(m, segment_word(s, k), v);
+}
+
+// The address of word k of the record of task t. k is a usize: where a caller asks for a queue or a kind that there is none of, it is past a u32.
+fn task_word(t: u32, k: usize) -> usize
+    requires { k < 2 ^ 48 }
+    ensures { result ≡ address (task t k) }
+{
+    TASK_RECORDS + t as usize * TASK_WORDS + k
 }
 
 // Word k of the record of task t.
 pub fn task(m: &[u32], t: u32, k: u32) -> u32
     ensures { result ≡ read m.now (task t k) }
 {
-    get(m, TASK_RECORDS + t as usize * TASK_WORDS + k as usize)
+    get(m, task_word(t, k as usize))
 }
 
 pub fn set_task(m: &mut [u32], t: u32, k: u32, v: u32)
     ensures { m.new ≡ write m.old (task t k) v }
 {
-    put(m, TASK_RECORDS + t as usize * TASK_WORDS + k as usize, v);
+    put(m, task_word(t, k as usize), v);
 }
 
 // THE HEADER. The length of segment s: all segments have one length.
@@ -275,17 +283,11 @@ pub fn set_youngest(m: &mut [u32], t: u32, v: u32)
 pub fn set_four(m: &mut [u32], t: u32, k: u32, w0: u32, w1: u32, w2: u32, w3: u32)
     ensures { m.new ≡ store_all m.old (address (task t k)) (w0 ∷ w1 ∷ w2 ∷ w3 ∷ []) }
 {
-    put_four(
-        m,
-        TASK_RECORDS + t as usize * TASK_WORDS + k as usize,
-        w0,
-        w1,
-        w2,
-        w3,
-    );
+    put_four(m, task_word(t, k as usize), w0, w1, w2, w3);
 }
 
 // The first six words of the record of task t.
+#[tactic(auto, using(crate::proofs::Links::links_stored))]
 pub fn set_links(
     m: &mut [u32],
     t: u32,
@@ -307,56 +309,44 @@ pub fn set_links(
 pub fn queue_head(m: &[u32], t: u32, q: u32) -> u32
     ensures { result ≡ read m.now (queue_head t q) }
 {
-    get(
-        m,
-        TASK_RECORDS + t as usize * TASK_WORDS + (QUEUE_HEADS as usize + q as usize),
-    )
+    get(m, task_word(t, QUEUE_HEADS as usize + q as usize))
 }
 
 pub fn set_queue_head(m: &mut [u32], t: u32, q: u32, v: u32)
     ensures { m.new ≡ write m.old (queue_head t q) v }
 {
-    put(
-        m,
-        TASK_RECORDS + t as usize * TASK_WORDS + (QUEUE_HEADS as usize + q as usize),
-        v,
-    );
+    put(m, task_word(t, QUEUE_HEADS as usize + q as usize), v);
 }
 
-fn head_at(k: u32, t: u32, q: u32) -> usize
-    ensures { result ≡ address (head k t q) }
+// The address of the word of queue q among those of the views of kind k: base is where the heads stand in a record, or the tails.
+fn view_word(base: u32, k: u32, t: u32, q: u32) -> usize
+    ensures { result ≡ address (task t (base + k * 4 + q)) }
 {
-    TASK_RECORDS + t as usize * TASK_WORDS + (CHILDREN_HEADS as usize + k as usize * 4 + q as usize)
+    task_word(t, base as usize + k as usize * 4 + q as usize)
 }
 
 // The head of view k of task t of queue q.
 pub fn head(m: &[u32], k: u32, t: u32, q: u32) -> u32
     ensures { result ≡ read m.now (head k t q) }
 {
-    get(m, head_at(k, t, q))
+    get(m, view_word(CHILDREN_HEADS, k, t, q))
 }
 
 pub fn set_head(m: &mut [u32], k: u32, t: u32, q: u32, v: u32)
     ensures { m.new ≡ write m.old (head k t q) v }
 {
-    put(m, head_at(k, t, q), v);
-}
-
-fn tail_at(k: u32, t: u32, q: u32) -> usize
-    ensures { result ≡ address (tail k t q) }
-{
-    TASK_RECORDS + t as usize * TASK_WORDS + (CHILDREN_TAILS as usize + k as usize * 4 + q as usize)
+    put(m, view_word(CHILDREN_HEADS, k, t, q), v);
 }
 
 // The tail of view k of task t of queue q.
 pub fn tail(m: &[u32], k: u32, t: u32, q: u32) -> u32
     ensures { result ≡ read m.now (tail k t q) }
 {
-    get(m, tail_at(k, t, q))
+    get(m, view_word(CHILDREN_TAILS, k, t, q))
 }
 
 pub fn set_tail(m: &mut [u32], k: u32, t: u32, q: u32, v: u32)
     ensures { m.new ≡ write m.old (tail k t q) v }
 {
-    put(m, tail_at(k, t, q), v);
+    put(m, view_word(CHILDREN_TAILS, k, t, q), v);
 }
