@@ -8,8 +8,9 @@ ghost use Rattle.spec_answers.specs.Answers.Outcome.{outcome};
 ghost use Rattle.spec_outcomes.specs.Open.{down, empty_segment, stacked, segmented, topped, opened, open_outcome};
 
 use layout::{
-    ALL_RIGHTS, CHILDREN_HEADS, CHILDREN_TAILS, LAST_TASK, NL, NONE, QUEUE_HEADS, QUEUES,
-    RIGHT_HEADS, RIGHT_TAILS, SEGMENT_STACK, TASK_STACK, UNFINISHED, USER_HEADS, USER_TAILS, WORDS,
+    ALL_RIGHTS, CHILDREN_HEADS, CHILDREN_TAILS, HEADER, LAST_TASK, NL, NONE, QUEUE_HEADS, QUEUES,
+    RIGHT_HEADS, RIGHT_TAILS, SEGMENT_STACK, STATUS, TASK_STACK, UNFINISHED, USER_HEADS,
+    USER_TAILS, WORDS,
 };
 use refusals::Refusal;
 use spec_answers::Answer;
@@ -50,18 +51,23 @@ fn segment(m: &mut [u32])
     empty_segment(m, 3);
 }
 
-// The record of the top task: its links, then its views.
+// The record of the top task: its state, rights, parent, older, younger and youngest; then its views.
 fn top(m: &mut [u32])
     ensures { m.new ≡ topped m.old }
 {
-    memory::set_links(m, 0, UNFINISHED, ALL_RIGHTS, NONE, NONE, NONE, NONE);
-    memory::set_four(m, 0, QUEUE_HEADS, 0, 1, 2, 3);
-    memory::set_four(m, 0, CHILDREN_HEADS, NONE, NONE, NONE, NONE);
-    memory::set_four(m, 0, USER_HEADS, NL, NL, NL, NL);
-    memory::set_four(m, 0, RIGHT_HEADS, NONE, NONE, NONE, NONE);
-    memory::set_four(m, 0, CHILDREN_TAILS, NONE, NONE, NONE, NONE);
-    memory::set_four(m, 0, USER_TAILS, 0, 1, 2, 3);
-    memory::set_four(m, 0, RIGHT_TAILS, NONE, NONE, NONE, NONE);
+    memory::set_words(
+        m,
+        0,
+        STATUS,
+        &[UNFINISHED, ALL_RIGHTS, NONE, NONE, NONE, NONE],
+    );
+    memory::set_words(m, 0, QUEUE_HEADS, &[0, 1, 2, 3]);
+    memory::set_words(m, 0, CHILDREN_HEADS, &[NONE; 4]);
+    memory::set_words(m, 0, USER_HEADS, &[NL; 4]);
+    memory::set_words(m, 0, RIGHT_HEADS, &[NONE; 4]);
+    memory::set_words(m, 0, CHILDREN_TAILS, &[NONE; 4]);
+    memory::set_words(m, 0, USER_TAILS, &[0, 1, 2, 3]);
+    memory::set_words(m, 0, RIGHT_TAILS, &[NONE; 4]);
 }
 
 // The words of a new core.
@@ -70,7 +76,7 @@ fn write_all(m: &mut [u32], l: u32, n: u32)
     ensures { m.new ≡ opened l n }
 {
     memory::clear(m);
-    memory::write_header(m, l, n, n - QUEUES, LAST_TASK);
+    memory::put_all(m, HEADER, &[l, n, n - QUEUES, LAST_TASK]);
     stack(m, n);
     segment(m);
     top(m);

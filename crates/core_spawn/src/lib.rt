@@ -8,8 +8,8 @@ ghost use Rattle.spec_outcomes.specs.Spawn.{for_queues, passed_user, kept_user, 
 ghost use Rattle.spec_answers.specs.Answers.Outcome.{outcome};
 
 use layout::{
-    CHILDREN_HEADS, CHILDREN_TAILS, NONE, QUEUE_HEADS, RIGHT_HEADS, RIGHT_TAILS, UNFINISHED,
-    USER_HEADS, USER_TAILS,
+    CHILDREN_HEADS, CHILDREN_TAILS, NONE, QUEUE_HEADS, RIGHT_HEADS, RIGHT_TAILS, STATUS,
+    UNFINISHED, USER_HEADS, USER_TAILS,
 };
 use refusals::Refusal;
 use spec_answers::Answer;
@@ -44,28 +44,32 @@ fn pass(m: &mut [u32], c: u32, t: u32, a: u32, k: u32)
     ensures { m.new ≡ store_all m.old (address (task c k))
         (for_queues (λ q. passed_user a (read m.old (task t (k + q))) q)) }
 {
-    let w0 = passed(m, t, a, k, 0);
-    let w1 = passed(m, t, a, k, 1);
-    let w2 = passed(m, t, a, k, 2);
-    let w3 = passed(m, t, a, k, 3);
-    memory::set_four(m, c, k, w0, w1, w2, w3);
+    let words = [
+        passed(m, t, a, k, 0),
+        passed(m, t, a, k, 1),
+        passed(m, t, a, k, 2),
+        passed(m, t, a, k, 3),
+    ];
+    memory::set_words(m, c, k, &words);
 }
 
 fn keep(m: &mut [u32], t: u32, a: u32, k: u32)
     requires { k ≤ 40 }
     ensures { m.new ≡ store_all m.old (address (task t k)) (for_queues (λ q. kept_user a (read m.old (task t (k + q))) q)) }
 {
-    let w0 = kept(m, t, a, k, 0);
-    let w1 = kept(m, t, a, k, 1);
-    let w2 = kept(m, t, a, k, 2);
-    let w3 = kept(m, t, a, k, 3);
-    memory::set_four(m, t, k, w0, w1, w2, w3);
+    let words = [
+        kept(m, t, a, k, 0),
+        kept(m, t, a, k, 1),
+        kept(m, t, a, k, 2),
+        kept(m, t, a, k, 3),
+    ];
+    memory::set_words(m, t, k, &words);
 }
 
 fn set_none(m: &mut [u32], c: u32, k: u32)
     ensures { m.new ≡ store_all m.old (address (task c k)) no_words }
 {
-    memory::set_four(m, c, k, NONE, NONE, NONE, NONE);
+    memory::set_words(m, c, k, &[NONE; 4]);
 }
 
 // The views of child c of task t. The queue views go by the pop rights alone.
@@ -95,7 +99,7 @@ fn make_child(m: &mut [u32], t: u32, r: u32, c: u32)
     ensures { m.new ≡ child_made m.old t r c }
 {
     let o = memory::youngest(m, t);
-    memory::set_links(m, c, UNFINISHED, r, t, o, NONE, NONE);
+    memory::set_words(m, c, STATUS, &[UNFINISHED, r, t, o, NONE, NONE]);
     child_views(m, c, t, r);
     pass_on(m, t, r);
     memory::set_youngest(m, t, c);

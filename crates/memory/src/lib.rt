@@ -29,23 +29,20 @@ pub fn put(m: &mut [u32], a: usize, v: u32)
     }
 }
 
-// The words w0 to w3 from address a on.
-#[tactic(auto, using(spec_words::specs::Blocks::store_four))]
-fn put_four(m: &mut [u32], a: usize, w0: u32, w1: u32, w2: u32, w3: u32)
+// The words ws from address a on.
+pub fn put_all(m: &mut [u32], a: usize, ws: &[u32])
     requires { a < 2 ^ 48 }
-    ensures { m.new ≡ store_all m.old a (w0 ∷ w1 ∷ w2 ∷ w3 ∷ []) }
+    ensures { m.new ≡ store_all m.old a ws.now }
 {
-    put(m, a, w0);
-    put(m, a + 1, w1);
-    put(m, a + 2, w2);
-    put(m, a + 3, w3);
+    for (i, &w) in ws.iter().enumerate() {
+        put(m, a + i, w);
+    }
 }
 
-// The same for every address that a word can hold.
 pub fn put4(m: &mut [u32], a: u32, w0: u32, w1: u32, w2: u32, w3: u32)
     ensures { m.new ≡ store_all m.old a (w0 ∷ w1 ∷ w2 ∷ w3 ∷ []) }
 {
-    put_four(m, a as usize, w0, w1, w2, w3);
+    put_all(m, a as usize, &[w0, w1, w2, w3]);
 }
 
 // Every word 0.
@@ -174,13 +171,6 @@ pub fn set_free_tasks(m: &mut [u32], v: u32)
     set_header(m, layout::FREE_TASKS, v);
 }
 
-// The header of a new core, with the heights of the two stacks.
-pub fn write_header(m: &mut [u32], length: u32, number: u32, segments: u32, tasks: u32)
-    ensures { m.new ≡ store_all m.old 0 (length ∷ number ∷ segments ∷ tasks ∷ []) }
-{
-    put_four(m, layout::HEADER, length, number, segments, tasks);
-}
-
 // A SEGMENT. Its first place, its count and its next.
 pub fn first(m: &[u32], s: u32) -> u32
     ensures { result ≡ read m.now (first s) }
@@ -279,30 +269,11 @@ pub fn set_youngest(m: &mut [u32], t: u32, v: u32)
     set_task(m, t, layout::YOUNGEST, v);
 }
 
-// The words w0 to w3 from word k of the record of task t on.
-pub fn set_four(m: &mut [u32], t: u32, k: u32, w0: u32, w1: u32, w2: u32, w3: u32)
-    ensures { m.new ≡ store_all m.old (address (task t k)) (w0 ∷ w1 ∷ w2 ∷ w3 ∷ []) }
+// The words ws from word k of the record of task t on.
+pub fn set_words(m: &mut [u32], t: u32, k: u32, ws: &[u32])
+    ensures { m.new ≡ store_all m.old (address (task t k)) ws.now }
 {
-    put_four(m, task_word(t, k as usize), w0, w1, w2, w3);
-}
-
-// The first six words of the record of task t.
-#[tactic(auto, using(crate::proofs::Links::links_stored))]
-pub fn set_links(
-    m: &mut [u32],
-    t: u32,
-    status: u32,
-    rights: u32,
-    parent: u32,
-    older: u32,
-    younger: u32,
-    youngest: u32,
-)
-    ensures { m.new ≡ store_all m.old (address (task t 0)) (status ∷ rights ∷ parent ∷ older ∷ younger ∷ youngest ∷ []) }
-{
-    set_four(m, t, layout::STATUS, status, rights, parent, older);
-    set_younger(m, t, younger);
-    set_youngest(m, t, youngest);
+    put_all(m, task_word(t, k as usize), ws);
 }
 
 // THE VIEWS OF A TASK. The head of its queue view of queue q.
