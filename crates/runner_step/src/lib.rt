@@ -141,15 +141,8 @@ pub fn step_tested(job: &[u8], m: &mut [u32], r: &mut [u32], t: u32) -> StepAnsw
 pub fn step(job: &[u8], m: &mut [u32], r: &mut [u32], t: u32) -> StepAnswer
     ensures { outcome result m.new r.new ≡ step_outcome job.now m.old r.old t }
 {
-    let k = runner_words::refusal(job, m, r);
-    if k != 0 {
-        return StepAnswer::Refused(k);
+    match runner_words::check_rules(job, m, r) {
+        Ok(()) => step_tested(job, m, r, t),
+        Err(e) => StepAnswer::Refused(e.number()),
     }
-    if !memory_test::rules_hold(m) {
-        return StepAnswer::Refused(2);
-    }
-    if !runner_words::holds(job, m, r) {
-        return StepAnswer::Refused(2);
-    }
-    step_tested(job, m, r, t)
 }
