@@ -1,7 +1,7 @@
 // One step of a job's task: the tests, the core call of its instruction, and where the task goes on.
 #![tactic(auto)]
 
-ghost use Rattle.std.specs.Prelude.{◌≡◌, ◌^◌, ◌<◌, true, [], ◌∷◌, length};
+ghost use Rattle.std.specs.Prelude.{◌≡◌, ◌^◌, ◌<◌, true, [], ◌∷◌, length, unwrap_or};
 ghost use Rattle.spec_rules.specs.Test.{rules_hold};
 ghost use Rattle.spec_answers.specs.Answers.{outcome as answered};
 ghost use Rattle.spec_outcomes.specs.Waits.{unfinished};
@@ -11,7 +11,7 @@ ghost use Rattle.spec_job.specs.Numbers.{word_numbered};
 ghost use Rattle.spec_runner.specs.Words.{position_of};
 ghost use Rattle.spec_runner.specs.Answers.{answer_with, outcome};
 ghost use Rattle.spec_runner.specs.Step.{call_of, step_tested, step_outcome};
-ghost use Rattle.job_effect.specs.Made.{found_with};
+ghost use Rattle.job_effect.specs.Made.{found_of};
 ghost use Rattle.runner_step.specs.Parts.{UsesQueue, called, acted, Writes, Makes};
 
 use answer_numbers::{EMPTY, FINISHED, MOVED, NOT_EMPTY, PUSHED, SPAWNED, TOOK, WAITS};
@@ -57,14 +57,15 @@ fn write(r: &mut [u32], t: u32, s: Instruction, v: u32, i: u32, x: u32)
     }
 }
 
-// Task t does instruction s, with what was found.
-fn done(r: &mut [u32], t: u32, s: Instruction, found: bool, v: u32) -> StepAnswer
+// Task t does instruction s, with what was found: at a spawn the number of the new task.
+fn done(r: &mut [u32], t: u32, s: Instruction, found: Option<u32>) -> StepAnswer
     requires { position_of r.old t < 2 ^ 31 }
-    ensures { Makes t s (found_with found v) v r.old result r.new }
+    ensures { Makes t s (found_of found) (unwrap_or found 0) r.old result r.new }
 {
+    let v = found.unwrap_or(0);
     let i = runner_words::position(r, t);
     let x = runner_words::register(r, t);
-    let e = job_effect::effect(s.operation, s.operand, i, x, found, v);
+    let e = job_effect::effect(s.operation, s.operand, i, x, found);
     write(r, t, s, v, e.next, e.register);
     answer(e.answer, e.value, v)
 }
@@ -116,8 +117,8 @@ fn act(job: &[u8], m: &mut [u32], r: &mut [u32], t: u32) -> StepAnswer
     let s = runner_words::instruction_for(job, r, t);
     let a = core_call(job, m, t, s, runner_words::register(r, t));
     match a {
-        Answer::Moved(v) => done(r, t, s, true, v),
-        Answer::Empty => done(r, t, s, false, 0),
+        Answer::Moved(v) => done(r, t, s, Some(v)),
+        Answer::Empty => done(r, t, s, None),
         Answer::Waits => StepAnswer::Waits,
         Answer::Refused(k) => StepAnswer::Refused(k),
     }
