@@ -1,5 +1,5 @@
 // One step of a job's task: the tests, the core call of its instruction, and where the task goes on.
-#![tactic(auto)]
+#![tactic(auto, unfolding(spec_words::specs::Words::both, spec_words::specs::Words::pick, spec_words::specs::Words::size, spec_words::specs::Words::load, spec_words::specs::Words::store, spec_job::specs::Operations::operation_at, spec_job::specs::Operations::operation_of, spec_job::specs::Operations::row_of, spec_runner::specs::Step::call_of, spec_runner::specs::Step::step_tested, spec_runner::specs::Step::runner_after, spec_runner::specs::Step::core_outcome, spec_runner::specs::Step::step_outcome, spec_job::specs::Numbers::word_numbered, spec_runner::specs::Answers::answer_with, crate::specs::Parts::called, spec_job::specs::Effects::sum))]
 
 ghost use Rattle.std.specs.Prelude.{◌≡◌, ◌^◌, ◌<◌, true, [], ◌∷◌, length, unwrap_or};
 ghost use Rattle.spec_rules.specs.Test.{rules_hold};
