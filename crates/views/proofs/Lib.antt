@@ -1,2 +1,0 @@
-pub mod Reduce
-pub mod Memory
