@@ -1,19 +1,21 @@
 -- The effect of an operation: what the code gives for its number.
-use Rattle.std.proofs.Common.{◌≡◌, ℕ, zero, suc, ◌+◌, ◌%◌, ◌≤◌, Bool, true, false, eqb, ◌⊎◌, sym, refl, ap, ◌∙◌, inl, inr, arith}
+use Rattle.std.proofs.Common.{◌≡◌, ℕ, zero, suc, ◌+◌, ◌%◌, ◌≤◌, eqb, ◌⊎◌, sym, refl, ap, ◌∙◌, inl, inr, arith}
+use Rattle.std.specs.Prelude.{Option, Some, None}
+use Rattle.std.specs.Option.{option_map_or}
 use Rattle.spec_words.specs.Words.{pick}
 use Rattle.spec_job.specs.Operations.{Operation, row_of, operation_of, operation_at}
 use Rattle.spec_job.specs.Effects.{sum, effect}
 use Rattle.spec_job.specs.Numbers.{EMPTY, NOT_EMPTY, SPAWNED, PUSHED, TOOK, FINISHED, MOVED, number_of}
 use Rattle.spec_job.specs.Rows.{above, returns_at}
 use Rattle.job_effect.specs.declared.Made.{Made}
-use Rattle.job_effect.specs.Made.{gives, found_with, coded}
+use Rattle.job_effect.specs.Made.{gives, found_of, coded}
 
-module _ (x i r v : ℕ) (b : Bool) (e : Made) where
+module _ (x i r : ℕ) (f : Option ℕ) (e : Made) where
   abbrev Does : ℕ → Type 0
-  Does k = e ≡ coded (effect (operation_at k) i r x (found_with b v))
+  Does k = e ≡ coded (effect (operation_at k) i r x (found_of f))
 
   pub keyed : {k n : ℕ} → k ≡ n → Does n → Does k
-  keyed h g = g ∙ ap (λ (k : ℕ). coded (effect (operation_at k) i r x (found_with b v))) (sym h)
+  keyed h g = g ∙ ap (λ (k : ℕ). coded (effect (operation_at k) i r x (found_of f))) (sym h)
 
   pub pushes : e ≡ gives PUSHED x r (i + 1) → Does 1
   unfolding operation_at operation_of row_of effect coded number_of
@@ -23,19 +25,19 @@ module _ (x i r v : ℕ) (b : Bool) (e : Made) where
   unfolding operation_at operation_of row_of effect coded number_of sum
   pushes_sum h g = g ∙ ap (λ (y : ℕ). gives PUSHED y r (i + 1)) h
 
-  pub pops : e ≡ pick b (gives TOOK v v (i + 1)) (gives EMPTY 0 r (i + 1)) → Does 3
-  pops g = g ∙ same b
+  pub pops : e ≡ option_map_or (λ v. gives TOOK v v (i + 1)) f (gives EMPTY 0 r (i + 1)) → Does 3
+  pops g = g ∙ same f
     where
-      same : (b : Bool) → pick b (gives TOOK v v (i + 1)) (gives EMPTY 0 r (i + 1)) ≡ coded (effect (operation_at 3) i r x (found_with b v))
-      same true = unfold pick operation_at operation_of row_of effect coded number_of found_with in refl
-      same false = unfold pick operation_at operation_of row_of effect coded number_of found_with in refl
+      same : (f : Option ℕ) → option_map_or (λ v. gives TOOK v v (i + 1)) f (gives EMPTY 0 r (i + 1)) ≡ coded (effect (operation_at 3) i r x (found_of f))
+      same (Some v) = unfold pick operation_at operation_of row_of effect coded number_of found_of in refl
+      same None = unfold pick operation_at operation_of row_of effect coded number_of found_of in refl
 
-  pub tests : e ≡ pick b (gives NOT_EMPTY 0 r (i + 1)) (gives EMPTY 0 r x) → Does 4
-  tests g = g ∙ same b
+  pub tests : e ≡ option_map_or (λ v. gives NOT_EMPTY 0 r (i + 1)) f (gives EMPTY 0 r x) → Does 4
+  tests g = g ∙ same f
     where
-      same : (b : Bool) → pick b (gives NOT_EMPTY 0 r (i + 1)) (gives EMPTY 0 r x) ≡ coded (effect (operation_at 4) i r x (found_with b v))
-      same true = unfold pick operation_at operation_of row_of effect coded number_of found_with in refl
-      same false = unfold pick operation_at operation_of row_of effect coded number_of found_with in refl
+      same : (f : Option ℕ) → option_map_or (λ v. gives NOT_EMPTY 0 r (i + 1)) f (gives EMPTY 0 r x) ≡ coded (effect (operation_at 4) i r x (found_of f))
+      same (Some v) = unfold pick operation_at operation_of row_of effect coded number_of found_of in refl
+      same None = unfold pick operation_at operation_of row_of effect coded number_of found_of in refl
 
   pub goes : e ≡ gives MOVED 0 r x → Does 5
   unfolding operation_at operation_of row_of effect coded number_of
@@ -57,16 +59,16 @@ module _ (x i r v : ℕ) (b : Bool) (e : Made) where
   unfolding operation_at operation_of row_of effect coded number_of
   syncs g = g
 
-  pub takes_or_goes : e ≡ pick b (gives TOOK v v (i + 1)) (gives EMPTY 0 r x) → Does 10
-  takes_or_goes g = g ∙ same b
+  pub takes_or_goes : e ≡ option_map_or (λ v. gives TOOK v v (i + 1)) f (gives EMPTY 0 r x) → Does 10
+  takes_or_goes g = g ∙ same f
     where
-      same : (b : Bool) → pick b (gives TOOK v v (i + 1)) (gives EMPTY 0 r x) ≡ coded (effect (operation_at 10) i r x (found_with b v))
-      same true = unfold pick operation_at operation_of row_of effect coded number_of found_with in refl
-      same false = unfold pick operation_at operation_of row_of effect coded number_of found_with in refl
+      same : (f : Option ℕ) → option_map_or (λ v. gives TOOK v v (i + 1)) f (gives EMPTY 0 r x) ≡ coded (effect (operation_at 10) i r x (found_of f))
+      same (Some v) = unfold pick operation_at operation_of row_of effect coded number_of found_of in refl
+      same None = unfold pick operation_at operation_of row_of effect coded number_of found_of in refl
 
   pub returns_done : {k : ℕ} → (k ≡ 0) ⊎ (11 ≤ k) → e ≡ gives FINISHED 0 r i → Does k
   unfolding effect coded number_of
-  returns_done {k} h g = g ∙ ap (λ (o : Operation). coded (effect o i r x (found_with b v))) (sym (returns_at k h))
+  returns_done {k} h g = g ∙ ap (λ (o : Operation). coded (effect o i r x (found_of f))) (sym (returns_at k h))
 
 -- what is left of the numbers once 1 to 10 are told apart
 pub others : (k : ℕ) → (((((((((Unit {0} × (k ≡ 1 → ⊥)) × (k ≡ 2 → ⊥)) × (k ≡ 3 → ⊥)) × (k ≡ 4 → ⊥)) × (k ≡ 5 → ⊥)) × (k ≡ 6 → ⊥)) × (k ≡ 7 → ⊥))

@@ -3,11 +3,12 @@
 #![tactic(auto)]
 
 ghost use Rattle.std.specs.Prelude.{◌≡◌, ◌^◌, ◌<◌, ◌==◌};
+ghost use Rattle.std.specs.Option.{option_map_or};
 ghost use Rattle.spec_words.specs.Words.{pick};
 ghost use Rattle.spec_job.specs.Operations.{operation_at};
 ghost use Rattle.spec_job.specs.Effects.{effect};
 ghost use Rattle.spec_job.specs.Numbers.{EMPTY, NOT_EMPTY, TOOK, MOVED};
-ghost use Rattle.job_effect.specs.Made.{gives, found_with, coded};
+ghost use Rattle.job_effect.specs.Made.{gives, found_of, coded};
 
 use answer_numbers::{EMPTY, FINISHED, MOVED, NOT_EMPTY, PUSHED, SPAWNED, TOOK};
 
@@ -31,25 +32,23 @@ fn gives(answer: u32, value: u32, register: u32, next: u32) -> Made
     }
 }
 
-// Takes value v, or goes to instruction x where nothing was found.
-fn take_effect(x: u32, r: u32, next: u32, found: bool, v: u32) -> Made
-    ensures { result ≡ pick found (gives TOOK v v next) (gives EMPTY 0 r x) }
+// Takes the value that was found, or goes to instruction x.
+fn take_effect(x: u32, r: u32, next: u32, found: Option<u32>) -> Made
+    ensures { result ≡ option_map_or (λ v. gives TOOK v v next) found (gives EMPTY 0 r x) }
 {
-    if found {
-        gives(TOOK, v, v, next)
-    } else {
-        gives(EMPTY, 0, r, x)
+    match found {
+        Some(v) => gives(TOOK, v, v, next),
+        None => gives(EMPTY, 0, r, x),
     }
 }
 
 // Goes to instruction x where nothing was found.
-fn test_effect(x: u32, r: u32, next: u32, found: bool) -> Made
-    ensures { result ≡ pick found (gives NOT_EMPTY 0 r next) (gives EMPTY 0 r x) }
+fn test_effect(x: u32, r: u32, next: u32, found: Option<u32>) -> Made
+    ensures { result ≡ option_map_or (λ v. gives NOT_EMPTY 0 r next) found (gives EMPTY 0 r x) }
 {
-    if found {
-        gives(NOT_EMPTY, 0, r, next)
-    } else {
-        gives(EMPTY, 0, r, x)
+    match found {
+        Some(_) => gives(NOT_EMPTY, 0, r, next),
+        None => gives(EMPTY, 0, r, x),
     }
 }
 
@@ -64,24 +63,24 @@ fn zero_effect(x: u32, r: u32, next: u32) -> Made
     }
 }
 
-// Operation k with operand x, by a task at instruction i with register r. `found` says whether its queue had a value, and v is that value.
-pub fn effect(k: u32, x: u32, i: u32, r: u32, found: bool, v: u32) -> Made
+// Operation k with operand x, by a task at instruction i with register r. `found` is the front of its queue.
+pub fn effect(k: u32, x: u32, i: u32, r: u32, found: Option<u32>) -> Made
     requires { i < 2 ^ 31 }
-    ensures { result ≡ coded (effect (operation_at k) i r x (found_with found v)) }
+    ensures { result ≡ coded (effect (operation_at k) i r x (found_of found)) }
 {
     let sum = std::num::wrapping_add_u32(r, x);
     let next = i + 1;
     match k {
         1 => gives(PUSHED, x, r, next),
         2 => gives(PUSHED, sum, r, next),
-        3 => take_effect(next, r, next, found, v),
+        3 => take_effect(next, r, next, found),
         4 => test_effect(x, r, next, found),
         5 => gives(MOVED, 0, r, x),
         6 => zero_effect(x, r, next),
         7 => gives(MOVED, 0, sum, next),
         8 => gives(SPAWNED, 0, r, next),
         9 => gives(MOVED, 0, r, next),
-        10 => take_effect(x, r, next, found, v),
+        10 => take_effect(x, r, next, found),
         _ => gives(FINISHED, 0, r, i),
     }
 }

@@ -151,13 +151,13 @@ fn run_open<I: Read, O: Write, E: Write>(
 fn run<I: Read, O: Write, E: Write>(input: &mut I, to: &mut O, errors: &mut E, job: &[u8]) {
     let mut m = [0u32; WORDS];
     let mut r = [0u32; RUNNER_WORDS];
-    let k = runner_open::open(job, &mut m, &mut r);
-    if k == 0 {
-        run_open(input, to, errors, job, &mut m, &mut r);
-        return;
-    }
-    if let Err(e) = print_refused(to, k) {
-        let _ = read_file::fail(errors, b"standard output", &e);
+    match runner_open::open(job, &mut m, &mut r) {
+        Ok(()) => run_open(input, to, errors, job, &mut m, &mut r),
+        Err(refusal) => {
+            if let Err(e) = print_refused(to, refusal.number()) {
+                let _ = read_file::fail(errors, b"standard output", &e);
+            }
+        }
     }
 }
 

@@ -25,10 +25,8 @@ pub fn steps(job: &[u8], m: &mut [u32], r: &mut [u32], tasks: &[u32], answers: &
     ensures { Made job.now tasks.now m.old r.old
         m.new r.new answers.new }
 {
-    let mut i: usize = 0;
-    while i < tasks.len() {
-        make(job, tasks[i], m, r, answers, i);
-        i += 1;
+    for (i, &t) in tasks.iter().enumerate() {
+        make(job, t, m, r, answers, i);
     }
 }
 
@@ -47,10 +45,11 @@ pub fn run(
     if answers.len() != tasks.len() {
         return StepAnswer::Refused(1);
     }
-    let k = runner_open::open(job, m, r);
-    if k != 0 {
-        return StepAnswer::Refused(k);
+    match runner_open::open(job, m, r) {
+        Ok(()) => {
+            steps(job, m, r, tasks, answers);
+            StepAnswer::Moved
+        }
+        Err(e) => StepAnswer::Refused(e.number()),
     }
-    steps(job, m, r, tasks, answers);
-    StepAnswer::Moved
 }

@@ -1,6 +1,7 @@
 -- What the core's answer makes of the step.
-use Rattle.std.proofs.Common.{◌≡◌, ℕ, true, false, List, length, sym, refl, ap, ◌∙◌, subst, ap₂}
+use Rattle.std.proofs.Common.{◌≡◌, ℕ, true, List, length, sym, refl, ap, ◌∙◌, subst, ap₂}
 use mathlib.Core.Option.{Option, none, some}
+use Rattle.std.specs.Prelude.{Some, None}
 use Rattle.spec_words.specs.Words.{size}
 use Rattle.spec_answers.specs.declared.Answer.{Answer}
 use Rattle.spec_answers.specs.declared.Answer.TheVariants.{Moved, Empty, Waits, Refused}
@@ -16,7 +17,7 @@ use Rattle.spec_runner.specs.Words.{register_of, instruction_for}
 use Rattle.spec_runner.specs.Answers.{outcome}
 use Rattle.spec_runner.proofs.Laws.{core_outcome_lem}
 use Rattle.spec_runner.specs.Step.{call_of, reply_of, replied, core_outcome, replied_to, makes}
-use Rattle.job_effect.specs.Made.{found_with}
+use Rattle.job_effect.specs.Made.{found_of}
 use Rattle.runner_step.specs.Parts.{called, acted, Makes}
 
 -- with a call, or without one
@@ -50,12 +51,12 @@ module _ (j m n r : List ℕ) (t : ℕ) {s : Instruction} {x : ℕ} (es : s ≡ 
 
   -- THE STEP GOES ON
   module _ {b : StepAnswer} (u : List ℕ) where
-    pub moved : {v : ℕ} → a ≡ Moved v → Makes t s (found_with true v) v r b u → outcome b n u ≡ acted j m r t
-    unfolding reply_of replied found_with
+    pub moved : {v : ℕ} → a ≡ Moved v → Makes t s (found_of (Some v)) v r b u → outcome b n u ≡ acted j m r t
+    unfolding reply_of replied found_of
     moved h d = d.does n ∙ ap (λ (a : Answer). replied t s (reply_of a) n m r) (sym h) ∙ replied_is
 
-    pub nothing : a ≡ Empty → Makes t s (found_with false 0) 0 r b u → outcome b n u ≡ acted j m r t
-    unfolding reply_of replied found_with
+    pub nothing : a ≡ Empty → Makes t s (found_of None) 0 r b u → outcome b n u ≡ acted j m r t
+    unfolding reply_of replied found_of
     nothing h d = d.does n ∙ ap (λ (a : Answer). replied t s (reply_of a) n m r) (sym h) ∙ replied_is
 
   -- IT DOES NOT

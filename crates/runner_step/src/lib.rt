@@ -1,7 +1,7 @@
 // One step of a job's task: the tests, the core call of its instruction, and where the task goes on.
-#![tactic(auto)]
+#![tactic(auto, unfolding(spec_words::specs::Words::both, spec_words::specs::Words::pick, spec_words::specs::Words::size, spec_words::specs::Words::load, spec_words::specs::Words::store, spec_job::specs::Operations::operation_at, spec_job::specs::Operations::operation_of, spec_job::specs::Operations::row_of, spec_runner::specs::Step::call_of, spec_runner::specs::Step::step_tested, spec_runner::specs::Step::runner_after, spec_runner::specs::Step::core_outcome, spec_runner::specs::Step::step_outcome, spec_job::specs::Numbers::word_numbered, spec_runner::specs::Answers::answer_with, crate::specs::Parts::called, spec_job::specs::Effects::sum))]
 
-ghost use Rattle.std.specs.Prelude.{◌≡◌, ◌^◌, ◌<◌, true, [], ◌∷◌, length};
+ghost use Rattle.std.specs.Prelude.{◌≡◌, ◌^◌, ◌<◌, true, [], ◌∷◌, length, unwrap_or};
 ghost use Rattle.spec_rules.specs.Test.{rules_hold};
 ghost use Rattle.spec_answers.specs.Answers.{outcome as answered};
 ghost use Rattle.spec_outcomes.specs.Waits.{unfinished};
@@ -11,7 +11,7 @@ ghost use Rattle.spec_job.specs.Numbers.{word_numbered};
 ghost use Rattle.spec_runner.specs.Words.{position_of};
 ghost use Rattle.spec_runner.specs.Answers.{answer_with, outcome};
 ghost use Rattle.spec_runner.specs.Step.{call_of, step_tested, step_outcome};
-ghost use Rattle.job_effect.specs.Made.{found_with};
+ghost use Rattle.job_effect.specs.Made.{found_of};
 ghost use Rattle.runner_step.specs.Parts.{UsesQueue, called, acted, Writes, Makes};
 
 use answer_numbers::{EMPTY, FINISHED, MOVED, NOT_EMPTY, PUSHED, SPAWNED, TOOK, WAITS};
@@ -57,14 +57,15 @@ fn write(r: &mut [u32], t: u32, s: Instruction, v: u32, i: u32, x: u32)
     }
 }
 
-// Task t does instruction s, with what was found.
-fn done(r: &mut [u32], t: u32, s: Instruction, found: bool, v: u32) -> StepAnswer
+// Task t does instruction s, with what was found: at a spawn the number of the new task.
+fn done(r: &mut [u32], t: u32, s: Instruction, found: Option<u32>) -> StepAnswer
     requires { position_of r.old t < 2 ^ 31 }
-    ensures { Makes t s (found_with found v) v r.old result r.new }
+    ensures { Makes t s (found_of found) (unwrap_or found 0) r.old result r.new }
 {
+    let v = found.unwrap_or(0);
     let i = runner_words::position(r, t);
     let x = runner_words::register(r, t);
-    let e = job_effect::effect(s.operation, s.operand, i, x, found, v);
+    let e = job_effect::effect(s.operation, s.operand, i, x, found);
     write(r, t, s, v, e.next, e.register);
     answer(e.answer, e.value, v)
 }
@@ -116,8 +117,8 @@ fn act(job: &[u8], m: &mut [u32], r: &mut [u32], t: u32) -> StepAnswer
     let s = runner_words::instruction_for(job, r, t);
     let a = core_call(job, m, t, s, runner_words::register(r, t));
     match a {
-        Answer::Moved(v) => done(r, t, s, true, v),
-        Answer::Empty => done(r, t, s, false, 0),
+        Answer::Moved(v) => done(r, t, s, Some(v)),
+        Answer::Empty => done(r, t, s, None),
         Answer::Waits => StepAnswer::Waits,
         Answer::Refused(k) => StepAnswer::Refused(k),
     }
@@ -141,15 +142,8 @@ pub fn step_tested(job: &[u8], m: &mut [u32], r: &mut [u32], t: u32) -> StepAnsw
 pub fn step(job: &[u8], m: &mut [u32], r: &mut [u32], t: u32) -> StepAnswer
     ensures { outcome result m.new r.new ≡ step_outcome job.now m.old r.old t }
 {
-    let k = runner_words::refusal(job, m, r);
-    if k != 0 {
-        return StepAnswer::Refused(k);
+    match runner_words::check_rules(job, m, r) {
+        Ok(()) => step_tested(job, m, r, t),
+        Err(e) => StepAnswer::Refused(e.number()),
     }
-    if !memory_test::rules_hold(m) {
-        return StepAnswer::Refused(2);
-    }
-    if !runner_words::holds(job, m, r) {
-        return StepAnswer::Refused(2);
-    }
-    step_tested(job, m, r, t)
 }

@@ -1,4 +1,3 @@
-pub mod Found
 pub mod Rings
 pub mod Pushed
 pub mod Popped

@@ -1,11 +1,10 @@
 -- Rings: the list of a queue, its length and its front, and which words they hang on.
 use Rattle.std.specs.Prelude.{◌≡◌, refl, List, [], ◌∷◌, ◌++◌, ℕ, zero, suc, ◌+◌, ◌*◌, ◌%◌, ◌<◌, ◌≤◌, length, get_or, set}
 use Rattle.std.proofs.Common.{ap, ap₂, sym, ◌∙◌, ⊎_elim, add-zero, le_of_suc-le-suc, arith, length-set, get_or-set_same, get_or-set_other, ext_get_or}
-use Rattle.std.proofs.Math.Option.{none, some}
-use Rattle.std.proofs.Math.ListN.{get_elem?, get_or-eq_default}
+use Rattle.std.proofs.Math.ListN.{get_or-eq_default}
 use Rattle.spec_words.specs.Words.{load}
 use Rattle.spec_lists.specs.Counting.{equal?}
-use Rattle.spec_plain.specs.Machine.{queue, front}
+use Rattle.spec_plain.specs.Machine.{queue}
 use Rattle.spec_serial.specs.Working.{place_at, first_at, count_at, ring_from, ring, lists}
 
 -- THE LIST OF A QUEUE
@@ -97,19 +96,3 @@ queue_there w q n e x = within (λ l. x (e ∙ ap length (queue_none w q l)))
   where
     within : (4 ≤ q → ⊥) → q < 4
     within f = omega (arith, f)
-
--- LISTS BY INDEX
-pub elem_at : (xs : List ℕ) (i : ℕ) → i < length xs → get_elem? xs i ≡ some (get_or xs i 0)
-elem_at [] i h = let z : ⊥ = omega (arith, h) in absurd z
-elem_at (x ∷ xs) zero h = refl
-elem_at (x ∷ xs) (suc i) h = elem_at xs i (omega (arith, h))
-
-pub elem_past : (xs : List ℕ) (i : ℕ) → length xs ≤ i → get_elem? xs i ≡ none
-elem_past [] i h = refl
-elem_past (x ∷ xs) zero h = let z : ⊥ = omega (arith, h) in absurd z
-elem_past (x ∷ xs) (suc i) h = elem_past xs i (omega (arith, h))
-
-pub elem_front : (xs : List ℕ) → get_elem? xs 0 ≡ front xs
-unfolding front
-elem_front [] = refl
-elem_front (x ∷ xs) = refl

@@ -1,12 +1,10 @@
 // The four lists of the serial runner, as rings in the working words. A queue that is none is an empty list.
 #![tactic(auto)]
 
-ghost use Rattle.std.specs.Prelude.{◌≡◌, [], ◌∷◌, ◌++◌, ◌<◌, length, set, drop};
-ghost use Rattle.std.proofs.Math.ListN.{get_elem?};
+ghost use Rattle.std.specs.Prelude.{◌≡◌, [], ◌∷◌, ◌++◌, ◌<◌, length, set, drop, slice_get};
 ghost use Rattle.spec_words.specs.Words.{size};
 ghost use Rattle.spec_plain.specs.Machine.{queue};
 ghost use Rattle.spec_serial.specs.Working.{WORKING, lists};
-ghost use Rattle.serial_queues.specs.Found.{found_of};
 
 // Working words that a run is lent, and the most values of a queue.
 pub const WORKING: usize = 16392;
@@ -20,13 +18,6 @@ const FIRST_AT: usize = 16384;
 
 const COUNT_AT: usize = 16385;
 
-// A value of a list, where it is there.
-#[derive(Clone, Copy)]
-pub enum Found {
-    Value(u32),
-    Nothing,
-}
-
 // The number of values in queue q.
 pub fn count(w: &[u32], q: u32) -> u32
     ensures { result ≡ length (queue (lists w.now) q) }
@@ -38,15 +29,15 @@ pub fn count(w: &[u32], q: u32) -> u32
 }
 
 // Value number i of queue q, counted from 0.
-pub fn value(w: &[u32], q: u32, i: usize) -> Found
-    ensures { found_of result ≡ get_elem? (queue (lists w.now) q) i }
+pub fn value(w: &[u32], q: u32, i: usize) -> Option<u32>
+    ensures { result ≡ slice_get (queue (lists w.now) q) i }
 {
     let n = count(w, q);
     if n as usize <= i {
-        return Found::Nothing;
+        return None;
     }
     let h = memory::get(w, FIRST_AT + q as usize * 2) as usize;
-    Found::Value(memory::get(w, q as usize * PLACES + (h + i) % PLACES))
+    Some(memory::get(w, q as usize * PLACES + (h + i) % PLACES))
 }
 
 // Adds v at the end of queue q.

@@ -1,25 +1,17 @@
 -- Operations by number: what the code found is what the effect asks for, and the lists are those after the operation.
 use mathlib.Core.Path.{◌≡◌, refl, ap, sym, ◌∙◌, subst}
-use mathlib.Core.Bool.{Bool, true, false, not}
 use mathlib.Core.List.{List, [], ◌∷◌, ◌++◌}
 use mathlib.Core.Option.{Option}
+use Rattle.std.specs.Prelude.{Option as Given, slice_get}
 use Prim.Native.Nat.{ℕ, ◌<◌, ◌≤◌}
 use native.Mathlib.Omega.{arith}
-use lib.Dec.{eqb}
-use lib.ListN.{length, set, drop}
-use types.Run.{OneOf}
-use denote.Enum.Declared.{tag_of}
-use borrow.Author.Tests.{ne_eqb}
+use lib.ListN.{set, drop}
 use Rattle.spec_job.specs.Operations.{row_of, operation_of, operation_at}
 use Rattle.spec_job.specs.Effects.{effect}
 use Rattle.spec_job.specs.Rows.{from}
 use Rattle.spec_plain.specs.Machine.{queue, front, queues_after}
 use Rattle.job_effect.specs.declared.Made.{Made}
-use Rattle.job_effect.specs.Made.{found_with, coded}
-use Rattle.serial_queues.specs.declared.Found.{Found}
-use Rattle.serial_queues.specs.declared.Found.TheVariants.{Value, Nothing}
-use Rattle.serial_queues.specs.contracts.Found.{the_type}
-use Rattle.serial_queues.specs.Found.{found_of}
+use Rattle.job_effect.specs.Made.{found_of, coded}
 use Rattle.serial_steps.specs.Steps.{Inner, Takes, Gives}
 
 module _ (q x i r : ℕ) (qs : List (List ℕ)) (f : Option ℕ) (e : Made) where
@@ -70,35 +62,27 @@ module _ (q x i r : ℕ) (qs : List (List ℕ)) (e : Made) where
   pub keyed : (us : List (List ℕ)) {k n : ℕ} → k ≡ n → Gives n q x i r qs e us → Gives k q x i r qs e us
   keyed us p d = subst (λ (k : ℕ). Gives k q x i r qs e us) (sym p) d
 
+  -- the front, as the code finds it
+  found : {f : Given ℕ} → f ≡ slice_get (queue qs q) 0 → found_of f ≡ front (queue qs q)
+  found ef = ap found_of ef ∙ same (queue qs q)
+    where
+      same : (xs : List ℕ) → found_of (slice_get xs 0) ≡ front xs
+      same [] = unfold found_of front in refl
+      same (x ∷ xs) = unfold found_of front in refl
+
+  with_front : (k : ℕ) {f : Given ℕ} → f ≡ slice_get (queue qs q) 0 → e ≡ coded (effect (operation_at k) i r x (found_of f))
+      → e ≡ coded (effect (operation_at k) i r x (front (queue qs q)))
+  with_front k ef g = g ∙ ap (λ (o : Option ℕ). coded (effect (operation_at k) i r x o)) (found ef)
+
   -- an operation that takes
-  module _ (us : List (List ℕ)) (f : Found) {k : ℕ} (tk : Takes k) (ef : found_of f ≡ front (queue qs q)) (eu : us ≡ set qs q (drop 1 (queue qs q))) where
-    took : (o : Option ℕ) → o ≡ found_of f → e ≡ coded (effect (operation_at k) i r x o) → Gives k q x i r qs e us
-    took o h g = record { made = g ∙ ap (λ (o : Option ℕ). coded (effect (operation_at k) i r x o)) (h ∙ ef); lists = eu ∙ sym (tk q e.value qs) }
+  pub took : (us : List (List ℕ)) {k : ℕ} {f : Given ℕ} → Takes k → f ≡ slice_get (queue qs q) 0 → us ≡ set qs q (drop 1 (queue qs q))
+      → e ≡ coded (effect (operation_at k) i r x (found_of f)) → Gives k q x i r qs e us
+  took us {k} tk ef eu g = record { made = with_front k ef g; lists = eu ∙ sym (tk q e.value qs) }
 
-    pub some_taken : {v : ℕ} → f ≡ Value v → e ≡ coded (effect (operation_at k) i r x (found_with true v)) → Gives k q x i r qs e us
-    unfolding found_with found_of
-    some_taken {v} h g = took (found_with true v) (ap found_of (sym h)) g
-
-    pub none_taken : OneOf (1 ∷ []) (tag_of the_type f) → e ≡ coded (effect (operation_at k) i r x (found_with false 0)) → Gives k q x i r qs e us
-    none_taken h g = took (found_with false 0) (nothing f h) g
-      where
-        nothing : (f : Found) → OneOf (1 ∷ []) (tag_of the_type f) → found_with false 0 ≡ found_of f
-        nothing (Value v) h = let z : ⊥ = omega (arith, h) in absurd z
-        nothing Nothing h = unfold found_with found_of in refl
-
-  -- a test asks only whether there is a front
-  looks : (vs : List ℕ) → effect (operation_at 4) i r x (found_with (not (eqb (length vs) 0)) 0) ≡ effect (operation_at 4) i r x (front vs)
-  unfolding operation_at operation_of row_of effect found_with front
-  looks [] = refl
-  looks (v ∷ vs) = ap (λ (b : Bool). effect (operation_at 4) i r x (found_with (not b) 0)) (ne_eqb (length (v ∷ vs)) 0 (λ z. omega (arith, z)))
-
-  pub test_does : {n : ℕ} → n ≡ length (queue qs q) → e ≡ coded (effect (operation_at 4) i r x (found_with (not (eqb n 0)) 0)) → Gives 4 q x i r qs e qs
+  -- a test
+  pub looked : {f : Given ℕ} → f ≡ slice_get (queue qs q) 0 → e ≡ coded (effect (operation_at 4) i r x (found_of f)) → Gives 4 q x i r qs e qs
   unfolding operation_at operation_of row_of queues_after
-  test_does h g =
-      record {
-        made = g ∙ ap coded (ap (λ (n : ℕ). effect (operation_at 4) i r x (found_with (not (eqb n 0)) 0)) h ∙ looks (queue qs q));
-        lists = refl;
-      }
+  looked ef g = record { made = with_front 4 ef g; lists = refl }
 
 -- the operations that take: 3 and 10
 pub pop_takes : Takes 3

@@ -11,7 +11,7 @@ ghost use Rattle.spec_serial.specs.Working.{WORKING, lists};
 ghost use Rattle.serial_steps.specs.Steps.{Inner, Takes, Gives};
 
 use job_effect::Made;
-use serial_queues::{Found, VALUES};
+use serial_queues::VALUES;
 use spec_job::Instruction;
 
 // Writes the answer of step number n, counted from 0, by a task.
@@ -40,7 +40,7 @@ fn push_step(w: &mut [u32], k: u32, q: u32, x: u32, i: u32, r: u32) -> Made
     requires { (size w.old ≡ WORKING) × (length (queue (lists w.old) q) < VALUES) × (1 ≤ k) × (k ≤ 2) × (i < 2 ^ 31) }
     ensures { Gives k q x i r (lists w.old) result (lists w.new) }
 {
-    let e = job_effect::effect(k, x, i, r, false, 0);
+    let e = job_effect::effect(k, x, i, r, None);
     serial_queues::push(w, q, e.value);
     e
 }
@@ -50,12 +50,9 @@ fn take_step(w: &mut [u32], k: u32, q: u32, x: u32, i: u32, r: u32) -> Made
     requires { (size w.old ≡ WORKING) × Takes k × (i < 2 ^ 31) }
     ensures { Gives k q x i r (lists w.old) result (lists w.new) }
 {
-    let f = serial_queues::value(w, q, 0);
+    let front = serial_queues::value(w, q, 0);
     serial_queues::pop(w, q);
-    match f {
-        Found::Value(v) => job_effect::effect(k, x, i, r, true, v),
-        Found::Nothing => job_effect::effect(k, x, i, r, false, 0),
-    }
+    job_effect::effect(k, x, i, r, front)
 }
 
 // Goes to instruction x where queue q is empty.
@@ -63,8 +60,7 @@ fn test_step(w: &[u32], q: u32, x: u32, i: u32, r: u32) -> Made
     requires { i < 2 ^ 31 }
     ensures { Gives 4 q x i r (lists w.now) result (lists w.now) }
 {
-    let n = serial_queues::count(w, q);
-    job_effect::effect(4, x, i, r, n != 0, 0)
+    job_effect::effect(4, x, i, r, serial_queues::value(w, q, 0))
 }
 
 // A step of a task at instruction i, which is s, with register r.
@@ -81,6 +77,6 @@ pub fn step(w: &mut [u32], s: Instruction, i: u32, r: u32) -> Made
         3 => take_step(w, 3, q, x, i, r),
         4 => test_step(w, q, x, i, r),
         10 => take_step(w, 10, q, x, i, r),
-        _ => job_effect::effect(k, x, i, r, false, 0),
+        _ => job_effect::effect(k, x, i, r, None),
     }
 }

@@ -1,13 +1,11 @@
 -- The lines of steps, as the code writes them, and the values of a list, as it reads them.
-use Rattle.std.specs.Prelude.{◌≡◌, List, ℕ, ◌+◌, ◌*◌, take, drop}
+use Rattle.std.specs.Prelude.{◌≡◌, List, ℕ, ◌+◌, ◌*◌, take, drop, Some, None, slice_get}
 use Rattle.std.proofs.Common.{ap, sym, ◌∙◌, zero-add}
-use Rattle.std.proofs.Math.Option.{Option}
+use Rattle.std.proofs.Math.Option.{Option, none, some}
 use Rattle.std.proofs.Math.ListN.{get_elem?}
 use Rattle.spec_words.specs.Words.{load}
 use Rattle.spec_plain.specs.Machine.{queue}
 use Rattle.spec_serial.specs.Working.{lists}
-use Rattle.serial_queues.specs.declared.Found.{Found}
-use Rattle.serial_queues.specs.Found.{found_of}
 use Rattle.run_text.specs.Lines.{line}
 use Rattle.block_text.specs.Blocks.{Block, row_line}
 use Rattle.block_text.specs.Values.{read_from, read_list}
@@ -26,6 +24,21 @@ pub in_list : (w : List ℕ) (q k a : ℕ) {vs : List ℕ} {i : ℕ} → Block v
 unfolding value_in
 in_list w q k a b = rw (← read_list (queue (lists w) q) k a) b
 
-pub found_is : (w : List ℕ) (q i : ℕ) {f g : Found} → found_of f ≡ get_elem? (queue (lists w) q) i → f ≡ g → value_in w q i ≡ found_of g
+-- as the code finds it
+there : (xs : List ℕ) (i : ℕ) {v : ℕ} → slice_get xs i ≡ Some v → get_elem? xs i ≡ some v
+there [] i e = cc
+there (x ∷ xs) zero e = cc
+there (x ∷ xs) (suc i) e = there xs i e
+
+past : (xs : List ℕ) (i : ℕ) → slice_get xs i ≡ None → get_elem? xs i ≡ none
+past [] i e = refl
+past (x ∷ xs) zero e = cc
+past (x ∷ xs) (suc i) e = past xs i e
+
+pub found_is : (w : List ℕ) (q i : ℕ) {v : ℕ} → Some v ≡ slice_get (queue (lists w) q) i → value_in w q i ≡ some v
 unfolding value_in
-found_is w q i e h = sym e ∙ ap found_of h
+found_is w q i e = there (queue (lists w) q) i (sym e)
+
+pub none_is : (w : List ℕ) (q i : ℕ) → None ≡ slice_get (queue (lists w) q) i → value_in w q i ≡ none
+unfolding value_in
+none_is w q i e = past (queue (lists w) q) i (sym e)

@@ -9,8 +9,6 @@ ghost use Rattle.block_text.specs.Blocks.{Block};
 ghost use Rattle.block_text.specs.Values.{value_lines};
 ghost use Rattle.serial_text.specs.Whole.{step_line};
 
-use serial_queues::Found;
-
 // The lines of n steps from step `first` on.
 pub fn step_lines(out: &mut [u8], a: &[u32], first: u32, n: u32) -> usize
     requires { (65536 ≤ length out.old) × (first + n < 2 ^ 32) × (n ≤ 1024) }
@@ -27,8 +25,7 @@ fn left_values(w: &[u32], q: u32, first: usize, values: &mut [u32]) -> usize
 {
     let mut i: usize = 0;
     while i < values.len() {
-        let f = serial_queues::value(w, q, first + i);
-        let Found::Value(v) = f else {
+        let Some(v) = serial_queues::value(w, q, first + i) else {
             return i;
         };
         values[i] = v;

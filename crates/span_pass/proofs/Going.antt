@@ -17,7 +17,7 @@ use Rattle.spec_span.specs.Kinds.{awaits_children, looks_in}
 use Rattle.spec_span.specs.Pass.{task_at, POSITION, REGISTER, OWN, CHILDREN, POPPING, front_of, front_time, ready_at, gone_on, queued, with_child, child_finished, Stood}
 use Rattle.spec_span.specs.Pass.Stood.{stood}
 use Rattle.job_effect.specs.declared.Made.{Made}
-use Rattle.job_effect.specs.Made.{found_with, coded}
+use Rattle.job_effect.specs.Made.{found_of, coded}
 use Rattle.span_words.specs.declared.Seen.{Seen}
 use Rattle.span_words.specs.declared.Standing.{Standing}
 use Rattle.span_words.specs.Words.{Looks, Holds}
@@ -136,7 +136,7 @@ module _ (table w : List ℕ) (h : Standing) (k q x : ℕ) (e : Made) (n : Stand
 
   -- by one that looks
   module _ {b : ℕ} {l : Seen} (u : Looking k) (a : Holds w h) (eb : b ≡ later h.own h.older) (look : Looks w h.depth q b l)
-      (ee : e ≡ coded (effect (operation_at k) h.position h.register x (found_with l.found l.value)))
+      (ee : e ≡ coded (effect (operation_at k) h.position h.register x (found_of l.front)))
       (went : Went table w h k e l.time n w1) where
     looking : Moves table w h k q x e n w1
     looking =

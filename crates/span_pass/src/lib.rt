@@ -45,7 +45,7 @@ fn move_step(ticks: &[u32], w: &mut [u32], h: Standing, k: u32, q: u32, x: u32) 
     requires { Holds w.old h × (h.position < 128) × Unlooked k }
     ensures { Steps w.new result (step_with same ticks.now w.old h k q x) }
 {
-    let e = effect(k, x, h.position, h.register, false, 0);
+    let e = effect(k, x, h.position, h.register, None);
     go_on(ticks, w, h, k, e, later(h.own, h.older))
 }
 
@@ -54,7 +54,7 @@ fn push_step(ticks: &[u32], w: &mut [u32], h: Standing, k: u32, q: u32, x: u32) 
     requires { Holds w.old h × (h.position < 128) × Unlooked k }
     ensures { Steps w.new result (step_with queued ticks.now w.old h k q x) }
 {
-    let e = effect(k, x, h.position, h.register, false, 0);
+    let e = effect(k, x, h.position, h.register, None);
     let n = go_on(ticks, w, h, k, e, later(h.own, h.older));
     span_words::enqueue(w, q, e.value, n.time);
     n
@@ -66,7 +66,7 @@ fn look_step(ticks: &[u32], w: &mut [u32], h: Standing, k: u32, q: u32, x: u32) 
     ensures { Steps w.new result (step_with same ticks.now w.old h k q x) }
 {
     let l = span_words::look(w, h.depth, q, later(h.own, h.older));
-    let e = effect(k, x, h.position, h.register, l.found, l.value);
+    let e = effect(k, x, h.position, h.register, l.front);
     go_on(ticks, w, h, k, e, l.time)
 }
 
@@ -76,7 +76,7 @@ fn take_step(ticks: &[u32], w: &mut [u32], h: Standing, k: u32, q: u32, x: u32) 
     ensures { Steps w.new result (step_with takes ticks.now w.old h k q x) }
 {
     let l = span_words::look(w, h.depth, q, later(h.own, h.older));
-    let e = effect(k, x, h.position, h.register, l.found, l.value);
+    let e = effect(k, x, h.position, h.register, l.front);
     let n = go_on(ticks, w, h, k, e, l.time);
     span_words::unqueue(w, q);
     n
@@ -96,7 +96,7 @@ fn sync_step(ticks: &[u32], w: &mut [u32], h: Standing, q: u32, x: u32) -> Stand
     ensures { Steps w.new result (step_with same ticks.now w.old h 9 q x) }
 {
     let ready = joined(w, h);
-    let e = effect(9, x, h.position, h.register, false, 0);
+    let e = effect(9, x, h.position, h.register, None);
     go_on(ticks, w, h, 9, e, ready)
 }
 

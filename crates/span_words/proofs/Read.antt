@@ -1,11 +1,12 @@
 -- What the code reads, in the words of the definition.
 use Rattle.std.proofs.Common.{◌≡◌, ℕ, ◌+◌, ◌<◌, ◌≤◌, Bool, true, false, ltb, List, sym, refl, ap, ◌∙◌, ap₂, le-ltb, lt-ltb}
 use mathlib.Core.Option.{some}
+use Rattle.std.specs.Prelude.{Some, None}
 use Rattle.spec_words.specs.Words.{load, halt, pass}
 use Rattle.spec_line.specs.Later.{later}
 use Rattle.spec_tree.specs.Rights.{pops}
 use Rattle.spec_span.specs.Pass.{task_at, queue_at, place_at, TAKEN, PUSHED, PUSHERS, VALUE, TIME, POPPING, filled, front_of, front_time, sharing, older_for}
-use Rattle.job_effect.specs.Made.{found_with}
+use Rattle.job_effect.specs.Made.{found_of}
 use Rattle.span_words.specs.Words.{Looks}
 
 -- THE LATER of two times
@@ -32,8 +33,8 @@ module _ (w : List ℕ) (d q own : ℕ) {a n m b x y t : ℕ} (ab : b ≡ task_a
   is_ready e = later_of et refl (later_of ey (loaded w _ ea ab) e)
 
   pub found : {v : ℕ} → n < m → v ≡ load w (place_at q n VALUE) → x ≡ load w (place_at q n TIME)
-      → Looks w d q own (record { found = true; value = v; time = t })
-  unfolding found_with front_of front_time filled
+      → Looks w d q own (record { front = Some v; time = t })
+  unfolding found_of front_of front_time filled
   found h ev ex =
       record {
         front = ap some (ev ∙ ap (λ (k : ℕ). load w (place_at q k VALUE)) en) ∙ sym (halt _ _ some_here);
@@ -43,8 +44,8 @@ module _ (w : List ℕ) (d q own : ℕ) {a n m b x y t : ℕ} (ab : b ≡ task_a
       some_here : ltb (load w (queue_at q TAKEN)) (load w (queue_at q PUSHED)) ≡ true
       some_here = ap₂ ltb (sym en) (sym em) ∙ lt-ltb n m h
 
-  pub unfound : m ≤ n → x ≡ load w (queue_at q PUSHERS) → Looks w d q own (record { found = false; value = 0; time = t })
-  unfolding found_with front_of front_time filled
+  pub unfound : m ≤ n → x ≡ load w (queue_at q PUSHERS) → Looks w d q own (record { front = None; time = t })
+  unfolding found_of front_of front_time filled
   unfound h ex = record { front = sym (pass _ none_here refl); ready = is_ready (ex ∙ sym (pass _ none_here refl)) }
     where
       none_here : ltb (load w (queue_at q TAKEN)) (load w (queue_at q PUSHED)) ≡ false

@@ -4,7 +4,7 @@ use Rattle.spec_words.specs.Words.{load}
 use Rattle.spec_words.specs.Blocks.{store_all}
 use Rattle.spec_line.specs.Later.{later}
 use Rattle.spec_span.specs.Pass.{task_at, SPAN, PROCEDURE, POSITION, REGISTER, OWN, OLDER, POPPING, front_of, front_time}
-use Rattle.job_effect.specs.Made.{found_with}
+use Rattle.job_effect.specs.Made.{found_of}
 use Rattle.span_words.specs.declared.Standing.{Standing}
 use Rattle.span_words.specs.declared.Seen.{Seen}
 
@@ -14,7 +14,7 @@ task_words w d p x t older = store_all w (task_at d 0) (p ∷ 0 ∷ x ∷ t ∷ 
 
 -- a look in queue q by the task at depth d, held up until own
 pub record Looks (w : List ℕ) (d q own : ℕ) (l : Seen) : Type 0 where
-  pub front : found_with l.found l.value ≡ front_of w q
+  pub front : found_of l.front ≡ front_of w q
   pub ready : l.time ≡ later own (later (load w (task_at d (POPPING + q))) (front_time w q))
 
 -- what was read of the task at its depth is what its words say

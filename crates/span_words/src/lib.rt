@@ -57,8 +57,7 @@ pub struct Standing {
 // What a look in a queue finds, and when it can be made.
 #[derive(Clone, Copy)]
 pub struct Seen {
-    pub found: bool,
-    pub value: u32,
+    pub front: Option<u32>,
     pub time: u32,
 }
 
@@ -159,14 +158,12 @@ pub fn look(w: &[u32], d: u32, q: u32, own: u32) -> Seen
     let n = queue(w, q, TAKEN);
     if n < queue(w, q, PUSHED) {
         return Seen {
-            found: true,
-            value: place(w, q, n, VALUE),
+            front: Some(place(w, q, n, VALUE)),
             time: later(own, later(a, place(w, q, n, TIME))),
         };
     }
     Seen {
-        found: false,
-        value: 0,
+        front: None,
         time: later(own, later(a, queue(w, q, PUSHERS))),
     }
 }
