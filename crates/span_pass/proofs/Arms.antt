@@ -1,55 +1,57 @@
--- Each arm has the number of its operation, and what is left of the numbers returns.
-use mathlib.Core.Path.{◌≡◌, refl, ap, ap₂, sym, ◌∙◌}
+-- Each arm does the step of its operation.
+use mathlib.Core.Path.{◌≡◌, refl, ap, ap₂, sym, ◌∙◌, subst}
 use mathlib.Core.List.{List}
-use mathlib.Core.Logic.{◌⊎◌}
+use mathlib.Core.Logic.{◌⊎◌, inl, inr}
 use Prim.Native.Nat.{ℕ, ◌<◌, ◌≤◌}
 use native.Mathlib.Omega.{arith}
 use borrow.Author.Tests.{lt-ltb, le-ltb}
 use Rattle.spec_words.specs.Words.{load, halt, pass}
 use Rattle.spec_job.specs.declared.Instruction.{Instruction}
 use Rattle.spec_job.specs.Fields.{instruction_at}
-use Rattle.spec_job.specs.Operations.{Operation, operation_at, operation_of, row_of}
+use Rattle.spec_job.specs.Operations.{Operation, operation_at, return, push, push_sum, pop, go_if_empty, go, go_if_zero, add, spawn, sync, take_or_go}
 use Rattle.spec_job.specs.Effects.{sum, effect}
-use Rattle.spec_job.specs.Rows.{returns_at}
 use Rattle.spec_simulate.specs.Ticks.{ticks_for}
 use Rattle.spec_span.specs.Kinds.{awaits_children, looks_in}
 use Rattle.spec_span.specs.Pass.{task_at, PROCEDURE, POSITION, REGISTER, front_of, ready_at, queued, step_by, step_of, pass_step, Stood}
 use Rattle.spec_span.specs.Pass.Stood.{stood}
+use Rattle.operations.specs.declared.Operation as Code
+use Rattle.operations.specs.declared.Operation.TheVariants as O
+use Rattle.operations.specs.Named.{named}
 use Rattle.span_words.specs.declared.Standing.{Standing}
 use Rattle.span_words.specs.Words.{Holds}
 use Rattle.span_pass.specs.Steps.{Unlooked, Looking, takes, same, step_with, spawn_with, return_with, Steps}
 
--- THE KINDS of operations, by number
-pub push_alone : Unlooked 1
-unfolding operation_at operation_of row_of awaits_children looks_in effect
+-- THE KINDS of operations
+push_alone : Unlooked push
+unfolding awaits_children looks_in effect
 push_alone = record { alone = refl; blind = refl; ignores = λ i r x f g. refl }
 
-pub sum_alone : Unlooked 2
-unfolding operation_at operation_of row_of awaits_children looks_in effect
+sum_alone : Unlooked push_sum
+unfolding awaits_children looks_in effect
 sum_alone = record { alone = refl; blind = refl; ignores = λ i r x f g. refl }
 
-pub go_alone : Unlooked 5
-unfolding operation_at operation_of row_of awaits_children looks_in effect
+go_alone : Unlooked go
+unfolding awaits_children looks_in effect
 go_alone = record { alone = refl; blind = refl; ignores = λ i r x f g. refl }
 
-pub zero_alone : Unlooked 6
-unfolding operation_at operation_of row_of awaits_children looks_in effect
+zero_alone : Unlooked go_if_zero
+unfolding awaits_children looks_in effect
 zero_alone = record { alone = refl; blind = refl; ignores = λ i r x f g. refl }
 
-pub add_alone : Unlooked 7
-unfolding operation_at operation_of row_of awaits_children looks_in effect
+add_alone : Unlooked add
+unfolding awaits_children looks_in effect
 add_alone = record { alone = refl; blind = refl; ignores = λ i r x f g. refl }
 
-pub pop_looks : Looking 3
-unfolding operation_at operation_of row_of awaits_children looks_in
+pop_looks : Looking pop
+unfolding awaits_children looks_in
 pop_looks = record { alone = refl; looks = refl }
 
-pub test_looks : Looking 4
-unfolding operation_at operation_of row_of awaits_children looks_in
+test_looks : Looking go_if_empty
+unfolding awaits_children looks_in
 test_looks = record { alone = refl; looks = refl }
 
-pub take_looks : Looking 10
-unfolding operation_at operation_of row_of awaits_children looks_in
+take_looks : Looking take_or_go
+unfolding awaits_children looks_in
 take_looks = record { alone = refl; looks = refl }
 
 -- THE ARMS
@@ -68,52 +70,101 @@ module _ (j table w : List ℕ) (h : Standing) (s : Instruction) where
   unfolding step_of
   step_as_lem e = ap step_as (sym e)
 
-  numbered : {k : ℕ} → s.operation ≡ k → step_as (operation_at k) ≡ step_is
-  numbered e = step_as_lem (ap operation_at e)
+  is_push : operation_at s.operation ≡ push → step_with queued table w h push s.which s.operand ≡ step_is
+  unfolding step_with step_by
+  is_push e = step_as_lem e
 
-  pub is_push : s.operation ≡ 1 → step_with queued table w h 1 s.which s.operand ≡ step_is
-  unfolding step_with step_by operation_at operation_of row_of
-  is_push e = numbered e
+  is_sum : operation_at s.operation ≡ push_sum → step_with queued table w h push_sum s.which s.operand ≡ step_is
+  unfolding step_with step_by
+  is_sum e = step_as_lem e
 
-  pub is_sum : s.operation ≡ 2 → step_with queued table w h 2 s.which s.operand ≡ step_is
-  unfolding step_with step_by operation_at operation_of row_of
-  is_sum e = numbered e
+  is_pop : operation_at s.operation ≡ pop → step_with takes table w h pop s.which s.operand ≡ step_is
+  unfolding step_with step_by
+  is_pop e = step_as_lem e
 
-  pub is_pop : s.operation ≡ 3 → step_with takes table w h 3 s.which s.operand ≡ step_is
-  unfolding step_with step_by operation_at operation_of row_of
-  is_pop e = numbered e
+  is_take : operation_at s.operation ≡ take_or_go → step_with takes table w h take_or_go s.which s.operand ≡ step_is
+  unfolding step_with step_by
+  is_take e = step_as_lem e
 
-  pub is_take : s.operation ≡ 10 → step_with takes table w h 10 s.which s.operand ≡ step_is
-  unfolding step_with step_by operation_at operation_of row_of
-  is_take e = numbered e
+  is_test : operation_at s.operation ≡ go_if_empty → step_with same table w h go_if_empty s.which s.operand ≡ step_is
+  unfolding step_with step_by
+  is_test e = step_as_lem e
 
-  pub is_test : s.operation ≡ 4 → step_with same table w h 4 s.which s.operand ≡ step_is
-  unfolding step_with step_by operation_at operation_of row_of
-  is_test e = numbered e
+  is_go : operation_at s.operation ≡ go → step_with same table w h go s.which s.operand ≡ step_is
+  unfolding step_with step_by
+  is_go e = step_as_lem e
 
-  pub is_go : s.operation ≡ 5 → step_with same table w h 5 s.which s.operand ≡ step_is
-  unfolding step_with step_by operation_at operation_of row_of
-  is_go e = numbered e
+  is_zero : operation_at s.operation ≡ go_if_zero → step_with same table w h go_if_zero s.which s.operand ≡ step_is
+  unfolding step_with step_by
+  is_zero e = step_as_lem e
 
-  pub is_zero : s.operation ≡ 6 → step_with same table w h 6 s.which s.operand ≡ step_is
-  unfolding step_with step_by operation_at operation_of row_of
-  is_zero e = numbered e
+  is_add : operation_at s.operation ≡ add → step_with same table w h add s.which s.operand ≡ step_is
+  unfolding step_with step_by
+  is_add e = step_as_lem e
 
-  pub is_add : s.operation ≡ 7 → step_with same table w h 7 s.which s.operand ≡ step_is
-  unfolding step_with step_by operation_at operation_of row_of
-  is_add e = numbered e
+  is_sync : operation_at s.operation ≡ sync → step_with same table w h sync s.which s.operand ≡ step_is
+  unfolding step_with step_by
+  is_sync e = step_as_lem e
 
-  pub is_sync : s.operation ≡ 9 → step_with same table w h 9 s.which s.operand ≡ step_is
-  unfolding step_with step_by operation_at operation_of row_of
-  is_sync e = numbered e
+  is_spawn : operation_at s.operation ≡ spawn → spawn_with j table w h s.which s.operand ≡ step_is
+  unfolding spawn_with step_by
+  is_spawn e = step_as_lem e
 
-  pub is_spawn : s.operation ≡ 8 → spawn_with j table w h s.which s.operand ≡ step_is
-  unfolding spawn_with step_by operation_at operation_of row_of
-  is_spawn e = numbered e
-
-  pub is_return : (s.operation ≡ 0) ⊎ (11 ≤ s.operation) → return_with j table w h s.which ≡ step_is
+  is_return : operation_at s.operation ≡ return → return_with j table w h s.which ≡ step_is
   unfolding return_with step_by
-  is_return h = step_as_lem (returns_at s.operation h)
+  is_return e = step_as_lem e
+
+-- the arms of the code, by its names for the operations
+module _ (o : Code.Operation) where
+  pub pushing : (o ≡ O.Push) ⊎ (o ≡ O.PushSum) → Unlooked (named o)
+  pushing (inl e) = subst (λ (o : Code.Operation). Unlooked (named o)) (sym e) push_alone
+  pushing (inr e) = subst (λ (o : Code.Operation). Unlooked (named o)) (sym e) sum_alone
+
+  pub taking : (o ≡ O.Pop) ⊎ (o ≡ O.TakeOrGo) → Looking (named o)
+  taking (inl e) = subst (λ (o : Code.Operation). Looking (named o)) (sym e) pop_looks
+  taking (inr e) = subst (λ (o : Code.Operation). Looking (named o)) (sym e) take_looks
+
+  pub testing : o ≡ O.GoIfEmpty → Looking (named o)
+  testing e = subst (λ (o : Code.Operation). Looking (named o)) (sym e) test_looks
+
+  pub moving : (o ≡ O.Go) ⊎ (o ≡ O.GoIfZero) ⊎ (o ≡ O.Add) → Unlooked (named o)
+  moving (inl e) = subst (λ (o : Code.Operation). Unlooked (named o)) (sym e) go_alone
+  moving (inr (inl e)) = subst (λ (o : Code.Operation). Unlooked (named o)) (sym e) zero_alone
+  moving (inr (inr e)) = subst (λ (o : Code.Operation). Unlooked (named o)) (sym e) add_alone
+
+module _ (j table w : List ℕ) (h : Standing) (s : Instruction) {o : Code.Operation} (k : named o ≡ operation_at s.operation) where
+  is : {p : Code.Operation} → o ≡ p → operation_at s.operation ≡ named p
+  is e = sym k ∙ ap named e
+
+  given : (f : List ℕ → ℕ → ℕ → ℕ → List ℕ) {p : Code.Operation} → o ≡ p
+      → step_with f table w h (named o) s.which s.operand ≡ step_with f table w h (named p) s.which s.operand
+  given f e = ap (λ (o : Code.Operation). step_with f table w h (named o) s.which s.operand) e
+
+  pub push_arm : (o ≡ O.Push) ⊎ (o ≡ O.PushSum) → step_with queued table w h (named o) s.which s.operand ≡ step_of j table w h.depth h.procedure h.position h.register s
+  push_arm (inl e) = given queued e ∙ is_push j table w h s (is e)
+  push_arm (inr e) = given queued e ∙ is_sum j table w h s (is e)
+
+  pub take_arm : (o ≡ O.Pop) ⊎ (o ≡ O.TakeOrGo) → step_with takes table w h (named o) s.which s.operand ≡ step_of j table w h.depth h.procedure h.position h.register s
+  take_arm (inl e) = given takes e ∙ is_pop j table w h s (is e)
+  take_arm (inr e) = given takes e ∙ is_take j table w h s (is e)
+
+  pub test_arm : o ≡ O.GoIfEmpty → step_with same table w h (named o) s.which s.operand ≡ step_of j table w h.depth h.procedure h.position h.register s
+  test_arm e = given same e ∙ is_test j table w h s (is e)
+
+  pub move_arm : (o ≡ O.Go) ⊎ (o ≡ O.GoIfZero) ⊎ (o ≡ O.Add)
+      → step_with same table w h (named o) s.which s.operand ≡ step_of j table w h.depth h.procedure h.position h.register s
+  move_arm (inl e) = given same e ∙ is_go j table w h s (is e)
+  move_arm (inr (inl e)) = given same e ∙ is_zero j table w h s (is e)
+  move_arm (inr (inr e)) = given same e ∙ is_add j table w h s (is e)
+
+  pub sync_arm : o ≡ O.Sync → step_with same table w h sync s.which s.operand ≡ step_of j table w h.depth h.procedure h.position h.register s
+  sync_arm e = is_sync j table w h s (is e)
+
+  pub spawn_arm : o ≡ O.Spawn → spawn_with j table w h s.which s.operand ≡ step_of j table w h.depth h.procedure h.position h.register s
+  spawn_arm e = is_spawn j table w h s (is e)
+
+  pub return_arm : o ≡ O.Return → return_with j table w h s.which ≡ step_of j table w h.depth h.procedure h.position h.register s
+  return_arm e = is_return j table w h s (is e)
 
 pub arrives : {w : List ℕ} {n : Standing} {S T : Stood} → Steps w n S → S ≡ T → Steps w n T
 arrives a e = record { here = a.here ∙ e; holds = a.holds }
