@@ -1,6 +1,6 @@
 // THE SPAN IN ONE PASS along the serial run, on words that the caller lends. What the words hold is free, and so is what the job's bytes are. The
 // words of the task that steps are read once; each step writes them, as its definition does.
-#![tactic(auto)]
+#![tactic(auto, unfolding(spec_words::specs::Words::pick, spec_line::specs::Later::later, spec_job::specs::Effects::sum, job_effect::specs::Made::found_of, spec_span::specs::Pass::gone_on, spec_span::specs::Pass::ready_at, spec_span::specs::Pass::step_of, spec_span::specs::Pass::step_by, spec_span::specs::Pass::pass_step, crate::specs::Steps::own_time, crate::specs::Steps::joined_time, crate::specs::Steps::step_with, crate::specs::Steps::spawn_with, crate::specs::Steps::return_with, spec_job::specs::Operations::operation_at, spec_job::specs::Operations::operation_of, spec_job::specs::Operations::row_of, spec_span::specs::Kinds::awaits_children, spec_span::specs::Kinds::looks_in))]
 
 ghost use Rattle.std.specs.Prelude.{◌≡◌, ◌<◌, ◌≤◌, length};
 ghost use Rattle.spec_span.specs.Pass.{SPAN, queued, step_of, pass_step, span_pass};
@@ -8,9 +8,7 @@ ghost use Rattle.span_words.specs.Words.{Holds};
 ghost use Rattle.span_pass.specs.Steps.{Went, Unlooked, Looking, joined_time, same, takes, step_with, spawn_with, return_with, Steps};
 
 use job_effect::{Made, effect};
-use span_words::{
-    CHILDREN, OWN, POSITION, REGISTER, Standing, later, read_task, set_task, sum, task,
-};
+use span_words::{CHILDREN, OWN, POSITION, REGISTER, Standing, read_task, set_task, task};
 use spec_job::Instruction;
 
 // The most unfinished tasks, the most instructions of a body, and the most steps.
@@ -25,18 +23,16 @@ fn go_on(ticks: &[u32], w: &mut [u32], h: Standing, k: u32, e: Made, ready: u32)
     requires { Holds w.old h }
     ensures { Went ticks.now w.old h k e ready result w.new }
 {
-    let t = sum(ready, job_ticks::ticks_for(ticks, k));
+    let t = ready.wrapping_add(job_ticks::ticks_for(ticks, k));
     set_task(w, h.depth, POSITION, e.next);
     set_task(w, h.depth, REGISTER, e.register);
     set_task(w, h.depth, OWN, t);
     Standing {
-        depth: h.depth,
-        procedure: h.procedure,
         position: e.next,
         register: e.register,
         own: t,
-        older: h.older,
         time: t,
+        ..h
     }
 }
 
@@ -46,7 +42,7 @@ fn move_step(ticks: &[u32], w: &mut [u32], h: Standing, k: u32, q: u32, x: u32) 
     ensures { Steps w.new result (step_with same ticks.now w.old h k q x) }
 {
     let e = effect(k, x, h.position, h.register, None);
-    go_on(ticks, w, h, k, e, later(h.own, h.older))
+    go_on(ticks, w, h, k, e, h.own.max(h.older))
 }
 
 // One that pushes to queue q.
@@ -55,7 +51,7 @@ fn push_step(ticks: &[u32], w: &mut [u32], h: Standing, k: u32, q: u32, x: u32) 
     ensures { Steps w.new result (step_with queued ticks.now w.old h k q x) }
 {
     let e = effect(k, x, h.position, h.register, None);
-    let n = go_on(ticks, w, h, k, e, later(h.own, h.older));
+    let n = go_on(ticks, w, h, k, e, h.own.max(h.older));
     span_words::enqueue(w, q, e.value, n.time);
     n
 }
@@ -65,7 +61,7 @@ fn look_step(ticks: &[u32], w: &mut [u32], h: Standing, k: u32, q: u32, x: u32) 
     requires { Holds w.old h × (h.position < 128) × Looking k }
     ensures { Steps w.new result (step_with same ticks.now w.old h k q x) }
 {
-    let l = span_words::look(w, h.depth, q, later(h.own, h.older));
+    let l = span_words::look(w, h.depth, q, h.own.max(h.older));
     let e = effect(k, x, h.position, h.register, l.front);
     go_on(ticks, w, h, k, e, l.time)
 }
@@ -75,7 +71,7 @@ fn take_step(ticks: &[u32], w: &mut [u32], h: Standing, k: u32, q: u32, x: u32) 
     requires { Holds w.old h × (h.position < 128) × Looking k }
     ensures { Steps w.new result (step_with takes ticks.now w.old h k q x) }
 {
-    let l = span_words::look(w, h.depth, q, later(h.own, h.older));
+    let l = span_words::look(w, h.depth, q, h.own.max(h.older));
     let e = effect(k, x, h.position, h.register, l.front);
     let n = go_on(ticks, w, h, k, e, l.time);
     span_words::unqueue(w, q);
@@ -87,7 +83,7 @@ fn joined(w: &[u32], h: Standing) -> u32
     requires { Holds w.now h }
     ensures { result ≡ joined_time w.now h.depth }
 {
-    later(later(h.own, h.older), task(w, h.depth, CHILDREN))
+    h.own.max(h.older).max(task(w, h.depth, CHILDREN))
 }
 
 // A sync.
@@ -106,7 +102,10 @@ fn spawn_step(job: &[u8], ticks: &[u32], w: &mut [u32], h: Standing, p: u32, x: 
     ensures { Steps w.new result (spawn_with job.now ticks.now w.old h p x) }
 {
     if DEEPEST <= h.depth {
-        let t = sum(later(h.own, h.older), job_ticks::ticks_for(ticks, 8));
+        let t = h
+            .own
+            .max(h.older)
+            .wrapping_add(job_ticks::ticks_for(ticks, 8));
         return read_task(w, 0, t);
     }
     let n = move_step(ticks, w, h, 8, p, x);
@@ -115,7 +114,7 @@ fn spawn_step(job: &[u8], ticks: &[u32], w: &mut [u32], h: Standing, p: u32, x: 
         h.depth,
         p,
         job_fields::rights(job, p),
-        sum(h.register, x),
+        h.register.wrapping_add(x),
         n.time,
     )
 }
@@ -125,7 +124,7 @@ fn return_step(job: &[u8], ticks: &[u32], w: &mut [u32], h: Standing, q: u32) ->
     requires { Holds w.old h × (1 ≤ h.depth) }
     ensures { Steps w.new result (return_with job.now ticks.now w.old h q) }
 {
-    let t = sum(joined(w, h), job_ticks::ticks_for(ticks, 0));
+    let t = joined(w, h).wrapping_add(job_ticks::ticks_for(ticks, 0));
     let d = h.depth - 1;
     span_words::child_finished(w, d, job_fields::rights(job, h.procedure), t);
     read_task(w, d, t)
@@ -174,13 +173,11 @@ pub fn span(job: &[u8], ticks: &[u32], w: &mut [u32]) -> u32
 {
     span_words::begin(w);
     let mut h = read_task(w, 1, 0);
-    let mut n: u32 = STEPS;
-    while 0 < n {
+    for _ in 0..STEPS {
         if h.depth == 0 {
-            return h.time;
+            break;
         }
         h = step(job, ticks, w, h);
-        n -= 1;
     }
     h.time
 }

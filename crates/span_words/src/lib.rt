@@ -140,19 +140,6 @@ fn set_place(w: &mut [u32], q: u32, i: u32, k: u32, v: u32)
     );
 }
 
-// TIMES
-pub fn later(a: u32, b: u32) -> u32
-    ensures { result ≡ later a b }
-{
-    a.max(b)
-}
-
-pub fn sum(a: u32, b: u32) -> u32
-    ensures { result ≡ sum a b }
-{
-    a.wrapping_add(b)
-}
-
 // A look in queue q by the task at depth d, which is held up until `own` by what concerns no queue.
 pub fn look(w: &[u32], d: u32, q: u32, own: u32) -> Seen
     ensures { Looks w.now d q own result }
@@ -162,19 +149,19 @@ pub fn look(w: &[u32], d: u32, q: u32, own: u32) -> Seen
     if n < queue(w, q, PUSHED) {
         return Seen {
             front: Some(place(w, q, n, VALUE)),
-            time: later(own, later(a, place(w, q, n, TIME))),
+            time: own.max(a.max(place(w, q, n, TIME))),
         };
     }
     Seen {
         front: None,
-        time: later(own, later(a, queue(w, q, PUSHERS))),
+        time: own.max(a.max(queue(w, q, PUSHERS))),
     }
 }
 
 fn raise(w: &mut [u32], a: usize, t: u32)
     ensures { w.new ≡ raised w.old a t }
 {
-    memory::put(w, a, later(memory::get(w, a), t));
+    memory::put(w, a, memory::get(w, a).max(t));
 }
 
 fn raise_if(w: &mut [u32], go: bool, a: usize, t: u32)
@@ -192,8 +179,8 @@ pub fn enqueue(w: &mut [u32], q: u32, v: u32, t: u32)
     let n = queue(w, q, PUSHED);
     let p = queue(w, q, PUSHERS);
     set_place(w, q, n, VALUE, v);
-    set_place(w, q, n, TIME, later(t, p));
-    set_queue(w, q, PUSHED, sum(n, 1));
+    set_place(w, q, n, TIME, t.max(p));
+    set_queue(w, q, PUSHED, n.wrapping_add(1));
 }
 
 // The first value of queue q is taken, if there is one.
@@ -202,7 +189,7 @@ pub fn unqueue(w: &mut [u32], q: u32)
 {
     let n = queue(w, q, TAKEN);
     if n < queue(w, q, PUSHED) {
-        set_queue(w, q, TAKEN, sum(n, 1));
+        set_queue(w, q, TAKEN, n.wrapping_add(1));
     }
 }
 
@@ -230,8 +217,8 @@ fn sharing(w: &[u32], d: u32, r: u32, q: u32) -> u32
 fn older_for(w: &[u32], d: u32, r: u32) -> u32
     ensures { result ≡ older_for w.now d r }
 {
-    let a = later(sharing(w, d, r, 0), sharing(w, d, r, 1));
-    later(a, later(sharing(w, d, r, 2), sharing(w, d, r, 3)))
+    let a = sharing(w, d, r, 0).max(sharing(w, d, r, 1));
+    a.max(sharing(w, d, r, 2).max(sharing(w, d, r, 3)))
 }
 
 // The task at depth d makes a child, with procedure p, rights r and register x, at time t.
