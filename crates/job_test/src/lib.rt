@@ -1,38 +1,17 @@
 // The job test. Every byte is read a bounded number of times, so its time is linear in the bytes.
-#![tactic(auto, using(crate::proofs::Inside::contents_inside, crate::proofs::Inside::some_instruction, crate::proofs::Inside::last_inside), unfolding(crate::specs::Faults::fault_number, crate::specs::Faults::answer_for, spec_words::specs::Words::both, spec_words::specs::Words::pick, spec_words::specs::Words::either, spec_words::specs::Words::size, spec_job::specs::Test::between, spec_job::specs::Test::head_holds, spec_job::specs::Test::entry_holds, spec_job::specs::Test::contents_hold, spec_job::specs::Test::fitting, spec_job::specs::Test::which_holds, spec_job::specs::Test::operand_holds, spec_job::specs::Test::last_holds, spec_job::specs::Test::job_answer, spec_job::specs::Test::refusal10, spec_job::specs::Test::refusal11, spec_job::specs::Test::refusal12, spec_job::specs::Fields::instruction_at, spec_job::specs::Operations::row_of))]
+#![tactic(auto, using(crate::proofs::Inside::contents_inside, crate::proofs::Inside::some_instruction, crate::proofs::Inside::last_inside), unfolding(crate::specs::Answers::answer_for, spec_words::specs::Words::both, spec_words::specs::Words::pick, spec_words::specs::Words::either, spec_words::specs::Words::size, spec_job::specs::Test::between, spec_job::specs::Test::head_holds, spec_job::specs::Test::entry_holds, spec_job::specs::Test::contents_hold, spec_job::specs::Test::fitting, spec_job::specs::Test::which_holds, spec_job::specs::Test::operand_holds, spec_job::specs::Test::last_holds, spec_job::specs::Test::job_answer, spec_job::specs::Test::refusal10, spec_job::specs::Test::refusal11, spec_job::specs::Test::refusal12, spec_job::specs::Fields::instruction_at, spec_job::specs::Operations::row_of))]
 
 ghost use Rattle.std.specs.Prelude.{◌≡◌, true, ◌+◌, ◌<◌, ◌≤◌, ltb, length};
 ghost use Rattle.spec_words.specs.Words.{both};
 ghost use Rattle.spec_lists.specs.Tests.{upto};
 ghost use Rattle.spec_tree.specs.Rights.{pushes, pops, subset};
 ghost use Rattle.spec_job.specs.Fields.{procedures, entry_at, rights, instruction_from};
-ghost use Rattle.job_test.specs.Faults.{fault_number, answer_for};
+ghost use Rattle.job_test.specs.Answers.{answer_for};
 ghost use Rattle.spec_job.specs.Test.{between, head_holds, entry_holds, entries_hold, contents_hold, fitting, last_holds, body_holds, job_answer};
 
 use job_fields::{ENTRY, HEAD, INSTRUCTION};
+use refusals::Refusal;
 use spec_answers::Answer;
-
-// What is wrong with bytes that are no job: head and contents are not there, or n or L is out of range; an entry or the total length
-// breaks its rule; or an instruction of a body breaks its rule, lacks its right or goes nowhere.
-#[derive(Clone, Copy, Debug, PartialEq, Eq)]
-pub enum JobFault {
-    Head,
-    Contents,
-    Body,
-}
-
-impl JobFault {
-    // The number with which a call is refused.
-    pub fn number(self) -> u32
-        ensures { result ≡ fault_number self }
-    {
-        match self {
-            JobFault::Head => 10,
-            JobFault::Contents => 11,
-            JobFault::Body => 12,
-        }
-    }
-}
 
 // Head and contents are there, n and L are in range.
 fn head_holds(job: &[u8]) -> bool
@@ -138,18 +117,18 @@ fn bodies_hold(job: &[u8]) -> bool
     (0..job_fields::procedures(job)).all(|p| body_holds(job, p))
 }
 
-// Whether the bytes are a job; if not, the first fault.
-pub fn check(job: &[u8]) -> Result<(), JobFault>
+// Whether the bytes are a job; if not, what is wrong first.
+pub fn check(job: &[u8]) -> Result<(), Refusal>
     ensures { answer_for result ≡ job_answer job.now }
 {
     if !head_holds(job) {
-        return Err(JobFault::Head);
+        return Err(Refusal::JobHead);
     }
     if !contents_hold(job) {
-        return Err(JobFault::Contents);
+        return Err(Refusal::JobContents);
     }
     if !bodies_hold(job) {
-        return Err(JobFault::Body);
+        return Err(Refusal::JobBody);
     }
     Ok(())
 }
@@ -160,6 +139,6 @@ pub fn job_test(job: &[u8]) -> Answer
 {
     match check(job) {
         Ok(()) => Answer::Moved(0),
-        Err(e) => Answer::Refused(e.number()),
+        Err(e) => e.into(),
     }
 }

@@ -16,8 +16,8 @@ use Rattle.spec_runner.specs.Answers.{outcome}
 use Rattle.spec_runner.specs.Rules.{refused}
 use Rattle.spec_runner.specs.Open.{segments_for, job_opened, open_outcome}
 use Rattle.spec_runner.proofs.Opens.{in_range_lem}
-use Rattle.runner_words.specs.declared.Refusal.{Refusal}
-use Rattle.runner_words.specs.Numbers.{number_of}
+use Rattle.refusals.specs.declared.Refusal.{Refusal}
+use Rattle.refusals.specs.Numbers.{number_of}
 use Rattle.runner_words.proofs.Numbers.{number_some}
 use Rattle.runner_words.specs.Refusals.{job_refusal, turned_down, goes_on, fits}
 use Rattle.runner_open.specs.Opens.{Opens}

@@ -8,7 +8,7 @@ ghost use Rattle.runner_words.specs.Refusals.{job_refusal};
 ghost use Rattle.runner_open.specs.Opens.{Opens};
 
 use layout::{SEGMENTS, VALUE_WORDS};
-use runner_words::Refusal;
+use refusals::Refusal;
 
 // "The runner opens with segments the smaller of 256 and 8,192 divided by L, rounded down."
 fn segments_for(l: u32) -> u32

@@ -13,6 +13,7 @@ ghost use Rattle.spec_runner.specs.Moves.{instruction_moves, step_moves};
 ghost use Rattle.core_blocked.specs.Told.{Tell};
 
 use layout::{NONE, WORDS};
+use refusals::Refusal;
 use spec_job::Instruction;
 use spec_runner::StepAnswer;
 
@@ -124,7 +125,7 @@ pub fn ready(job: &[u8], m: &[u32], r: &[u32], out: &mut [u32]) -> StepAnswer
     ensures { mapped result out.new ≡ ready_outcome job.now m.now r.now out.old }
 {
     if out.len() != 6 {
-        return StepAnswer::Refused(1);
+        return StepAnswer::Refused(Refusal::LengthWrong.number());
     }
     if let Err(e) = runner_words::check_rules(job, m, r) {
         write_map(out, 0, 0, 0, 0, 0, NONE);

@@ -7,6 +7,7 @@ ghost use Rattle.spec_runner.specs.Run.{listed, run_outcome};
 ghost use Rattle.law_any_two.specs.Reached.{Reached};
 ghost use Rattle.runner_run.specs.Made.{Step, Made};
 
+use refusals::Refusal;
 use spec_runner::StepAnswer;
 
 // A step of task t, and its answer in place i.
@@ -43,7 +44,7 @@ pub fn run(
         ≡ run_outcome job.now m.old r.old tasks.now answers.old }
 {
     if answers.len() != tasks.len() {
-        return StepAnswer::Refused(1);
+        return StepAnswer::Refused(Refusal::LengthWrong.number());
     }
     match runner_open::open(job, m, r) {
         Ok(()) => {

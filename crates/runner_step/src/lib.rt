@@ -15,6 +15,7 @@ ghost use Rattle.job_effect.specs.Made.{found_of};
 ghost use Rattle.runner_step.specs.Parts.{UsesQueue, called, acted, Writes, Makes};
 
 use answer_numbers::{EMPTY, FINISHED, MOVED, NOT_EMPTY, PUSHED, SPAWNED, TOOK, WAITS};
+use refusals::Refusal;
 use spec_answers::Answer;
 use spec_job::Instruction;
 use spec_runner::StepAnswer;
@@ -130,7 +131,7 @@ pub fn step_tested(job: &[u8], m: &mut [u32], r: &mut [u32], t: u32) -> StepAnsw
     ensures { outcome result m.new r.new ≡ step_tested job.now m.old r.old t }
 {
     if !walks::unfinished(m, t) {
-        return StepAnswer::Refused(4);
+        return StepAnswer::Refused(Refusal::NoSuchTask.number());
     }
     if walks::blocked(m, t) {
         return StepAnswer::Waits;

@@ -1,13 +1,7 @@
 -- The number of a refusal, and 0 where there is none.
 use Rattle.std.specs.Prelude.{ℕ, Result, Ok, Err}
-use Rattle.job_test.specs.Faults.{fault_number}
-use Rattle.runner_words.specs.declared.Refusal.{Refusal}
-use Rattle.runner_words.specs.declared.Refusal.TheVariants.{Length, Rules, Job}
-
-unfoldable pub number_of : Refusal → ℕ
-number_of Length = 1
-number_of Rules = 2
-number_of (Job e) = fault_number e
+use Rattle.refusals.specs.declared.Refusal.{Refusal}
+use Rattle.refusals.specs.Numbers.{number_of}
 
 unfoldable pub refusal_number : Result (Unit {0}) Refusal → ℕ
 refusal_number (Ok _) = 0

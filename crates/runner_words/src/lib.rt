@@ -1,49 +1,19 @@
 // The runner's words: reading and writing them, whether they keep their rules, and what every call of the runner tests first.
 // Reading and writing are total: past the end a read gives 0 and a write does nothing. The test of the rules asks for what the calls test before it.
-#![tactic(auto, unfolding(crate::specs::Numbers::number_of, crate::specs::Numbers::refusal_number, crate::specs::Refusals::job_refusal, crate::specs::Refusals::refusal_in, crate::specs::Tested::map_refusal, job_test::specs::Faults::answer_for, spec_words::specs::Words::both, spec_words::specs::Words::pick, spec_words::specs::Words::size, spec_words::specs::Words::load, spec_words::specs::Words::store, spec_layout::specs::Layout::read, spec_layout::specs::Layout::address, spec_outcomes::specs::Waits::unfinished, spec_runner::specs::Words::procedure_of, spec_runner::specs::Words::position_of, spec_runner::specs::Words::register_of, spec_runner::specs::Words::put, spec_runner::specs::Words::instruction_for, spec_runner::specs::Rules::task_holds, spec_runner::specs::Rules::zeros, spec_runner::specs::Rules::record_holds))]
+#![tactic(auto, unfolding(crate::specs::Numbers::refusal_number, crate::specs::Refusals::job_refusal, crate::specs::Refusals::refusal_in, crate::specs::Tested::map_refusal, job_test::specs::Answers::answer_for, spec_words::specs::Words::both, spec_words::specs::Words::pick, spec_words::specs::Words::size, spec_words::specs::Words::load, spec_words::specs::Words::store, spec_layout::specs::Layout::read, spec_layout::specs::Layout::address, spec_outcomes::specs::Waits::unfinished, spec_runner::specs::Words::procedure_of, spec_runner::specs::Words::position_of, spec_runner::specs::Words::register_of, spec_runner::specs::Words::put, spec_runner::specs::Words::instruction_for, spec_runner::specs::Rules::task_holds, spec_runner::specs::Rules::zeros, spec_runner::specs::Rules::record_holds))]
 
 ghost use Rattle.std.specs.Prelude.{◌≡◌, true, List, ℕ, ◌+◌, ◌-◌, ◌<◌, ◌≤◌, length};
 ghost use Rattle.spec_lists.specs.Tests.{upto};
 ghost use Rattle.spec_outcomes.specs.Waits.{unfinished};
 ghost use Rattle.spec_runner.specs.Words.{procedure_of, position_of, register_of, put, instruction_for};
 ghost use Rattle.spec_runner.specs.Rules.{task_holds, zeros, record_holds, runner_holds};
-ghost use Rattle.runner_words.specs.declared.Refusal.TheVariants.{Job};
-ghost use Rattle.runner_words.specs.Numbers.{number_of, refusal_number};
+ghost use Rattle.runner_words.specs.Numbers.{refusal_number};
 ghost use Rattle.runner_words.specs.Refusals.{job_refusal, Fits};
 ghost use Rattle.runner_words.specs.Tested.{map_refusal};
 
-use job_test::JobFault;
 use layout::{RIGHTS_AT, TASK_RECORDS, TASK_WORDS, TASKS, UNFINISHED, WORDS};
+use refusals::Refusal;
 use spec_job::Instruction;
-
-// Why no call may be made: a memory has another length, it breaks the rules, or the bytes are no job.
-#[derive(Clone, Copy, Debug, PartialEq, Eq)]
-pub enum Refusal {
-    Length,
-    Rules,
-    Job(JobFault),
-}
-
-impl Refusal {
-    // The number with which a call is refused.
-    pub fn number(self) -> u32
-        ensures { result ≡ number_of self }
-    {
-        match self {
-            Refusal::Length => 1,
-            Refusal::Rules => 2,
-            Refusal::Job(e) => e.number(),
-        }
-    }
-}
-
-impl From<JobFault> for Refusal {
-    ghost from_gives = { λ e r. r ≡ Job e };
-
-    fn from(e: JobFault) -> Refusal {
-        Refusal::Job(e)
-    }
-}
 
 // Words that the runner is lent beside the core's.
 pub const RUNNER_WORDS: usize = 384;
@@ -165,10 +135,9 @@ pub fn check_job(job: &[u8], m: &[u32], r: &[u32]) -> Result<(), Refusal>
     ensures { refusal_number result ≡ job_refusal job.now m.now r.now }
 {
     if m.len() != WORDS || r.len() != RUNNER_WORDS {
-        return Err(Refusal::Length);
+        return Err(Refusal::LengthWrong);
     }
-    job_test::check(job)?;
-    Ok(())
+    job_test::check(job)
 }
 
 // The same, and whether the memories keep their rules.
@@ -179,6 +148,6 @@ pub fn check_rules(job: &[u8], m: &[u32], r: &[u32]) -> Result<(), Refusal>
     if memory_test::rules_hold(m) && holds(job, m, r) {
         Ok(())
     } else {
-        Err(Refusal::Rules)
+        Err(Refusal::RulesFail)
     }
 }

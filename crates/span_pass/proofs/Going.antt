@@ -3,25 +3,25 @@ use mathlib.Core.Path.{◌≡◌, refl, ap, ap₂, sym, ◌∙◌, subst}
 use mathlib.Core.Bool.{true, false}
 use mathlib.Core.List.{List}
 use mathlib.Core.Option.{Option}
-use Prim.Native.Nat.{ℕ, zero, suc, ◌+◌, ◌-◌, ◌<◌, ◌≤◌}
+use Prim.Native.Nat.{ℕ, zero, suc, ◌+◌, max}
+use Rattle.std.proofs.lemmas.Bool.Decides.{nat_tests}
 use native.Mathlib.Omega.{arith}
 use lib.ListN.{length}
 use borrow.Author.Tests.{lt-ltb, le-ltb}
-use Rattle.spec_words.specs.Words.{load, store, halt, pass}
+use Rattle.spec_words.specs.Words.{load, store, pick, halt, pass}
 use Rattle.spec_line.specs.Later.{later}
-use Rattle.spec_job.specs.Fields.{rights}
-use Rattle.spec_job.specs.Operations.{Operation, return, spawn, sync}
+use Rattle.spec_job.specs.Operations.{Operation, spawn, sync}
 use Rattle.spec_job.specs.Effects.{sum, effect}
 use Rattle.spec_simulate.specs.Ticks.{ticks_for}
 use Rattle.spec_span.specs.Kinds.{awaits_children, looks_in}
-use Rattle.spec_span.specs.Pass.{task_at, POSITION, REGISTER, OWN, CHILDREN, POPPING, front_of, front_time, ready_at, gone_on, queued, with_child, child_finished, Stood}
+use Rattle.spec_span.specs.Pass.{task_at, POSITION, REGISTER, OWN, POPPING, front_of, front_time, ready_at, gone_on, queued}
 use Rattle.spec_span.specs.Pass.Stood.{stood}
 use Rattle.job_effect.specs.declared.Made.{Made}
 use Rattle.job_effect.specs.Made.{found_of, coded}
 use Rattle.span_words.specs.declared.Seen.{Seen}
 use Rattle.span_words.specs.declared.Standing.{Standing}
 use Rattle.span_words.specs.Words.{Looks, Holds}
-use Rattle.span_pass.specs.Steps.{Went, Unlooked, Looking, own_time, joined_time, effect_of, done_at, step_with, same, takes, spawn_with, return_with, Steps}
+use Rattle.span_pass.specs.Steps.{Went, Unlooked, Looking, own_time, joined_time, effect_of, done_at, step_with, same, takes, Steps}
 use Rattle.span_pass.proofs.Held.{holds_gone, holds_queued, holds_unqueued}
 
 pub gone : (table w : List ℕ) (h : Standing) (o : Operation) (e : Made) (ready : ℕ) {a t : ℕ} {w1 w2 w3 : List ℕ} → Holds w h
@@ -47,6 +47,10 @@ gone table w h o e ready {t = t} {w3 = w3} a ek et e1 e2 e3 =
         ∙ ap (λ (l : List ℕ). store l (task_at h.depth OWN) t) (e2 ∙ ap (λ (l : List ℕ). store l (task_at h.depth REGISTER) e.register) e1)
 
 -- WHAT A STEP WAITS FOR, by the kind of its operation
+pub max_later : (a b : ℕ) (x : ℕ) → x ≡ max a b → x ≡ later a b
+unfolding later pick
+max_later a b x e = grind (arith, nat_tests)
+
 later_none : (a : ℕ) → later a 0 ≡ a
 unfolding later
 later_none a = pass _ (le-ltb a 0 (omega arith)) refl
@@ -73,11 +77,6 @@ module _ (w : List ℕ) (d : ℕ) (o : Operation) (q : ℕ) where
 own_is : (w : List ℕ) (h : Standing) {b : ℕ} → Holds w h → b ≡ later h.own h.older → b ≡ own_time w h.depth
 unfolding own_time
 own_is w h a e = e ∙ ap₂ later a.own a.older
-
-pub joined_is : (w : List ℕ) (h : Standing) {b c t : ℕ} → Holds w h → b ≡ later h.own h.older → c ≡ load w (task_at h.depth CHILDREN)
-    → t ≡ later b c → t ≡ joined_time w h.depth
-unfolding joined_time
-joined_is w h a eb ec et = et ∙ ap₂ later (own_is w h a eb) ec
 
 -- THE TASK HAS GONE ON: the time, the effect's value and the words are as the definition has them.
 record Moves (table w : List ℕ) (h : Standing) (o : Operation) (q x : ℕ) (e : Made) (n : Standing) (w1 : List ℕ) : Type 0 where
@@ -168,10 +167,6 @@ syncs table w h q x e n w1 f eb ee went =
     ignores : effect sync h.position h.register x f ≡ effect_of w h sync q x
     ignores = unfold effect in refl
 
--- WHAT WAS READ ANEW of the task at depth d
-pub at_task : {w : List ℕ} {n : Standing} {d t : ℕ} {S : Stood} → Holds w n × (n.depth ≡ d) × (n.time ≡ t) → stood w d t ≡ S → Steps w n S
-at_task {w} a e = record { here = ap₂ (λ (k u : ℕ). stood w k u) a.1 a.2 ∙ e; holds = a.0 }
-
 -- A SPAWN, of procedure p
 pub spawns_alone : Unlooked spawn
 spawns_alone =
@@ -180,60 +175,3 @@ spawns_alone =
       blind = unfold looks_in in refl;
       ignores = λ i r x f g. unfold effect in refl;
     }
-
-abbrev words_of : Stood → List ℕ
-words_of (stood w d t) = w
-
-abbrev time_of : Stood → ℕ
-time_of (stood w d t) = t
-
-module _ (j table w : List ℕ) (h : Standing) (p x : ℕ) where
-  pub too_deep_lem : {b a t : ℕ} → 128 ≤ h.depth → Holds w h → b ≡ later h.own h.older → a ≡ ticks_for table spawn → t ≡ sum b a
-      → stood w 0 t ≡ spawn_with j table w h p x
-  too_deep_lem {b} {a} {t} deep held eb ea et = unfold spawn_with in ap (λ (t : ℕ). stood w 0 t) time ∙ sym (pass _ (le-ltb h.depth 128 deep) refl)
-    where
-      time : t ≡ done_at table w h spawn p
-      time = et ∙ ap₂ sum (own_is w h held eb ∙ ready_alone w h.depth spawn p spawns_alone.alone spawns_alone.blind) ea
-
-  pub child_spawned : {n : Standing} {w1 w2 : List ℕ} {a s : ℕ} → h.depth < 128 → Steps w1 n (step_with same table w h spawn p x) → a ≡ rights j p
-      → s ≡ sum h.register x → w2 ≡ with_child w1 h.depth p a s n.time → stood w2 (h.depth + 1) n.time ≡ spawn_with j table w h p x
-  child_spawned {n} {w1} {w2} {a} {s} less step ea es is =
-      unfold spawn_with in
-      ap (λ (l : List ℕ). stood l (d + 1) n.time) is
-      ∙ ap (λ (l : List ℕ). stood (with_child l d p a s n.time) (d + 1) n.time) same_words
-      ∙ ap (λ (i : ℕ). stood (with_child W d p i s n.time) (d + 1) n.time) ea
-      ∙ ap (λ (i : ℕ). stood (with_child W d p (rights j p) i n.time) (d + 1) n.time) es
-      ∙ ap (λ (t : ℕ). stood (with_child W d p (rights j p) (sum h.register x) t) (d + 1) t) same_time
-      ∙ sym (halt _ _ (lt-ltb d 128 less))
-    where
-      d : ℕ
-      d = h.depth
-
-      W : List ℕ
-      W = gone_on w h.depth (effect_of w h spawn p x) (done_at table w h spawn p)
-
-      same_words : w1 ≡ W
-      same_words = unfold step_with in ap words_of step.here
-
-      same_time : n.time ≡ done_at table w h spawn p
-      same_time = unfold step_with in ap time_of step.here
-
-  -- A RETURN
-  pub is_returned : {b a t c : ℕ} {w1 : List ℕ} (q : ℕ) → b ≡ joined_time w h.depth → a ≡ ticks_for table return → t ≡ sum b a
-      → c ≡ rights j h.procedure → w1 ≡ child_finished w (h.depth - 1) c t → stood w1 (h.depth - 1) t ≡ return_with j table w h q
-  is_returned {b} {a} {t} {c} {w1} q eb ea et ec is =
-      unfold return_with in
-      ap (λ (l : List ℕ). stood l (h.depth - 1) t) (is ∙ ap (λ (i : ℕ). child_finished w (h.depth - 1) i t) ec)
-      ∙ ap (λ (t : ℕ). stood (child_finished w (h.depth - 1) (rights j h.procedure) t) (h.depth - 1) t) time
-    where
-      joins : awaits_children return ≡ true
-      joins = unfold awaits_children in refl
-
-      blind : looks_in return ≡ false
-      blind = unfold looks_in in refl
-
-      first : ticks_for table return ≡ ticks_for table return
-      first = refl
-
-      time : t ≡ done_at table w h return q
-      time = et ∙ ap₂ sum (eb ∙ ready_joined w h.depth return q joins blind) (ea ∙ first)

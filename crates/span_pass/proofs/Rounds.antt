@@ -1,7 +1,7 @@
 -- The steps of the loop are those of the definition.
 use mathlib.Core.Path.{◌≡◌, refl, ap, ap₂, sym, ◌∙◌}
 use mathlib.Core.List.{List}
-use Prim.Native.Nat.{ℕ, zero, suc, ◌+◌, ◌-◌, ◌<◌, ◌≤◌}
+use Prim.Native.Nat.{ℕ, zero, suc, ◌-◌, ◌<◌, ◌≤◌}
 use native.Mathlib.Omega.{arith}
 use borrow.Author.Tests.{eq-eqb, ne_eqb}
 use Rattle.spec_words.specs.Words.{halt, pass}
@@ -22,12 +22,6 @@ module _ (j table : List ℕ) where
       ∙ ap (λ (k : ℕ). pass_from k j table (pass_step j table w d)) (suc_sub_one n)
       ∙ (unfold pass_from in sym (pass _ (ne_eqb d 0 z) refl))
 
-  pub one_left : (i : ℕ) (w : List ℕ) (d t : ℕ) {w1 : List ℕ} {s : Standing} → i < 65535 → (d ≡ 0 → ⊥) → Steps w1 s (pass_step j table w d)
-      → pass_from (65535 - (i + 1)) j table (stood w1 s.depth s.time) ≡ pass_from (65535 - i) j table (stood w d t)
-  one_left i w d t {w1} {s} h z st =
-      ap (λ (k : ℕ). pass_from k j table (stood w1 s.depth s.time)) (let e : 65535 - (i + 1) ≡ 65535 - i - 1 = omega arith in e)
-      ∙ one_more (65535 - i) w d t (omega (arith, h)) z st
-
   pub all_returned : (n : ℕ) (w : List ℕ) (d t : ℕ) → 0 < n → d ≡ 0 → t ≡ pass_from n j table (stood w d t)
   all_returned zero w d t h z = let f : ⊥ = omega (arith, h) in absurd f
   all_returned (suc n) w d t h z = unfold pass_from in sym (halt _ _ (eq-eqb d 0 z))
@@ -41,6 +35,3 @@ module _ (j table : List ℕ) where
   unfolding span_pass
   from_opened w {w0} e ed et =
       ap₂ (λ (d t : ℕ). pass_from 65535 j table (stood w0 d t)) ed et ∙ ap (λ (l : List ℕ). pass_from 65535 j table (stood l 1 0)) e
-
-pub some_depth : (d : ℕ) → (d ≡ 0 → ⊥) → 1 ≤ d
-some_depth d h = omega (arith, h)

@@ -1,6 +1,6 @@
 // THE SPAN IN ONE PASS along the serial run, on words that the caller lends. What the words hold is free, and so is what the job's bytes are. The
 // words of the task that steps are read once; each step writes them, as its definition does.
-#![tactic(auto)]
+#![tactic(auto, unfolding(spec_words::specs::Words::pick, spec_line::specs::Later::later, spec_job::specs::Effects::sum, job_effect::specs::Made::found_of, spec_span::specs::Pass::gone_on, spec_span::specs::Pass::ready_at, spec_span::specs::Pass::step_of, spec_span::specs::Pass::step_by, spec_span::specs::Pass::pass_step, crate::specs::Steps::own_time, crate::specs::Steps::joined_time, crate::specs::Steps::step_with, crate::specs::Steps::spawn_with, crate::specs::Steps::return_with, spec_job::specs::Operations::operation_at, spec_job::specs::Operations::operation_of, spec_job::specs::Operations::row_of, spec_span::specs::Kinds::awaits_children, spec_span::specs::Kinds::looks_in))]
 
 ghost use Rattle.std.specs.Prelude.{◌≡◌, ◌<◌, ◌≤◌, length};
 ghost use Rattle.spec_span.specs.Pass.{SPAN, queued, step_of, pass_step, span_pass};
@@ -11,9 +11,7 @@ ghost use Rattle.span_pass.specs.Steps.{Went, Unlooked, Looking, joined_time, sa
 
 use job_effect::{Made, effect};
 use operations::Operation;
-use span_words::{
-    CHILDREN, OWN, POSITION, REGISTER, Standing, later, read_task, set_task, sum, task,
-};
+use span_words::{CHILDREN, OWN, POSITION, REGISTER, Standing, read_task, set_task, task};
 use spec_job::Instruction;
 
 // The most unfinished tasks, the most instructions of a body, and the most steps.
@@ -28,18 +26,16 @@ fn go_on(ticks: &[u32], w: &mut [u32], h: Standing, o: Operation, e: Made, ready
     requires { Holds w.old h }
     ensures { Went ticks.now w.old h (named o) e ready result w.new }
 {
-    let t = sum(ready, job_ticks::ticks_for(ticks, o));
+    let t = ready.wrapping_add(job_ticks::ticks_for(ticks, o));
     set_task(w, h.depth, POSITION, e.next);
     set_task(w, h.depth, REGISTER, e.register);
     set_task(w, h.depth, OWN, t);
     Standing {
-        depth: h.depth,
-        procedure: h.procedure,
         position: e.next,
         register: e.register,
         own: t,
-        older: h.older,
         time: t,
+        ..h
     }
 }
 
@@ -49,7 +45,7 @@ fn move_step(ticks: &[u32], w: &mut [u32], h: Standing, o: Operation, q: u32, x:
     ensures { Steps w.new result (step_with same ticks.now w.old h (named o) q x) }
 {
     let e = effect(o, x, h.position, h.register, None);
-    go_on(ticks, w, h, o, e, later(h.own, h.older))
+    go_on(ticks, w, h, o, e, h.own.max(h.older))
 }
 
 // One that pushes to queue q.
@@ -58,7 +54,7 @@ fn push_step(ticks: &[u32], w: &mut [u32], h: Standing, o: Operation, q: u32, x:
     ensures { Steps w.new result (step_with queued ticks.now w.old h (named o) q x) }
 {
     let e = effect(o, x, h.position, h.register, None);
-    let n = go_on(ticks, w, h, o, e, later(h.own, h.older));
+    let n = go_on(ticks, w, h, o, e, h.own.max(h.older));
     span_words::enqueue(w, q, e.value, n.time);
     n
 }
@@ -68,7 +64,7 @@ fn look_step(ticks: &[u32], w: &mut [u32], h: Standing, o: Operation, q: u32, x:
     requires { Holds w.old h × (h.position < 128) × Looking (named o) }
     ensures { Steps w.new result (step_with same ticks.now w.old h (named o) q x) }
 {
-    let l = span_words::look(w, h.depth, q, later(h.own, h.older));
+    let l = span_words::look(w, h.depth, q, h.own.max(h.older));
     let e = effect(o, x, h.position, h.register, l.front);
     go_on(ticks, w, h, o, e, l.time)
 }
@@ -78,7 +74,7 @@ fn take_step(ticks: &[u32], w: &mut [u32], h: Standing, o: Operation, q: u32, x:
     requires { Holds w.old h × (h.position < 128) × Looking (named o) }
     ensures { Steps w.new result (step_with takes ticks.now w.old h (named o) q x) }
 {
-    let l = span_words::look(w, h.depth, q, later(h.own, h.older));
+    let l = span_words::look(w, h.depth, q, h.own.max(h.older));
     let e = effect(o, x, h.position, h.register, l.front);
     let n = go_on(ticks, w, h, o, e, l.time);
     span_words::unqueue(w, q);
@@ -90,7 +86,7 @@ fn joined(w: &[u32], h: Standing) -> u32
     requires { Holds w.now h }
     ensures { result ≡ joined_time w.now h.depth }
 {
-    later(later(h.own, h.older), task(w, h.depth, CHILDREN))
+    h.own.max(h.older).max(task(w, h.depth, CHILDREN))
 }
 
 // A sync.
@@ -109,10 +105,10 @@ fn spawn_step(job: &[u8], ticks: &[u32], w: &mut [u32], h: Standing, p: u32, x: 
     ensures { Steps w.new result (spawn_with job.now ticks.now w.old h p x) }
 {
     if DEEPEST <= h.depth {
-        let t = sum(
-            later(h.own, h.older),
-            job_ticks::ticks_for(ticks, Operation::Spawn),
-        );
+        let t = h
+            .own
+            .max(h.older)
+            .wrapping_add(job_ticks::ticks_for(ticks, Operation::Spawn));
         return read_task(w, 0, t);
     }
     let n = move_step(ticks, w, h, Operation::Spawn, p, x);
@@ -121,7 +117,7 @@ fn spawn_step(job: &[u8], ticks: &[u32], w: &mut [u32], h: Standing, p: u32, x: 
         h.depth,
         p,
         job_fields::rights(job, p),
-        sum(h.register, x),
+        h.register.wrapping_add(x),
         n.time,
     )
 }
@@ -131,7 +127,7 @@ fn return_step(job: &[u8], ticks: &[u32], w: &mut [u32], h: Standing, q: u32) ->
     requires { Holds w.old h × (1 ≤ h.depth) }
     ensures { Steps w.new result (return_with job.now ticks.now w.old h q) }
 {
-    let t = sum(joined(w, h), job_ticks::ticks_for(ticks, Operation::Return));
+    let t = joined(w, h).wrapping_add(job_ticks::ticks_for(ticks, Operation::Return));
     let d = h.depth - 1;
     span_words::child_finished(w, d, job_fields::rights(job, h.procedure), t);
     read_task(w, d, t)
@@ -178,7 +174,7 @@ pub fn span(job: &[u8], ticks: &[u32], w: &mut [u32]) -> u32
     let mut h = read_task(w, 1, 0);
     for _ in 0..STEPS {
         if h.depth == 0 {
-            return h.time;
+            break;
         }
         h = step(job, ticks, w, h);
     }

@@ -1,4 +1,4 @@
-use Rattle.std.proofs.Common.{◌≡◌, arith, Err, Result, refl}
+use Rattle.std.proofs.Common.{◌≡◌, arith, Err, refl}
 use Rattle.std.proofs.lemmas.Grind.{common_steps}
 use Rattle.runner_words.specs.Numbers.{refusal_number}
 use Rattle.runner_open.proofs.Openings.{refused_shut}

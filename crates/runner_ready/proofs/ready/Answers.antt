@@ -8,13 +8,13 @@ use Rattle.runner_ready.proofs.ready.Goals as goal
 
 pub returns-then-out-ne6 : goal.returns-then-out-ne6
 unfolding size
-returns-then-out-ne6 c = other_length _ _ _ _ c.if-out-ne6.true
+returns-then-out-ne6 c = rw c.number.ensures (other_length _ _ _ _ c.if-out-ne6.true)
 
 pub returns-in-Err : goal.returns-in-Err
 unfolding size refusal_number
 returns-in-Err c =
-    map_refused _ _ _ _ c.if-out-ne6.false (c.number.ensures ∙ c.in-Err.ensures)
-    (λ z. number_some _ (sym c.number.ensures ∙ z)) c.write_map.ensures
+    map_refused _ _ _ _ c.if-out-ne6.false (c.number-in-Err.ensures ∙ c.in-Err.ensures)
+    (λ z. number_some _ (sym c.number-in-Err.ensures ∙ z)) c.write_map.ensures
 
 pub blocked_all-requires : goal.blocked_all-requires
 unfolding refusal_number

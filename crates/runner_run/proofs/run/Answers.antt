@@ -6,11 +6,11 @@ use Rattle.runner_run.specs.Made.{other_length, stays_shut, opened_reached, runs
 use Rattle.runner_run.proofs.run.Goals as goal
 
 pub returns-then-answers-tasks : goal.returns-then-answers-tasks
-returns-then-answers-tasks c = other_length _ _ _ _ _ c.if-answers-tasks.true
+returns-then-answers-tasks c = rw c.number.ensures (other_length _ _ _ _ _ c.if-answers-tasks.true)
 
 pub returns-in-Err : goal.returns-in-Err
 unfolding refusal_number
-returns-in-Err c = rw c.number.ensures (stays_shut _ _ _ _ _ c.if-answers-tasks.false c.in-Err.ensures (number_some _))
+returns-in-Err c = rw c.number-in-Err.ensures (stays_shut _ _ _ _ _ c.if-answers-tasks.false c.in-Err.ensures (number_some _))
 
 pub steps-requires : goal.steps-requires
 unfolding refusal_number
