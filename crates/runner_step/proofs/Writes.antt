@@ -1,7 +1,7 @@
 use Rattle.std.proofs.Common.{◌≡◌, ℕ, List, sym, ap, ◌∙◌, ap₂}
 use mathlib.Core.Option.{Option}
 use Rattle.spec_job.specs.declared.Instruction.{Instruction}
-use Rattle.spec_job.specs.Operations.{operation_at}
+use Rattle.spec_job.specs.Operations.{Operation, operation_at}
 use Rattle.spec_job.specs.Effects.{Word, Effect, effect}
 use Rattle.spec_job.specs.Numbers.{word_numbered, word_numbered_lem}
 use Rattle.spec_runner.specs.declared.StepAnswer.{StepAnswer}
@@ -13,14 +13,15 @@ use Rattle.job_effect.specs.Made.{coded}
 use Rattle.runner_step.specs.Parts.{Writes, Makes}
 
 -- AN INSTRUCTION DONE: its effect, the words written, and the answer
-pub does_it : (t : ℕ) (s : Instruction) (f : Option ℕ) (c : ℕ) (r u : List ℕ) {i x : ℕ} {e : Made} {a : StepAnswer} → i ≡ position_of r t
+pub does_it : (t : ℕ) (s : Instruction) (f : Option ℕ) (c : ℕ) (r u : List ℕ) {o : Operation} {i x : ℕ} {e : Made} {a : StepAnswer} → i ≡ position_of r t
     → x ≡ register_of r t
-    → e ≡ coded (effect (operation_at s.operation) i x s.operand f)
+    → o ≡ operation_at s.operation
+    → e ≡ coded (effect o i x s.operand f)
     → Writes t s c e.next e.register r u
     → a ≡ answer_with (word_numbered e.answer) e.value c
     → Makes t s f c r a u
 unfolding done coded
-does_it t s f c r u {i} {x} {e} ei ex ee w ea =
+does_it t s f c r u {o} {i} {x} {e} ei ex eo ee w ea =
     record {
       does = λ n.
           ap₂ (λ (a : StepAnswer) (l : List ℕ). outcome a n l)
@@ -33,4 +34,4 @@ does_it t s f c r u {i} {x} {e} ei ex ee w ea =
     given = effect (operation_at s.operation) (position_of r t) (register_of r t) s.operand f
 
     same : e ≡ coded given
-    same = ee ∙ ap₂ (λ (i x : ℕ). coded (effect (operation_at s.operation) i x s.operand f)) ei ex
+    same = ee ∙ ap (λ (o : Operation). coded (effect o i x s.operand f)) eo ∙ ap₂ (λ (i x : ℕ). coded (effect (operation_at s.operation) i x s.operand f)) ei ex
