@@ -11,7 +11,7 @@ ghost use Rattle.spec_outcomes.specs.Sync.{syncs, sync_tested};
 ghost use Rattle.spec_outcomes.specs.Finish.{finishes, unlinked, freed_record, finished, top_finished, finish_tested};
 ghost use Rattle.core_finish.specs.Held.{held};
 
-use layout::{FINISHED, NONE, TASK_RECORDS, TASK_WORDS, TASKS};
+use layout::{FINISHED, NONE, QUEUES, TASK_RECORDS, TASK_WORDS, TASKS};
 use refusals::Refusal;
 use spec_answers::Answer;
 
@@ -62,14 +62,14 @@ fn record_freed(m: &mut [u32], t: u32)
 }
 
 // What finish leaves of the memory.
+#[tactic(auto, using(memory::specs::Queues::none_done, memory::specs::Queues::one_more_done))]
 fn finished(m: &mut [u32], t: u32)
     requires { (length m.old ≡ 16384) × (t < 128) }
     ensures { m.new ≡ finished m.old t }
 {
-    core_return::finished_queue(m, t, 0);
-    core_return::finished_queue(m, t, 1);
-    core_return::finished_queue(m, t, 2);
-    core_return::finished_queue(m, t, 3);
+    for q in 0..QUEUES {
+        core_return::finished_queue(m, t, q);
+    }
     unlink(m, t);
     record_freed(m, t);
 }
@@ -85,17 +85,14 @@ fn top_finished(m: &mut [u32])
 pub fn each_syncs(m: &[u32], t: u32) -> bool
     ensures { result ≡ each_queue (syncs m.now t) }
 {
-    views::syncs(m, t, 0) && views::syncs(m, t, 1) && views::syncs(m, t, 2) && views::syncs(m, t, 3)
+    (0..QUEUES).all(|q| views::syncs(m, t, q))
 }
 
 pub fn each_finishes(m: &[u32], t: u32) -> bool
     requires { t < 128 }
     ensures { result ≡ each_queue (finishes m.now t) }
 {
-    core_return::finishes(m, t, 0)
-        && core_return::finishes(m, t, 1)
-        && core_return::finishes(m, t, 2)
-        && core_return::finishes(m, t, 3)
+    (0..QUEUES).all(|q| core_return::finishes(m, t, q))
 }
 
 // Why task t may neither sync nor finish: it is not unfinished, or it waits for a child or an older sibling. The children are asked first:

@@ -1,8 +1,9 @@
 -- Stores in a row, as the code makes them.
-use Rattle.std.specs.Prelude.{◌≡◌, List, [], ◌∷◌, ℕ, suc, ◌+◌, ◌-◌, ◌*◌, ◌<◌, ◌≤◌, length, replicate}
+use Rattle.std.specs.Prelude.{◌≡◌, refl, List, [], ◌∷◌, ℕ, suc, ◌+◌, ◌-◌, ◌*◌, ◌<◌, ◌≤◌, length, replicate}
 use Rattle.std.proofs.Common.{ap, sym, ◌∙◌, arith}
 use Rattle.spec_words.specs.Words.{store}
 use Rattle.spec_words.specs.Blocks.{store_all, store_none, store_more, store_append, store_three}
+use Rattle.memory.specs.Queues.{done_below}
 use Rattle.spec_layout.specs.Layout.{NONE, NL, segment, task, address, write}
 use Rattle.spec_outcomes.specs.Open.{down, empty_segment, top_links, top_views, stacked, segmented, topped, opened}
 
@@ -25,6 +26,11 @@ down_done m a n x i l = ap (λ (k : ℕ). store_all m (a + i) (down k (x - i))) 
 pub four_more : (m m' : List ℕ) (a w0 w1 w2 w3 : ℕ) (ws : List ℕ) → m' ≡ store_all m a (w0 ∷ w1 ∷ w2 ∷ w3 ∷ [])
     → store_all m a (w0 ∷ w1 ∷ w2 ∷ w3 ∷ ws) ≡ store_all m' (a + 4) ws
 four_more m m' a w0 w1 w2 w3 ws e = store_append (w0 ∷ w1 ∷ w2 ∷ w3 ∷ []) m a ws ∙ ap (λ (l : List ℕ). store_all l (a + 4) ws) (sym e)
+
+-- the segments of the queues, one after the other
+pub all_emptied : (m : List ℕ) → segmented m ≡ done_below (λ m s. store_all m (address (segment s 0)) empty_segment) 4 m
+unfolding done_below segmented
+all_emptied m = refl
 
 pub one_made : (m m1 m2 m3 : List ℕ) (s : ℕ) → m1 ≡ write m (segment s 0) 0 → m2 ≡ write m1 (segment s 1) 0 → m3 ≡ write m2 (segment s 2) NONE
     → m3 ≡ store_all m (address (segment s 0)) empty_segment

@@ -42,13 +42,13 @@ fn empty_segment(m: &mut [u32], s: u32)
     memory::set_next(m, s, NONE);
 }
 
+#[tactic(auto, using(memory::specs::Queues::none_done, memory::specs::Queues::one_more_done, crate::specs::Stores::all_emptied))]
 fn segment(m: &mut [u32])
     ensures { m.new ≡ segmented m.old }
 {
-    empty_segment(m, 0);
-    empty_segment(m, 1);
-    empty_segment(m, 2);
-    empty_segment(m, 3);
+    for s in 0..QUEUES {
+        empty_segment(m, s);
+    }
 }
 
 // The record of the top task: its state, rights, parent, older, younger and youngest; then its views.

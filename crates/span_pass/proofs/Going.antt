@@ -10,7 +10,7 @@ use lib.ListN.{length}
 use borrow.Author.Tests.{lt-ltb, le-ltb}
 use Rattle.spec_words.specs.Words.{load, store, pick, halt, pass}
 use Rattle.spec_line.specs.Later.{later}
-use Rattle.spec_job.specs.Operations.{Operation, operation_at, operation_of, row_of}
+use Rattle.spec_job.specs.Operations.{Operation, spawn, sync}
 use Rattle.spec_job.specs.Effects.{sum, effect}
 use Rattle.spec_simulate.specs.Ticks.{ticks_for}
 use Rattle.spec_span.specs.Kinds.{awaits_children, looks_in}
@@ -24,12 +24,12 @@ use Rattle.span_words.specs.Words.{Looks, Holds}
 use Rattle.span_pass.specs.Steps.{Went, Unlooked, Looking, own_time, joined_time, effect_of, done_at, step_with, same, takes, Steps}
 use Rattle.span_pass.proofs.Held.{holds_gone, holds_queued, holds_unqueued}
 
-pub gone : (table w : List ℕ) (h : Standing) (k : ℕ) (e : Made) (ready : ℕ) {a t : ℕ} {w1 w2 w3 : List ℕ} → Holds w h
-    → a ≡ ticks_for table (operation_at k) → t ≡ sum ready a → w1 ≡ store w (task_at h.depth POSITION) e.next
+pub gone : (table w : List ℕ) (h : Standing) (o : Operation) (e : Made) (ready : ℕ) {a t : ℕ} {w1 w2 w3 : List ℕ} → Holds w h
+    → a ≡ ticks_for table o → t ≡ sum ready a → w1 ≡ store w (task_at h.depth POSITION) e.next
     → w2 ≡ store w1 (task_at h.depth REGISTER) e.register → w3 ≡ store w2 (task_at h.depth OWN) t
-    → Went table w h k e ready
+    → Went table w h o e ready
     (record { depth = h.depth; procedure = h.procedure; position = e.next; register = e.register; own = t; older = h.older; time = t }) w3
-gone table w h k e ready {t = t} {w3 = w3} a ek et e1 e2 e3 =
+gone table w h o e ready {t = t} {w3 = w3} a ek et e1 e2 e3 =
     record {
       time = et ∙ ap (sum ready) ek;
       deep = refl;
@@ -79,39 +79,39 @@ unfolding own_time
 own_is w h a e = e ∙ ap₂ later a.own a.older
 
 -- THE TASK HAS GONE ON: the time, the effect's value and the words are as the definition has them.
-record Moves (table w : List ℕ) (h : Standing) (k q x : ℕ) (e : Made) (n : Standing) (w1 : List ℕ) : Type 0 where
-  pub time : n.time ≡ done_at table w h (operation_at k) q
-  pub value : e.value ≡ (effect_of w h k q x).value
-  pub words : w1 ≡ gone_on w h.depth (effect_of w h k q x) (done_at table w h (operation_at k) q)
+record Moves (table w : List ℕ) (h : Standing) (o : Operation) (q x : ℕ) (e : Made) (n : Standing) (w1 : List ℕ) : Type 0 where
+  pub time : n.time ≡ done_at table w h o q
+  pub value : e.value ≡ (effect_of w h o q x).value
+  pub words : w1 ≡ gone_on w h.depth (effect_of w h o q x) (done_at table w h o q)
   pub deep : n.depth ≡ h.depth
   pub holds : Holds w1 n
 
-module _ (table w : List ℕ) (h : Standing) (k q x : ℕ) (e : Made) (n : Standing) (w1 : List ℕ) where
-  moved : {ready : ℕ} → ready ≡ ready_at w h.depth (operation_at k) q → e ≡ coded (effect_of w h k q x) → Went table w h k e ready n w1
-      → Moves table w h k q x e n w1
+module _ (table w : List ℕ) (h : Standing) (o : Operation) (q x : ℕ) (e : Made) (n : Standing) (w1 : List ℕ) where
+  moved : {ready : ℕ} → ready ≡ ready_at w h.depth o q → e ≡ coded (effect_of w h o q x) → Went table w h o e ready n w1
+      → Moves table w h o q x e n w1
   moved {ready} er ee went =
       record { time = time; value = unfold coded in ap (λ (m : Made). m.value) ee; words = went.words ∙ words; deep = went.deep; holds = went.holds }
     where
-      time : n.time ≡ done_at table w h (operation_at k) q
-      time = went.time ∙ ap (λ (u : ℕ). sum u (ticks_for table (operation_at k))) er
+      time : n.time ≡ done_at table w h o q
+      time = went.time ∙ ap (λ (u : ℕ). sum u (ticks_for table o)) er
 
       written : Made → ℕ → List ℕ
       written m t = store (store (store w (task_at h.depth POSITION) m.next) (task_at h.depth REGISTER) m.register) (task_at h.depth OWN) t
 
-      words : written e n.time ≡ gone_on w h.depth (effect_of w h k q x) (done_at table w h (operation_at k) q)
+      words : written e n.time ≡ gone_on w h.depth (effect_of w h o q x) (done_at table w h o q)
       words = unfold gone_on coded in ap₂ written ee time
 
-  stepped : (f : List ℕ → ℕ → ℕ → ℕ → List ℕ) {w2 : List ℕ} → Moves table w h k q x e n w1 → w2 ≡ f w1 q e.value n.time → Holds w2 n
-      → Steps w2 n (step_with f table w h k q x)
+  stepped : (f : List ℕ → ℕ → ℕ → ℕ → List ℕ) {w2 : List ℕ} → Moves table w h o q x e n w1 → w2 ≡ f w1 q e.value n.time → Holds w2 n
+      → Steps w2 n (step_with f table w h o q x)
   stepped f {w2} m is a = record { here = same_stood; holds = a }
     where
       W : List ℕ
-      W = gone_on w h.depth (effect_of w h k q x) (done_at table w h (operation_at k) q)
+      W = gone_on w h.depth (effect_of w h o q x) (done_at table w h o q)
 
       value : ℕ
-      value = (effect_of w h k q x).value
+      value = (effect_of w h o q x).value
 
-      same_stood : stood w2 n.depth n.time ≡ step_with f table w h k q x
+      same_stood : stood w2 n.depth n.time ≡ step_with f table w h o q x
       same_stood =
           unfold step_with in
           ap₂ (λ (l : List ℕ) (d : ℕ). stood l d n.time) is m.deep
@@ -120,58 +120,58 @@ module _ (table w : List ℕ) (h : Standing) (k q x : ℕ) (e : Made) (n : Stand
           ∙ ap (λ (t : ℕ). stood (f W q value t) h.depth t) m.time
 
   -- by an operation that waits for no child and looks in no queue
-  module _ {b : ℕ} (f : Option ℕ) (u : Unlooked k) (a : Holds w h) (eb : b ≡ later h.own h.older)
-      (ee : e ≡ coded (effect (operation_at k) h.position h.register x f)) (went : Went table w h k e b n w1) where
-    alone : Moves table w h k q x e n w1
+  module _ {b : ℕ} (f : Option ℕ) (u : Unlooked o) (a : Holds w h) (eb : b ≡ later h.own h.older)
+      (ee : e ≡ coded (effect o h.position h.register x f)) (went : Went table w h o e b n w1) where
+    alone : Moves table w h o q x e n w1
     alone =
-        moved (own_is w h a eb ∙ ready_alone w h.depth (operation_at k) q u.alone u.blind)
+        moved (own_is w h a eb ∙ ready_alone w h.depth o q u.alone u.blind)
         (ee ∙ ap coded (u.ignores h.position h.register x f (front_of w q))) went
 
-    pub moves_alone : Steps w1 n (step_with same table w h k q x)
+    pub moves_alone : Steps w1 n (step_with same table w h o q x)
     moves_alone = stepped same alone refl went.holds
 
-    pub pushes_alone : {w2 : List ℕ} → w2 ≡ queued w1 q e.value n.time → length w2 ≡ length w1 → Steps w2 n (step_with queued table w h k q x)
+    pub pushes_alone : {w2 : List ℕ} → w2 ≡ queued w1 q e.value n.time → length w2 ≡ length w1 → Steps w2 n (step_with queued table w h o q x)
     pushes_alone is long = stepped queued alone is (holds_queued w1 n q e.value n.time is long went.holds)
 
   -- by one that looks
-  module _ {b : ℕ} {l : Seen} (u : Looking k) (a : Holds w h) (eb : b ≡ later h.own h.older) (look : Looks w h.depth q b l)
-      (ee : e ≡ coded (effect (operation_at k) h.position h.register x (found_of l.front)))
-      (went : Went table w h k e l.time n w1) where
-    looking : Moves table w h k q x e n w1
+  module _ {b : ℕ} {l : Seen} (u : Looking o) (a : Holds w h) (eb : b ≡ later h.own h.older) (look : Looks w h.depth q b l)
+      (ee : e ≡ coded (effect o h.position h.register x (found_of l.front)))
+      (went : Went table w h o e l.time n w1) where
+    looking : Moves table w h o q x e n w1
     looking =
         moved
         (look.ready
         ∙ ap (λ (c : ℕ). later c (later (load w (task_at h.depth (POPPING + q))) (front_time w q))) (own_is w h a eb)
-        ∙ ready_looking w h.depth (operation_at k) q u.alone u.looks)
-        (ee ∙ ap (λ (f : Option ℕ). coded (effect (operation_at k) h.position h.register x f)) look.front) went
+        ∙ ready_looking w h.depth o q u.alone u.looks)
+        (ee ∙ ap (λ (f : Option ℕ). coded (effect o h.position h.register x f)) look.front) went
 
-    pub looks_only : Steps w1 n (step_with same table w h k q x)
+    pub looks_only : Steps w1 n (step_with same table w h o q x)
     looks_only = stepped same looking refl went.holds
 
-    pub looks_takes : {w2 : List ℕ} → w2 ≡ takes w1 q e.value n.time → length w2 ≡ length w1 → Steps w2 n (step_with takes table w h k q x)
+    pub looks_takes : {w2 : List ℕ} → w2 ≡ takes w1 q e.value n.time → length w2 ≡ length w1 → Steps w2 n (step_with takes table w h o q x)
     looks_takes is long = stepped takes looking is (holds_unqueued w1 n q is long went.holds)
 
 -- by a sync
 pub syncs : (table w : List ℕ) (h : Standing) (q x : ℕ) (e : Made) (n : Standing) (w1 : List ℕ) {b : ℕ} (f : Option ℕ) → b ≡ joined_time w h.depth
-    → e ≡ coded (effect (operation_at 9) h.position h.register x f) → Went table w h 9 e b n w1 → Steps w1 n (step_with same table w h 9 q x)
+    → e ≡ coded (effect sync h.position h.register x f) → Went table w h sync e b n w1 → Steps w1 n (step_with same table w h sync q x)
 syncs table w h q x e n w1 f eb ee went =
-    stepped table w h 9 q x e n w1 same
-    (moved table w h 9 q x e n w1 (eb ∙ ready_joined w h.depth (operation_at 9) q joins blind) (ee ∙ ap coded ignores) went) refl went.holds
+    stepped table w h sync q x e n w1 same
+    (moved table w h sync q x e n w1 (eb ∙ ready_joined w h.depth sync q joins blind) (ee ∙ ap coded ignores) went) refl went.holds
   where
-    joins : awaits_children (operation_at 9) ≡ true
-    joins = unfold operation_at operation_of row_of awaits_children in refl
+    joins : awaits_children sync ≡ true
+    joins = unfold awaits_children in refl
 
-    blind : looks_in (operation_at 9) ≡ false
-    blind = unfold operation_at operation_of row_of looks_in in refl
+    blind : looks_in sync ≡ false
+    blind = unfold looks_in in refl
 
-    ignores : effect (operation_at 9) h.position h.register x f ≡ effect_of w h 9 q x
-    ignores = unfold operation_at operation_of row_of effect in refl
+    ignores : effect sync h.position h.register x f ≡ effect_of w h sync q x
+    ignores = unfold effect in refl
 
 -- A SPAWN, of procedure p
-pub spawns_alone : Unlooked 8
+pub spawns_alone : Unlooked spawn
 spawns_alone =
     record {
-      alone = unfold operation_at operation_of row_of awaits_children in refl;
-      blind = unfold operation_at operation_of row_of looks_in in refl;
-      ignores = λ i r x f g. unfold operation_at operation_of row_of effect in refl;
+      alone = unfold awaits_children in refl;
+      blind = unfold looks_in in refl;
+      ignores = λ i r x f g. unfold effect in refl;
     }

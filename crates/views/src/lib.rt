@@ -8,7 +8,7 @@ ghost use Rattle.spec_outcomes.specs.Views.{view_of, is_empty, reducible, frees,
 ghost use Rattle.spec_outcomes.specs.Sync.{syncs, synced_queue, synced};
 ghost use Rattle.views.specs.Ends.{seen};
 
-use layout::{CHILDREN, NL, NONE, USER};
+use layout::{CHILDREN, NL, NONE, QUEUES, USER};
 
 // A view is its two ends: a segment, none, or a non-local end.
 #[derive(Clone, Copy)]
@@ -150,11 +150,11 @@ fn sync_queue(m: &mut [u32], t: u32, q: u32)
     set_view(m, q, t, CHILDREN, EMPTY);
 }
 
+#[tactic(auto, using(memory::specs::Queues::none_done, memory::specs::Queues::one_more_done, crate::proofs::Queues::all_synced))]
 pub fn sync_all(m: &mut [u32], t: u32)
     ensures { m.new ≡ synced m.old t }
 {
-    sync_queue(m, t, 0);
-    sync_queue(m, t, 1);
-    sync_queue(m, t, 2);
-    sync_queue(m, t, 3);
+    for q in 0..QUEUES {
+        sync_queue(m, t, q);
+    }
 }
