@@ -1,9 +1,8 @@
 -- One link of the task tree, test by test, as the code makes them.
-use Rattle.std.specs.Prelude.{◌≡◌, Bool, true, false, ℕ, ◌<◌, ◌≤◌, leb, eqb}
-use Rattle.std.proofs.Math.Path.{sym}
-use Rattle.std.proofs.Common.{◌∙◌, arith}
-use borrow.Author.Tests.{leb-true, le-leb, lt-leb, eqb-true, ne_eqb, eq-eqb}
-use Rattle.spec_words.specs.Words.{both, both_on, both_off, both_true, true_both}
+use Rattle.std.specs.Prelude.{◌≡◌, Bool, true, ℕ, leb, eqb}
+use Rattle.std.proofs.Common.{arith}
+use borrow.Author.Tests.{leb-true, le-leb, eqb-true, eq-eqb}
+use Rattle.spec_words.specs.Words.{both, both_true, true_both}
 use Rattle.spec_layout.specs.Layout.{STATUS, PARENT, YOUNGER, UNFINISHED}
 use Rattle.spec_tree.specs.Rights.{subset}
 use Rattle.spec_rules.specs.Contents.{Contents, word, task_rights}

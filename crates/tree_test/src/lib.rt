@@ -11,6 +11,7 @@ ghost use Rattle.tree_test.specs.Counted.{faults_from, near_from, marks};
 ghost use Rattle.tree_test.specs.Links.{record_fits, fitting};
 ghost use Rattle.tree_test.specs.Walk.{entered_next, exited_next};
 ghost use Rattle.tree_test.specs.Led.{Led};
+ghost use Rattle.spec_words.specs.Found.{found};
 
 use layout::{
     ALL_RIGHTS, END, FINISHED, LAST_TASK, MAX_LENGTH, NONE, OLDER, PARENT, QUEUES, RIGHTS,
@@ -112,49 +113,38 @@ fn fitting(m: &[u32], t: u32, p: u32, y: u32, b: u32) -> bool
     1 <= t && t <= LAST_TASK && record_fits(m, t, p, y, b)
 }
 
-// The mark after the one where task t is entered; END where the link is wrong.
-fn entered_next(m: &[u32], t: u32) -> u32
+// The mark after the one where task t is entered, if the link is right.
+fn entered_next(m: &[u32], t: u32) -> Option<u32>
     requires { (length m.now ≡ 16384) × (t < 128) }
-    ensures { result ≡ entered_next (decode m.now) t }
+    ensures { result ≡ found END (entered_next (decode m.now) t) }
 {
     let a = TASK_RECORDS + t as usize * TASK_WORDS;
     let u = m[a + YOUNGEST as usize];
     if u == NONE {
-        return TASKS + t;
+        return Some(TASKS + t);
     }
-    if fitting(m, u, t, NONE, m[a + RIGHTS as usize]) {
-        return u;
-    }
-    END
+    fitting(m, u, t, NONE, m[a + RIGHTS as usize]).then_some(u)
 }
 
-// The mark after the one where task t is exited; END where the link is wrong or the parent is no task.
-fn exited_next(m: &[u32], t: u32) -> u32
+// The mark after the one where task t is exited, if the link is right and the parent is a task.
+fn exited_next(m: &[u32], t: u32) -> Option<u32>
     requires { (length m.now ≡ 16384) × (t < 128) }
-    ensures { result ≡ exited_next (decode m.now) t }
+    ensures { result ≡ found END (exited_next (decode m.now) t) }
 {
     let a = TASK_RECORDS + t as usize * TASK_WORDS;
     let p = m[a + PARENT as usize];
     if p > LAST_TASK {
-        return END;
+        return None;
     }
     let u = m[a + OLDER as usize];
     if u == NONE {
-        return TASKS + p;
+        return Some(TASKS + p);
     }
-    if fitting(
-        m,
-        u,
-        p,
-        t,
-        m[TASK_RECORDS + p as usize * TASK_WORDS + RIGHTS as usize],
-    ) {
-        return u;
-    }
-    END
+    let b = m[TASK_RECORDS + p as usize * TASK_WORDS + RIGHTS as usize];
+    fitting(m, u, p, t, b).then_some(u)
 }
 
-// Where the walk along the tree stands: the next mark, or END where a link is wrong; and how many marks are written.
+// Where the walk along the tree stands: the next mark, and how many marks are written.
 #[derive(Clone, Copy)]
 struct Spot {
     mark: u32,
@@ -163,80 +153,63 @@ struct Spot {
 
 // From where task t0 is exited, with i0 marks written: up to where an older sibling is entered, or to the top. The mark where
 // the top is exited is for the caller to write, since it is the last.
-fn climb(m: &[u32], xs: &mut [u32], n: usize, t0: u32, i0: usize) -> Spot
-    requires { (length m.now ≡ 16384) × (length xs.old ≡ 256) × (n ≤ 256) × (t0 < 128) }
-    ensures { Led (decode m.now) n (128 + t0) i0 xs.old result.mark result.written xs.new × (i0 ≤ result.written) }
+fn climb(m: &[u32], xs: &mut [u32; 256], n: usize, t0: u32, i0: usize) -> Option<Spot>
+    requires { (length m.now ≡ 16384) × (n ≤ 256) × (t0 < 128) }
+    ensures { Led (decode m.now) n (128 + t0) i0 xs.old i0 result xs.new }
 {
     let mut t = t0;
-    let mut i = i0;
-    while i < n {
+    for i in i0..n {
         if t == 0 {
-            return Spot {
+            return Some(Spot {
                 mark: TASKS,
                 written: i,
-            };
+            });
         }
         xs[i] = TASKS + t;
-        i += 1;
-        let y = exited_next(m, t);
+        let y = exited_next(m, t)?;
         if y < TASKS {
-            return Spot {
+            return Some(Spot {
                 mark: y,
-                written: i,
-            };
-        }
-        if y >= END {
-            return Spot {
-                mark: END,
-                written: i,
-            };
+                written: i + 1,
+            });
         }
         t = y - TASKS;
     }
-    Spot {
-        mark: END,
-        written: i,
-    }
+    None
 }
 
 // From where task t is entered, with i marks written: to where the next task is entered or the top is exited.
-fn onward(m: &[u32], xs: &mut [u32], n: usize, t: u32, i: usize) -> Spot
-    requires { (length m.now ≡ 16384) × (length xs.old ≡ 256) × (n ≤ 256) × (t < 128) × (i < n) }
-    ensures { Led (decode m.now) n t i xs.old result.mark result.written xs.new × (i < result.written) }
+fn onward(m: &[u32], xs: &mut [u32; 256], n: usize, t: u32, i: usize) -> Option<Spot>
+    requires { (length m.now ≡ 16384) × (n ≤ 256) × (t < 128) × (i < n) }
+    ensures { Led (decode m.now) n t i xs.old (i + 1) result xs.new }
 {
     xs[i] = t;
-    let y = entered_next(m, t);
+    let y = entered_next(m, t)?;
     if y < TASKS {
-        return Spot {
+        return Some(Spot {
             mark: y,
             written: i + 1,
-        };
-    }
-    if y >= END {
-        return Spot {
-            mark: END,
-            written: i + 1,
-        };
+        });
     }
     climb(m, xs, n, y - TASKS, i + 1)
 }
 
 // The tour of the tree has k marks, and each link that it follows is right. The marks are left in xs.
-pub fn tree_ok(m: &[u32], xs: &mut [u32], k: u32) -> bool
-    requires { (length m.now ≡ 16384) × (length xs.old ≡ 256) × (k ≤ 256) }
+pub fn tree_ok(m: &[u32], xs: &mut [u32; 256], k: u32) -> bool
+    requires { (length m.now ≡ 16384) × (k ≤ 256) }
     ensures { (result ≡ tree_test (decode m.now) k 0) × (result ≡ true → take k xs.new ≡ tour k (record_of m.now) 0) }
 {
     let n = k as usize;
     let mut x: u32 = 0;
     let mut i: usize = 0;
+    // A while loop: a turn writes one mark or many, and the next begins behind them.
     while i < n {
-        let s = onward(m, xs, n, x, i);
+        let Some(s) = onward(m, xs, n, x, i) else {
+            return false;
+        };
         x = s.mark;
         i = s.written;
-        if x > LAST_TASK {
-            if x > TASKS {
-                return false;
-            }
+        if x == TASKS {
             if i >= n {
                 return false;
             }

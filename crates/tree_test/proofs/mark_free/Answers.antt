@@ -1,4 +1,4 @@
-use Rattle.std.proofs.Common.{◌-◌, ◌≤◌, List, refl, ap, ap₂, sym, ◌∙◌, ℕ, ◌≡◌, ◌<◌, ◌+◌, ◌*◌, ◌/◌, ◌%◌, length, length-set, length-take, length-drop, take, drop, get_or, arith}
+use Rattle.std.proofs.Common.{◌-◌, ◌≤◌, ap, ◌∙◌, ℕ, ◌≡◌, ◌<◌, ◌+◌, ◌*◌, ◌/◌, ◌%◌, length-set, length-take, length-drop, drop, arith}
 use Rattle.spec_words.specs.Words.{load, store}
 use Rattle.tree_test.specs.Counted.{near_from}
 use Rattle.tree_test.proofs.Turns.{entry_at, faults_more, near_more, faults_done, near_done}
@@ -14,7 +14,7 @@ loop-t-preserved c =
     let i = c.loop-t.t-index in
     let f : c.from.result ≡ load m (320 + i) / 128 = c.from.ensures ∙ ap (λ (v : ℕ). v / 128) e in
     let g : c.from-in-loop-t.result ≡ load m (1472 + load m (320 + i) % 128 * 48) = c.from-in-loop-t.ensures
-        ∙ ap (λ (v : ℕ). load m (1472 + v % 128 * 48)) e in
+    ∙ ap (λ (v : ℕ). load m (1472 + v % 128 * 48)) e in
     let more = faults_more m c.args.h i c.loop-t.w l c.loop-t.invariant.2 in (
       length-set _ _ _ ∙ c.loop-t.invariant.0,
       omega (arith, f, g, c.type_inv.m (320 + i), c.type_inv.m (1472 + load m (320 + i) % 128 * 48), c.loop-t.invariant.1),

@@ -1,6 +1,5 @@
-use Rattle.std.proofs.Common.{refl, ap, sym, ◌∙◌, ℕ, ◌≡◌, ◌<◌, get_or, length-take, arith}
+use Rattle.std.proofs.Common.{refl, ap, ◌∙◌, ℕ, ◌≡◌, ◌<◌, get_or, length-take, arith}
 use Rattle.std.proofs.lemmas.List.{get_or-take}
-use native.Mathlib.Nat.{le_antisymm}
 use Rattle.spec_lists.specs.Counting.{total}
 use Rattle.spec_words.specs.Words.{load}
 use Rattle.tree_test.specs.Counted.{marks}
