@@ -14,8 +14,9 @@ use Rattle.spec_layout.specs.Layout.{QUEUE_HEADS, HEAD_WORDS, segment, task, seg
 use Rattle.spec_tree.specs.Tour.{MARKS, seek}
 use Rattle.spec_outcomes.specs.Segments.{index_of, head_index, linked_by, renamed, released, linked}
 use Rattle.segments.specs.Names.{held, next_is, head_here}
-use Rattle.walks.specs.Asked.{found}
-use Rattle.walks.proofs.Found.{some_found, none_found, found_holds}
+use Rattle.spec_words.specs.Found.{found}
+use Rattle.spec_words.specs.Found.{some_found, none_found}
+use Rattle.walks.proofs.Found.{found_holds}
 use Rattle.std.proofs.Common.{Some, None}
 
 -- THE HEADS of a task: the place of s, where the first i are others

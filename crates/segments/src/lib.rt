@@ -9,7 +9,7 @@ ghost use Rattle.spec_words.specs.Blocks.{store_all};
 ghost use Rattle.spec_lists.specs.Marks.{marking};
 ghost use Rattle.spec_layout.specs.Layout.{segment, value, first, count, next, length_of, Opened, ValuesFit, segments_of, free_height, free_stack};
 ghost use Rattle.spec_layout.specs.Layout.{address, read, write, record_of};
-ghost use Rattle.walks.specs.Asked.{found};
+ghost use Rattle.spec_words.specs.Found.{found};
 ghost use Rattle.spec_tree.specs.Tour.{MARKS, seek};
 ghost use Rattle.spec_outcomes.specs.Segments.{value_at, stored_all, dropped, has_none_free, next_free, taken, released};
 ghost use Rattle.spec_outcomes.specs.Segments.{head_index, linked_by, renamed, linked};
@@ -173,7 +173,7 @@ fn head_index(m: &[u32], s: u32, t: u32) -> Option<u32>
     None
 }
 
-#[tactic(auto, unfolding(crate::specs::Names::head_here, walks::specs::Asked::found, spec_words::specs::Words::both, spec_words::specs::Words::pick))]
+#[tactic(auto, unfolding(crate::specs::Names::head_here, spec_words::specs::Found::found, spec_words::specs::Words::both, spec_words::specs::Words::pick))]
 fn head_here(m: &[u32], s: u32, x: u32) -> bool
     ensures { result ≡ head_here m.now s x }
 {
@@ -241,7 +241,7 @@ fn next_is(m: &[u32], q: u32, d: &[u8; 256], s: u32, y: u32) -> bool
 }
 
 // The segment with s as its next.
-#[tactic(auto, using(crate::proofs::Links::by_start, crate::proofs::Links::by_found, crate::proofs::Links::by_next, crate::proofs::Links::by_end), unfolding(walks::specs::Asked::found, crate::specs::Names::free_marks))]
+#[tactic(auto, using(crate::proofs::Links::by_start, crate::proofs::Links::by_found, crate::proofs::Links::by_next, crate::proofs::Links::by_end), unfolding(spec_words::specs::Found::found, crate::specs::Names::free_marks))]
 fn linked_by(m: &[u32], q: u32, s: u32) -> Option<u32>
     ensures { result ≡ found (segments_of m.now q) (linked_by (segments_of m.now q) m.now q s 0) }
 {

@@ -1,28 +1,10 @@
--- The answer of a search as an Option, and back.
-use Rattle.std.proofs.Common.{◌≡◌, refl, ap, ℕ, zero, suc, ◌<◌, ◌≤◌, Bool, true, false, not, eqb, leb, List, Some, None, unwrap_or, is_some, sym, lt-ltb, le-ltb, ⊎_elim, ◌∙◌}
+-- What the answer of a walk says: of the number, and of the mark that was found.
+use Rattle.std.proofs.Common.{◌≡◌, refl, ap, ℕ, zero, suc, ◌<◌, ◌≤◌, Bool, true, false, not, eqb, leb, List, Some, unwrap_or, is_some, ◌∙◌}
 use native.Mathlib.Omega.{arith}
 use Rattle.std.proofs.lemmas.Bool.Decides.{nat_tests}
-use Rattle.spec_words.specs.Words.{pick, halt, pass}
+use Rattle.spec_words.specs.Words.{pick}
 use Rattle.spec_tree.specs.Tour.{after, seek}
-use Rattle.std.proofs.lemmas.Bool.{cases_lt}
-use Rattle.walks.specs.Asked.{found}
-
-pub found_some : (n k : ℕ) → k < n → Some k ≡ found n k
-unfolding found
-found_some n k h = sym (halt _ _ (lt-ltb k n h))
-
-pub found_none : (n k : ℕ) → n ≤ k → None ≡ found n k
-unfolding found
-found_none n k h = sym (pass _ (le-ltb k n h) refl)
-
--- what an answer says of the number
-module _ (n k : ℕ) where
-  pub some_found : (x : ℕ) → Some x ≡ found n k → (x ≡ k) × (k < n)
-  unfolding found pick
-  some_found x e = ⊎_elim (λ l. let a = found_some n k l in (cc, l)) (λ g. let a = found_none n k g in absurd (cc)) (cases_lt k n)
-
-  pub none_found : None ≡ found n k → n ≤ k
-  none_found e = ⊎_elim (λ l. let a = found_some n k l in absurd (cc)) (λ g. g) (cases_lt k n)
+use Rattle.spec_words.specs.Found.{found, some_found}
 
 -- what is found is below the number for none
 step : (b c : Bool) (x r : ℕ) → (b ≡ false → x < 256) → r ≤ 256 → pick b 256 (pick c x r) ≤ 256

@@ -1,6 +1,6 @@
 -- What a walk over the tour asks of the marks that it comes to.
-use Rattle.std.specs.Prelude.{Option, Some, None, Bool, not, List, ℕ, ◌-◌, ◌<◌, ◌≡◌, ltb, eqb}
-use Rattle.spec_words.specs.Words.{pick, either}
+use Rattle.std.specs.Prelude.{Bool, not, List, ℕ, ◌-◌, ◌<◌, ◌≡◌, ltb, eqb}
+use Rattle.spec_words.specs.Words.{either}
 use Rattle.spec_layout.specs.Layout.{CHILDREN}
 use Rattle.spec_outcomes.specs.Views.{view_of, is_empty}
 
@@ -11,7 +11,3 @@ counts m q x = either (ltb x 128) (either (eqb (x - 128) 0) (not (is_empty (view
 -- a test, given by what it may answer, says of each mark what f says
 abbrev pub Tests : (ℕ → Bool → Type 0) → (ℕ → Bool) → Type 0
 Tests may f = (x : ℕ) (b : Bool) → x < 256 → may x b → b ≡ f x
-
--- an answer k of a search below n, where n stands for none
-unfoldable pub found : ℕ → ℕ → Option ℕ
-found n k = pick (ltb k n) (Some k) None

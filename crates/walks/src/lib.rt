@@ -1,9 +1,10 @@
 // Walks over tasks: the tour of the task tree, siblings, and what the calls ask of them. Each walk is bounded by the
 // number of its steps, so it ends on any memory.
-#![tactic(auto, using(crate::proofs::Found::or_end, crate::proofs::Found::some_before_end), unfolding(spec_words::specs::Words::pick, spec_words::specs::Words::both, spec_words::specs::Words::either, spec_tree::specs::Tour::exiting, spec_tree::specs::Tour::entering, spec_outcomes::specs::Views::task_at, spec_outcomes::specs::Views::kind_at, spec_outcomes::specs::Views::has_part, spec_outcomes::specs::Views::stands_at, spec_outcomes::specs::Views::just_before, spec_outcomes::specs::Views::returned_to, spec_outcomes::specs::Views::view_of, spec_outcomes::specs::Views::is_empty, spec_outcomes::specs::Views::head_of, spec_outcomes::specs::Finish::heir, spec_outcomes::specs::Waits::unfinished, spec_outcomes::specs::Waits::blocked, spec_outcomes::specs::Waits::child_pops, spec_outcomes::specs::Waits::has_child, spec_outcomes::specs::Waits::pusher_before, crate::specs::Asked::counts, crate::specs::Asked::found))]
+#![tactic(auto, using(crate::proofs::Found::or_end, crate::proofs::Found::some_before_end), unfolding(spec_words::specs::Words::pick, spec_words::specs::Words::both, spec_words::specs::Words::either, spec_tree::specs::Tour::exiting, spec_tree::specs::Tour::entering, spec_outcomes::specs::Views::task_at, spec_outcomes::specs::Views::kind_at, spec_outcomes::specs::Views::has_part, spec_outcomes::specs::Views::stands_at, spec_outcomes::specs::Views::just_before, spec_outcomes::specs::Views::returned_to, spec_outcomes::specs::Views::view_of, spec_outcomes::specs::Views::is_empty, spec_outcomes::specs::Views::head_of, spec_outcomes::specs::Finish::heir, spec_outcomes::specs::Waits::unfinished, spec_outcomes::specs::Waits::blocked, spec_outcomes::specs::Waits::child_pops, spec_outcomes::specs::Waits::has_child, spec_outcomes::specs::Waits::pusher_before, crate::specs::Asked::counts, spec_words::specs::Found::found))]
 
 ghost use Rattle.std.specs.Prelude.{◌≡◌, ℕ, Bool, not, ◌<◌, ltb, eqb};
 ghost use Rattle.spec_words.specs.Words.{pick, both};
+ghost use Rattle.spec_words.specs.Found.{found};
 ghost use Rattle.spec_layout.specs.Layout.{NONE, rights_of, record_of};
 ghost use Rattle.spec_tree.specs.Rights.{pushes, pops, shares_pop};
 ghost use Rattle.spec_tree.specs.Tour.{MARKS, exiting, entering, after, seek, sibling, oldest};
@@ -11,7 +12,7 @@ ghost use Rattle.spec_rules.specs.Views.{view};
 ghost use Rattle.spec_outcomes.specs.Waits.{unfinished, blocked, child_pops, has_child, pusher_before};
 ghost use Rattle.spec_outcomes.specs.Views.{task_at, kind_at, has_part, stands_at, just_before, returned_to};
 ghost use Rattle.spec_outcomes.specs.Finish.{heir};
-ghost use Rattle.walks.specs.Asked.{counts, Tests, found};
+ghost use Rattle.walks.specs.Asked.{counts, Tests};
 
 use layout::{CHILDREN, END, MARKS, NL, NONE, RIGHT, TASKS, UNFINISHED};
 

@@ -1,7 +1,7 @@
 use Rattle.std.proofs.Common.{ap, ◌∙◌, arith}
 use Rattle.spec_words.specs.Words.{pick}
-use Rattle.walks.specs.Asked.{found}
-use Rattle.walks.proofs.Found.{found_some}
+use Rattle.spec_words.specs.Found.{found}
+use Rattle.spec_words.specs.Found.{found_some}
 use Rattle.segments.proofs.Links.{head_found, head_none}
 use Rattle.segments.proofs.head_index.Goals as goal
 

@@ -1,6 +1,6 @@
 use Rattle.std.proofs.Common.{ap, sym, ◌∙◌, arith}
-use Rattle.walks.specs.Asked.{found}
-use Rattle.walks.proofs.Found.{found_some, found_none}
+use Rattle.spec_words.specs.Found.{found}
+use Rattle.spec_words.specs.Found.{found_some, found_none}
 use Rattle.segments.proofs.Links.{by_found, by_end}
 use Rattle.segments.proofs.linked_by.Goals as goal
 

@@ -1,5 +1,5 @@
 use Rattle.std.proofs.Common.{sym, ◌∙◌, arith}
-use Rattle.walks.proofs.Found.{some_found}
+use Rattle.spec_words.specs.Found.{some_found}
 use Rattle.segments.proofs.Links.{rename_head, no_head, rename_next, rename_none}
 use Rattle.segments.proofs.rename.Goals as goal
 

@@ -4,8 +4,7 @@ use Rattle.spec_layout.specs.Layout.{record_of}
 use Rattle.spec_tree.specs.Tour.{seek}
 use Rattle.walks.specs.Steps.{seek_none, seek_end, seek_here, seek_on}
 use Rattle.spec_words.specs.Words.{pick}
-use Rattle.walks.specs.Asked.{found}
-use Rattle.walks.proofs.Found.{found_some}
+use Rattle.spec_words.specs.Found.{found, found_some}
 use Rattle.walks.proofs.seek.Goals as goal
 
 pub returns-then-x-ge-END : goal.returns-then-x-ge-END
