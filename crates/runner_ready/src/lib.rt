@@ -13,6 +13,7 @@ ghost use Rattle.spec_runner.specs.Moves.{instruction_moves, step_moves};
 ghost use Rattle.core_blocked.specs.Told.{Tell};
 
 use layout::{NONE, WORDS};
+use operations::Operation;
 use refusals::Refusal;
 use spec_job::Instruction;
 use spec_runner::StepAnswer;
@@ -23,13 +24,15 @@ fn decides(job: &[u8], m: &[u32], t: u32, s: Instruction) -> bool
     ensures { result ≡ instruction_moves (operation_at s.operation) job.now m.now t s }
 {
     let q = s.which;
-    match s.operation {
-        1..=2 => core_would_move::push_moves(m, t, q),
-        3..=4 | 10 => core_would_move::take_moves(m, t, q),
-        5..=7 => true,
-        8 => core_would_move::spawn_moves(m, t, job_fields::rights(job, q)),
-        9 => core_would_move::sync_moves(m, t),
-        _ => core_would_move::finish_moves(m, t),
+    match Operation::from(s.operation) {
+        Operation::Return => core_would_move::finish_moves(m, t),
+        Operation::Push | Operation::PushSum => core_would_move::push_moves(m, t, q),
+        Operation::Pop | Operation::GoIfEmpty | Operation::TakeOrGo => core_would_move::take_moves(
+            m, t, q,
+        ),
+        Operation::Go | Operation::GoIfZero | Operation::Add => true,
+        Operation::Spawn => core_would_move::spawn_moves(m, t, job_fields::rights(job, q)),
+        Operation::Sync => core_would_move::sync_moves(m, t),
     }
 }
 

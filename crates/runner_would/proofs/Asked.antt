@@ -1,11 +1,8 @@
 -- The answers of the code, one after the other.
 use mathlib.Core.Path.{◌≡◌, ap, sym, ◌∙◌}
-use mathlib.Core.Bool.{Bool, true, false, not}
+use mathlib.Core.Bool.{Bool, true, false}
 use mathlib.Core.List.{List}
 use Prim.Native.Nat.{ℕ}
-use borrow.Author.Tests.{not-true}
-use Rattle.spec_layout.specs.Layout.{rights_of}
-use Rattle.spec_tree.specs.Rights.{shares_pop}
 use Rattle.spec_outcomes.specs.Waits.{unfinished, blocked}
 use Rattle.spec_job.specs.declared.Instruction.{Instruction}
 use Rattle.spec_job.specs.Operations.{operation_at}
@@ -18,7 +15,6 @@ use Rattle.spec_simulate.specs.declared.Would.TheVariants.{Moves, Waits}
 use Rattle.spec_simulate.specs.Machine.{would_be}
 use Rattle.law_any_two.specs.Reached.{Reached}
 use Rattle.runner_would.specs.Held.{unmoved}
-use Rattle.runner_would.specs.PopsNothing.{pops_nothing}
 use Rattle.runner_would.specs.Rightly.{blocked_would, moves_would, held_would}
 
 module _ (j m r : List ℕ) (t : ℕ) (p : Reached j m r × (unfinished m t ≡ true)) {b : Bool} (eb : b ≡ blocked m t) where

@@ -1,15 +1,16 @@
 // WHAT THE NEXT STEP OF A TASK WOULD BE, asked on words that a run has reached: it moves, it waits, or 8 or 9 refuses it. Nothing is written.
-#![tactic(auto, using(crate::specs::PopsNothing::pops_nothing), unfolding(crate::specs::Held::unmoved, spec_job::specs::Operations::operation_at, spec_job::specs::Operations::operation_of, spec_job::specs::Operations::row_of))]
+#![tactic(auto, using(crate::specs::PopsNothing::pops_nothing), unfolding(crate::specs::Held::unmoved))]
 
 ghost use Rattle.std.specs.Prelude.{◌≡◌, true};
 ghost use Rattle.spec_outcomes.specs.Waits.{unfinished, blocked};
-ghost use Rattle.spec_job.specs.Operations.{operation_at};
+ghost use Rattle.operations.specs.Named.{named};
 ghost use Rattle.spec_runner.specs.Answers.{answer_of};
 ghost use Rattle.spec_runner.specs.Step.{step_outcome};
 ghost use Rattle.spec_simulate.specs.Machine.{would_be};
 ghost use Rattle.law_any_two.specs.Reached.{Reached};
 ghost use Rattle.runner_would.specs.Held.{unmoved};
 
+use operations::Operation;
 use refusals::Refusal;
 use spec_simulate::Would;
 
@@ -22,13 +23,13 @@ fn blocked(m: &[u32], t: u32) -> bool
     rights::shares_pop(a, a) && walks::blocked(m, t)
 }
 
-// What a step with operation k is answered that is not blocked and does not move.
-fn held(k: u32) -> Would
-    ensures { result ≡ unmoved (operation_at k) }
+// What a step is answered that is not blocked and does not move.
+fn held(o: Operation) -> Would
+    ensures { result ≡ unmoved (named o) }
 {
-    match k {
-        1..=2 => Would::Refused(Refusal::NoSegment.number()),
-        8 => Would::Refused(Refusal::NoRecord.number()),
+    match o {
+        Operation::Push | Operation::PushSum => Would::Refused(Refusal::NoSegment.number()),
+        Operation::Spawn => Would::Refused(Refusal::NoRecord.number()),
         _ => Would::Waits,
     }
 }
@@ -45,5 +46,5 @@ pub fn would(job: &[u8], m: &[u32], r: &[u32], t: u32) -> Would
     if runner_ready::instruction_moves(job, m, t, s) {
         return Would::Moves;
     }
-    held(s.operation)
+    held(Operation::from(s.operation))
 }

@@ -1,6 +1,8 @@
+use Rattle.std.proofs.Common.{ap, ◌∙◌}
 use Rattle.spec_words.specs.Words.{size}
 use Rattle.law_in_range.specs.Sound.{unfinished_says}
 use Rattle.law_any_two.specs.Reached.{reached_size}
+use Rattle.runner_would.specs.Held.{unmoved}
 use Rattle.runner_would.proofs.Asked.{waits_there, moves_there, held_there}
 use Rattle.runner_would.proofs.would.Goals as goal
 
@@ -20,4 +22,4 @@ pub returns : goal.returns
 returns c =
     let p = c.requires in
     held_there _ _ _ _ p c.blocked.ensures c.if-blocked.false
-    c.instruction_for-s.ensures c.instruction_moves.ensures _ c.if-instruction_moves.false c.held.ensures
+    c.instruction_for-s.ensures c.instruction_moves.ensures _ c.if-instruction_moves.false (c.held.ensures ∙ ap unmoved c.from.ensures)
