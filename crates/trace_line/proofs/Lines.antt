@@ -5,6 +5,8 @@ use mathlib.Core.List.{List, [], ◌∷◌}
 use mathlib.Core.Option.{none, some}
 use Prim.Native.Nat.{ℕ, ◌<◌, ◌≤◌}
 use native.Mathlib.Omega.{arith}
+use lib.Dec.{ltb}
+use mathlib.Core.Bool.{Bool, true, false}
 use borrow.Author.Tests.{lt-ltb, le-ltb, eq-eqb, ne_eqb}
 use Rattle.std.proofs.Common.{subst, ◌⊎◌, inr, Bor}
 use Rattle.std.specs.Prelude.{Option as Given}
@@ -20,13 +22,23 @@ use Rattle.spec_trace.specs.Read.{digit_of, LineRead, call_at, left_at, open_at,
 use Rattle.trace_line.specs.Reads.{IsRead}
 use Rattle.trace_line.proofs.Digits.{digit_here, digit_far}
 
-below_few : (k v : ℕ) (rs : List ℕ) → v < k → below k (numbered v rs) ≡ rs
+pub below_few : (k v : ℕ) (rs : List ℕ) → v < k → below k (numbered v rs) ≡ rs
 unfolding below
 below_few k v rs l = halt rs [] (lt-ltb v k l)
 
-below_many : (k v : ℕ) (rs : List ℕ) → k ≤ v → below k (numbered v rs) ≡ []
+pub below_many : (k v : ℕ) (rs : List ℕ) → k ≤ v → below k (numbered v rs) ≡ []
 unfolding below
 below_many k v rs l = pass rs (le-ltb v k l) refl
+
+pub below_nothing : (k : ℕ) {x : Numbered} → numbered 0 [] ≡ x → below k x ≡ []
+below_nothing k e = ap (below k) (sym e) ∙ at
+  where
+    same : (b : Bool) → ◌≡◌ {A = List ℕ} (pick b [] []) []
+    same true = unfold pick in refl
+    same false = unfold pick in refl
+
+    at : below k (numbered 0 []) ≡ []
+    at = unfold below in same (ltb 0 k)
 
 none_read : {x y : LineRead} → x ≡ y → y.rest ≡ none → x.rest ≡ none
 none_read e f = ap (λ (x : LineRead). x.rest) e ∙ f
@@ -77,49 +89,42 @@ module _ (bs : List ℕ) where
         same : after_task n (number_at (behind_byte 32 r1)) ≡ after_task n (number_at (behind_text (32 ∷ []) r1))
         same = unfold behind_text in refl
 
-    pub call_no_task : numbered 0 [] ≡ number_at (behind_text (32 ∷ []) r1) → (call_at bs).rest ≡ none
-    call_no_task e = none_read (at1 ∙ ap (after_task n) (sym e)) (no_task n (numbered 0 []) (below_few 256 0 [] (omega arith)))
+    pub call_no_task : below 256 (number_at (behind_text (32 ∷ []) r1)) ≡ [] → (call_at bs).rest ≡ none
+    call_no_task e = none_read at1 (no_task n (number_at (behind_text (32 ∷ []) r1)) e)
 
-    module _ {t : ℕ} {r2 : List ℕ} (e2 : numbered t r2 ≡ number_at (behind_text (32 ∷ []) r1)) where
-      at2 : call_at bs ≡ after_task n (numbered t r2)
-      at2 = at1 ∙ ap (after_task n) (sym e2)
+    module _ {t : ℕ} {r2 : List ℕ} (e2 : (t < 256) × (numbered t r2 ≡ number_at (behind_text (32 ∷ []) r1))) where
+      at3 : call_at bs ≡ after_word n t (behind_text (32 ∷ []) r2)
+      at3 = at1 ∙ ap (after_task n) (sym e2.1) ∙ ap (λ (a : List ℕ). after_word n t (behind_byte 32 a)) (below_few 256 t r2 e2.0) ∙ same
+        where
+          same : after_word n t (behind_byte 32 r2) ≡ after_word n t (behind_text (32 ∷ []) r2)
+          same = unfold behind_text in refl
 
-      pub call_big : 256 ≤ t → (call_at bs).rest ≡ none
-      call_big h = none_read at2 (no_task n (numbered t r2) (below_many 256 t r2 h))
+      pub call_no_word : [] ≡ behind_text (32 ∷ []) r2 → (call_at bs).rest ≡ none
+      call_no_word e = none_read at3 (no_word n t (behind_text (32 ∷ []) r2) (sym e))
 
-      module _ (l : t < 256) where
-        at3 : call_at bs ≡ after_word n t (behind_text (32 ∷ []) r2)
-        at3 = at2 ∙ ap (λ (a : List ℕ). after_word n t (behind_byte 32 a)) (below_few 256 t r2 l) ∙ same
-          where
-            same : after_word n t (behind_byte 32 r2) ≡ after_word n t (behind_text (32 ∷ []) r2)
-            same = unfold behind_text in refl
+      module _ {a : List ℕ} (e3 : a ≡ behind_text (32 ∷ []) r2) where
+        pub call_no_first : a ≡ [] → (call_at bs).rest ≡ none
+        call_no_first e = call_no_word (sym e ∙ e3)
 
-        pub call_no_word : [] ≡ behind_text (32 ∷ []) r2 → (call_at bs).rest ≡ none
-        call_no_word e = none_read at3 (no_word n t (behind_text (32 ∷ []) r2) (sym e))
+        module _ {k : ℕ} (e4 : k ≡ number_of (word_at (front a))) where
+          at5 : call_at bs ≡ after_value n t k (value_of (word_numbered k) a)
+          at5 =
+              at3
+              ∙ ap (after_word n t) (sym e3)
+              ∙ ap₂ (λ (k : ℕ) (w : Word). after_value n t k (value_of w a)) (sym e4) (sym (ap word_numbered e4 ∙ word_numbered_lem _))
 
-        module _ {a : List ℕ} (e3 : a ≡ behind_text (32 ∷ []) r2) where
-          pub call_no_first : a ≡ [] → (call_at bs).rest ≡ none
-          call_no_first e = call_no_word (sym e ∙ e3)
+          pub call_no_value : numbered 0 [] ≡ value_of (word_numbered k) a → (call_at bs).rest ≡ none
+          call_no_value e = none_read (at5 ∙ ap (after_value n t k) (sym e)) no_feed
 
-          module _ {k : ℕ} (e4 : k ≡ number_of (word_at (front a))) where
-            at5 : call_at bs ≡ after_value n t k (value_of (word_numbered k) a)
-            at5 =
-                at3
-                ∙ ap (after_word n t) (sym e3)
-                ∙ ap₂ (λ (k : ℕ) (w : Word). after_value n t k (value_of w a)) (sym e4) (sym (ap word_numbered e4 ∙ word_numbered_lem _))
+          module _ {v : ℕ} {r4 : List ℕ} (e5 : numbered v r4 ≡ value_of (word_numbered k) a) where
+            at6 : call_at bs ≡ after_value n t k (numbered v r4)
+            at6 = at5 ∙ ap (after_value n t k) (sym e5)
 
-            pub call_no_value : numbered 0 [] ≡ value_of (word_numbered k) a → (call_at bs).rest ≡ none
-            call_no_value e = none_read (at5 ∙ ap (after_value n t k) (sym e)) no_feed
+            pub call_no_feed : none ≡ behind_feed r4 → (call_at bs).rest ≡ none
+            call_no_feed e = none_read at6 (sym e)
 
-            module _ {v : ℕ} {r4 : List ℕ} (e5 : numbered v r4 ≡ value_of (word_numbered k) a) where
-              at6 : call_at bs ≡ after_value n t k (numbered v r4)
-              at6 = at5 ∙ ap (after_value n t k) (sym e5)
-
-              pub call_no_feed : none ≡ behind_feed r4 → (call_at bs).rest ≡ none
-              call_no_feed e = none_read at6 (sym e)
-
-              pub call_read : {r5 : List ℕ} → some r5 ≡ behind_feed r4 → (Call n t k v ≡ (call_at bs).line) × (some r5 ≡ (call_at bs).rest)
-              call_read e = (sym (ap (λ (x : LineRead). x.line) at6), e ∙ sym (ap (λ (x : LineRead). x.rest) at6))
+            pub call_read : {r5 : List ℕ} → some r5 ≡ behind_feed r4 → (Call n t k v ≡ (call_at bs).line) × (some r5 ≡ (call_at bs).rest)
+            call_read e = (sym (ap (λ (x : LineRead). x.line) at6), e ∙ sym (ap (λ (x : LineRead). x.rest) at6))
 
 -- A VALUE LEFT, part by part
 abbrev after_left : ℕ → Numbered → LineRead
@@ -141,35 +146,28 @@ module _ (bs ls : List ℕ) (es : ls ≡ ascii "left ") where
       at : left_at bs ≡ after_queue (number_at (behind_text (ascii "left ") bs))
       at = unfold left_at in refl
 
-  pub left_no_queue : numbered 0 [] ≡ number_at (behind_text ls bs) → (left_at bs).rest ≡ none
-  left_no_queue e = none_read (left0 ∙ ap after_queue (sym e)) (no_queue (numbered 0 []) (below_few 4 0 [] (omega arith)))
+  pub left_no_queue : below 4 (number_at (behind_text ls bs)) ≡ [] → (left_at bs).rest ≡ none
+  left_no_queue e = none_read left0 (no_queue (number_at (behind_text ls bs)) e)
 
-  module _ {q : ℕ} {r1 : List ℕ} (e1 : numbered q r1 ≡ number_at (behind_text ls bs)) where
-    left1 : left_at bs ≡ after_queue (numbered q r1)
-    left1 = left0 ∙ ap after_queue (sym e1)
+  module _ {q : ℕ} {r1 : List ℕ} (e1 : (q < 4) × (numbered q r1 ≡ number_at (behind_text ls bs))) where
+    left2 : left_at bs ≡ after_left q (number_at (behind_text (32 ∷ []) r1))
+    left2 = left0 ∙ ap after_queue (sym e1.1) ∙ ap (λ (a : List ℕ). after_left q (number_at (behind_byte 32 a))) (below_few 4 q r1 e1.0) ∙ same
+      where
+        same : after_left q (number_at (behind_byte 32 r1)) ≡ after_left q (number_at (behind_text (32 ∷ []) r1))
+        same = unfold behind_text in refl
 
-    pub left_big : 4 ≤ q → (left_at bs).rest ≡ none
-    left_big h = none_read left1 (no_queue (numbered q r1) (below_many 4 q r1 h))
+    pub left_no_value : numbered 0 [] ≡ number_at (behind_text (32 ∷ []) r1) → (left_at bs).rest ≡ none
+    left_no_value e = none_read (left2 ∙ ap (after_left q) (sym e)) no_feed
 
-    module _ (l : q < 4) where
-      left2 : left_at bs ≡ after_left q (number_at (behind_text (32 ∷ []) r1))
-      left2 = left1 ∙ ap (λ (a : List ℕ). after_left q (number_at (behind_byte 32 a))) (below_few 4 q r1 l) ∙ same
-        where
-          same : after_left q (number_at (behind_byte 32 r1)) ≡ after_left q (number_at (behind_text (32 ∷ []) r1))
-          same = unfold behind_text in refl
+    module _ {v : ℕ} {r2 : List ℕ} (e2 : numbered v r2 ≡ number_at (behind_text (32 ∷ []) r1)) where
+      left3 : left_at bs ≡ after_left q (numbered v r2)
+      left3 = left2 ∙ ap (after_left q) (sym e2)
 
-      pub left_no_value : numbered 0 [] ≡ number_at (behind_text (32 ∷ []) r1) → (left_at bs).rest ≡ none
-      left_no_value e = none_read (left2 ∙ ap (after_left q) (sym e)) no_feed
+      pub left_no_feed : none ≡ behind_feed r2 → (left_at bs).rest ≡ none
+      left_no_feed e = none_read left3 (sym e)
 
-      module _ {v : ℕ} {r2 : List ℕ} (e2 : numbered v r2 ≡ number_at (behind_text (32 ∷ []) r1)) where
-        left3 : left_at bs ≡ after_left q (numbered v r2)
-        left3 = left2 ∙ ap (after_left q) (sym e2)
-
-        pub left_no_feed : none ≡ behind_feed r2 → (left_at bs).rest ≡ none
-        left_no_feed e = none_read left3 (sym e)
-
-        pub left_read : {r3 : List ℕ} → some r3 ≡ behind_feed r2 → (Left q v ≡ (left_at bs).line) × (some r3 ≡ (left_at bs).rest)
-        left_read e = (sym (ap (λ (x : LineRead). x.line) left3), e ∙ sym (ap (λ (x : LineRead). x.rest) left3))
+      pub left_read : {r3 : List ℕ} → some r3 ≡ behind_feed r2 → (Left q v ≡ (left_at bs).line) × (some r3 ≡ (left_at bs).rest)
+      left_read e = (sym (ap (λ (x : LineRead). x.line) left3), e ∙ sym (ap (λ (x : LineRead). x.rest) left3))
 
 -- THE LINE of a run that is not over
 abbrev after_open : Numbered → LineRead

@@ -3,7 +3,7 @@ use Rattle.std.specs.Prelude.{◌≡◌, List, [], ℕ, ◌<◌, ◌≤◌, Opti
 use Rattle.std.proofs.Math.Option.{Option as Left, none, some}
 use Rattle.std.proofs.Common.{Bor}
 use Rattle.spec_trace.specs.declared.Line.{Line}
-use Rattle.spec_trace.specs.Read.{Numbered, numbered, front, digit_of, LineRead}
+use Rattle.spec_trace.specs.Read.{Numbered, numbered, front, digit_of, below, LineRead}
 
 -- the digit at the front, and what stands behind it
 abbrev pub Digit : List ℕ → Option (ℕ × Bor (List ℕ)) → Type 0
@@ -23,6 +23,10 @@ left_behind (Some r) = some r.now
 unfoldable pub number_of : Option (ℕ × Bor (List ℕ)) → Numbered
 number_of None = numbered 0 []
 number_of (Some x) = numbered x.0 x.1.now
+
+-- the number x and what stands behind it, if it is below k
+abbrev pub Below : ℕ → Numbered → Option (ℕ × Bor (List ℕ)) → Type 0
+Below k x o = MatchOption o (below k x ≡ []) (λ r. (r.0 < k) × (numbered r.0 r.1.now ≡ x))
 
 -- a line, and what stands behind it
 abbrev pub IsRead : Option (Line × Bor (List ℕ)) → LineRead → Type 0

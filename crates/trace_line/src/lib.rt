@@ -5,7 +5,7 @@
 ghost use Rattle.std.specs.Prelude.{◌≡◌, ◌<◌};
 ghost use Rattle.spec_job.specs.Numbers.{number_of, word_numbered};
 ghost use Rattle.spec_trace.specs.Read.{behind_text, numbered, more_digits, number_at, word_at, value_of, behind_feed, call_at, left_at, open_at, line_at};
-ghost use Rattle.trace_line.specs.Reads.{Digit, rest_of, left_behind, number_of as read_number, IsRead};
+ghost use Rattle.trace_line.specs.Reads.{Digit, rest_of, left_behind, number_of as read_number, Below, IsRead};
 
 use answer_numbers::{EMPTY, FINISHED, MOVED, NOT_EMPTY, PUSHED, SPAWNED, TOOK, WAITS};
 use spec_trace::Line;
@@ -94,6 +94,14 @@ fn number_behind<'a>(bytes: &'a [u8], text: &[u8]) -> Option<(u32, &'a [u8])>
     number(behind(bytes, text)?)
 }
 
+// The number behind a text, if it is below k.
+fn number_below<'a>(bytes: &'a [u8], text: &[u8], k: u32) -> Option<(u32, &'a [u8])>
+    ensures { Below k (number_at (behind_text text.now bytes.now)) result }
+{
+    let (v, rest) = number_behind(bytes, text)?;
+    if v < k { Some((v, rest)) } else { None }
+}
+
 // A text that ends with "-", for which 0 stands.
 fn dash_behind<'a>(bytes: &'a [u8], text: &[u8]) -> Option<(u32, &'a [u8])>
     ensures { read_number result ≡ numbered 0 (behind_text text.now bytes.now) }
@@ -123,10 +131,7 @@ fn call(bytes: &[u8]) -> Option<(Line, &[u8])>
     ensures { IsRead result (call_at bytes.now) }
 {
     let (n, rest) = number(bytes)?;
-    let (t, rest) = number_behind(rest, b" ")?;
-    if t >= 256 {
-        return None;
-    }
+    let (t, rest) = number_below(rest, b" ", 256)?;
     let rest = behind(rest, b" ")?;
     let k = word_at(*rest.first()?);
     let (v, rest) = value(rest, k)?;
@@ -137,10 +142,7 @@ fn call(bytes: &[u8]) -> Option<(Line, &[u8])>
 fn left(bytes: &[u8]) -> Option<(Line, &[u8])>
     ensures { IsRead result (left_at bytes.now) }
 {
-    let (q, rest) = number_behind(bytes, b"left ")?;
-    if q >= 4 {
-        return None;
-    }
+    let (q, rest) = number_below(bytes, b"left ", 4)?;
     let (v, rest) = number_behind(rest, b" ")?;
     Some((Line::Left(q, v), behind_feed(rest)?))
 }
