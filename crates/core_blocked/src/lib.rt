@@ -1,10 +1,10 @@
 // Which tasks an older sibling blocks, asked of all tasks at once: each list of siblings is walked once, from the oldest on, with the
 // rights of those that it has passed.
-#![tactic(auto)]
+#![tactic(auto, unfolding(crate::specs::Noted::is_oldest, spec_words::specs::Words::both, spec_words::specs::Words::pick))]
 
 ghost use Rattle.std.specs.Prelude.{◌≡◌, true, replicate};
 ghost use Rattle.spec_rules.specs.Test.{rules_hold};
-ghost use Rattle.core_blocked.specs.Noted.{noted, is_oldest, family_noted};
+ghost use Rattle.core_blocked.specs.Noted.{noted, is_oldest};
 ghost use Rattle.core_blocked.specs.Told.{Tell};
 
 use layout::TASKS;
@@ -15,15 +15,13 @@ fn note(m: &[u32], t: u32, a: &mut [u32])
 {
     let mut c = t;
     let mut w: u32 = 0;
-    let mut n: u32 = TASKS;
-    while 0 < n {
+    for _ in 0..TASKS {
         if TASKS <= c {
             return;
         }
         memory::put(a, c as usize, w);
         w = memory::rights(m, c) | w;
         c = memory::younger(m, c);
-        n -= 1;
     }
 }
 
@@ -31,21 +29,7 @@ fn note(m: &[u32], t: u32, a: &mut [u32])
 fn is_oldest(m: &[u32], t: u32) -> bool
     ensures { result ≡ is_oldest m.now t }
 {
-    if !walks::unfinished(m, t) {
-        return false;
-    }
-    if memory::older(m, t) < TASKS {
-        return false;
-    }
-    memory::younger(m, t) < TASKS
-}
-
-fn note_family(m: &[u32], t: u32, a: &mut [u32])
-    ensures { a.new ≡ family_noted m.now t a.old }
-{
-    if is_oldest(m, t) {
-        note(m, t, a);
-    }
+    walks::unfinished(m, t) && TASKS <= memory::older(m, t) && memory::younger(m, t) < TASKS
 }
 
 // The words a say of each unfinished task what its older siblings may pop: it is blocked where it may pop that too. They are 0 before, as
@@ -54,9 +38,9 @@ pub fn blocked_all(m: &[u32], a: &mut [u32])
     requires { (rules_hold m.now ≡ true) × (a.old ≡ replicate 128 0) }
     ensures { Tell m.now a.new }
 {
-    let mut t: u32 = 0;
-    while t < TASKS {
-        note_family(m, t, a);
-        t += 1;
+    for t in 0..TASKS {
+        if is_oldest(m, t) {
+            note(m, t, a);
+        }
     }
 }

@@ -1,2 +1,2 @@
+pub mod Queues
 pub mod Records
-pub mod Answers

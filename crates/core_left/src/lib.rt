@@ -1,11 +1,12 @@
 // left (queue, index)
-#![tactic(auto)]
+#![tactic(auto, unfolding(spec_words::specs::Words::pick, spec_outcomes::specs::Left::left_tested))]
 
 ghost use Rattle.std.specs.Prelude.{◌≡◌};
 ghost use Rattle.spec_answers.specs.Answers.Outcome.{outcome};
 ghost use Rattle.spec_outcomes.specs.Left.{queued, left_tested};
 
 use layout::{FINISHED, NL, QUEUES, SEGMENTS};
+use refusals::Refusal;
 use spec_answers::Answer;
 
 // Value number `index` of the chain from segment `first` on.
@@ -14,10 +15,9 @@ fn queued(m: &[u32], first: u32, index: u32) -> Answer
 {
     let mut s = first;
     let mut i = index;
-    let mut k: u32 = SEGMENTS;
-    while 0 < k {
+    for _ in 0..SEGMENTS {
         if s >= NL {
-            return Answer::Refused(7);
+            return Refusal::PastTheEnd.into();
         }
         let n = memory::count(m, s);
         if i < n {
@@ -25,9 +25,8 @@ fn queued(m: &[u32], first: u32, index: u32) -> Answer
         }
         i -= n;
         s = memory::next(m, s);
-        k -= 1;
     }
-    Answer::Refused(7)
+    Refusal::PastTheEnd.into()
 }
 
 // Left on memory that passes the rules, for a caller that may only read it.
@@ -35,7 +34,7 @@ pub fn left_at(m: &[u32], q: u32, i: u32) -> Answer
     ensures { outcome result m.now ≡ left_tested m.now q i }
 {
     if q >= QUEUES {
-        return Answer::Refused(5);
+        return Refusal::NoSuchQueue.into();
     }
     if memory::status(m, 0) != FINISHED {
         return Answer::Waits;

@@ -1,16 +1,11 @@
 -- Stores in a row, as the code makes them.
-use Rattle.std.specs.Prelude.{◌≡◌, List, [], ◌∷◌, ℕ, suc, ◌+◌, ◌-◌, ◌*◌, ◌<◌, ◌≤◌, length, replicate}
+use Rattle.std.specs.Prelude.{◌≡◌, refl, List, [], ◌∷◌, ℕ, suc, ◌+◌, ◌-◌, ◌*◌, ◌<◌, ◌≤◌, length, replicate}
 use Rattle.std.proofs.Common.{ap, sym, ◌∙◌, arith}
 use Rattle.spec_words.specs.Words.{store}
 use Rattle.spec_words.specs.Blocks.{store_all, store_none, store_more, store_append, store_three}
+use Rattle.memory.specs.Queues.{done_below}
 use Rattle.spec_layout.specs.Layout.{NONE, NL, segment, task, address, write}
 use Rattle.spec_outcomes.specs.Open.{down, empty_segment, top_links, top_views, stacked, segmented, topped, opened}
-
-pub down_start : (m : List ℕ) (a n x : ℕ) → store_all m (a + 0) (down (n - 0) (x - 0)) ≡ store_all m a (down n x)
-down_start m a n x =
-    ap (λ (b : ℕ). store_all m b (down (n - 0) (x - 0))) (let z : a + 0 ≡ a = omega arith in z)
-    ∙ ap (λ (k : ℕ). store_all m a (down k (x - 0))) (let z : n - 0 ≡ n = omega arith in z)
-    ∙ ap (λ (y : ℕ). store_all m a (down n y)) (let z : x - 0 ≡ x = omega arith in z)
 
 -- one number more
 pub down_step : (m m' : List ℕ) (a n x i : ℕ) → i < n → n ≤ x + 1 → m' ≡ store m (a + i) (x - i)
@@ -32,14 +27,10 @@ pub four_more : (m m' : List ℕ) (a w0 w1 w2 w3 : ℕ) (ws : List ℕ) → m' �
     → store_all m a (w0 ∷ w1 ∷ w2 ∷ w3 ∷ ws) ≡ store_all m' (a + 4) ws
 four_more m m' a w0 w1 w2 w3 ws e = store_append (w0 ∷ w1 ∷ w2 ∷ w3 ∷ []) m a ws ∙ ap (λ (l : List ℕ). store_all l (a + 4) ws) (sym e)
 
--- the four segments of the queues
-pub segments_made : (m m1 m2 m3 m4 : List ℕ) → m1 ≡ store_all m (address (segment 0 0)) empty_segment → m2 ≡ store_all m1 (address (segment 1 0)) empty_segment
-    → m3 ≡ store_all m2 (address (segment 2 0)) empty_segment → m4 ≡ store_all m3 (address (segment 3 0)) empty_segment → m4 ≡ segmented m
-unfolding segmented
-segments_made m m1 m2 m3 m4 e1 e2 e3 e4 =
-    e4 ∙ ap (λ (l : List ℕ). store_all l (address (segment 3 0)) empty_segment) (e3
-    ∙ ap (λ (l : List ℕ). store_all l (address (segment 2 0)) empty_segment) (e2
-    ∙ ap (λ (l : List ℕ). store_all l (address (segment 1 0)) empty_segment) e1))
+-- the segments of the queues, one after the other
+pub all_emptied : (m : List ℕ) → segmented m ≡ done_below (λ m s. store_all m (address (segment s 0)) empty_segment) 4 m
+unfolding done_below segmented
+all_emptied m = refl
 
 pub one_made : (m m1 m2 m3 : List ℕ) (s : ℕ) → m1 ≡ write m (segment s 0) 0 → m2 ≡ write m1 (segment s 1) 0 → m3 ≡ write m2 (segment s 2) NONE
     → m3 ≡ store_all m (address (segment s 0)) empty_segment

@@ -1,5 +1,5 @@
 // open (length, segments)
-#![tactic(auto)]
+#![tactic(auto, unfolding(spec_words::specs::Words::pick, spec_words::specs::Words::both, spec_words::specs::Words::size, spec_rules::specs::Test::in_range, spec_rules::specs::Test::within, spec_outcomes::specs::Open::stacked, spec_outcomes::specs::Open::segmented, spec_outcomes::specs::Open::open_outcome))]
 
 ghost use Rattle.std.specs.Prelude.{◌≡◌, ◌+◌, ◌<◌, ◌≤◌, length};
 ghost use Rattle.spec_words.specs.Blocks.{store_all};
@@ -8,9 +8,11 @@ ghost use Rattle.spec_answers.specs.Answers.Outcome.{outcome};
 ghost use Rattle.spec_outcomes.specs.Open.{down, empty_segment, stacked, segmented, topped, opened, open_outcome};
 
 use layout::{
-    ALL_RIGHTS, CHILDREN_HEADS, CHILDREN_TAILS, LAST_TASK, NL, NONE, QUEUE_HEADS, QUEUES,
-    RIGHT_HEADS, RIGHT_TAILS, SEGMENT_STACK, TASK_STACK, UNFINISHED, USER_HEADS, USER_TAILS, WORDS,
+    ALL_RIGHTS, CHILDREN_HEADS, CHILDREN_TAILS, HEADER, LAST_TASK, NL, NONE, QUEUE_HEADS, QUEUES,
+    RIGHT_HEADS, RIGHT_TAILS, SEGMENT_STACK, STATUS, TASK_STACK, UNFINISHED, USER_HEADS,
+    USER_TAILS, WORDS,
 };
+use refusals::Refusal;
 use spec_answers::Answer;
 
 // n numbers from x down, from address a on.
@@ -18,10 +20,8 @@ fn count_down(m: &mut [u32], a: usize, n: u32, x: u32)
     requires { (a ≤ 320) × (n ≤ 256) × (n ≤ x + 1) }
     ensures { m.new ≡ store_all m.old a (down n x) }
 {
-    let mut i: u32 = 0;
-    while i < n {
+    for i in 0..n {
         memory::put(m, a + i as usize, x - i);
-        i += 1;
     }
 }
 
@@ -42,27 +42,32 @@ fn empty_segment(m: &mut [u32], s: u32)
     memory::set_next(m, s, NONE);
 }
 
+#[tactic(auto, using(memory::specs::Queues::none_done, memory::specs::Queues::one_more_done, crate::specs::Stores::all_emptied))]
 fn segment(m: &mut [u32])
     ensures { m.new ≡ segmented m.old }
 {
-    empty_segment(m, 0);
-    empty_segment(m, 1);
-    empty_segment(m, 2);
-    empty_segment(m, 3);
+    for s in 0..QUEUES {
+        empty_segment(m, s);
+    }
 }
 
-// The record of the top task: its links, then its views.
+// The record of the top task: its state, rights, parent, older, younger and youngest; then its views.
 fn top(m: &mut [u32])
     ensures { m.new ≡ topped m.old }
 {
-    memory::set_links(m, 0, UNFINISHED, ALL_RIGHTS, NONE, NONE, NONE, NONE);
-    memory::set_four(m, 0, QUEUE_HEADS, 0, 1, 2, 3);
-    memory::set_four(m, 0, CHILDREN_HEADS, NONE, NONE, NONE, NONE);
-    memory::set_four(m, 0, USER_HEADS, NL, NL, NL, NL);
-    memory::set_four(m, 0, RIGHT_HEADS, NONE, NONE, NONE, NONE);
-    memory::set_four(m, 0, CHILDREN_TAILS, NONE, NONE, NONE, NONE);
-    memory::set_four(m, 0, USER_TAILS, 0, 1, 2, 3);
-    memory::set_four(m, 0, RIGHT_TAILS, NONE, NONE, NONE, NONE);
+    memory::set_words(
+        m,
+        0,
+        STATUS,
+        &[UNFINISHED, ALL_RIGHTS, NONE, NONE, NONE, NONE],
+    );
+    memory::set_words(m, 0, QUEUE_HEADS, &[0, 1, 2, 3]);
+    memory::set_words(m, 0, CHILDREN_HEADS, &[NONE; 4]);
+    memory::set_words(m, 0, USER_HEADS, &[NL; 4]);
+    memory::set_words(m, 0, RIGHT_HEADS, &[NONE; 4]);
+    memory::set_words(m, 0, CHILDREN_TAILS, &[NONE; 4]);
+    memory::set_words(m, 0, USER_TAILS, &[0, 1, 2, 3]);
+    memory::set_words(m, 0, RIGHT_TAILS, &[NONE; 4]);
 }
 
 // The words of a new core.
@@ -71,7 +76,7 @@ fn write_all(m: &mut [u32], l: u32, n: u32)
     ensures { m.new ≡ opened l n }
 {
     memory::clear(m);
-    memory::write_header(m, l, n, n - QUEUES, LAST_TASK);
+    memory::put_all(m, HEADER, &[l, n, n - QUEUES, LAST_TASK]);
     stack(m, n);
     segment(m);
     top(m);
@@ -82,10 +87,10 @@ pub fn open(m: &mut [u32], l: u32, n: u32) -> Answer
     ensures { outcome result m.new ≡ open_outcome m.old l n }
 {
     if m.len() != WORDS {
-        return Answer::Refused(1);
+        return Refusal::LengthWrong.into();
     }
     if !tree_test::in_range(l, n) {
-        return Answer::Refused(3);
+        return Refusal::NumbersWrong.into();
     }
     write_all(m, l, n);
     Answer::Moved(0)

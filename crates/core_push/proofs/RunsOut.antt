@@ -13,15 +13,10 @@ use Rattle.spec_lists.specs.Counting.{one, one_true, one_false}
 use Rattle.spec_layout.specs.Layout.{NL, USER, count, length_of, free_height, head, tail, read}
 use Rattle.spec_rules.specs.Views.{view}
 use Rattle.spec_outcomes.specs.Segments.{has_none_free, next_free}
-use Rattle.spec_outcomes.specs.Views.{view_of, is_empty, tail_of, frees, task_at, kind_at, just_before}
+use Rattle.spec_outcomes.specs.Views.{view_of, is_empty, tail_of}
 use Rattle.spec_outcomes.specs.Push.{link_frees, capacity, ends_away, runs_out}
 use Rattle.spec_outcomes.proofs.RunOfOne.{empty_none, empty_room, filled_room}
 use Rattle.law_push_runs.specs.Pushable.{Pushable}
-
-pub link_is : (m : List ℕ) (t q : ℕ) {x y k h e s : ℕ} {b : Bool} → x ≡ just_before m q t → y ≡ task_at x → k ≡ kind_at x → h ≡ read m (head k y q)
-    → e ≡ read m (tail k y q) → s ≡ next_free m q → b ≡ frees m (view h e) (view s NL) → b ≡ link_frees m t q
-unfolding link_frees view_of
-link_is m t q ex ey ek eh ee es eb = eb ∙ rw (eh, ee, es, ek, ey, ex) refl
 
 -- no product of what is free and a length wraps
 pub few_values : (m : List ℕ) (t q s f l : ℕ) → Pushable m t q → f ≡ free_height m q → l ≡ length_of m s → (f * l ≤ 16384) × (l ≤ 64)

@@ -2,15 +2,15 @@
 use mathlib.Core.Path.{◌≡◌, refl, ap, sym, ◌∙◌, subst}
 use mathlib.Core.Bool.{Bool, true, false, not}
 use mathlib.Core.List.{List, [], ◌∷◌}
-use Prim.Native.Nat.{ℕ, suc, ◌+◌, ◌-◌, ◌<◌, ◌≤◌}
+use Prim.Native.Nat.{ℕ, suc, ◌-◌, ◌<◌, ◌≤◌}
 use native.Mathlib.Omega.{arith}
 use lib.Dec.{leb, ltb}
 use lib.ListN.{length, get_or, take, drop, length-drop, take-append-drop}
-use lib.Seq.{drop-drop, drop-cons, take-length, length-take-le}
+use lib.Seq.{drop-cons, take-length, length-take-le}
 use borrow.Author.Tests.{not-true, not-false, le-ltb, ltb-true, ltb-false, leb-true, le-leb}
 use Rattle.spec_words.specs.Words.{pick, pass, halt, both, both_true, both_on, both_off, both_right_off, refuted}
 use Rattle.spec_lists.specs.Maps.{last_of}
-use Rattle.spec_layout.specs.Layout.{NL, USER, count, length_of, head, tail, read}
+use Rattle.spec_layout.specs.Layout.{NL, USER, count, length_of, free_height, head, tail, read}
 use Rattle.spec_rules.specs.Views.{view}
 use Rattle.spec_answers.specs.declared.Answer.TheVariants.{Moved, Refused}
 use Rattle.spec_answers.specs.Answers.{Outcome, outcome, words_of, when_moved}
@@ -24,62 +24,54 @@ use Rattle.law_push_runs.specs.Runs.{pushed_words, words_append, Filled, ends_he
 use Rattle.segments.specs.Runs.{Storable, fitting}
 use Rattle.law_push_runs.specs.Ways.{tail_room}
 use Rattle.core_push.proofs.Parts.{slice_rest, CanTake, takes, storable, into_run}
-use Rattle.core_push.proofs.RunsOut.{empty_same}
+use Rattle.core_push.proofs.RunsOut.{empty_same, few_values}
 
--- THE LOOP: the words m are such that pushing what is left from number i on leads to what pushing all from number j on leads to
-pub record Going (t q : ℕ) (m₀ vs : List ℕ) (j : ℕ) (m : List ℕ) (i : ℕ) : Type 0 where
+-- THE LOOP: the words m are such that pushing what is left leads to what pushing the run leads to
+pub record Going (t q : ℕ) (m₀ vs m rest : List ℕ) : Type 0 where
   pub filled : Filled t q m
-  pub inside : i ≤ length vs
-  pub room : length vs - i ≤ capacity m t q
-  pub words : pushed_words m₀ t q (drop j vs) ≡ pushed_words m t q (drop i vs)
+  pub room : length rest ≤ capacity m t q
+  pub words : pushed_words m₀ t q vs ≡ pushed_words m t q rest
 
 module _ (t q : ℕ) (ht : t < 128) (hq : q < 4) where
-  pub goes_on : {m₀ vs m m1 : List ℕ} {j i k : ℕ} → Going t q m₀ vs j m i
-      → (0 < k) × (k ≤ length (take (length vs - i) (drop i vs))) × (m1 ≡ pushed_words m t q (take k (take (length vs - i) (drop i vs))))
-      → Going t q m₀ vs j m1 (i + k)
-  goes_on {m₀} {vs} {m} {m1} {j} {i} {k} g w =
-      let ws = drop i vs in
-      let e = slice_rest vs i in
+  pub goes_on : {m₀ vs m m1 rest : List ℕ} {k : ℕ} → Going t q m₀ vs m rest → (0 < k) × (k ≤ length rest) × (m1 ≡ pushed_words m t q (take k rest))
+      → Going t q m₀ vs m1 (take (length rest - k) (drop k rest))
+  goes_on {m₀} {vs} {m} {m1} {rest} {k} g w =
+      let e = slice_rest rest k in
       let a = w.1 in
-      let b = ap length e ∙ length-drop i vs in
-      let d = length-take-le k ws (let c = ap length e in omega (arith, a, c)) in
-      let is : m1 ≡ pushed_words m t q (take k ws) = w.2 ∙ ap (λ (x : List ℕ). pushed_words m t q (take k x)) e in
+      let b = ap length e ∙ length-drop k rest in
+      let d = length-take-le k rest a in
       let r = g.room in
-      let f = fits t q ht hq (take k ws) m m 0 g.filled (omega (arith, a, b, d, r)) in
+      let f = fits t q ht hq (take k rest) m m 0 g.filled (omega (arith, a, d, r)) in
       let h = f.less in
-      let l = ap (λ (x : List ℕ). capacity x t q) is in
+      let l = ap (λ (x : List ℕ). capacity x t q) w.2 in
       record {
-        filled = subst (Filled t q) (sym is) f.filled;
-        inside = let n = g.inside in omega (arith, a, b, n);
-        room = omega (arith, h, l, d, r);
+        filled = subst (Filled t q) (sym w.2) f.filled;
+        room = omega (arith, a, b, d, h, l, r);
         words =
             g.words
-            ∙ ap (pushed_words m t q) (sym (take-append-drop k ws))
-            ∙ words_append m t q (take k ws) (drop k ws)
-            ∙ ap (λ (x : List ℕ). pushed_words x t q (drop k ws)) (sym is)
-            ∙ ap (pushed_words m1 t q) (drop-drop k i vs);
+            ∙ ap (pushed_words m t q) (sym (take-append-drop k rest))
+            ∙ words_append m t q (take k rest) (drop k rest)
+            ∙ ap (λ (x : List ℕ). pushed_words x t q (drop k rest)) (sym w.2)
+            ∙ ap (pushed_words m1 t q) (sym e);
       }
 
-  -- what the next part asks, and that the end comes nearer
-  pub part_asked : {m₀ vs m : List ℕ} {j i : ℕ} → Going t q m₀ vs j m i → i < length vs
-      → (Filled t q m) × (t < 128) × (q < 4) × (0 < length (take (length vs - i) (drop i vs))) × (length (take (length vs - i) (drop i vs)) ≤ capacity m t q)
-  part_asked {m₀} {vs} {m} {j} {i} g l =
-      let b = ap length (slice_rest vs i) ∙ length-drop i vs in
-      let r = g.room in
-      (g.filled, ht, hq, omega (arith, b, l), omega (arith, b, r))
+-- so few values are left that their bytes can be counted
+pub few_left : (t q : ℕ) {m₀ vs m rest : List ℕ} {k : ℕ} → Going t q m₀ vs m rest → k ≤ length rest → k ≤ 16448
+few_left t q {m₀} {vs} {m} {rest} {k} g l =
+    let e = read m (tail USER t q) in
+    let a = tail_room m t q e refl g.filled.local in
+    let w = few_values m t q e (free_height m q) (length_of m e) g.filled.words refl refl in
+    let b = w.0 in
+    let c = w.1 in
+    let r = g.room in
+    omega (arith, a, b, c, l, r)
 
-  pub part_inside : {m₀ vs m : List ℕ} {j i k : ℕ} → Going t q m₀ vs j m i → k ≤ length (take (length vs - i) (drop i vs)) → i + k ≤ length vs
-  part_inside {m₀} {vs} {m} {j} {i} g a =
-      let b = ap length (slice_rest vs i) ∙ length-drop i vs in let n = g.inside in omega (arith, a, b, n)
-
-  pub all_pushed : {m₀ vs m : List ℕ} {j i : ℕ} → Going t q m₀ vs j m i → (i < length vs → ⊥) → m ≡ pushed_words m₀ t q (drop j vs)
-  unfolding pushed_words
-  all_pushed {m₀} {vs} {m} {j} {i} g n =
-      sym (g.words ∙ go (drop i vs) (length-drop i vs))
-    where
-      go : (ws : List ℕ) → length ws ≡ length vs - i → pushed_words m t q ws ≡ m
-      go [] e = unfold pushed_words in refl
-      go (w ∷ ws) e = let z : ⊥ = omega (arith, e, n) in absurd z
+pub all_pushed : (t q : ℕ) {m₀ vs m rest : List ℕ} → Going t q m₀ vs m rest → length rest ≡ 0 → m ≡ pushed_words m₀ t q vs
+all_pushed t q {m₀} {vs} {m} {rest} g z = sym (g.words ∙ go rest z)
+  where
+    go : (ws : List ℕ) → length ws ≡ 0 → pushed_words m t q ws ≡ m
+    go [] e = unfold pushed_words in refl
+    go (w ∷ ws) e = let y : ⊥ = omega (arith, e) in absurd y
 
 -- THE RUN. A run of none
 pub run_of_none : (m : List ℕ) (t q n : ℕ) (vs : List ℕ) → n ≡ length vs → n ≡ 0 → outcome (Moved 0) m ≡ pushed_run m t q vs
@@ -153,10 +145,10 @@ module _ (m : List ℕ) (t q : ℕ) {n : ℕ} {b : Bool} (vs : List ℕ) (p : Pu
         filled : Filled t q m
         filled = record { words = p; local = omega (arith, ee, local) }
 
-        pub can_go : (Filled t q m) × (t < 128) × (q < 4) × (0 ≤ length vs) × (length vs - 0 ≤ capacity m t q)
-        can_go = let h = room (ends_here t q ht hq filled) in (filled, ht, hq, omega arith, omega (arith, h))
+        pub can_go : (Filled t q m) × (t < 128) × (q < 4) × (length vs ≤ capacity m t q)
+        can_go = (filled, ht, hq, room (ends_here t q ht hq filled))
 
-        pub gone : {l : List ℕ} → l ≡ pushed_words m t q (drop 0 vs) → outcome (Moved (get_or vs (n - 1) 0)) l ≡ pushed_run m t q vs
+        pub gone : {l : List ℕ} → l ≡ pushed_words m t q vs → outcome (Moved (get_or vs (n - 1) 0)) l ≡ pushed_run m t q vs
         gone {l} el =
             let h = room (ends_here t q ht hq filled) in
             sym (run_is
@@ -230,26 +222,25 @@ module _ (m : List ℕ) (t q : ℕ) {n : ℕ} {b : Bool} (vs : List ℕ) (p : Pu
               unfolding words_of
               left = sym (ap words_of moved)
 
-              pub can_go_on : (Filled t q l) × (t < 128) × (q < 4) × (1 ≤ length vs) × (length vs - 1 ≤ capacity l t q)
+              pub can_go_on : (Filled t q l) × (t < 128) × (q < 4) × (length (take (length vs - 1) (drop 1 vs)) ≤ capacity l t q)
               can_go_on =
                   let a = next.less in
                   let b = ap (λ (w : List ℕ). capacity w t q) left in
                   let c = room (unfold ends_away in both_off _ (ap not empty)) in
-                  (subst (Filled t q) (sym left) next.filled, ht, hq, many, omega (arith, a, b, c))
+                  let e = ap length (slice_rest vs 1) ∙ length-drop 1 vs in
+                  (subst (Filled t q) (sym left) next.filled, ht, hq, omega (arith, a, b, c, e))
 
-              pub gone_on : {r : List ℕ} → r ≡ pushed_words l t q (drop 1 vs) → outcome (Moved (get_or vs (n - 1) 0)) r ≡ pushed_run m t q vs
+              pub gone_on : {r : List ℕ} → r ≡ pushed_words l t q (take (length vs - 1) (drop 1 vs)) → outcome (Moved (get_or vs (n - 1) 0)) r ≡ pushed_run m t q vs
               gone_on {r} er =
                   let c = can_go_on in
-                  let e = length-drop 1 vs in
-                  let a = c.4 in
-                  let f = fits t q ht hq (drop 1 vs) m l (get_or vs 0 0) c.0 (omega (arith, a, e)) in
+                  let f = fits t q ht hq (drop 1 vs) m l (get_or vs 0 0) c.0 (rw slice_rest at c.3) in
                   sym (run_is
                   ∙ ap (pushed_all m m t q 0) parts
                   ∙ all_is
                   ∙ f.is
                   ∙ ap (λ (x : ℕ). outcome (Moved x) (pushed_words l t q (drop 1 vs)))
                   (ap (last_of 0) (sym parts) ∙ last_value vs many ∙ ap (λ (i : ℕ). get_or vs (i - 1) 0) (sym en))
-                  ∙ ap (outcome (Moved (get_or vs (n - 1) 0))) (sym er))
+                  ∙ ap (outcome (Moved (get_or vs (n - 1) 0))) (sym (er ∙ ap (pushed_words l t q) (slice_rest vs 1))))
                 where
                   parts : vs ≡ get_or vs 0 0 ∷ drop 1 vs
                   parts = drop-cons vs 0 0 many

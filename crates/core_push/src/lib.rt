@@ -1,5 +1,5 @@
 // push (task, queue, run of values)
-#![tactic(auto)]
+#![tactic(auto, unfolding(spec_words::specs::Words::both, spec_words::specs::Words::either, spec_words::specs::Words::pick, spec_outcomes::specs::Views::view_of, spec_outcomes::specs::Views::is_empty, spec_outcomes::specs::Push::pushed_apart, spec_outcomes::specs::Push::pushed_behind, spec_outcomes::specs::Push::pushed_run, spec_outcomes::specs::Push::push_tested, spec_outcomes::specs::Push::runs_out, spec_outcomes::specs::Push::link_frees))]
 
 mod room;
 
@@ -15,7 +15,9 @@ ghost use Rattle.law_push_runs.specs.Pushable.{Pushable};
 ghost use Rattle.law_push_runs.specs.Runs.{Filled, pushed_words};
 
 use layout::{NL, QUEUES, USER, WORDS};
+use refusals::Refusal;
 use spec_answers::Answer;
+use views::View;
 
 // The user view is empty: the new segment's head goes into the view at mark x. False where the paper leaves that reduction out.
 fn push_apart(m: &mut [u32], t: u32, q: u32, v: u32, x: u32) -> bool
@@ -24,14 +26,15 @@ fn push_apart(m: &mut [u32], t: u32, q: u32, v: u32, x: u32) -> bool
     ensures { outcome (pick result (Moved v) (Refused 2)) m.new ≡ pushed_apart m.old t q v x }
 {
     let s = segments::next_free(m, q);
+    let new = View { head: s, tail: NL };
     let y = walks::task_at(x);
     let k = walks::kind_at(x);
-    if !views::reducible(memory::head(m, k, y, q), memory::tail(m, k, y, q), s, NL) {
+    if !View::of(m, q, y, k).reducible(new) {
         return false;
     }
     segments::take(m, q, v);
-    views::join(m, q, y, k, s, NL);
-    views::set_view(m, q, t, USER, NL, s);
+    views::join(m, q, y, k, new);
+    views::set_view(m, q, t, USER, View { head: NL, tail: s });
     true
 }
 
@@ -64,14 +67,15 @@ fn push_part(m: &mut [u32], t: u32, q: u32, vs: &[u32]) -> usize
     segments::store_run(m, s, &vs[1..]) + 1
 }
 
-// All values from number i on, for which there is room.
-fn push_rest(m: &mut [u32], t: u32, q: u32, vs: &[u32], i: usize)
-    requires { (Filled t q m.old) × (t < 128) × (q < 4) × (i ≤ length vs.now) × (length vs.now - i ≤ capacity m.old t q) }
-    ensures { m.new ≡ pushed_words m.old t q (drop i vs.now) }
+// A run for which there is room.
+fn push_rest(m: &mut [u32], t: u32, q: u32, vs: &[u32])
+    requires { (Filled t q m.old) × (t < 128) × (q < 4) × (length vs.now ≤ capacity m.old t q) }
+    ensures { m.new ≡ pushed_words m.old t q vs.now }
 {
-    let mut i = i;
-    while i < vs.len() {
-        i += push_part(m, t, q, &vs[i..]);
+    let mut rest = vs;
+    while !rest.is_empty() {
+        let k = push_part(m, t, q, rest);
+        rest = &rest[k..];
     }
 }
 
@@ -85,25 +89,25 @@ fn push_run(m: &mut [u32], t: u32, q: u32, vs: &[u32]) -> Answer
         return Answer::Moved(0);
     }
     let last = vs[n - 1];
-    let e = memory::tail(m, USER, t, q);
-    if room::fits_tail(m, t, q, e, n) {
-        segments::store_run(m, e, vs);
+    let user = View::of(m, q, t, USER);
+    if room::fits_tail(m, t, q, user.tail, n) {
+        segments::store_run(m, user.tail, vs);
         return Answer::Moved(last);
     }
     if room::runs_out(m, t, q, n) {
-        return Answer::Refused(9);
+        return Refusal::NoSegment.into();
     }
-    if e < NL {
-        push_rest(m, t, q, vs, 0);
+    if user.tail < NL {
+        push_rest(m, t, q, vs);
         return Answer::Moved(last);
     }
-    if !views::is_empty(memory::head(m, USER, t, q), e) {
-        return Answer::Refused(2);
+    if !user.is_empty() {
+        return Refusal::RulesFail.into();
     }
     if !push_apart(m, t, q, vs[0], walks::just_before(m, q, t)) {
-        return Answer::Refused(2);
+        return Refusal::RulesFail.into();
     }
-    push_rest(m, t, q, vs, 1);
+    push_rest(m, t, q, &vs[1..]);
     Answer::Moved(last)
 }
 
@@ -113,13 +117,13 @@ pub fn push(m: &mut [u32], t: u32, q: u32, vs: &[u32]) -> Answer
     ensures { outcome result m.new ≡ push_tested m.old t q vs.now }
 {
     if !walks::unfinished(m, t) {
-        return Answer::Refused(4);
+        return Refusal::NoSuchTask.into();
     }
     if q >= QUEUES {
-        return Answer::Refused(5);
+        return Refusal::NoSuchQueue.into();
     }
     if !rights::pushes(memory::rights(m, t), q) {
-        return Answer::Refused(6);
+        return Refusal::NoRight.into();
     }
     if walks::blocked(m, t) {
         return Answer::Waits;

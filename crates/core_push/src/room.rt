@@ -7,6 +7,7 @@ ghost use Rattle.spec_outcomes.specs.Push.{link_frees, runs_out};
 ghost use Rattle.law_push_runs.specs.Pushable.{Pushable};
 
 use layout::{NL, USER};
+use views::View;
 
 // The link that the first value makes frees the segment that it links.
 fn link_frees(m: &[u32], t: u32, q: u32) -> bool
@@ -14,15 +15,11 @@ fn link_frees(m: &[u32], t: u32, q: u32) -> bool
     ensures { result ≡ link_frees m.now t q }
 {
     let x = walks::just_before(m, q, t);
-    let y = walks::task_at(x);
-    let k = walks::kind_at(x);
-    views::frees(
-        m,
-        memory::head(m, k, y, q),
-        memory::tail(m, k, y, q),
-        segments::next_free(m, q),
-        NL,
-    )
+    let new = View {
+        head: segments::next_free(m, q),
+        tail: NL,
+    };
+    View::of(m, q, walks::task_at(x), walks::kind_at(x)).frees(m, new)
 }
 
 // A run of n values, at least one, runs out of segments where the user view is empty. The view just before is only looked for
@@ -41,10 +38,7 @@ fn empty_runs_out(m: &[u32], t: u32, q: u32, n: usize) -> bool
         return false;
     }
     let longest = most + l;
-    if longest < n {
-        return true;
-    }
-    !link_frees(m, t, q)
+    longest < n || !link_frees(m, t, q)
 }
 
 // The user view's tail e is a segment with room for n values.
@@ -64,10 +58,11 @@ pub(crate) fn runs_out(m: &[u32], t: u32, q: u32, n: usize) -> bool
     requires { (Pushable m.now t q) × (q < 4) × (0 < n) }
     ensures { result ≡ runs_out m.now t q n }
 {
-    let e = memory::tail(m, USER, t, q);
-    if views::is_empty(memory::head(m, USER, t, q), e) {
+    let user = View::of(m, q, t, USER);
+    if user.is_empty() {
         return empty_runs_out(m, t, q, n);
     }
+    let e = user.tail;
     if NL <= e {
         return false;
     }

@@ -1,6 +1,6 @@
--- What a task returns of a queue, its views and its queue view: one law for each way through the code.
+-- The views that a task returns of a queue: none of them, or those at the mark that is sought before a word changes.
 use mathlib.Core.Path.{◌≡◌, refl, ap, sym, ◌∙◌}
-use mathlib.Core.Bool.{Bool, true, false}
+use mathlib.Core.Bool.{true}
 use mathlib.Core.List.{List}
 use Prim.Native.Nat.{ℕ}
 use native.Mathlib.Omega.{arith}
@@ -9,11 +9,10 @@ use lib.ListN.{set}
 use lib.Seq.{set-get_or}
 use borrow.Author.Tests.{eq-eqb, ne_eqb, eqb-true}
 use Rattle.spec_words.specs.Words.{load, store, pick, pass, halt, both_true}
-use Rattle.spec_layout.specs.Layout.{Field, NONE, NL, CHILDREN, USER, RIGHT, head, tail, queue_head, address, read, write}
+use Rattle.spec_layout.specs.Layout.{Field, NONE, NL, CHILDREN, USER, RIGHT, head, tail, address, read, write}
 use Rattle.spec_rules.specs.Views.{View, view}
 use Rattle.spec_outcomes.specs.Views.{view_of, is_empty, head_of, set_view, joined, merged, task_at, kind_at, returned_to}
-use Rattle.spec_outcomes.specs.Finish.{views_returned, queue_returned, heir, finished_queue}
-use Rattle.views.proofs.Memory.{view_is}
+use Rattle.spec_outcomes.specs.Finish.{views_returned}
 use Rattle.core_return.specs.Returning.{no_views, view_returned}
 
 -- a word that is stored where it stands already
@@ -32,36 +31,16 @@ merge_nothing : (m : List ℕ) (q t k j : ℕ) → is_empty (view_of m q t j) �
 unfolding merged joined
 merge_nothing m q t k j e = ap (λ (x : List ℕ). set_view x q t j (view NONE NONE)) (halt _ _ e) ∙ empty_again m q t j e
 
-pub nothing_returned : (m : List ℕ) (t q : ℕ) {b : Bool} → b ≡ no_views m t q → b ≡ true → m ≡ views_returned m t q
+pub nothing_returned : (m : List ℕ) (t q : ℕ) → no_views m t q ≡ true → views_returned m t q ≡ m
 unfolding no_views views_returned
-nothing_returned m t q {b} eb f =
-    let w = both_true _ _ (sym eb ∙ f) in
+nothing_returned m t q f =
+    let w = both_true _ _ f in
     let z = both_true _ _ w.1 in
     let m1 = merged m q t CHILDREN t USER in
     let m2 = merged m1 q t CHILDREN t RIGHT in
     let e1 : m1 ≡ m = merge_nothing m q t CHILDREN USER w.0 in
     let e2 : m2 ≡ m = ap (λ (x : List ℕ). merged x q t CHILDREN t RIGHT) e1 ∙ merge_nothing m q t CHILDREN RIGHT z.1 in
-    sym (halt _ _ (ap (λ (x : List ℕ). is_empty (view_of x q t CHILDREN)) e2 ∙ z.0) ∙ e2)
-
-module _ (m : List ℕ) (t q nonlocal local : ℕ) {h e : ℕ} {b : Bool} (eh : h ≡ read m (head CHILDREN t q)) (ee : e ≡ read m (tail CHILDREN t q))
-    (eb : b ≡ is_empty (view h e)) where
-  same : b ≡ is_empty (view_of m q t CHILDREN)
-  same = eb ∙ ap is_empty (view_is m q t CHILDREN h e eh ee)
-
-  pub empty_stays : b ≡ true → m ≡ view_returned m t q nonlocal local
-  unfolding view_returned
-  empty_stays f = sym (halt _ _ (sym same ∙ f))
-
-  pub view_goes : (m1 : List ℕ) (x k s : ℕ) → b ≡ false → x ≡ pick (eqb h NL) nonlocal local → k ≡ kind_at x → s ≡ task_at x → m1 ≡ merged m q s k t CHILDREN
-      → m1 ≡ view_returned m t q nonlocal local
-  unfolding view_returned
-  view_goes m1 x k s f ex ek es e1 = e1 ∙ rw (ek, es, ex, eh) there ∙ sym (pass _ (sym same ∙ f) refl)
-    where
-      there : merged m q (task_at (pick (eqb (read m (head CHILDREN t q)) NL) nonlocal local))
-          (kind_at (pick (eqb (read m (head CHILDREN t q)) NL) nonlocal local)) t CHILDREN
-          ≡ merged m q (task_at (pick (eqb (head_of (view_of m q t CHILDREN)) NL) nonlocal local))
-          (kind_at (pick (eqb (head_of (view_of m q t CHILDREN)) NL) nonlocal local)) t CHILDREN
-      there = unfold view_of head_of in refl
+    halt _ _ (ap (λ (x : List ℕ). is_empty (view_of x q t CHILDREN)) e2 ∙ z.0) ∙ e2
 
 -- of the two marks, v goes to the one of its head
 either_mark : (m : List ℕ) (q t : ℕ) (v : View) → pick (eqb (head_of v) NL) (returned_to m q t (view NL NONE)) (returned_to m q t (view NONE NONE)) ≡ returned_to
@@ -82,17 +61,3 @@ views_go m m1 m2 m3 t q nonlocal local ef en e1 e2 e3 =
   where
     gone : List ℕ → ℕ → List ℕ
     gone n x = pick (is_empty (view_of n q t CHILDREN)) n (merged n q (task_at x) (kind_at x) t CHILDREN)
-
-module _ (m : List ℕ) (t q : ℕ) {h : ℕ} (eh : h ≡ read m (queue_head t q)) where
-  pub no_queue : h ≡ NONE → m ≡ queue_returned m t q
-  unfolding queue_returned
-  no_queue f = sym (halt _ _ (eq-eqb _ _ (sym eh ∙ f)))
-
-  pub queue_goes : (m1 m2 : List ℕ) (c : ℕ) → (h ≡ NONE → ⊥) → c ≡ heir m t q → m1 ≡ write m (queue_head t q) NONE → m2 ≡ write m1 (queue_head c q) h
-      → m2 ≡ queue_returned m t q
-  unfolding queue_returned
-  queue_goes m1 m2 c f ec e1 e2 = rw (e2, e1, ec, eh) refl ∙ sym (pass _ (ne_eqb _ _ (λ z. f (eh ∙ z))) refl)
-
-pub queue_done : (m m1 m2 : List ℕ) (t q : ℕ) → m1 ≡ views_returned m t q → m2 ≡ queue_returned m1 t q → m2 ≡ finished_queue m t q
-unfolding finished_queue
-queue_done m m1 m2 t q e1 e2 = e2 ∙ ap (λ (x : List ℕ). queue_returned x t q) e1

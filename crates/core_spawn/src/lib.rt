@@ -1,31 +1,29 @@
 // spawn (task, rights)
-#![tactic(auto)]
+#![tactic(auto, unfolding(spec_words::specs::Words::pick, spec_outcomes::specs::Spawn::passed_user, spec_outcomes::specs::Spawn::kept_user, spec_outcomes::specs::Spawn::for_queues, spec_outcomes::specs::Spawn::child_made, spec_outcomes::specs::Spawn::spawned, spec_outcomes::specs::Spawn::spawn_tested))]
 
 ghost use Rattle.std.specs.Prelude.{◌≡◌, ◌+◌, ◌<◌, ◌≤◌};
-ghost use Rattle.spec_words.specs.Words.{pick};
 ghost use Rattle.spec_words.specs.Blocks.{store_all};
 ghost use Rattle.spec_layout.specs.Layout.{task, address, read};
 ghost use Rattle.spec_outcomes.specs.Spawn.{for_queues, passed_user, kept_user, no_words, child_views, passed_on, child_made, spawn_tested};
 ghost use Rattle.spec_answers.specs.Answers.Outcome.{outcome};
 
 use layout::{
-    CHILDREN_HEADS, CHILDREN_TAILS, NONE, QUEUE_HEADS, RIGHT_HEADS, RIGHT_TAILS, UNFINISHED,
-    USER_HEADS, USER_TAILS,
+    CHILDREN_HEADS, CHILDREN_TAILS, NONE, QUEUE_HEADS, RIGHT_HEADS, RIGHT_TAILS, STATUS,
+    UNFINISHED, USER_HEADS, USER_TAILS,
 };
+use refusals::Refusal;
 use spec_answers::Answer;
-
-fn choose(b: bool, v: u32, w: u32) -> u32
-    ensures { result ≡ pick b v w }
-{
-    if b { v } else { w }
-}
 
 // What the child gets of word k + q of the record of t: the word where a has a right to q.
 fn passed(m: &[u32], t: u32, a: u32, k: u32, q: u32) -> u32
     requires { (q < 4) × (k ≤ 40) }
     ensures { result ≡ passed_user a (read m.now (task t (k + q))) q }
 {
-    choose(rights::uses(a, q), memory::task(m, t, k + q), NONE)
+    if rights::uses(a, q) {
+        memory::task(m, t, k + q)
+    } else {
+        NONE
+    }
 }
 
 // What t keeps of it.
@@ -33,7 +31,11 @@ fn kept(m: &[u32], t: u32, a: u32, k: u32, q: u32) -> u32
     requires { (q < 4) × (k ≤ 40) }
     ensures { result ≡ kept_user a (read m.now (task t (k + q))) q }
 {
-    choose(rights::uses(a, q), NONE, memory::task(m, t, k + q))
+    if rights::uses(a, q) {
+        NONE
+    } else {
+        memory::task(m, t, k + q)
+    }
 }
 
 // The four words from word k on of the record of child c of t.
@@ -42,28 +44,32 @@ fn pass(m: &mut [u32], c: u32, t: u32, a: u32, k: u32)
     ensures { m.new ≡ store_all m.old (address (task c k))
         (for_queues (λ q. passed_user a (read m.old (task t (k + q))) q)) }
 {
-    let w0 = passed(m, t, a, k, 0);
-    let w1 = passed(m, t, a, k, 1);
-    let w2 = passed(m, t, a, k, 2);
-    let w3 = passed(m, t, a, k, 3);
-    memory::set_four(m, c, k, w0, w1, w2, w3);
+    let words = [
+        passed(m, t, a, k, 0),
+        passed(m, t, a, k, 1),
+        passed(m, t, a, k, 2),
+        passed(m, t, a, k, 3),
+    ];
+    memory::set_words(m, c, k, &words);
 }
 
 fn keep(m: &mut [u32], t: u32, a: u32, k: u32)
     requires { k ≤ 40 }
     ensures { m.new ≡ store_all m.old (address (task t k)) (for_queues (λ q. kept_user a (read m.old (task t (k + q))) q)) }
 {
-    let w0 = kept(m, t, a, k, 0);
-    let w1 = kept(m, t, a, k, 1);
-    let w2 = kept(m, t, a, k, 2);
-    let w3 = kept(m, t, a, k, 3);
-    memory::set_four(m, t, k, w0, w1, w2, w3);
+    let words = [
+        kept(m, t, a, k, 0),
+        kept(m, t, a, k, 1),
+        kept(m, t, a, k, 2),
+        kept(m, t, a, k, 3),
+    ];
+    memory::set_words(m, t, k, &words);
 }
 
 fn set_none(m: &mut [u32], c: u32, k: u32)
     ensures { m.new ≡ store_all m.old (address (task c k)) no_words }
 {
-    memory::set_four(m, c, k, NONE, NONE, NONE, NONE);
+    memory::set_words(m, c, k, &[NONE; 4]);
 }
 
 // The views of child c of task t. The queue views go by the pop rights alone.
@@ -93,14 +99,13 @@ fn make_child(m: &mut [u32], t: u32, r: u32, c: u32)
     ensures { m.new ≡ child_made m.old t r c }
 {
     let o = memory::youngest(m, t);
-    memory::set_links(m, c, UNFINISHED, r, t, o, NONE, NONE);
+    memory::set_words(m, c, STATUS, &[UNFINISHED, r, t, o, NONE, NONE]);
     child_views(m, c, t, r);
     pass_on(m, t, r);
     memory::set_youngest(m, t, c);
-    if o == NONE {
-        return;
+    if o != NONE {
+        memory::set_younger(m, o, c);
     }
-    memory::set_younger(m, o, c);
 }
 
 // On any words; what the rules promise is tested by the calls before.
@@ -108,17 +113,17 @@ pub fn spawn(m: &mut [u32], t: u32, r: u32) -> Answer
     ensures { outcome result m.new ≡ spawn_tested m.old t r }
 {
     if !walks::unfinished(m, t) {
-        return Answer::Refused(4);
+        return Refusal::NoSuchTask.into();
     }
     if !rights::subset(r, memory::rights(m, t)) {
-        return Answer::Refused(6);
+        return Refusal::NoRight.into();
     }
     if walks::blocked(m, t) {
         return Answer::Waits;
     }
     let h = memory::free_tasks(m);
     if h == 0 {
-        return Answer::Refused(8);
+        return Refusal::NoRecord.into();
     }
     let c = memory::free_task(m, h - 1);
     memory::set_free_tasks(m, h - 1);

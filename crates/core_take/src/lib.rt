@@ -1,13 +1,13 @@
 // take (task, queue, keep): what it finds, and the value taken
-#![tactic(auto)]
+#![tactic(auto, unfolding(spec_words::specs::Words::both, spec_words::specs::Words::either, spec_words::specs::Words::pick, spec_outcomes::specs::Take::has_value, spec_outcomes::specs::Take::finding, spec_outcomes::specs::Take::popped, spec_outcomes::specs::Take::take_gives, spec_outcomes::specs::Take::pop_allowed, spec_outcomes::specs::Take::take_tested))]
 
 ghost use Rattle.std.specs.Prelude.{◌≡◌, ◌<◌};
 ghost use Rattle.spec_layout.specs.Layout.{count, queue_head, read};
 ghost use Rattle.spec_answers.specs.Answers.Outcome.{outcome};
-ghost use Rattle.core_take.specs.Nothing.{nothing, pop_refusal};
 ghost use Rattle.spec_outcomes.specs.Take.{has_value, finding, popped, take_tested};
 
 use layout::{NL, NONE, QUEUES};
+use refusals::Refusal;
 use spec_answers::{Answer, Finding};
 
 // The chain from the queue head of task t holds a value.
@@ -16,10 +16,7 @@ fn has_value(m: &[u32], t: u32, q: u32) -> bool
     ensures { result ≡ has_value m.now t q }
 {
     let s = memory::queue_head(m, t, q);
-    if s >= NL {
-        return false;
-    }
-    memory::count(m, s) != 0
+    s < NL && memory::count(m, s) != 0
 }
 
 // What a take by task t finds in queue q.
@@ -27,10 +24,7 @@ pub fn find(m: &[u32], t: u32, q: u32) -> Finding
     requires { q < 4 }
     ensures { result ≡ finding m.now t q }
 {
-    if walks::blocked(m, t) {
-        return Finding::Waits;
-    }
-    if walks::child_pops(m, t, q) {
+    if walks::blocked(m, t) || walks::child_pops(m, t, q) {
         return Finding::Waits;
     }
     if has_value(m, t, q) {
@@ -50,58 +44,33 @@ fn take_first(m: &mut [u32], t: u32, q: u32)
     let s = memory::queue_head(m, t, q);
     let n = memory::next(m, s);
     segments::drop_one(m, s);
-    if n == NONE {
-        return;
+    if n != NONE && memory::count(m, s) == 0 {
+        memory::set_queue_head(m, t, q, n);
+        segments::release(m, q, s);
     }
-    if memory::count(m, s) != 0 {
-        return;
-    }
-    memory::set_queue_head(m, t, q, n);
-    segments::release(m, q, s);
-}
-
-// Where no value is found.
-fn nothing(f: Finding) -> Answer
-    ensures { result ≡ nothing f }
-{
-    match f {
-        Finding::Value(_) => Answer::Waits,
-        Finding::Empty => Answer::Empty,
-        Finding::Waits => Answer::Waits,
-    }
-}
-
-// Why task t may not pop from queue q: 4, 5 or 6; 0 where it may.
-fn refusal(m: &[u32], t: u32, q: u32) -> u32
-    ensures { result ≡ pop_refusal m.now t q }
-{
-    if !walks::unfinished(m, t) {
-        return 4;
-    }
-    if q >= QUEUES {
-        return 5;
-    }
-    if !rights::pops(memory::rights(m, t), q) {
-        return 6;
-    }
-    0
 }
 
 // A take on memory that passes the rules; with `keep` the value stays queued.
 pub fn take(m: &mut [u32], t: u32, q: u32, keep: bool) -> Answer
     ensures { outcome result m.new ≡ take_tested m.old t q keep }
 {
-    let k = refusal(m, t, q);
-    if k != 0 {
-        return Answer::Refused(k);
+    if !walks::unfinished(m, t) {
+        return Refusal::NoSuchTask.into();
     }
-    let f = find(m, t, q);
-    let Finding::Value(v) = f else {
-        return nothing(f);
-    };
-    if keep {
-        return Answer::Moved(v);
+    if q >= QUEUES {
+        return Refusal::NoSuchQueue.into();
     }
-    take_first(m, t, q);
-    Answer::Moved(v)
+    if !rights::pops(memory::rights(m, t), q) {
+        return Refusal::NoRight.into();
+    }
+    match find(m, t, q) {
+        Finding::Value(v) => {
+            if !keep {
+                take_first(m, t, q);
+            }
+            Answer::Moved(v)
+        }
+        Finding::Empty => Answer::Empty,
+        Finding::Waits => Answer::Waits,
+    }
 }

@@ -1,10 +1,11 @@
 -- The view just before a user view, where no walk is needed to find it.
 use mathlib.Core.Path.{◌≡◌, refl, ap, sym, ◌∙◌, subst}
-use mathlib.Core.Bool.{Bool, true, false, not}
+use mathlib.Core.Bool.{true, false, not}
 use mathlib.Core.List.{List}
+use Rattle.std.specs.Prelude.{Option, Some, None, IfSome}
 use Prim.Native.Nat.{ℕ, ◌+◌, ◌-◌, ◌<◌, ◌≤◌}
 use native.Mathlib.Omega.{arith}
-use borrow.Author.Tests.{lt-ltb, le-ltb, ne_eqb, not-false}
+use borrow.Author.Tests.{lt-ltb, le-ltb, ne_eqb}
 use Rattle.spec_words.specs.Words.{pass, halt, neither, true_both, true_left, both_right_off}
 use Rattle.spec_layout.specs.Layout.{CHILDREN, OLDER, YOUNGEST, task, rights_of, read, record_of}
 use Rattle.spec_tree.specs.Rights.{uses}
@@ -13,10 +14,15 @@ use Rattle.spec_outcomes.specs.Views.{view_of, is_empty, task_at, has_part, stan
 use Rattle.walks.specs.Steps.{seek_here, seek_on}
 use Rattle.walks.proofs.Tour.{after_entered, after_exited}
 
-pub used : {w : ℕ} {b : Bool} (m : List ℕ) (q c : ℕ) → w ≡ rights_of m c → b ≡ uses w q → not b ≡ false → uses (rights_of m c) q ≡ true
-used m q c ew eb f = ap (λ (w : ℕ). uses w q) (sym ew) ∙ sym eb ∙ not-false _ f
-
 module _ (m : List ℕ) (q t : ℕ) where
+  -- what a task at hand promises: it is c, and has a right
+  abbrev pub Here : ℕ → Option ℕ → Type 0
+  Here c o = IfSome o (λ x. (x ≡ c) × (x < 128) × (uses (rights_of m c) q ≡ true))
+
+  some_is : (o : Option ℕ) {c : ℕ} → (c < 128 → uses (rights_of m c) q ≡ true → c ≡ just_before m q t) → Here c o → IfSome o (λ x. x ≡ just_before m q t)
+  some_is None f h = h
+  some_is (Some x) {c} f h = h.0 ∙ f (subst (λ (x : ℕ). x < 128) h.0 h.1) h.2
+
   -- the right view of a task with a right stands where it is entered
   stands : (c : ℕ) → c < 128 → uses (rights_of m c) q ≡ true → stands_at m q c ≡ true
   unfolding stands_at has_part task_at
@@ -27,11 +33,14 @@ module _ (m : List ℕ) (q t : ℕ) where
   enters p c l = sym (halt _ _ (lt-ltb c 128 l))
 
   module _ (lt : t < 128) {c : ℕ} (ec : c ≡ read m (task t YOUNGEST)) where
-    pub child_before : (x : ℕ) → c < 128 → (x < 128 → (x ≡ c) × (uses (rights_of m c) q ≡ true)) → x < 128 → x ≡ just_before m q t
+    pub child_before : (o : Option ℕ) → c < 128 → Here c o → IfSome o (λ x. x ≡ just_before m q t)
     unfolding just_before
-    child_before x l f h =
-        (f h).0 ∙ seek_here (stands_at m q) (record_of m) 256 c (omega arith) (omega (arith, l)) (stands c l (f h).1)
-        ∙ ap (seek 256 (stands_at m q) (record_of m)) (after_entered m t lt ec (enters t c l))
+    child_before o l = some_is o reached
+      where
+        reached : c < 128 → uses (rights_of m c) q ≡ true → c ≡ just_before m q t
+        reached _ u =
+            seek_here (stands_at m q) (record_of m) 256 c (omega arith) (omega (arith, l)) (stands c l u)
+            ∙ ap (seek 256 (stands_at m q) (record_of m)) (after_entered m t lt ec (enters t c l))
 
     leaves : 128 ≤ c → 128 + t ≡ entering t c
     unfolding entering exiting
@@ -47,13 +56,14 @@ module _ (m : List ℕ) (q t : ℕ) where
         both_right_off _ (neither (le-ltb (128 + t) 128 (omega arith))
         (neither (ne_eqb (128 + t - 128) 0 (λ z. n (omega (arith, z)))) (ap (λ (s : ℕ). not (is_empty (view_of m q s CHILDREN))) back ∙ ap not e)))
 
-    pub sibling_before : {o : ℕ} (x : ℕ) → 128 ≤ c → (t ≡ 0 → ⊥) → is_empty (view_of m q t CHILDREN) ≡ true → o ≡ read m (task t OLDER)
-        → (x < 128 → (x ≡ o) × (uses (rights_of m o) q ≡ true)) → x < 128 → x ≡ just_before m q t
+    pub sibling_before : {s : ℕ} (o : Option ℕ) → 128 ≤ c → (t ≡ 0 → ⊥) → is_empty (view_of m q t CHILDREN) ≡ true → s ≡ read m (task t OLDER)
+        → Here s o → IfSome o (λ x. x ≡ just_before m q t)
     unfolding just_before
-    sibling_before {o} x l n e eo f h =
-        let small = subst (λ (x : ℕ). x < 128) (f h).0 h in
-        (f h).0
-        ∙ seek_here (stands_at m q) (record_of m) 255 o (omega arith) (omega (arith, small)) (stands o small (f h).1)
-        ∙ seek_on (stands_at m q) (record_of m) 256 (128 + t) o (omega arith) (omega (arith, lt)) (skipped n e)
-        (after_exited m (128 + t) (omega arith) refl (eo ∙ ap (λ (s : ℕ). read m (task s OLDER)) (sym back)) (enters _ o small))
-        ∙ ap (seek 256 (stands_at m q) (record_of m)) (after_entered m t lt ec (leaves l))
+    sibling_before {s} o l n e es = some_is o reached
+      where
+        reached : s < 128 → uses (rights_of m s) q ≡ true → s ≡ just_before m q t
+        reached small u =
+            seek_here (stands_at m q) (record_of m) 255 s (omega arith) (omega (arith, small)) (stands s small u)
+            ∙ seek_on (stands_at m q) (record_of m) 256 (128 + t) s (omega arith) (omega (arith, lt)) (skipped n e)
+            (after_exited m (128 + t) (omega arith) refl (es ∙ ap (λ (r : ℕ). read m (task r OLDER)) (sym back)) (enters _ s small))
+            ∙ ap (seek 256 (stands_at m q) (record_of m)) (after_entered m t lt ec (leaves l))

@@ -1,68 +1,60 @@
 // Whether a call of the core would move, asked of an unfinished task that no older sibling blocks. Nothing is written.
-#![tactic(auto)]
+#![tactic(auto, unfolding(spec_words::specs::Words::both, spec_words::specs::Words::either, spec_words::specs::Words::pick, spec_outcomes::specs::Segments::has_none_free, spec_outcomes::specs::Views::tail_of, spec_outcomes::specs::Views::view_of, spec_runner::specs::Moves::fits_apart, spec_runner::specs::Moves::has_room, spec_runner::specs::Moves::value_fits, spec_runner::specs::Moves::push_moves, spec_runner::specs::Moves::spawn_moves, spec_runner::specs::Moves::decided, spec_runner::specs::Moves::take_moves, spec_runner::specs::Moves::sync_moves, spec_runner::specs::Moves::finish_moves))]
 
-ghost use Rattle.std.specs.Prelude.{◌≡◌, true, ◌<◌, length};
+ghost use Rattle.std.specs.Prelude.{◌≡◌, true, ◌<◌, length, IfSome};
 ghost use Rattle.spec_layout.specs.Layout.{free_height, rights_of};
 ghost use Rattle.spec_tree.specs.Rights.{uses, each_queue};
 ghost use Rattle.spec_outcomes.specs.Views.{just_before};
 ghost use Rattle.spec_outcomes.specs.Finish.{finishes};
-ghost use Rattle.spec_runner.specs.Moves.{fits_apart, has_room, value_fits, push_moves, spawn_moves, decided, take_moves, sync_moves, finish_moves};
+ghost use Rattle.spec_runner.specs.Moves.{fits_apart, has_room, value_fits, push_moves, spawn_moves, take_moves, sync_moves, finish_moves};
 
-use layout::{CHILDREN, NL, NONE, QUEUES, RIGHT, TASKS, USER};
+use layout::{CHILDREN, NL, QUEUES, RIGHT, TASKS, USER};
 use spec_answers::Finding;
+use views::View;
 
 // A new segment's head can be reduced into the view at mark x.
 fn fits_apart(m: &[u32], q: u32, x: u32) -> bool
     requires { 0 < free_height m.now q }
     ensures { result ≡ fits_apart m.now q x }
 {
-    let y = walks::task_at(x);
-    let k = walks::kind_at(x);
-    let h = memory::head(m, k, y, q);
-    let e = memory::tail(m, k, y, q);
-    views::reducible(h, e, segments::next_free(m, q), NL)
+    let new = View {
+        head: segments::next_free(m, q),
+        tail: NL,
+    };
+    View::of(m, q, walks::task_at(x), walks::kind_at(x)).reducible(new)
 }
 
 // The tail segment e has room, or a segment is free.
 fn has_room(m: &[u32], q: u32, e: u32) -> bool
     ensures { result ≡ has_room m.now q e }
 {
-    if memory::count(m, e) < memory::length_of(m, e) {
-        return true;
-    }
-    !segments::none_free(m, q)
+    memory::count(m, e) < memory::length_of(m, e) || !segments::none_free(m, q)
 }
 
-// Task c where it is one with a right to q, so that its right view stands where it is entered; else none.
-fn entered(m: &[u32], q: u32, c: u32) -> u32
+// Task c where it is one with a right to q, so that its right view stands where it is entered.
+fn entered(m: &[u32], q: u32, c: u32) -> Option<u32>
     requires { q < 4 }
-    ensures { result < 128 → (result ≡ c) × (uses (rights_of m.now c) q ≡ true) }
+    ensures { IfSome result (λ x. (x ≡ c) × (x < 128) × (uses (rights_of m.now c) q ≡ true)) }
 {
-    if TASKS <= c {
-        return NONE;
+    if c < TASKS && rights::uses(memory::rights(m, c), q) {
+        Some(c)
+    } else {
+        None
     }
-    if !rights::uses(memory::rights(m, c), q) {
-        return NONE;
-    }
-    c
 }
 
 // The mark just before the user view of task t where it is at hand: where the youngest child is entered, or the older sibling if t has
-// no child and its children view is empty. Else none.
-fn at_hand(m: &[u32], q: u32, t: u32) -> u32
+// no child and its children view is empty.
+fn at_hand(m: &[u32], q: u32, t: u32) -> Option<u32>
     requires { (q < 4) × (t < 128) }
-    ensures { result < 128 → result ≡ just_before m.now q t }
+    ensures { IfSome result (λ x. x ≡ just_before m.now q t) }
 {
     let c = memory::youngest(m, t);
     if c < TASKS {
         return entered(m, q, c);
     }
-    if t == 0 {
-        return NONE;
-    }
-    let h = memory::head(m, CHILDREN, t, q);
-    if !views::is_empty(h, memory::tail(m, CHILDREN, t, q)) {
-        return NONE;
+    if t == 0 || !View::of(m, q, t, CHILDREN).is_empty() {
+        return None;
     }
     entered(m, q, memory::older(m, t))
 }
@@ -72,11 +64,10 @@ fn just_before(m: &[u32], q: u32, t: u32) -> u32
     requires { (q < 4) × (t < 128) }
     ensures { result ≡ just_before m.now q t }
 {
-    let x = at_hand(m, q, t);
-    if x < TASKS {
-        return x;
+    match at_hand(m, q, t) {
+        Some(x) => x,
+        None => walks::just_before(m, q, t),
     }
-    walks::just_before(m, q, t)
 }
 
 // A value can be pushed to the user view of task t.
@@ -84,87 +75,52 @@ fn value_fits(m: &[u32], t: u32, q: u32) -> bool
     requires { (q < 4) × (t < 128) }
     ensures { result ≡ value_fits m.now t q }
 {
-    let e = memory::tail(m, USER, t, q);
-    if views::is_empty(memory::head(m, USER, t, q), e) {
-        if segments::none_free(m, q) {
-            return false;
-        }
-        return fits_apart(m, q, just_before(m, q, t));
+    let user = View::of(m, q, t, USER);
+    if user.is_empty() {
+        return !segments::none_free(m, q) && fits_apart(m, q, just_before(m, q, t));
     }
-    if NL <= e {
-        return false;
-    }
-    has_room(m, q, e)
+    user.tail < NL && has_room(m, q, user.tail)
 }
 
 pub fn push_moves(m: &[u32], t: u32, q: u32) -> bool
     requires { t < 128 }
     ensures { result ≡ push_moves m.now t q }
 {
-    if QUEUES <= q {
-        return false;
-    }
-    if !rights::pushes(memory::rights(m, t), q) {
-        return false;
-    }
-    value_fits(m, t, q)
+    q < QUEUES && rights::pushes(memory::rights(m, t), q) && value_fits(m, t, q)
 }
 
 // A spawn of a child with rights a.
 pub fn spawn_moves(m: &[u32], t: u32, a: u32) -> bool
     ensures { result ≡ spawn_moves m.now t a }
 {
-    if !rights::subset(a, memory::rights(m, t)) {
-        return false;
-    }
-    memory::free_tasks(m) != 0
-}
-
-fn decided(f: Finding) -> bool
-    ensures { result ≡ decided f }
-{
-    match f {
-        Finding::Value(_) => true,
-        Finding::Empty => true,
-        Finding::Waits => false,
-    }
+    rights::subset(a, memory::rights(m, t)) && memory::free_tasks(m) != 0
 }
 
 // A take, whether the value stays or not.
 pub fn take_moves(m: &[u32], t: u32, q: u32) -> bool
     ensures { result ≡ take_moves m.now t q }
 {
-    if QUEUES <= q {
-        return false;
-    }
-    if !rights::pops(memory::rights(m, t), q) {
-        return false;
-    }
-    decided(core_take::find(m, t, q))
+    q < QUEUES
+        && rights::pops(memory::rights(m, t), q)
+        && !matches!(core_take::find(m, t, q), Finding::Waits)
 }
 
 pub fn sync_moves(m: &[u32], t: u32) -> bool
     ensures { result ≡ sync_moves m.now t }
 {
-    if walks::has_child(m, t) {
-        return false;
-    }
-    core_finish::each_syncs(m, t)
+    !walks::has_child(m, t) && core_finish::each_syncs(m, t)
 }
 
 // Task t holds nothing in any view, so that it has nothing to return.
+#[tactic(auto, using(crate::proofs::Moves::blanks_finish))]
 fn no_views(m: &[u32], t: u32) -> bool
     requires { (length m.now ≡ 16384) × (t < 128) }
     ensures { result ≡ true → true ≡ each_queue (finishes m.now t) }
 {
     let i = t as usize;
-    if !view_test::empty(m, i, CHILDREN as usize) {
-        return false;
-    }
-    if !view_test::empty(m, i, USER as usize) {
-        return false;
-    }
-    view_test::empty(m, i, RIGHT as usize)
+    view_test::empty(m, i, CHILDREN as usize)
+        && view_test::empty(m, i, USER as usize)
+        && view_test::empty(m, i, RIGHT as usize)
 }
 
 // Most tasks that are about to finish have no views, so that is asked first.
@@ -178,8 +134,5 @@ pub fn finish_moves(m: &[u32], t: u32) -> bool
     if t == 0 {
         return core_finish::each_syncs(m, t);
     }
-    if no_views(m, t) {
-        return true;
-    }
-    core_finish::each_finishes(m, t)
+    no_views(m, t) || core_finish::each_finishes(m, t)
 }

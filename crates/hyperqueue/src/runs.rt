@@ -11,11 +11,10 @@ use spec_runner::StepAnswer;
 pub extern "C" fn hq_job_open(job: &[u8], words: &mut [u32], runner: &mut [u32]) -> u64
     ensures { StepHanded result words.new runner.new (open_outcome job.now words.old runner.old) }
 {
-    let k = runner_open::open(job, words, runner);
-    if k != 0 {
-        return packing::pack_step(StepAnswer::Refused(k));
-    }
-    packing::pack_step(StepAnswer::Moved)
+    packing::pack_step(match runner_open::open(job, words, runner) {
+        Ok(()) => StepAnswer::Moved,
+        Err(e) => StepAnswer::Refused(e.number()),
+    })
 }
 
 #[unsafe(no_mangle)]

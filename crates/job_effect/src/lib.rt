@@ -1,16 +1,17 @@
 // What an operation does to its task: the answer, the register and the next instruction. Both runners go by it, so that an
 // operation is coded once.
-#![tactic(auto)]
+#![tactic(auto, unfolding(crate::specs::Made::found_of, crate::specs::Made::coded, spec_job::specs::Effects::effect, spec_job::specs::Effects::sum, spec_job::specs::Numbers::number_of, spec_words::specs::Words::pick))]
 
 ghost use Rattle.std.specs.Prelude.{◌≡◌, ◌^◌, ◌<◌, ◌==◌};
 ghost use Rattle.std.specs.Option.{option_map_or};
 ghost use Rattle.spec_words.specs.Words.{pick};
-ghost use Rattle.spec_job.specs.Operations.{operation_at};
 ghost use Rattle.spec_job.specs.Effects.{effect};
 ghost use Rattle.spec_job.specs.Numbers.{EMPTY, NOT_EMPTY, TOOK, MOVED};
+ghost use Rattle.operations.specs.Named.{named};
 ghost use Rattle.job_effect.specs.Made.{gives, found_of, coded};
 
 use answer_numbers::{EMPTY, FINISHED, MOVED, NOT_EMPTY, PUSHED, SPAWNED, TOOK};
+use operations::Operation;
 
 // What a step gives: its answer as a number, the value, 0 where there is none, the register and the next instruction after it.
 #[derive(Clone, Copy)]
@@ -63,24 +64,24 @@ fn zero_effect(x: u32, r: u32, next: u32) -> Made
     }
 }
 
-// Operation k with operand x, by a task at instruction i with register r. `found` is the front of its queue.
-pub fn effect(k: u32, x: u32, i: u32, r: u32, found: Option<u32>) -> Made
+// An operation with operand x, by a task at instruction i with register r. `found` is the front of its queue.
+pub fn effect(operation: Operation, x: u32, i: u32, r: u32, found: Option<u32>) -> Made
     requires { i < 2 ^ 31 }
-    ensures { result ≡ coded (effect (operation_at k) i r x (found_of found)) }
+    ensures { result ≡ coded (effect (named operation) i r x (found_of found)) }
 {
-    let sum = std::num::wrapping_add_u32(r, x);
+    let sum = r.wrapping_add(x);
     let next = i + 1;
-    match k {
-        1 => gives(PUSHED, x, r, next),
-        2 => gives(PUSHED, sum, r, next),
-        3 => take_effect(next, r, next, found),
-        4 => test_effect(x, r, next, found),
-        5 => gives(MOVED, 0, r, x),
-        6 => zero_effect(x, r, next),
-        7 => gives(MOVED, 0, sum, next),
-        8 => gives(SPAWNED, 0, r, next),
-        9 => gives(MOVED, 0, r, next),
-        10 => take_effect(x, r, next, found),
-        _ => gives(FINISHED, 0, r, i),
+    match operation {
+        Operation::Return => gives(FINISHED, 0, r, i),
+        Operation::Push => gives(PUSHED, x, r, next),
+        Operation::PushSum => gives(PUSHED, sum, r, next),
+        Operation::Pop => take_effect(next, r, next, found),
+        Operation::GoIfEmpty => test_effect(x, r, next, found),
+        Operation::Go => gives(MOVED, 0, r, x),
+        Operation::GoIfZero => zero_effect(x, r, next),
+        Operation::Add => gives(MOVED, 0, sum, next),
+        Operation::Spawn => gives(SPAWNED, 0, r, next),
+        Operation::Sync => gives(MOVED, 0, r, next),
+        Operation::TakeOrGo => take_effect(x, r, next, found),
     }
 }

@@ -1,8 +1,8 @@
 // Reading the fields of a job. A byte past the end is read as 0, so a function asks nothing of the job, except where its
 // name or its comment says that what it reads lies inside the job: it does not test for the end.
-#![tactic(auto)]
+#![tactic(auto, unfolding(spec_words::specs::Words::load, spec_job::specs::Fields::bytes2, spec_job::specs::Fields::bytes4, spec_job::specs::Fields::procedures, spec_job::specs::Fields::segment_length, spec_job::specs::Fields::offset, spec_job::specs::Fields::count, spec_job::specs::Fields::rights, spec_job::specs::Fields::reserved, spec_job::specs::Fields::instruction_from, spec_job::specs::Fields::instruction_at))]
 
-ghost use Rattle.std.specs.Prelude.{◌≡◌, ◌+◌, ◌^◌, ◌<◌, ◌≤◌, length};
+ghost use Rattle.std.specs.Prelude.{◌≡◌, true, ◌+◌, ◌^◌, ◌<◌, ◌≤◌, length};
 ghost use Rattle.spec_words.specs.Words.{load};
 ghost use Rattle.spec_job.specs.Fields.{bytes2, bytes4, procedures, segment_length, entry_at, offset, count, rights, reserved, instruction_from, instruction_at};
 
@@ -15,86 +15,66 @@ pub const ENTRY: usize = 6;
 
 pub const INSTRUCTION: usize = 6;
 
-fn byte(job: &[u8], a: usize) -> u8
+// The byte at address a. Where INSIDE is true, the caller knows that it lies inside the job, and there is no test for the end.
+fn byte<const INSIDE: bool>(job: &[u8], a: usize) -> u8
+    requires { INSIDE ≡ true → a < length job.now }
     ensures { result ≡ load job.now a }
 {
-    if a < job.len() { job[a] } else { 0 }
+    if INSIDE || a < job.len() { job[a] } else { 0 }
 }
 
 // The number in 2 bytes from address a on.
-fn bytes2(job: &[u8], a: usize) -> u16
-    requires { a < 2 ^ 40 }
+fn bytes2<const INSIDE: bool>(job: &[u8], a: usize) -> u16
+    requires low { a < 2 ^ 63 }
+    requires inside { INSIDE ≡ true → a + 2 ≤ length job.now }
     ensures { result ≡ bytes2 job.now a }
 {
-    byte(job, a) as u16 + byte(job, a + 1) as u16 * 256
-}
-
-// The number in 4 bytes from address a on.
-fn bytes4(job: &[u8], a: usize) -> u32
-    requires { a < 2 ^ 39 }
-    ensures { result ≡ bytes4 job.now a }
-{
-    bytes2(job, a) as u32 + bytes2(job, a + 2) as u32 * 65536
+    u16::from_le_bytes([byte::<INSIDE>(job, a), byte::<INSIDE>(job, a + 1)])
 }
 
 // The number of procedures.
 pub fn procedures(job: &[u8]) -> u32
     ensures { result ≡ procedures job.now }
 {
-    bytes2(job, 0) as u32
+    u32::from(bytes2::<false>(job, 0))
 }
 
 // L, the number of values that a segment holds.
 pub fn segment_length(job: &[u8]) -> u32
     ensures { result ≡ segment_length job.now }
 {
-    bytes2(job, 2) as u32
+    u32::from(bytes2::<false>(job, 2))
 }
 
 // Where the body of procedure p begins.
 fn offset(job: &[u8], p: u32) -> u32
     ensures { result ≡ offset job.now p }
 {
-    bytes2(job, HEAD + p as usize * ENTRY) as u32
+    u32::from(bytes2::<false>(job, HEAD + p as usize * ENTRY))
 }
 
 pub fn rights(job: &[u8], p: u32) -> u32
     ensures { result ≡ rights job.now p }
 {
-    byte(job, HEAD + p as usize * ENTRY + 4) as u32
+    u32::from(byte::<false>(job, HEAD + p as usize * ENTRY + 4))
 }
 
 // The instruction that begins at address a.
-fn instruction_from(job: &[u8], a: usize) -> Instruction
-    requires { a < 2 ^ 36 }
+fn instruction<const INSIDE: bool>(job: &[u8], a: usize) -> Instruction
+    requires low { a < 2 ^ 63 }
+    requires inside { INSIDE ≡ true → a + 6 ≤ length job.now }
     ensures { result ≡ instruction_from job.now a }
 {
     Instruction {
-        operation: byte(job, a) as u32,
-        which: byte(job, a + 1) as u32,
-        operand: bytes4(job, a + 2),
+        operation: u32::from(byte::<INSIDE>(job, a)),
+        which: u32::from(byte::<INSIDE>(job, a + 1)),
+        operand: u32::from_le_bytes([
+            byte::<INSIDE>(job, a + 2),
+            byte::<INSIDE>(job, a + 3),
+            byte::<INSIDE>(job, a + 4),
+            byte::<INSIDE>(job, a + 5),
+        ]),
     }
-}
-
-fn byte_inside(job: &[u8], a: usize) -> u8
-    requires { a < length job.now }
-    ensures { result ≡ load job.now a }
-{
-    job[a]
-}
-
-fn bytes2_inside(job: &[u8], a: usize) -> u16
-    requires { a + 2 ≤ length job.now }
-    ensures { result ≡ bytes2 job.now a }
-{
-    byte_inside(job, a) as u16 + byte_inside(job, a + 1) as u16 * 256
-}
-
-fn bytes4_inside(job: &[u8], a: usize) -> u32
-    requires { a + 4 ≤ length job.now }
-    ensures { result ≡ bytes4 job.now a }
-{
-    bytes2_inside(job, a) as u32 + bytes2_inside(job, a + 2) as u32 * 65536
 }
 
 // The entry of a procedure: where its body begins, the number of instructions, the rights, and the last byte.
@@ -114,10 +94,10 @@ pub fn procedure_at(job: &[u8], p: u32) -> Procedure
 {
     let a = HEAD + p as usize * ENTRY;
     Procedure {
-        offset: bytes2_inside(job, a) as u32,
-        count: bytes2_inside(job, a + 2) as u32,
-        rights: byte_inside(job, a + 4) as u32,
-        reserved: byte_inside(job, a + 5) as u32,
+        offset: u32::from(bytes2::<true>(job, a)),
+        count: u32::from(bytes2::<true>(job, a + 2)),
+        rights: u32::from(byte::<true>(job, a + 4)),
+        reserved: u32::from(byte::<true>(job, a + 5)),
     }
 }
 
@@ -126,11 +106,7 @@ pub fn instruction_inside(job: &[u8], a: usize) -> Instruction
     requires { a + 6 ≤ length job.now }
     ensures { result ≡ instruction_from job.now a }
 {
-    Instruction {
-        operation: byte_inside(job, a) as u32,
-        which: byte_inside(job, a + 1) as u32,
-        operand: bytes4_inside(job, a + 2),
-    }
+    instruction::<true>(job, a)
 }
 
 // Instruction i of procedure p. One test tells whether it lies inside the job.
@@ -139,7 +115,8 @@ pub fn instruction_at(job: &[u8], p: u32, i: u32) -> Instruction
 {
     let a = offset(job, p) as usize + i as usize * INSTRUCTION;
     if a + INSTRUCTION <= job.len() {
-        return instruction_inside(job, a);
+        instruction::<true>(job, a)
+    } else {
+        instruction::<false>(job, a)
     }
-    instruction_from(job, a)
 }

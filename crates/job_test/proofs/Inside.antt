@@ -1,5 +1,5 @@
 -- What is read lies inside the job, so no read has to test for its end.
-use mathlib.Core.Path.{◌≡◌}
+use mathlib.Core.Path.{◌≡◌, refl}
 use mathlib.Core.Bool.{true}
 use mathlib.Core.List.{List}
 use Prim.Native.Nat.{ℕ, ◌+◌, ◌-◌, ◌*◌, ◌<◌, ◌≤◌}
@@ -22,8 +22,8 @@ module _ (j : List ℕ) where
   unfolding head_holds size
   contents_inside h e = let w = leb-true (entry_at (procedures j)) (length j) (both_true _ _ (both_true _ _ (both_true _ _ h).1).1).1 in omega (arith, w, e)
 
-  pub entry_inside : (p : ℕ) {n : ℕ} → head_holds j ≡ true → n ≡ procedures j → p < n → entry_at (p + 1) ≤ length j
-  entry_inside p h e l = let w = contents_inside h e in omega (arith, w)
+  pub entry_inside : (p : ℕ) → head_holds j ≡ true → p < procedures j → entry_at (p + 1) ≤ length j
+  entry_inside p h l = let w = contents_inside h refl in omega (arith, w)
 
   -- instruction i of procedure p, by what was read of its entry
   module _ (p : ℕ) (h : contents_hold j ≡ true) (l : p < procedures j) {o n : ℕ} (eo : o ≡ offset j p) (en : n ≡ count j p) where

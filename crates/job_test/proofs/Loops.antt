@@ -1,29 +1,15 @@
--- A loop that leaves at the first number of which a test fails: what is left to test says the same as the whole.
+-- The loop over the entries leaves at the first that fails; each says where the next body begins, and what is left to test says the same as the whole.
 use mathlib.Core.Path.{◌≡◌, ap, sym, ◌∙◌}
-use mathlib.Core.Bool.{Bool, true, false}
+use mathlib.Core.Bool.{true, false}
 use mathlib.Core.List.{List}
 use Prim.Native.Nat.{ℕ, ◌+◌, ◌-◌, ◌*◌, ◌<◌, ◌≤◌}
 use native.Mathlib.Omega.{arith}
 use lib.Dec.{eqb}
 use Rattle.spec_words.specs.Words.{size, both_on, both_off}
-use Rattle.spec_lists.specs.Tests.{upto, turn_left, turns_over}
+use Rattle.spec_lists.specs.Tests.{turn_left, turns_over}
 use Rattle.spec_job.specs.Fields.{count}
 use Rattle.spec_job.specs.Test.{entry_holds, entries_hold}
 
-module _ (f : ℕ → Bool) (n i : ℕ) where
-  pub upto_next : i < n → f i ≡ true → upto f (n - (i + 1)) (i + 1) ≡ upto f (n - i) i
-  unfolding upto
-  upto_next h e = sym (ap (λ (k : ℕ). upto f k i) (turn_left n i h) ∙ both_on e)
-
-  pub upto_stop : i < n → f i ≡ false → false ≡ upto f (n - i) i
-  unfolding upto
-  upto_stop h e = sym (ap (λ (k : ℕ). upto f k i) (turn_left n i h) ∙ both_off _ e)
-
-  pub upto_end : n ≤ i → true ≡ upto f (n - i) i
-  unfolding upto
-  upto_end h = sym (ap (λ (k : ℕ). upto f k i) (turns_over n i h))
-
--- the same for entries, each of which says where the next body begins
 module _ (j : List ℕ) (n p a : ℕ) where
   pub entries_next : p < n → entry_holds j p a ≡ true → entries_hold j (n - (p + 1)) (p + 1) (a + count j p * 6) ≡ entries_hold j (n - p) p a
   unfolding entries_hold
@@ -39,9 +25,6 @@ module _ (j : List ℕ) (n p a : ℕ) where
 
 whole : (n : ℕ) → n - 0 ≡ n
 whole n = omega arith
-
-pub upto_start : (f : ℕ → Bool) (n : ℕ) → upto f (n - 0) 0 ≡ upto f n 0
-upto_start f n = ap (λ (k : ℕ). upto f k 0) (whole n)
 
 pub entries_start : (j : List ℕ) (n a : ℕ) → entries_hold j (n - 0) 0 a ≡ entries_hold j n 0 a
 entries_start j n a = ap (λ (k : ℕ). entries_hold j k 0 a) (whole n)

@@ -1,16 +1,14 @@
 // The ticks of an operation, by a table with a number for each.
-#![tactic(auto)]
+#![tactic(auto, unfolding(spec_simulate::specs::Ticks::ticks_for, spec_simulate::specs::Ticks::number))]
 
 ghost use Rattle.std.specs.Prelude.{◌≡◌};
-ghost use Rattle.spec_job.specs.Operations.{operation_at};
 ghost use Rattle.spec_simulate.specs.Ticks.{ticks_for};
+ghost use Rattle.operations.specs.Named.{named};
 
-// The ticks of operation k. A number that is none is taken for a return.
-pub fn ticks_for(ticks: &[u32], k: u32) -> u32
-    ensures { result ≡ ticks_for ticks.now (operation_at k) }
+use operations::Operation;
+
+pub fn ticks_for(ticks: &[u32], operation: Operation) -> u32
+    ensures { result ≡ ticks_for ticks.now (named operation) }
 {
-    if k <= 10 {
-        return memory::get(ticks, k as usize);
-    }
-    memory::get(ticks, 0)
+    memory::get(ticks, operation as usize)
 }

@@ -1,8 +1,9 @@
 // Reading and writing the fields of the layout. Every function is total: past the end a read gives 0 and a write
-// does nothing.
-#![tactic(auto)]
+// does nothing. A function named after a word is one call of `header`, `segment` or `task`, so that a caller names words and
+// not their numbers.
+#![tactic(auto, unfolding(spec_words::specs::Words::load, spec_words::specs::Words::store, spec_layout::specs::Layout::address, spec_layout::specs::Layout::read, spec_layout::specs::Layout::write))]
 
-ghost use Rattle.std.specs.Prelude.{◌≡◌, [], ◌∷◌, length, replicate, ◌<◌, ◌^◌};
+ghost use Rattle.std.specs.Prelude.{◌≡◌, [], ◌∷◌, length, replicate, ◌<◌, ◌^◌, ◌+◌, ◌*◌};
 ghost use Rattle.spec_words.specs.Words.{load, store};
 ghost use Rattle.spec_words.specs.Blocks.{store_all};
 ghost use Rattle.spec_layout.specs.Layout.{address, read, write, header, free_segment, free_task, segment, task};
@@ -28,34 +29,27 @@ pub fn put(m: &mut [u32], a: usize, v: u32)
     }
 }
 
-// The words w0 to w3 from address a on.
-fn put_four(m: &mut [u32], a: usize, w0: u32, w1: u32, w2: u32, w3: u32)
+// The words ws from address a on.
+pub fn put_all(m: &mut [u32], a: usize, ws: &[u32])
     requires { a < 2 ^ 48 }
-    ensures { m.new ≡ store_all m.old a (w0 ∷ w1 ∷ w2 ∷ w3 ∷ []) }
+    ensures { m.new ≡ store_all m.old a ws.now }
 {
-    put(m, a, w0);
-    put(m, a + 1, w1);
-    put(m, a + 2, w2);
-    put(m, a + 3, w3);
+    for (i, &w) in ws.iter().enumerate() {
+        put(m, a + i, w);
+    }
 }
 
-// The same for every address that a word can hold.
 pub fn put4(m: &mut [u32], a: u32, w0: u32, w1: u32, w2: u32, w3: u32)
     ensures { m.new ≡ store_all m.old a (w0 ∷ w1 ∷ w2 ∷ w3 ∷ []) }
 {
-    put_four(m, a as usize, w0, w1, w2, w3);
+    put_all(m, a as usize, &[w0, w1, w2, w3]);
 }
 
 // Every word 0.
 pub fn clear(m: &mut [u32])
     ensures { m.new ≡ replicate (length m.old) 0 }
 {
-    let n = m.len();
-    let mut i: usize = 0;
-    while i < n {
-        m[i] = 0;
-        i += 1;
-    }
+    m.fill(0);
 }
 
 fn header(m: &[u32], k: u32) -> u32
@@ -96,34 +90,45 @@ pub fn set_free_task(m: &mut [u32], i: u32, v: u32)
     put(m, TASK_STACK + i as usize, v);
 }
 
+// The address of word k of the record of segment s.
+fn segment_word(s: u32, k: u32) -> usize
+    ensures { result ≡ address (segment s k) }
+{
+    SEGMENT_RECORDS + s as usize * SEGMENT_WORDS + k as usize
+}
+
 // Word k of the record of segment s.
 fn segment(m: &[u32], s: u32, k: u32) -> u32
     ensures { result ≡ read m.now (segment s k) }
 {
-    get(m, SEGMENT_RECORDS + s as usize * SEGMENT_WORDS + k as usize)
+    get(m, segment_word(s, k))
 }
 
 fn set_segment(m: &mut [u32], s: u32, k: u32, v: u32)
     ensures { m.new ≡ write m.old (segment s k) v }
 {
-    put(
-        m,
-        SEGMENT_RECORDS + s as usize * SEGMENT_WORDS + k as usize,
-        v,
-    );
+    put(m, segment_word(s, k), v);
+}
+
+// The address of word k of the record of task t. k is a usize: where a caller asks for a queue or a kind that there is none of, it is past a u32.
+fn task_word(t: u32, k: usize) -> usize
+    requires { k < 2 ^ 48 }
+    ensures { result ≡ address (task t k) }
+{
+    TASK_RECORDS + t as usize * TASK_WORDS + k
 }
 
 // Word k of the record of task t.
 pub fn task(m: &[u32], t: u32, k: u32) -> u32
     ensures { result ≡ read m.now (task t k) }
 {
-    get(m, TASK_RECORDS + t as usize * TASK_WORDS + k as usize)
+    get(m, task_word(t, k as usize))
 }
 
 pub fn set_task(m: &mut [u32], t: u32, k: u32, v: u32)
     ensures { m.new ≡ write m.old (task t k) v }
 {
-    put(m, TASK_RECORDS + t as usize * TASK_WORDS + k as usize, v);
+    put(m, task_word(t, k as usize), v);
 }
 
 // THE HEADER. The length of segment s: all segments have one length.
@@ -164,13 +169,6 @@ pub fn set_free_tasks(m: &mut [u32], v: u32)
     ensures { m.new ≡ write m.old free_tasks v }
 {
     set_header(m, layout::FREE_TASKS, v);
-}
-
-// The header of a new core, with the heights of the two stacks.
-pub fn write_header(m: &mut [u32], length: u32, number: u32, segments: u32, tasks: u32)
-    ensures { m.new ≡ store_all m.old 0 (length ∷ number ∷ segments ∷ tasks ∷ []) }
-{
-    put_four(m, layout::HEADER, length, number, segments, tasks);
 }
 
 // A SEGMENT. Its first place, its count and its next.
@@ -271,92 +269,55 @@ pub fn set_youngest(m: &mut [u32], t: u32, v: u32)
     set_task(m, t, layout::YOUNGEST, v);
 }
 
-// The words w0 to w3 from word k of the record of task t on.
-pub fn set_four(m: &mut [u32], t: u32, k: u32, w0: u32, w1: u32, w2: u32, w3: u32)
-    ensures { m.new ≡ store_all m.old (address (task t k)) (w0 ∷ w1 ∷ w2 ∷ w3 ∷ []) }
+// The words ws from word k of the record of task t on.
+pub fn set_words(m: &mut [u32], t: u32, k: u32, ws: &[u32])
+    ensures { m.new ≡ store_all m.old (address (task t k)) ws.now }
 {
-    put_four(
-        m,
-        TASK_RECORDS + t as usize * TASK_WORDS + k as usize,
-        w0,
-        w1,
-        w2,
-        w3,
-    );
-}
-
-// The first six words of the record of task t.
-pub fn set_links(
-    m: &mut [u32],
-    t: u32,
-    status: u32,
-    rights: u32,
-    parent: u32,
-    older: u32,
-    younger: u32,
-    youngest: u32,
-)
-    ensures { m.new ≡ store_all m.old (address (task t 0)) (status ∷ rights ∷ parent ∷ older ∷ younger ∷ youngest ∷ []) }
-{
-    set_four(m, t, layout::STATUS, status, rights, parent, older);
-    set_younger(m, t, younger);
-    set_youngest(m, t, youngest);
+    put_all(m, task_word(t, k as usize), ws);
 }
 
 // THE VIEWS OF A TASK. The head of its queue view of queue q.
 pub fn queue_head(m: &[u32], t: u32, q: u32) -> u32
     ensures { result ≡ read m.now (queue_head t q) }
 {
-    get(
-        m,
-        TASK_RECORDS + t as usize * TASK_WORDS + (QUEUE_HEADS as usize + q as usize),
-    )
+    get(m, task_word(t, QUEUE_HEADS as usize + q as usize))
 }
 
 pub fn set_queue_head(m: &mut [u32], t: u32, q: u32, v: u32)
     ensures { m.new ≡ write m.old (queue_head t q) v }
 {
-    put(
-        m,
-        TASK_RECORDS + t as usize * TASK_WORDS + (QUEUE_HEADS as usize + q as usize),
-        v,
-    );
+    put(m, task_word(t, QUEUE_HEADS as usize + q as usize), v);
 }
 
-fn head_at(k: u32, t: u32, q: u32) -> usize
-    ensures { result ≡ address (head k t q) }
+// The address of the word of queue q among those of the views of kind k: base is where the heads stand in a record, or the tails.
+fn view_word(base: u32, k: u32, t: u32, q: u32) -> usize
+    ensures { result ≡ address (task t (base + k * 4 + q)) }
 {
-    TASK_RECORDS + t as usize * TASK_WORDS + (CHILDREN_HEADS as usize + k as usize * 4 + q as usize)
+    task_word(t, base as usize + k as usize * 4 + q as usize)
 }
 
 // The head of view k of task t of queue q.
 pub fn head(m: &[u32], k: u32, t: u32, q: u32) -> u32
     ensures { result ≡ read m.now (head k t q) }
 {
-    get(m, head_at(k, t, q))
+    get(m, view_word(CHILDREN_HEADS, k, t, q))
 }
 
 pub fn set_head(m: &mut [u32], k: u32, t: u32, q: u32, v: u32)
     ensures { m.new ≡ write m.old (head k t q) v }
 {
-    put(m, head_at(k, t, q), v);
-}
-
-fn tail_at(k: u32, t: u32, q: u32) -> usize
-    ensures { result ≡ address (tail k t q) }
-{
-    TASK_RECORDS + t as usize * TASK_WORDS + (CHILDREN_TAILS as usize + k as usize * 4 + q as usize)
+    put(m, view_word(CHILDREN_HEADS, k, t, q), v);
 }
 
 // The tail of view k of task t of queue q.
 pub fn tail(m: &[u32], k: u32, t: u32, q: u32) -> u32
     ensures { result ≡ read m.now (tail k t q) }
 {
-    get(m, tail_at(k, t, q))
+    get(m, view_word(CHILDREN_TAILS, k, t, q))
 }
 
 pub fn set_tail(m: &mut [u32], k: u32, t: u32, q: u32, v: u32)
     ensures { m.new ≡ write m.old (tail k t q) v }
 {
-    put(m, tail_at(k, t, q), v);
+    put(m, view_word(CHILDREN_TAILS, k, t, q), v);
 }

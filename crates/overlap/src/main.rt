@@ -142,11 +142,10 @@ fn run_open<I: Read, O: Write>(
 fn run<I: Read, O: Write>(input: &mut I, to: &mut O, job: &[u8]) -> Result<(), Failure> {
     let mut m = [0u32; WORDS];
     let mut r = [0u32; RUNNER_WORDS];
-    let k = runner_open::open(job, &mut m, &mut r);
-    if k == 0 {
-        return run_open(input, to, job, &mut m, &mut r);
+    match runner_open::open(job, &mut m, &mut r) {
+        Ok(()) => run_open(input, to, job, &mut m, &mut r),
+        Err(refusal) => print_refused(to, refusal.number()).map_err(Failure::Output),
     }
-    print_refused(to, k).map_err(Failure::Output)
 }
 
 // Says on standard error what stopped a run.

@@ -229,9 +229,8 @@ fn compare(job: &[u8], trace: &[u8], m: &mut [u32], r: &mut [u32]) -> Result<(),
 pub fn replay(job: &[u8], trace: &[u8], m: &mut [u32], r: &mut [u32]) -> Replayed
     ensures { Replays job.now trace.now m.old r.old result m.new r.new }
 {
-    let k = runner_words::refusal(job, m, r);
-    if k != 0 {
-        return Replayed::Refused(k);
+    if let Err(e) = runner_words::check_job(job, m, r) {
+        return Replayed::Refused(e.number());
     }
     if !trace_form::has_form(trace) {
         return Replayed::Refused(TRACE_FORM);

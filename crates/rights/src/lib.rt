@@ -1,5 +1,5 @@
 // Tests of a rights word.
-#![tactic(auto)]
+#![tactic(auto, using(crate::specs::Masks::shift, crate::specs::Masks::shares_one, crate::specs::Masks::pops_mask, crate::specs::Masks::shares_mask, crate::specs::Masks::subset_mask, crate::specs::Masks::subset_wide), unfolding(spec_tree::specs::Rights::pushes, spec_tree::specs::Rights::pops, spec_tree::specs::Rights::uses))]
 
 ghost use Rattle.std.specs.Prelude.{◌≡◌, ℕ, ◌<◌};
 ghost use Rattle.spec_tree.specs.Rights.{pushes, pops, uses, shares_pop, subset};
@@ -26,7 +26,7 @@ pub fn uses(r: u32, q: u32) -> bool
 }
 
 // The pop bits of the four queues.
-const POPS: u32 = 170;
+const POPS: u32 = 0b1010_1010;
 
 pub fn shares_pop(a: u32, b: u32) -> bool
     ensures { result ≡ shares_pop a b }
@@ -37,7 +37,7 @@ pub fn shares_pop(a: u32, b: u32) -> bool
 pub fn subset(a: u32, b: u32) -> bool
     ensures { result ≡ subset a b }
 {
-    if a < 256 { a & b == a } else { false }
+    a < 256 && a & b == a
 }
 
 // The pop rights of r, as rights to the queues that r may pop and to no other.

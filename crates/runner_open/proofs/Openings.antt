@@ -16,6 +16,9 @@ use Rattle.spec_runner.specs.Answers.{outcome}
 use Rattle.spec_runner.specs.Rules.{refused}
 use Rattle.spec_runner.specs.Open.{segments_for, job_opened, open_outcome}
 use Rattle.spec_runner.proofs.Opens.{in_range_lem}
+use Rattle.refusals.specs.declared.Refusal.{Refusal}
+use Rattle.refusals.specs.Numbers.{number_of}
+use Rattle.runner_words.proofs.Numbers.{number_some}
 use Rattle.runner_words.specs.Refusals.{job_refusal, turned_down, goes_on, fits}
 use Rattle.runner_open.specs.Opens.{Opens}
 
@@ -23,6 +26,10 @@ module _ (j m r : List ℕ) {k : ℕ} (e : k ≡ job_refusal j m r) where
   pub stays_shut : (k ≡ 0 → ⊥) → Opens j m r k m r
   unfolding open_outcome refused
   stays_shut n = record { number = e; moved = λ z. absurd (n z); refused = turned_down j m r e (job_opened j) }
+
+  -- the same of a refusal
+  pub refused_shut : (f : Refusal) → k ≡ number_of f → Opens j m r (number_of f) m r
+  refused_shut f h = rw (← h) (stays_shut (λ z. number_some f (sym h ∙ z)))
 
   module _ (z : k ≡ 0) {l n : ℕ} (el : l ≡ segment_length j) (en : n ≡ segments_for l) {a : Answer} (m' : List ℕ) (o : core_outcome a m' ≡ coreOpens m l n) where
     -- the core is not refused with 1 or 3

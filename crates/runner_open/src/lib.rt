@@ -1,12 +1,14 @@
 // Opening a job: the core for its segment length, and the top at its first instruction.
-#![tactic(auto)]
+#![tactic(auto, unfolding(spec_runner::specs::Open::segments_for, spec_words::specs::Words::pick, runner_words::specs::Numbers::refusal_number))]
 
 ghost use Rattle.std.specs.Prelude.{◌≡◌};
 ghost use Rattle.spec_runner.specs.Open.{segments_for};
+ghost use Rattle.runner_words.specs.Numbers.{refusal_number};
 ghost use Rattle.runner_words.specs.Refusals.{job_refusal};
 ghost use Rattle.runner_open.specs.Opens.{Opens};
 
 use layout::{SEGMENTS, VALUE_WORDS};
+use refusals::Refusal;
 
 // "The runner opens with segments the smaller of 256 and 8,192 divided by L, rounded down."
 fn segments_for(l: u32) -> u32
@@ -25,14 +27,11 @@ pub fn open_tested(job: &[u8], m: &mut [u32], r: &mut [u32])
     memory::clear(r);
 }
 
-// Opens a job, on any words. 0, or the number of the refusal.
-pub fn open(job: &[u8], m: &mut [u32], r: &mut [u32]) -> u32
-    ensures { Opens job.now m.old r.old result m.new r.new }
+// Opens a job, on any words.
+pub fn open(job: &[u8], m: &mut [u32], r: &mut [u32]) -> Result<(), Refusal>
+    ensures { Opens job.now m.old r.old (refusal_number result) m.new r.new }
 {
-    let k = runner_words::refusal(job, m, r);
-    if k != 0 {
-        return k;
-    }
+    runner_words::check_job(job, m, r)?;
     open_tested(job, m, r);
-    0
+    Ok(())
 }

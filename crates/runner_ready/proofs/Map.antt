@@ -1,4 +1,4 @@
--- The six words, the tests, and the answer.
+-- The six words, and the answer.
 use mathlib.Core.Path.{◌≡◌, refl, ap, sym, ◌∙◌, fun_ext}
 use mathlib.Core.Bool.{Bool, true, false, not}
 use mathlib.Core.List.{List, [], ◌∷◌}
@@ -6,22 +6,19 @@ use Prim.Native.Nat.{ℕ, ◌<◌}
 use native.Mathlib.Omega.{arith}
 use lib.Count.{ones}
 use lib.ListN.{length}
-use borrow.Author.Tests.{eq-eqb, ne_eqb, not-true, not-false}
-use Rattle.spec_words.specs.Words.{store, size, pick, both_on, both_off, pass, halt}
+use borrow.Author.Tests.{eq-eqb, ne_eqb}
+use Rattle.spec_words.specs.Words.{store, size, pick, pass, halt}
 use Rattle.spec_words.specs.Blocks.{store_all}
 use Rattle.spec_lists.specs.Counting.{over}
 use Rattle.spec_layout.specs.Layout.{length_of}
-use Rattle.spec_rules.specs.Test.{rules_hold}
 use Rattle.law_in_range.specs.Sound.{rules_sound}
 use Rattle.spec_runner.specs.declared.StepAnswer.{StepAnswer}
 use Rattle.spec_runner.specs.declared.StepAnswer.TheVariants.{Moved, Refused}
 use Rattle.spec_runner.specs.Answers.{has_moved, answer_of}
-use Rattle.spec_runner.specs.Rules.{runner_holds}
 use Rattle.spec_runner.specs.Ready.{bits_from, words_for, lowest_from, map_of, ready_map, no_map, test_answer, mapped, ready_outcome}
 use Rattle.spec_runner.specs.Moves.{step_moves}
 use Rattle.spec_runner.proofs.MovesLaws.{ready_moves}
-use Rattle.runner_words.specs.Refusals.{job_refusal}
-use Rattle.runner_ready.specs.Refusals.{map_refusal, refused_with, tests_pass, rules_held, held_size}
+use Rattle.runner_words.specs.Tested.{map_refusal, refused_with, tests_pass, rules_held, held_size}
 
 -- six words, all written
 written : (o : List ℕ) (w0 w1 w2 w3 n t : ℕ) → length o ≡ 6 → store (store (store_all o 0 (w0 ∷ w1 ∷ w2 ∷ w3 ∷ [])) 4 n) 5 t ≡ w0 ∷ w1 ∷ w2 ∷ w3 ∷ n ∷ t ∷ []
@@ -44,28 +41,6 @@ pub map_written : (f : ℕ → Bool) (o : List ℕ) (w0 w1 w2 w3 n t : ℕ) → 
     → o ≡ w0 ∷ w1 ∷ w2 ∷ w3 ∷ n ∷ t ∷ [] → o ≡ map_of (words_for f)
 unfolding map_of words_for
 map_written f o w0 w1 w2 w3 n t e0 e1 e2 e3 en et eo = eo ∙ rw (en, et, e0, e1, e2, e3) refl
-
--- THE TESTS
-module _ (j m r : List ℕ) {k : ℕ} (e : k ≡ job_refusal j m r) where
-  pub job_refuses : (k ≡ 0 → ⊥) → k ≡ map_refusal j m r
-  unfolding map_refusal
-  job_refuses n = e ∙ sym (halt _ _ (ap not (ne_eqb _ _ (λ q. n (e ∙ q)))))
-
-  module _ {b : Bool} (z : k ≡ 0) (eb : b ≡ rules_hold m) where
-    pub rules_refuse : not b ≡ true → 2 ≡ map_refusal j m r
-    unfolding map_refusal
-    rules_refuse f = sym (pass _ (ap not (eq-eqb _ _ (sym e ∙ z))) (halt _ _ (ap not (both_off _ (sym eb ∙ not-true _ f)))))
-
-    module _ {b2 : Bool} (f : not b ≡ false) (e2 : b2 ≡ runner_holds j m r) where
-      pub runner_refuses : not b2 ≡ true → 2 ≡ map_refusal j m r
-      unfolding map_refusal
-      runner_refuses g =
-          sym (pass _ (ap not (eq-eqb _ _ (sym e ∙ z))) (halt _ _ (ap not (both_on (sym eb ∙ not-false _ f) ∙ sym e2) ∙ g)))
-
-      pub none_refuses : not b2 ≡ false → 0 ≡ map_refusal j m r
-      unfolding map_refusal
-      none_refuses g =
-          sym (pass _ (ap not (eq-eqb _ _ (sym e ∙ z))) (pass _ (ap not (both_on (sym eb ∙ not-false _ f) ∙ sym e2) ∙ g) refl))
 
 -- THE ANSWER
 module _ (j m r o : List ℕ) where

@@ -1,6 +1,6 @@
 // THE READY MAP: which tasks' next steps would move, how many, and the lowest of them. One job test, one test of the
 // memory's rules and one walk along all siblings; no memory is copied, and none but the map is written.
-#![tactic(auto)]
+#![tactic(auto, unfolding(spec_words::specs::Words::both, spec_words::specs::Words::pick, spec_words::specs::Words::size, spec_words::specs::Words::load, spec_words::specs::Words::store, spec_lists::specs::Counting::one, spec_lists::specs::Counting::over, spec_job::specs::Operations::operation_at, spec_job::specs::Operations::operation_of, spec_job::specs::Operations::row_of, spec_runner::specs::Ready::lowest_from, spec_runner::specs::Moves::instruction_moves, spec_runner::specs::Moves::step_moves, spec_outcomes::specs::Waits::unfinished))]
 
 ghost use Rattle.std.specs.Prelude.{◌≡◌, [], ◌∷◌, ◌+◌, ◌*◌, ◌^◌, ◌<◌, ◌≤◌, length};
 ghost use Rattle.std.specs.Int.Count.{ones};
@@ -11,9 +11,9 @@ ghost use Rattle.spec_runner.specs.Ready.{bits_from, words_for, lowest_from, map
 ghost use Rattle.spec_runner.specs.Ready.Mapped.{mapped};
 ghost use Rattle.spec_runner.specs.Moves.{instruction_moves, step_moves};
 ghost use Rattle.core_blocked.specs.Told.{Tell};
-ghost use Rattle.runner_ready.specs.Refusals.{map_refusal};
 
 use layout::{NONE, WORDS};
+use refusals::Refusal;
 use spec_job::Instruction;
 use spec_runner::StepAnswer;
 
@@ -22,9 +22,8 @@ fn decides(job: &[u8], m: &[u32], t: u32, s: Instruction) -> bool
     requires { (length m.now ≡ 16384) × (t < 128) }
     ensures { result ≡ instruction_moves (operation_at s.operation) job.now m.now t s }
 {
-    let k = s.operation;
     let q = s.which;
-    match k {
+    match s.operation {
         1..=2 => core_would_move::push_moves(m, t, q),
         3..=4 | 10 => core_would_move::take_moves(m, t, q),
         5..=7 => true,
@@ -47,13 +46,9 @@ fn step_moves(job: &[u8], m: &[u32], r: &[u32], a: &[u32; 128], t: u32) -> bool
     requires { (length m.now ≡ 16384) × Tell m.now a.now }
     ensures { result ≡ step_moves job.now m.now r.now t }
 {
-    if !walks::unfinished(m, t) {
-        return false;
-    }
-    if rights::shares_pop(a[t as usize], memory::rights(m, t)) {
-        return false;
-    }
-    instruction_moves(job, m, t, runner_words::instruction_for(job, r, t))
+    walks::unfinished(m, t)
+        && !rights::shares_pop(a[t as usize], memory::rights(m, t))
+        && instruction_moves(job, m, t, runner_words::instruction_for(job, r, t))
 }
 
 // The word w, whose bits from k on are not set, with bit k set where b holds.
@@ -70,11 +65,9 @@ fn word_from(job: &[u8], m: &[u32], r: &[u32], a: &[u32; 128], i: u32) -> u32
     ensures { result ≡ bits_from (step_moves job.now m.now r.now) 32 i }
 {
     let words = &m[0..WORDS];
-    let mut w: u32 = 0;
-    let mut k: u32 = 0;
-    while k < 32 {
+    let mut w = 0;
+    for k in 0..32 {
         w = with_bit(w, k, step_moves(job, words, r, a, i + k));
-        k += 1;
     }
     w
 }
@@ -83,7 +76,7 @@ fn word_from(job: &[u8], m: &[u32], r: &[u32], a: &[u32; 128], i: u32) -> u32
 fn count(w0: u32, w1: u32, w2: u32, w3: u32) -> u32
     ensures { result ≡ over (w0 ∷ w1 ∷ w2 ∷ w3 ∷ []) ones }
 {
-    u32::count_ones(w0) + u32::count_ones(w1) + u32::count_ones(w2) + u32::count_ones(w3)
+    w0.count_ones() + w1.count_ones() + w2.count_ones() + w3.count_ones()
 }
 
 // The lowest set bit of the four words, or none.
@@ -91,16 +84,16 @@ fn lowest(w0: u32, w1: u32, w2: u32, w3: u32) -> u32
     ensures { result ≡ lowest_from 0 (w0 ∷ w1 ∷ w2 ∷ w3 ∷ []) }
 {
     if w0 != 0 {
-        return u32::trailing_zeros(w0);
+        return w0.trailing_zeros();
     }
     if w1 != 0 {
-        return 32 + u32::trailing_zeros(w1);
+        return 32 + w1.trailing_zeros();
     }
     if w2 != 0 {
-        return 64 + u32::trailing_zeros(w2);
+        return 64 + w2.trailing_zeros();
     }
     if w3 != 0 {
-        return 96 + u32::trailing_zeros(w3);
+        return 96 + w3.trailing_zeros();
     }
     NONE
 }
@@ -127,34 +120,16 @@ fn write_ready(job: &[u8], m: &[u32], r: &[u32], a: &[u32; 128], out: &mut [u32]
     write_map(out, w0, w1, w2, w3, n, lowest(w0, w1, w2, w3));
 }
 
-// Why there is no map: 1, 10, 11, 12 or 2; 0 where there is one.
-fn refusal(job: &[u8], m: &[u32], r: &[u32]) -> u32
-    ensures { result ≡ map_refusal job.now m.now r.now }
-{
-    let k = runner_words::refusal(job, m, r);
-    if k != 0 {
-        return k;
-    }
-    if !memory_test::rules_hold(m) {
-        return 2;
-    }
-    if !runner_words::holds(job, m, r) {
-        return 2;
-    }
-    0
-}
-
 // The map of any words. Where it is refused it has no ready task; words lent for it that are not six stay as they are.
 pub fn ready(job: &[u8], m: &[u32], r: &[u32], out: &mut [u32]) -> StepAnswer
     ensures { mapped result out.new ≡ ready_outcome job.now m.now r.now out.old }
 {
     if out.len() != 6 {
-        return StepAnswer::Refused(1);
+        return StepAnswer::Refused(Refusal::LengthWrong.number());
     }
-    let k = refusal(job, m, r);
-    if k != 0 {
+    if let Err(e) = runner_words::check_rules(job, m, r) {
         write_map(out, 0, 0, 0, 0, 0, NONE);
-        return StepAnswer::Refused(k);
+        return StepAnswer::Refused(e.number());
     }
     let mut a = [0u32; 128];
     core_blocked::blocked_all(m, &mut a);

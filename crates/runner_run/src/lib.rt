@@ -7,6 +7,7 @@ ghost use Rattle.spec_runner.specs.Run.{listed, run_outcome};
 ghost use Rattle.law_any_two.specs.Reached.{Reached};
 ghost use Rattle.runner_run.specs.Made.{Step, Made};
 
+use refusals::Refusal;
 use spec_runner::StepAnswer;
 
 // A step of task t, and its answer in place i.
@@ -25,10 +26,8 @@ pub fn steps(job: &[u8], m: &mut [u32], r: &mut [u32], tasks: &[u32], answers: &
     ensures { Made job.now tasks.now m.old r.old
         m.new r.new answers.new }
 {
-    let mut i: usize = 0;
-    while i < tasks.len() {
-        make(job, tasks[i], m, r, answers, i);
-        i += 1;
+    for (i, &t) in tasks.iter().enumerate() {
+        make(job, t, m, r, answers, i);
     }
 }
 
@@ -45,12 +44,13 @@ pub fn run(
         ≡ run_outcome job.now m.old r.old tasks.now answers.old }
 {
     if answers.len() != tasks.len() {
-        return StepAnswer::Refused(1);
+        return StepAnswer::Refused(Refusal::LengthWrong.number());
     }
-    let k = runner_open::open(job, m, r);
-    if k != 0 {
-        return StepAnswer::Refused(k);
+    match runner_open::open(job, m, r) {
+        Ok(()) => {
+            steps(job, m, r, tasks, answers);
+            StepAnswer::Moved
+        }
+        Err(e) => StepAnswer::Refused(e.number()),
     }
-    steps(job, m, r, tasks, answers);
-    StepAnswer::Moved
 }

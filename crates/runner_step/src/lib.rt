@@ -1,5 +1,5 @@
 // One step of a job's task: the tests, the core call of its instruction, and where the task goes on.
-#![tactic(auto)]
+#![tactic(auto, unfolding(spec_words::specs::Words::both, spec_words::specs::Words::pick, spec_words::specs::Words::size, spec_words::specs::Words::load, spec_words::specs::Words::store, spec_job::specs::Operations::operation_at, spec_job::specs::Operations::operation_of, spec_job::specs::Operations::row_of, spec_runner::specs::Step::call_of, spec_runner::specs::Step::step_tested, spec_runner::specs::Step::runner_after, spec_runner::specs::Step::core_outcome, spec_runner::specs::Step::step_outcome, spec_job::specs::Numbers::word_numbered, spec_runner::specs::Answers::answer_with, crate::specs::Parts::called, spec_job::specs::Effects::sum))]
 
 ghost use Rattle.std.specs.Prelude.{◌≡◌, ◌^◌, ◌<◌, true, [], ◌∷◌, length, unwrap_or};
 ghost use Rattle.spec_rules.specs.Test.{rules_hold};
@@ -12,9 +12,11 @@ ghost use Rattle.spec_runner.specs.Words.{position_of};
 ghost use Rattle.spec_runner.specs.Answers.{answer_with, outcome};
 ghost use Rattle.spec_runner.specs.Step.{call_of, step_tested, step_outcome};
 ghost use Rattle.job_effect.specs.Made.{found_of};
-ghost use Rattle.runner_step.specs.Parts.{UsesQueue, called, acted, Writes, Makes};
+ghost use Rattle.runner_step.specs.Parts.{called, acted, Writes, Makes};
 
 use answer_numbers::{EMPTY, FINISHED, MOVED, NOT_EMPTY, PUSHED, SPAWNED, TOOK, WAITS};
+use operations::Operation;
+use refusals::Refusal;
 use spec_answers::Answer;
 use spec_job::Instruction;
 use spec_runner::StepAnswer;
@@ -41,19 +43,14 @@ fn write(r: &mut [u32], t: u32, s: Instruction, v: u32, i: u32, x: u32)
     ensures { Writes t s v i x r.old r.new }
 {
     let p = runner_words::procedure(r, t);
-    let y = std::num::wrapping_add_u32(runner_words::register(r, t), s.operand);
-    let k = s.operation;
-    match k {
-        8 => {
+    let y = runner_words::register(r, t).wrapping_add(s.operand);
+    match Operation::from(s.operation) {
+        Operation::Return => runner_words::put(r, t, 0, 0, 0),
+        Operation::Spawn => {
             runner_words::put(r, t, p, i, x);
             runner_words::put(r, v, s.which, 0, y);
         }
-        1..=10 => {
-            runner_words::put(r, t, p, i, x);
-        }
-        _ => {
-            runner_words::put(r, t, 0, 0, 0);
-        }
+        _ => runner_words::put(r, t, p, i, x),
     }
 }
 
@@ -65,7 +62,7 @@ fn done(r: &mut [u32], t: u32, s: Instruction, found: Option<u32>) -> StepAnswer
     let v = found.unwrap_or(0);
     let i = runner_words::position(r, t);
     let x = runner_words::register(r, t);
-    let e = job_effect::effect(s.operation, s.operand, i, x, found);
+    let e = job_effect::effect(Operation::from(s.operation), s.operand, i, x, found);
     write(r, t, s, v, e.next, e.register);
     answer(e.answer, e.value, v)
 }
@@ -79,33 +76,21 @@ fn push_one(m: &mut [u32], t: u32, q: u32, v: u32) -> Answer
     core_push::push(m, t, q, &run)
 }
 
-// The core call of an instruction s that uses a queue. No job has a part in it, so the contract has the empty one.
-fn queue_call(m: &mut [u32], t: u32, s: Instruction, x: u32) -> Answer
-    requires { (length m.old ≡ 16384) × (rules_hold m.old ≡ true) × UsesQueue s.operation }
-    ensures { answered result m.new ≡ called (call_of (operation_at s.operation) [] t x s) m.old }
-{
-    let k = s.operation;
-    let q = s.which;
-    match k {
-        1 => push_one(m, t, q, s.operand),
-        2 => push_one(m, t, q, std::num::wrapping_add_u32(x, s.operand)),
-        4 => core_take::take(m, t, q, true),
-        _ => core_take::take(m, t, q, false),
-    }
-}
-
-// The core call of instruction s. Operations 5, 6 and 7 make none: they go on as one that found nothing.
+// The core call of instruction s. One that makes none goes on as one that found nothing.
 fn core_call(job: &[u8], m: &mut [u32], t: u32, s: Instruction, x: u32) -> Answer
     requires { (length m.old ≡ 16384) × (rules_hold m.old ≡ true) }
     ensures { answered result m.new ≡ called (call_of (operation_at s.operation) job.now t x s) m.old }
 {
-    let k = s.operation;
-    match k {
-        1..=4 | 10 => queue_call(m, t, s, x),
-        5..=7 => Answer::Empty,
-        8 => core_spawn::spawn(m, t, job_fields::rights(job, s.which)),
-        9 => core_finish::sync(m, t),
-        _ => core_finish::finish(m, t),
+    let q = s.which;
+    match Operation::from(s.operation) {
+        Operation::Return => core_finish::finish(m, t),
+        Operation::Push => push_one(m, t, q, s.operand),
+        Operation::PushSum => push_one(m, t, q, x.wrapping_add(s.operand)),
+        Operation::Pop | Operation::TakeOrGo => core_take::take(m, t, q, false),
+        Operation::GoIfEmpty => core_take::take(m, t, q, true),
+        Operation::Go | Operation::GoIfZero | Operation::Add => Answer::Empty,
+        Operation::Spawn => core_spawn::spawn(m, t, job_fields::rights(job, q)),
+        Operation::Sync => core_finish::sync(m, t),
     }
 }
 
@@ -130,7 +115,7 @@ pub fn step_tested(job: &[u8], m: &mut [u32], r: &mut [u32], t: u32) -> StepAnsw
     ensures { outcome result m.new r.new ≡ step_tested job.now m.old r.old t }
 {
     if !walks::unfinished(m, t) {
-        return StepAnswer::Refused(4);
+        return StepAnswer::Refused(Refusal::NoSuchTask.number());
     }
     if walks::blocked(m, t) {
         return StepAnswer::Waits;
@@ -142,15 +127,8 @@ pub fn step_tested(job: &[u8], m: &mut [u32], r: &mut [u32], t: u32) -> StepAnsw
 pub fn step(job: &[u8], m: &mut [u32], r: &mut [u32], t: u32) -> StepAnswer
     ensures { outcome result m.new r.new ≡ step_outcome job.now m.old r.old t }
 {
-    let k = runner_words::refusal(job, m, r);
-    if k != 0 {
-        return StepAnswer::Refused(k);
+    match runner_words::check_rules(job, m, r) {
+        Ok(()) => step_tested(job, m, r, t),
+        Err(e) => StepAnswer::Refused(e.number()),
     }
-    if !memory_test::rules_hold(m) {
-        return StepAnswer::Refused(2);
-    }
-    if !runner_words::holds(job, m, r) {
-        return StepAnswer::Refused(2);
-    }
-    step_tested(job, m, r, t)
 }

@@ -1,16 +1,18 @@
 // The runner's words: reading and writing them, whether they keep their rules, and what every call of the runner tests first.
 // Reading and writing are total: past the end a read gives 0 and a write does nothing. The test of the rules asks for what the calls test before it.
-#![tactic(auto)]
+#![tactic(auto, unfolding(crate::specs::Numbers::refusal_number, crate::specs::Refusals::job_refusal, crate::specs::Refusals::refusal_in, crate::specs::Tested::map_refusal, job_test::specs::Answers::answer_for, spec_words::specs::Words::both, spec_words::specs::Words::pick, spec_words::specs::Words::size, spec_words::specs::Words::load, spec_words::specs::Words::store, spec_layout::specs::Layout::read, spec_layout::specs::Layout::address, spec_outcomes::specs::Waits::unfinished, spec_runner::specs::Words::procedure_of, spec_runner::specs::Words::position_of, spec_runner::specs::Words::register_of, spec_runner::specs::Words::put, spec_runner::specs::Words::instruction_for, spec_runner::specs::Rules::task_holds, spec_runner::specs::Rules::zeros, spec_runner::specs::Rules::record_holds))]
 
 ghost use Rattle.std.specs.Prelude.{◌≡◌, true, List, ℕ, ◌+◌, ◌-◌, ◌<◌, ◌≤◌, length};
 ghost use Rattle.spec_lists.specs.Tests.{upto};
 ghost use Rattle.spec_outcomes.specs.Waits.{unfinished};
 ghost use Rattle.spec_runner.specs.Words.{procedure_of, position_of, register_of, put, instruction_for};
 ghost use Rattle.spec_runner.specs.Rules.{task_holds, zeros, record_holds, runner_holds};
-ghost use Rattle.runner_words.specs.Refusals.{refusal_in, job_refusal, Fits};
+ghost use Rattle.runner_words.specs.Numbers.{refusal_number};
+ghost use Rattle.runner_words.specs.Refusals.{job_refusal, Fits};
+ghost use Rattle.runner_words.specs.Tested.{map_refusal};
 
 use layout::{RIGHTS_AT, TASK_RECORDS, TASK_WORDS, TASKS, UNFINISHED, WORDS};
-use spec_answers::Answer;
+use refusals::Refusal;
 use spec_job::Instruction;
 
 // Words that the runner is lent beside the core's.
@@ -70,10 +72,7 @@ fn task_holds(job: &[u8], m: &[u32], r: &[u32], t: usize) -> bool
         return false;
     }
     let e = job_fields::procedure_at(job, p);
-    if r[a + 1] >= e.count {
-        return false;
-    }
-    m[RIGHTS_AT + t * TASK_WORDS] == e.rights
+    r[a + 1] < e.count && m[RIGHTS_AT + t * TASK_WORDS] == e.rights
 }
 
 fn unfinished(m: &[u32], t: usize) -> bool
@@ -103,39 +102,16 @@ fn record_holds(job: &[u8], m: &[u32], r: &[u32], t: usize) -> bool
     }
 }
 
-// The records from t on and below n.
-fn records_hold(job: &[u8], m: &[u32], r: &[u32], t: usize, n: usize) -> bool
-    requires { Fits job.now m.now r.now × (n ≤ 128) × (t ≤ n) }
-    ensures { result ≡ upto (record_holds job.now m.now r.now) (n - t) t }
-{
-    let mut i = t;
-    while i < n {
-        if !record_holds(job, m, r, i) {
-            return false;
-        }
-        i += 1;
-    }
-    true
-}
-
 // True only where none of the four records from t on is in use and their words are 0.
 fn four_free(m: &[u32], r: &[u32], t: usize) -> bool
     requires { (length m.now ≡ 16384) × (length r.now ≡ 384) × (t + 4 ≤ 128) }
     ensures { (job : List ℕ) → result ≡ true → upto (record_holds job m.now r.now) 4 t ≡ true }
 {
-    if unfinished(m, t) {
-        return false;
-    }
-    if unfinished(m, t + 1) {
-        return false;
-    }
-    if unfinished(m, t + 2) {
-        return false;
-    }
-    if unfinished(m, t + 3) {
-        return false;
-    }
-    zeros(r, t) & zeros(r, t + 1) & zeros(r, t + 2) & zeros(r, t + 3)
+    !unfinished(m, t)
+        && !unfinished(m, t + 1)
+        && !unfinished(m, t + 2)
+        && !unfinished(m, t + 3)
+        && zeros(r, t) & zeros(r, t + 1) & zeros(r, t + 2) & zeros(r, t + 3)
 }
 
 // The four records from t on. Most records are free, so four free ones are told by one test of their words.
@@ -143,10 +119,7 @@ fn four_hold(job: &[u8], m: &[u32], r: &[u32], t: usize) -> bool
     requires { Fits job.now m.now r.now × (t + 4 ≤ 128) }
     ensures { result ≡ upto (record_holds job.now m.now r.now) 4 t }
 {
-    if four_free(m, r, t) {
-        return true;
-    }
-    records_hold(job, m, r, t, t + 4)
+    four_free(m, r, t) || (t..t + 4).all(|i| record_holds(job, m, r, i))
 }
 
 // The runner's part of the memory rules.
@@ -154,37 +127,27 @@ pub fn holds(job: &[u8], m: &[u32], r: &[u32]) -> bool
     requires { Fits job.now m.now r.now }
     ensures { result ≡ runner_holds job.now m.now r.now }
 {
-    let mut t: usize = 0;
-    while t < RECORDS {
-        if !four_hold(job, m, r, t) {
-            return false;
-        }
-        t += 4;
-    }
-    true
+    (0..RECORDS / 4).all(|i| four_hold(job, m, r, i * 4))
 }
 
-// The number of a refusal, 0 for any other answer.
-fn refusal_in(a: Answer) -> u32
-    ensures { result ≡ refusal_in a }
+// Whether the lengths are right and the bytes are a job, as every call needs.
+pub fn check_job(job: &[u8], m: &[u32], r: &[u32]) -> Result<(), Refusal>
+    ensures { refusal_number result ≡ job_refusal job.now m.now r.now }
 {
-    match a {
-        Answer::Refused(k) => k,
-        Answer::Moved(_) => 0,
-        Answer::Empty => 0,
-        Answer::Waits => 0,
+    if m.len() != WORDS || r.len() != RUNNER_WORDS {
+        return Err(Refusal::LengthWrong);
     }
+    job_test::check(job)
 }
 
-// Why no call may be made: 1 for a length, 10, 11 or 12 for the job; 0 where none of these.
-pub fn refusal(job: &[u8], m: &[u32], r: &[u32]) -> u32
-    ensures { result ≡ job_refusal job.now m.now r.now }
+// The same, and whether the memories keep their rules.
+pub fn check_rules(job: &[u8], m: &[u32], r: &[u32]) -> Result<(), Refusal>
+    ensures { refusal_number result ≡ map_refusal job.now m.now r.now }
 {
-    if m.len() != WORDS {
-        return 1;
+    check_job(job, m, r)?;
+    if memory_test::rules_hold(m) && holds(job, m, r) {
+        Ok(())
+    } else {
+        Err(Refusal::RulesFail)
     }
-    if r.len() != RUNNER_WORDS {
-        return 1;
-    }
-    refusal_in(job_test::job_test(job))
 }

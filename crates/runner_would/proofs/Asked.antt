@@ -21,10 +21,6 @@ use Rattle.runner_would.specs.Held.{unmoved}
 use Rattle.runner_would.specs.PopsNothing.{pops_nothing}
 use Rattle.runner_would.specs.Rightly.{blocked_would, moves_would, held_would}
 
--- a is the rights of task t
-pub pops_none : {a : ℕ} {b : Bool} (m : List ℕ) (t : ℕ) → a ≡ rights_of m t → b ≡ shares_pop a a → not b ≡ true → false ≡ blocked m t
-pops_none {a} {b} m t ea eb f = sym (pops_nothing m t (sym (ap (λ (x : ℕ). shares_pop x x) ea) ∙ sym eb ∙ not-true b f))
-
 module _ (j m r : List ℕ) (t : ℕ) (p : Reached j m r × (unfinished m t ≡ true)) {b : Bool} (eb : b ≡ blocked m t) where
   pub waits_there : b ≡ true → Waits ≡ would_be (answer_of (step_outcome j m r t))
   waits_there f = sym (blocked_would p.0 t p.1 (sym eb ∙ f))

@@ -1,4 +1,4 @@
-// The record of a segment as a struct, lent to the two functions that change it.
+// The record of a segment as a struct.
 #![tactic(auto)]
 
 ghost use Rattle.std.specs.Prelude.{◌≡◌, ◌+◌, ◌<◌, ◌^◌};
@@ -12,38 +12,27 @@ pub struct Record {
     pub next: u32,
 }
 
-// A run of k values more: the count is raised in the segment's own record.
-fn store_some(r: &mut Record, k: u32)
-    requires { r.old.count + k < 2 ^ 32 }
-    ensures { r.new ≡ more r.old k }
-{
-    r.count = r.count + k;
-}
+impl Record {
+    // A run of k values more: the count is raised in the segment's own record.
+    pub fn with_more(self, k: u32) -> Record
+        requires { self.count + k < 2 ^ 32 }
+        ensures { result ≡ more self k }
+    {
+        Record {
+            count: self.count + k,
+            ..self
+        }
+    }
 
-// The first value is gone: the one at place p is the first now.
-fn drop_one(r: &mut Record, p: u32)
-    requires { 0 < r.old.count }
-    ensures { r.new ≡ one_fewer r.old p }
-{
-    r.first = p;
-    r.count = r.count - 1;
-}
-
-// For callers, whose proofs then need no walk.
-pub fn with_more(r: Record, k: u32) -> Record
-    requires { r.count + k < 2 ^ 32 }
-    ensures { result ≡ more r k }
-{
-    let mut s = r;
-    store_some(&mut s, k);
-    s
-}
-
-pub fn with_one_less(r: Record, p: u32) -> Record
-    requires { 0 < r.count }
-    ensures { result ≡ one_fewer r p }
-{
-    let mut s = r;
-    drop_one(&mut s, p);
-    s
+    // The first value is gone: the one at place p is the first now.
+    pub fn with_one_less(self, p: u32) -> Record
+        requires { 0 < self.count }
+        ensures { result ≡ one_fewer self p }
+    {
+        Record {
+            first: p,
+            count: self.count - 1,
+            ..self
+        }
+    }
 }

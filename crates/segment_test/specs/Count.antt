@@ -1,51 +1,46 @@
 -- What the code says of the held segments: how many they are, or that a test has failed.
-use Rattle.std.specs.Prelude.{◌≡◌, refl, Bool, true, false, ℕ, ◌+◌, length}
+use Rattle.std.specs.Prelude.{Option, Some, None, is_some, ◌≡◌, refl, Bool, true, false, ℕ, ◌+◌, length}
 use Rattle.std.proofs.Common.{ap, sym, ◌∙◌}
-use Rattle.std.proofs.Math.Option.{Option, none, some, none-ne-some, some-injective}
 use Rattle.spec_words.specs.Words.{pick, pick_true, pick_false}
 use Rattle.spec_rules.specs.Contents.{Contents}
 use Rattle.spec_rules.specs.Held.{held_count}
-use Rattle.segment_test.specs.declared.Counted.{Counted}
-use Rattle.segment_test.specs.declared.Counted.TheVariants.{Held, Wrong}
 
--- the number that is said, where one is
-unfoldable pub held_of : Counted → Option ℕ
-held_of (Held h) = some h
-held_of Wrong = none
-
--- r is the number of held segments where the test b passes, and wrong where it fails. Held and free segments together are
+-- r is the number of held segments where the test b passes, and None where it fails. Held and free segments together are
 -- those opened.
-pub record Counts (c : Contents) (b : Bool) (r : Counted) : Type 0 where
-  pub same : held_of r ≡ pick b (some (held_count c)) none
-  pub together : (h : ℕ) → held_of r ≡ some h → h + length c.free ≡ c.number
+pub record Counts (c : Contents) (b : Bool) (r : Option ℕ) : Type 0 where
+  pub same : r ≡ pick b (Some (held_count c)) None
+  pub together : (h : ℕ) → r ≡ Some h → h + length c.free ≡ c.number
 
-pub wrong_counts : (c : Contents) {b : Bool} → b ≡ false → Counts c b Wrong
-unfolding held_of
+pub wrong_counts : (c : Contents) {b : Bool} → b ≡ false → Counts c b None
 wrong_counts c e =
-    record { same = sym (ap (λ (x : Bool). pick x (some (held_count c)) none) e ∙ pick_false _ _); together = λ h q. absurd (none-ne-some _ q) }
+    record { same = sym (ap (λ (x : Bool). pick x (Some (held_count c)) None) e ∙ pick_false _ _); together = λ h q. absurd (cc) }
 
-pub right_counts : (c : Contents) {b : Bool} {h : ℕ} → b ≡ true → h ≡ held_count c → h + length c.free ≡ c.number → Counts c b (Held h)
-unfolding held_of
-right_counts c e q t =
+pub right_counts : (c : Contents) {b : Bool} {h : ℕ} → b ≡ true → h ≡ held_count c → h + length c.free ≡ c.number → Counts c b (Some h)
+right_counts c {h = h} e q t =
     record {
-      same = ap some q ∙ sym (ap (λ (x : Bool). pick x (some (held_count c)) none) e ∙ pick_true _ _);
-      together = λ k r. ap (λ (x : ℕ). x + length c.free) (sym (some-injective _ _ r)) ∙ t;
+      same = ap Some q ∙ sym (ap (λ (x : Bool). pick x (Some (held_count c)) None) e ∙ pick_true _ _);
+      together = λ k r. let e : k ≡ h = cc in ap (λ (x : ℕ). x + length c.free) e ∙ t;
     }
 
 -- what each answer tells
-pub held_says : (c : Contents) {b : Bool} {h : ℕ} {r : Counted} → r ≡ Held h → Counts c b r
+pub held_says : (c : Contents) {b : Bool} {h : ℕ} {r : Option ℕ} → r ≡ Some h → Counts c b r
     → (b ≡ true) × (h ≡ held_count c) × (h + length c.free ≡ c.number)
-unfolding held_of
-held_says c {b} {h} e k = let g = go b (sym (ap held_of e) ∙ k.same) in (g.0, g.1, k.together h (ap held_of e))
+held_says c {b} {h} e k = let g = go b (sym e ∙ k.same) in (g.0, g.1, k.together h e)
   where
-    go : (x : Bool) → some h ≡ pick x (some (held_count c)) none → (x ≡ true) × (h ≡ held_count c)
-    go true q = (refl, some-injective _ _ (q ∙ pick_true _ _))
-    go false q = absurd (none-ne-some _ (sym (q ∙ pick_false _ _)))
+    go : (x : Bool) → Some h ≡ pick x (Some (held_count c)) None → (x ≡ true) × (h ≡ held_count c)
+    go true q = let z = q ∙ pick_true _ _ in (refl, cc)
+    go false q = let z = q ∙ pick_false _ _ in absurd (cc)
 
-pub wrong_says : (c : Contents) {b : Bool} → Counts c b Wrong → b ≡ false
-unfolding held_of
-wrong_says c {b} k = go b k.same
+pub wrong_says : (c : Contents) {b : Bool} {r : Option ℕ} → r ≡ None → Counts c b r → b ≡ false
+wrong_says c {b} e k = go b (sym e ∙ k.same)
   where
-    go : (x : Bool) → none ≡ pick x (some (held_count c)) none → x ≡ false
-    go true q = absurd (none-ne-some _ (q ∙ pick_true _ _))
+    go : (x : Bool) → None ≡ pick x (Some (held_count c)) None → x ≡ false
+    go true q = let z = q ∙ pick_true _ _ in absurd (cc)
     go false q = refl
+
+pub said : (c : Contents) {b : Bool} {r : Option ℕ} → Counts c b r → is_some r ≡ b
+said c {b} k = ap is_some k.same ∙ go b
+  where
+    go : (x : Bool) → is_some (pick x (Some (held_count c)) None) ≡ x
+    go true = ap is_some (pick_true _ _)
+    go false = ap is_some (pick_false _ _)

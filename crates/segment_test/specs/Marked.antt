@@ -1,7 +1,8 @@
 -- The stack of free segments and the held ones, as the code tests and counts them by their marks.
-use Rattle.std.specs.Prelude.{◌≡◌, Bool, true, false, not, eqb, get_or, drop, replicate}
+use Rattle.std.specs.Prelude.{Option, Some, None, ◌≡◌, Bool, true, false, not, eqb, get_or, take, drop, replicate}
 use Rattle.std.proofs.Math.Path.{ap}
 use Rattle.std.proofs.Common.{sym, ◌∙◌}
+use Rattle.std.proofs.lemmas.List.{get_or-take}
 use Rattle.std.proofs.Math.Bool.{false≢true}
 use mathlib.Core.List.{List}
 use Prim.Native.Nat.{ℕ, suc, ◌+◌, ◌<◌, ◌≤◌}
@@ -22,8 +23,6 @@ use Rattle.spec_view_events.specs.Parts.{number_at}
 use Rattle.spec_view_events.specs.Sees.{Ready}
 use Rattle.segment_test.specs.Stack.{all_below}
 use Rattle.segment_test.specs.Count.{Counts, wrong_counts, right_counts}
-use Rattle.segment_test.specs.declared.Counted.{Counted}
-use Rattle.segment_test.specs.declared.Counted.TheVariants.{Held, Wrong}
 
 -- how many of the n first have no mark
 unfoldable pub unmarked : List ℕ → ℕ → ℕ
@@ -40,6 +39,12 @@ module _ (d : List ℕ) (s : ℕ) where
   pub unmarked_past : (load d s ≡ 0 → ⊥) → unmarked d (s + 1) ≡ unmarked d s
   unmarked_past n = let a = one_more in let b = one_no (load d s) 0 n in omega (arith, a, b)
 
+-- counted in the first n alone
+pub unmarked_part : (d : List ℕ) (n k : ℕ) → n ≡ k → unmarked (take n d) k ≡ unmarked d n
+unfolding unmarked load
+unmarked_part d n k e =
+    total_ext k _ _ (λ s l. ap (λ (w : ℕ). one (eqb w 0)) (get_or-take n d s 0 (omega arith))) ∙ ap (λ (j : ℕ). total j (λ s. one (eqb (get_or d s 0) 0))) (sym e)
+
 -- THE STACK, as the code tests it: its numbers are segments opened and, counted by their marks, held and free ones are as many
 -- as were opened.
 module _ (m : List ℕ) (ready : Ready m) where
@@ -54,13 +59,13 @@ module _ (m : List ℕ) (ready : Ready m) where
   says = distinct_says c.number c.free small
 
   -- what the code hands out, with the marks d
-  abbrev pub Stacked : Counted → List ℕ → Type 0
+  abbrev pub Stacked : Option ℕ → List ℕ → Type 0
   Stacked r d = Counts c (stack_test c) r × (stack_test c ≡ true → d ≡ marking c.free (replicate 256 0))
 
-  wrong : (d : List ℕ) → (stack_test c ≡ true → ⊥) → Stacked Wrong d
+  wrong : (d : List ℕ) → (stack_test c ≡ true → ⊥) → Stacked None d
   wrong d n = (wrong_counts c (refuted _ n), λ e. absurd (n e))
 
-  pub stack_high : get_or m 1 0 < get_or m 2 0 → (d : List ℕ) → Stacked Wrong d
+  pub stack_high : get_or m 1 0 < get_or m 2 0 → (d : List ℕ) → Stacked None d
   unfolding read address load
   stack_high l d =
       wrong d (λ q.
@@ -71,7 +76,7 @@ module _ (m : List ℕ) (ready : Ready m) where
       let g = ready.1 in
       omega (arith, a, b, e, f, g, l))
 
-  pub stack_far : {b : Bool} → b ≡ all_below c.number c.free → not b ≡ true → (d : List ℕ) → Stacked Wrong d
+  pub stack_far : {b : Bool} → b ≡ all_below c.number c.free → not b ≡ true → (d : List ℕ) → Stacked None d
   unfolding all_below
   stack_far e f d = wrong d (λ q. false≢true (sym (not-true _ f) ∙ e ∙ says_each _ c.free (λ s p. lt-ltb s c.number ((says q).below s p))))
 
@@ -96,10 +101,10 @@ module _ (m : List ℕ) (ready : Ready m) where
         let n = number_at m in
         ((λ q. omega (arith, a, n, q)), (λ q. omega (arith, a, n, q)))
 
-    pub stack_twice : (h + get_or m 2 0 ≡ get_or m 1 0 → ⊥) → Stacked Wrong d
+    pub stack_twice : (h + get_or m 2 0 ≡ get_or m 1 0 → ⊥) → Stacked None d
     stack_twice n = wrong d (λ q. n (sum.0 (ap (λ (k : ℕ). k + length c.free) counted ∙ held_free c (says q))))
 
-    pub stack_right : h + get_or m 2 0 ≡ get_or m 1 0 → Stacked (Held h) d
+    pub stack_right : h + get_or m 2 0 ≡ get_or m 1 0 → Stacked (Some h) d
     unfolding stack_test all_below
     stack_right q = (
       right_counts c (says_distinct c.number c.free small (free_held c below (ap (λ (k : ℕ). k + length c.free) (sym counted) ∙ sum.1 q))) counted

@@ -17,14 +17,8 @@ use layout::{
     SEGMENT_WORDS,
 };
 
-// How many segments are held, or that a test has failed.
-#[derive(Clone, Copy)]
-pub enum Counted {
-    Held(u32),
-    Wrong,
-}
-
 // First place, count and next of segment s. All three are looked at, so that a loop over segments has no early exit.
+#[tactic(auto, using(crate::specs::Records::sound_at))]
 fn sound(m: &[u32], s: usize) -> bool
     requires { (length m.now ≡ 16384) × (s < 256) }
     ensures { result ≡ segment_test (decode m.now) s }
@@ -36,16 +30,14 @@ fn sound(m: &[u32], s: usize) -> bool
 }
 
 // All segments opened.
+#[tactic(auto, using(crate::specs::Records::upto_start, crate::specs::Records::upto_more, crate::specs::Records::upto_done))]
 pub fn segments_hold(m: &[u32]) -> bool
     requires { Ready m.now }
     ensures { result ≡ upto (segment_test (decode m.now)) (get_or m.now 1 0) 0 }
 {
-    let n = m[NUMBER_AT] as usize;
     let mut good = true;
-    let mut s: usize = 0;
-    while s < n {
-        good = good & sound(m, s);
-        s += 1;
+    for s in 0..m[NUMBER_AT] as usize {
+        good &= sound(m, s);
     }
     good
 }
@@ -58,14 +50,11 @@ fn mark_free(d: &mut [u8; 256], m: &[u32]) -> bool
 {
     let n = m[NUMBER_AT];
     let h = m[FREE_SEGMENTS_AT] as usize;
-    let mut i: usize = 0;
-    while i < h {
-        let s = m[SEGMENT_STACK + i];
-        if s >= n {
+    for s in &m[SEGMENT_STACK..SEGMENT_STACK + h] {
+        if *s >= n {
             return false;
         }
-        d[s as usize] = 1;
-        i += 1;
+        d[*s as usize] = 1;
     }
     true
 }
@@ -76,32 +65,30 @@ fn unmarked(d: &[u8; 256], n: usize) -> u16
     ensures { (result ≡ unmarked d.now n) × (result ≤ n) }
 {
     let mut held: u16 = 0;
-    let mut s: usize = 0;
-    while s < n {
-        if d[s] == 0 {
+    for mark in &d[..n] {
+        if *mark == 0 {
             held += 1;
         }
-        s += 1;
     }
     held
 }
 
 // THE HELD SEGMENTS, counted once for the whole memory test: the free ones are marked in d, and those opened without a mark
 // are held. One that stands on the stack twice has one mark, so that held and free ones are more than were opened.
-pub fn count_held(d: &mut [u8; 256], m: &[u32]) -> Counted
+pub fn count_held(d: &mut [u8; 256], m: &[u32]) -> Option<u32>
     requires { Ready m.now × (d.old ≡ replicate 256 0) }
     ensures { Counts (decode m.now) (stack_test (decode m.now)) result
         × (stack_test (decode m.now) ≡ true → d.new ≡ marking (decode m.now).free (replicate 256 0)) }
 {
     if m[FREE_SEGMENTS_AT] > m[NUMBER_AT] {
-        return Counted::Wrong;
+        return None;
     }
     if !mark_free(d, m) {
-        return Counted::Wrong;
+        return None;
     }
     let held = unmarked(d, m[NUMBER_AT] as usize) as u32;
     if held + m[FREE_SEGMENTS_AT] != m[NUMBER_AT] {
-        return Counted::Wrong;
+        return None;
     }
-    Counted::Held(held)
+    Some(held)
 }

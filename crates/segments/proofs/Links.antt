@@ -1,19 +1,23 @@
 -- What names a segment: its place among a task's heads, the segment before it.
 use mathlib.Core.Path.{◌≡◌, refl, ap, sym, ◌∙◌}
-use mathlib.Core.Bool.{Bool, true, false}
+use mathlib.Core.Bool.{true, false}
 use mathlib.Core.List.{List}
-use Prim.Native.Nat.{ℕ, zero, suc, ◌+◌, ◌-◌, ◌*◌, ◌<◌, ◌≤◌}
+use Prim.Native.Nat.{ℕ, suc, ◌+◌, ◌-◌, ◌*◌, ◌<◌, ◌≤◌}
 use native.Mathlib.Omega.{arith}
-use lib.Dec.{ltb, eqb}
+use lib.Dec.{ltb}
 use lib.ListN.{drop, get_or}
 use lib.Seq.{drop-drop, get_or-drop}
-use borrow.Author.Tests.{eq-eqb, ne_eqb, lt-ltb, le-ltb}
-use Rattle.spec_words.specs.Words.{load, pick, both, pass, halt}
+use borrow.Author.Tests.{eq-eqb, ne_eqb, lt-ltb, le-ltb, ltb-true}
+use Rattle.spec_words.specs.Words.{load, both_true, pass, halt}
 use Rattle.spec_lists.specs.Tests.{turn_left, turns_over}
 use Rattle.spec_layout.specs.Layout.{QUEUE_HEADS, HEAD_WORDS, segment, task, segments_of, address, read, write, record_of}
 use Rattle.spec_tree.specs.Tour.{MARKS, seek}
 use Rattle.spec_outcomes.specs.Segments.{index_of, head_index, linked_by, renamed, released, linked}
 use Rattle.segments.specs.Names.{held, next_is, head_here}
+use Rattle.spec_words.specs.Found.{found}
+use Rattle.spec_words.specs.Found.{some_found, none_found}
+use Rattle.walks.proofs.Found.{found_holds}
+use Rattle.std.proofs.Common.{Some, None}
 
 -- THE HEADS of a task: the place of s, where the first i are others
 unfoldable pub head_from : List ℕ → ℕ → ℕ → ℕ → ℕ
@@ -68,14 +72,6 @@ head_none m s t i h g =
     omega (arith, a, b)
 
 -- THE SEGMENT BEFORE s
-pub next_other : (m : List ℕ) (q s y w : ℕ) → w ≡ read m (segment y 2) → (w ≡ s → ⊥) → false ≡ next_is m q s y
-unfolding next_is both
-next_other m q s y w ew e = sym (pass _ (ne_eqb _ _ (λ r. e (ew ∙ r))) refl)
-
-pub next_same : (m : List ℕ) (q s y w : ℕ) (b : Bool) → w ≡ read m (segment y 2) → w ≡ s → b ≡ held m q y → b ≡ next_is m q s y
-unfolding next_is both
-next_same m q s y w b ew e eb = eb ∙ sym (halt _ _ (eq-eqb _ _ (sym ew ∙ e)))
-
 by_one : (k : ℕ) (m : List ℕ) (q s y : ℕ) → next_is m q s y ≡ true → linked_by (suc k) m q s y ≡ y
 unfolding linked_by next_is held
 by_one k m q s y e = halt _ _ e
@@ -102,42 +98,45 @@ by_end m q s n y h = sym (ap (λ (k : ℕ). linked_by k m q s y) (turns_over n y
     last : (m : List ℕ) (q s y : ℕ) → linked_by 0 m q s y ≡ y
     last m q s y = unfold linked_by in refl
 
--- THE TASK with s as a head
-pub head_elsewhere : (m : List ℕ) (s x : ℕ) → 128 ≤ x → false ≡ head_here m s x
-unfolding head_here both
-head_elsewhere m s x h = sym (pass _ (le-ltb _ _ h) refl)
+-- THE TASK with s as a head: it is a task, and s is one of its heads
+pub head_at : (m : List ℕ) (s x : ℕ) → head_here m s x ≡ true → (x < 128) × (head_index m s x < 16)
+unfolding head_here
+head_at m s x e = let a = both_true (ltb x 128) (ltb (head_index m s x) 16) e in (ltb-true x 128 a.0, ltb-true (head_index m s x) 16 a.1)
 
-pub head_tested : (m : List ℕ) (s x i : ℕ) → x < 128 → i ≡ head_index m s x → ltb i 16 ≡ head_here m s x
-unfolding head_here both
-head_tested m s x i h e = ap (λ (k : ℕ). ltb k 16) e ∙ sym (halt _ _ (lt-ltb _ _ h))
-
-index_few : (s n : ℕ) (r : List ℕ) → index_of s n r ≤ n
-unfolding index_of
-index_few s zero r = omega arith
-index_few s (suc n) r = go (eqb (load r 0) s) (index_few s n (drop 1 r))
-  where
-    go : (b : Bool) → index_of s n (drop 1 r) ≤ n → pick b 0 (index_of s n (drop 1 r) + 1) ≤ suc n
-    go true h = rw (halt {b = true} 0 (index_of s n (drop 1 r) + 1) refl) (omega arith)
-    go false h = rw (pass {b = false} {y = index_of s n (drop 1 r) + 1} 0 refl refl) (omega arith)
-
-pub head_few : (m : List ℕ) (s t : ℕ) → head_index m s t ≤ 16
-unfolding head_index
-head_few m s t = index_few s 16 (drop 16 (record_of m t))
-
-module _ (m : List ℕ) (q s h t : ℕ) (et : t ≡ seek MARKS (head_here m s) (record_of m) 0) where
-  pub rename_head : (m1 : List ℕ) (i : ℕ) → t < 128 → i ≡ head_index m s t → m1 ≡ write m (task t (16 + i)) h → m1 ≡ renamed m q s h
+-- What names s, as an answer that was found, names h instead
+module _ (m : List ℕ) (q s h : ℕ) where
+  pub rename_head : (m1 : List ℕ) (t i : ℕ) → Some t ≡ found 256 (seek MARKS (head_here m s) (record_of m) 0) → Some i ≡ found 16 (head_index m s t)
+      → m1 ≡ write m (task t (16 + i)) h → m1 ≡ renamed m q s h
   unfolding renamed head_here
-  rename_head m1 i l ei e = e ∙ (rw (ei, et)) ∙ sym (halt _ _ (ap (λ (x : ℕ). ltb x 128) (sym et) ∙ lt-ltb t 128 l))
+  rename_head m1 t i e f w =
+      let a = found_holds (head_here m s) (record_of m) 0 t e in
+      let b = head_at m s t a.1 in
+      let c = some_found 16 (head_index m s t) i f in
+      w ∙ rw (c.0, a.0) (sym (halt _ _ (ap (λ (x : ℕ). ltb x 128) (sym a.0) ∙ lt-ltb t 128 b.0)))
 
-  module _ (y n : ℕ) (ey : y ≡ linked_by (segments_of m q) m q s 0) (en : n ≡ segments_of m q) (l : 128 ≤ t) where
-    pub rename_next : (m1 : List ℕ) → y < n → m1 ≡ write m (segment y 2) h → m1 ≡ renamed m q s h
-    unfolding renamed head_here
-    rename_next m1 g e =
-        e ∙ (rw ey) ∙ sym (pass _ (ap (λ (x : ℕ). ltb x 128) (sym et) ∙ le-ltb t 128 l) (halt _ _ (lt-ltb _ _ (rw (ey, en) at g))))
+  pub no_head : {A : Type 0} (t : ℕ) → Some t ≡ found 256 (seek MARKS (head_here m s) (record_of m) 0) → None ≡ found 16 (head_index m s t) → A
+  no_head t e f =
+      let a = found_holds (head_here m s) (record_of m) 0 t e in
+      let b = head_at m s t a.1 in
+      let c = none_found 16 (head_index m s t) f in
+      let z : ⊥ = omega (arith, b.1, c) in absurd z
 
-    pub rename_none : n ≤ y → m ≡ renamed m q s h
+  module _ (et : None ≡ found 256 (seek MARKS (head_here m s) (record_of m) 0)) where
+    none_seen : ltb (seek MARKS (head_here m s) (record_of m) 0) 128 ≡ false
+    none_seen = let a = none_found 256 (seek MARKS (head_here m s) (record_of m) 0) et in le-ltb _ _ (omega (arith, a))
+
+    pub rename_next : (m1 : List ℕ) (y : ℕ) → Some y ≡ found (segments_of m q) (linked_by (segments_of m q) m q s 0)
+        → m1 ≡ write m (segment y 2) h → m1 ≡ renamed m q s h
     unfolding renamed head_here
-    rename_none g = sym (pass _ (ap (λ (x : ℕ). ltb x 128) (sym et) ∙ le-ltb t 128 l) (pass _ (le-ltb _ _ (rw (ey, en) at g)) refl))
+    rename_next m1 y e w =
+        let a = some_found (segments_of m q) (linked_by (segments_of m q) m q s 0) y e in
+        w ∙ rw a.0 (sym (pass _ none_seen (halt _ _ (lt-ltb _ _ a.1))))
+
+    pub rename_none : None ≡ found (segments_of m q) (linked_by (segments_of m q) m q s 0) → m ≡ renamed m q s h
+    unfolding renamed head_here
+    rename_none e =
+        let a = none_found (segments_of m q) (linked_by (segments_of m q) m q s 0) e in
+        sym (pass _ none_seen (pass _ (le-ltb _ _ a) refl))
 
 -- LINKING
 module _ (m m1 : List ℕ) (q s h n : ℕ) (en : n ≡ read m (segment s 1)) (e1 : m1 ≡ write m (segment s 2) h) where

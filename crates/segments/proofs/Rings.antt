@@ -13,7 +13,8 @@ use Rattle.spec_lists.specs.Counting.{below?}
 use Rattle.spec_outcomes.specs.Segments.{place}
 use Rattle.spec_outcomes.specs.Places.{place_low, place_high}
 use Rattle.segments.specs.Runs.{store_ring}
-use Rattle.segments.proofs.Blocks.{put_block, block_inside, store_below}
+use Rattle.spec_words.specs.Parts.{put_block}
+use Rattle.segments.proofs.Blocks.{block_inside, store_below}
 
 -- a run that ends before the last place
 pub ring_low : (m : List ℕ) (b l p : ℕ) (ws : List ℕ) → p + length ws ≤ l → store_ring m b l p ws ≡ store_all m (b + p) ws

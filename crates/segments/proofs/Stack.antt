@@ -4,7 +4,6 @@ use mathlib.Core.Bool.{false}
 use mathlib.Core.List.{List, [], ◌∷◌}
 use Prim.Native.Nat.{ℕ, suc, ◌+◌, ◌-◌, ◌*◌, ◌<◌, ◌≤◌}
 use native.Mathlib.Omega.{arith}
-use lib.Dec.{eqb}
 use borrow.Author.Tests.{eqb-false, lt-ltb, le-ltb}
 use Rattle.spec_words.specs.Words.{store, pass, halt}
 use Rattle.spec_words.specs.Blocks.{store_all, store_more, store_none}
@@ -24,10 +23,6 @@ three_words m m1 m2 m3 s f n x e1 e2 e3 =
   where
     places : (a : ℕ) → store (store (store m (a + 0) f) (suc (a + 0)) n) (suc (suc (a + 0))) x ≡ store (store (store m (a + 0) f) (a + 1) n) (a + 2) x
     places a = let p : suc (a + 0) ≡ a + 1 = omega arith in let q : suc (a + 1) ≡ a + 2 = omega arith in simp (p, q)
-
-pub none_left : (m : List ℕ) (q n : ℕ) → n ≡ free_height m q → eqb n 0 ≡ has_none_free m q
-unfolding has_none_free
-none_left m q n e = ap (λ (k : ℕ). eqb k 0) e
 
 -- what a caller of next_free and take has to show, from what none_free answers
 pub some_left : (m : List ℕ) (q : ℕ) → has_none_free m q ≡ false → 0 < free_height m q

@@ -7,10 +7,9 @@ use native.Mathlib.Nat.{mul-le-mul, mul-le-mul_left, mul-suc, mul_comm}
 use lib.ListN.{length}
 use borrow.Rule.Slice.PartMut.{put_mid, mid_of, mid_len, set_mid_at}
 use Rattle.spec_words.specs.Words.{load, store, size}
-use Rattle.spec_layout.specs.Layout.{number_word, segment, value, first, count, next, length_of, Opened, ValuesFit, address, read, write}
-use Rattle.segment_record.specs.Ring.{one_fewer}
+use Rattle.spec_layout.specs.Layout.{number_word, value, first, count, next, length_of, Opened, ValuesFit, address, read, write}
 use Rattle.segment_record.specs.declared.Record.{Record}
-use Rattle.spec_outcomes.specs.Segments.{place, value_at, dropped}
+use Rattle.spec_outcomes.specs.Segments.{place, value_at}
 
 -- no address of a value wraps
 pub product_fits : (s l : ℕ) → s < 2 ^ 32 → l < 2 ^ 32 → s * l ≤ 4294967295 * 4294967295
@@ -54,8 +53,3 @@ values_inside m k s l e h g el ek = let a = places_inside m s l h g el in omega 
 -- the words of the record of segment s
 abbrev pub OfSegment : List ℕ → ℕ → Record → Type 0
 OfSegment m s r = (r.first ≡ read m (first s)) × (r.count ≡ read m (count s)) × (r.next ≡ read m (next s))
-
-pub one_less : (m m1 m2 : List ℕ) (s l p : ℕ) (r r1 : Record) → OfSegment m s r → l ≡ length_of m s → p ≡ place l r.first 1 → r1 ≡ one_fewer r p
-    → m1 ≡ write m (segment s 0) r1.first → m2 ≡ write m1 (segment s 1) r1.count → m2 ≡ dropped m s
-unfolding dropped
-one_less m m1 m2 s l p r r1 er el ep e e1 e2 = simp (e2, e1, e, ep, er.0, er.1, el)

@@ -4,6 +4,7 @@ ghost use Rattle.spec_outcomes.specs.Segments.{place};
 ghost use Rattle.segments.specs.Runs.{store_ring};
 
 // The place of value number k in a ring of l places, the first value at place f.
+#[tactic(auto, unfolding(spec_outcomes::specs::Segments::place, spec_words::specs::Words::pick))]
 pub(crate) fn place(l: u32, f: u32, k: u32) -> u32
     ensures { result ≡ place l f k }
 {
@@ -19,20 +20,9 @@ pub(crate) fn place(l: u32, f: u32, k: u32) -> u32
     0
 }
 
-// The lengths are equal, so the loop tests one index for both.
-fn copy(to: &mut [u32], from: &[u32])
-    requires { length to.old ≡ length from.now }
-    ensures { to.new ≡ from.now }
-{
-    let mut i = 0;
-    while i < from.len() {
-        to[i] = from[i];
-        i += 1;
-    }
-}
-
 // Stores the run vs from place p on; what is left behind the last place goes to the first places. It is lent the values of
 // one segment.
+#[tactic(auto, using(crate::proofs::Rings::one_part, crate::proofs::Rings::two_parts))]
 pub(crate) fn fill(values: &mut [u32], p: usize, vs: &[u32])
     requires { (p < length values.old) × (length vs.now ≤ length values.old) }
     ensures { values.new ≡ store_ring values.old 0 (length values.old) p vs.now }
@@ -42,10 +32,10 @@ pub(crate) fn fill(values: &mut [u32], p: usize, vs: &[u32])
     let x = l - p;
     if k <= x {
         let e = p + k;
-        copy(&mut values[p..e], vs);
+        values[p..e].copy_from_slice(vs);
         return;
     }
     let y = k - x;
-    copy(&mut values[p..l], &vs[0..x]);
-    copy(&mut values[0..y], &vs[x..k]);
+    values[p..l].copy_from_slice(&vs[0..x]);
+    values[0..y].copy_from_slice(&vs[x..k]);
 }

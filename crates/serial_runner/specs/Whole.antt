@@ -19,7 +19,6 @@ use Rattle.spec_serial.specs.Serial.{STEPS, stop_of, serial}
 use Rattle.spec_serial.specs.Working.{WORKING, first_at, count_at, ring_from, ring, lists}
 use Rattle.spec_serial.specs.Outcome.{ANSWERS, Outcome, outcome, shown, turned_down, serial_outcome}
 use Rattle.spec_serial.specs.declared.End.{End}
-use Rattle.spec_serial.specs.declared.End.TheVariants as End
 use Rattle.serial_runner.specs.declared.Ran.{Ran}
 use Rattle.serial_runner.specs.Onward.{onward, onward_stops}
 use Rattle.serial_runner.specs.Turns.{task}

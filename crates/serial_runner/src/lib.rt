@@ -13,6 +13,8 @@ ghost use Rattle.serial_runner.specs.Parts.{BodyRuns, ChildRuns};
 ghost use Rattle.serial_runner.specs.Handed.{Handed};
 
 use answer_numbers::{FINISHED, SPAWNED};
+use operations::Operation;
+use refusals::Refusal;
 use serial_queues::WORKING;
 use spec_answers::Answer;
 use spec_serial::End;
@@ -54,10 +56,9 @@ fn run_body(
     let mut i: u32 = 0;
     while 0 < left {
         let s = job_fields::instruction_at(job, procedure, i);
-        let k = s.operation;
-        match k {
-            8 => {
-                let x = std::num::wrapping_add_u32(register, s.operand);
+        match Operation::from(s.operation) {
+            Operation::Spawn => {
+                let x = register.wrapping_add(s.operand);
                 let child = run_child(job, w, a, number, s.which, x, depth, left, made);
                 let end = child.end;
                 let End::Ended = end else {
@@ -67,9 +68,15 @@ fn run_body(
                 left = child.left;
                 made = child.made;
             }
-            1..=10 => {
+            Operation::Return => {
+                serial_steps::write_answer(a, STEPS - left, number, FINISHED, 0);
+                let end = End::Ended;
+                left -= 1;
+                return Ran { end, left, made };
+            }
+            _ => {
                 if serial_steps::is_full(w, s) {
-                    let end = End::Refused(9);
+                    let end = End::Refused(Refusal::NoSegment.number());
                     return Ran { end, left, made };
                 }
                 let m = serial_steps::step(w, s, i, register);
@@ -77,12 +84,6 @@ fn run_body(
                 i = m.next;
                 register = m.register;
                 left -= 1;
-            }
-            _ => {
-                serial_steps::write_answer(a, STEPS - left, number, FINISHED, 0);
-                let end = End::Ended;
-                left -= 1;
-                return Ran { end, left, made };
             }
         }
     }
@@ -108,7 +109,7 @@ fn run_child(
         (lists w.old) a.old result (lists w.new) a.new }
 {
     if DEPTH <= depth {
-        let end = End::Refused(8);
+        let end = End::Refused(Refusal::NoRecord.number());
         return Ran { end, left, made };
     }
     serial_steps::write_answer(a, STEPS - left, number, SPAWNED, made);
@@ -139,13 +140,13 @@ pub fn run_serially(job: &[u8], w: &mut [u32], a: &mut [u32]) -> Stopped
 {
     if w.len() != WORKING {
         return Stopped {
-            end: End::Refused(1),
+            end: End::Refused(Refusal::LengthWrong.number()),
             steps: 0,
         };
     }
     if a.len() != ANSWERS {
         return Stopped {
-            end: End::Refused(1),
+            end: End::Refused(Refusal::LengthWrong.number()),
             steps: 0,
         };
     }

@@ -1,6 +1,6 @@
 -- What a step of the serial runner has to give: document 01's effect of the operation, and the lists after it.
-use Rattle.std.specs.Prelude.{◌≡◌, List, ℕ, ◌≤◌, set, drop}
-use Rattle.spec_job.specs.Operations.{operation_at}
+use Rattle.std.specs.Prelude.{◌≡◌, List, ℕ, ◌≤◌}
+use Rattle.spec_job.specs.Operations.{Operation, operation_at}
 use Rattle.spec_job.specs.Effects.{effect}
 use Rattle.spec_plain.specs.Machine.{queue, front, queues_after}
 use Rattle.job_effect.specs.declared.Made.{Made}
@@ -12,12 +12,11 @@ pub record Inner (k : ℕ) : Type 0 where
   pub few : k ≤ 10
   pub inside : k ≡ 8 → ⊥
 
--- an operation that takes the front of its queue
-abbrev pub Takes : ℕ → Type 0
-Takes k = (q v : ℕ) (qs : List (List ℕ)) → queues_after (operation_at k) q v qs ≡ set qs q (drop 1 (queue qs q))
+-- Operation o with fields q and x, by a task at instruction i with register r, where the lists were qs, gives e and the lists us.
+pub record Does (o : Operation) (q x i r : ℕ) (qs : List (List ℕ)) (e : Made) (us : List (List ℕ)) : Type 0 where
+  pub made : e ≡ coded (effect o i r x (front (queue qs q)))
+  pub lists : us ≡ queues_after o q e.value qs
 
--- Operation number k with fields q and x, by a task at instruction i with register r, where the lists were qs, gives e and
--- the lists us.
-pub record Gives (k q x i r : ℕ) (qs : List (List ℕ)) (e : Made) (us : List (List ℕ)) : Type 0 where
-  pub made : e ≡ coded (effect (operation_at k) i r x (front (queue qs q)))
-  pub lists : us ≡ queues_after (operation_at k) q e.value qs
+-- the same of operation number k
+abbrev pub Gives : ℕ → ℕ → ℕ → ℕ → ℕ → List (List ℕ) → Made → List (List ℕ) → Type 0
+Gives k = Does (operation_at k)

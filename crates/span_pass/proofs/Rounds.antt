@@ -35,6 +35,3 @@ module _ (j table : List ℕ) where
   unfolding span_pass
   from_opened w {w0} e ed et =
       ap₂ (λ (d t : ℕ). pass_from 65535 j table (stood w0 d t)) ed et ∙ ap (λ (l : List ℕ). pass_from 65535 j table (stood l 1 0)) e
-
-pub some_depth : (d : ℕ) → (d ≡ 0 → ⊥) → 1 ≤ d
-some_depth d h = omega (arith, h)

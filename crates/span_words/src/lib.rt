@@ -1,6 +1,6 @@
 // THE WORDS OF THE SPAN'S PASS: those of the tasks on the stack, of the queues and of their places. What they hold is free; where the words of
 // tasks are asked for, there are as many words as the pass has, so that these are read and written without a test.
-#![tactic(auto)]
+#![tactic(auto, unfolding(spec_words::specs::Words::load, spec_words::specs::Words::store, spec_words::specs::Words::pick, spec_line::specs::Later::later, spec_job::specs::Effects::sum, job_effect::specs::Made::found_of, spec_span::specs::Pass::queued, spec_span::specs::Pass::unqueued, spec_span::specs::Pass::filled, spec_span::specs::Pass::front_of, spec_span::specs::Pass::front_time, spec_span::specs::Pass::sharing, spec_span::specs::Pass::older_for, spec_span::specs::Pass::raised, spec_span::specs::Pass::finished_on, spec_span::specs::Pass::child_finished))]
 
 ghost use Rattle.std.specs.Prelude.{◌≡◌, ◌+◌, ◌<◌, ◌≤◌, length};
 ghost use Rattle.spec_words.specs.Words.{load, store, pick};
@@ -35,6 +35,9 @@ const VALUE: u32 = 0;
 
 const TIME: u32 = 1;
 
+// The words of a task.
+const TASK_WORDS: usize = 10;
+
 // Where the words of the queues and those of their places begin, and the words of a queue's places.
 const QUEUES: usize = 1290;
 
@@ -66,14 +69,14 @@ pub fn task(w: &[u32], d: u32, k: u32) -> u32
     requires { (d ≤ 128) × (k < 10) × (length w.now ≡ SPAN) }
     ensures { result ≡ load w.now (task_at d k) }
 {
-    w[d as usize * 10 + k as usize]
+    w[d as usize * TASK_WORDS + k as usize]
 }
 
 pub fn set_task(w: &mut [u32], d: u32, k: u32, v: u32)
     requires { (d ≤ 128) × (k < 10) × (length w.old ≡ SPAN) }
     ensures { w.new ≡ store w.old (task_at d k) v }
 {
-    w[d as usize * 10 + k as usize] = v;
+    w[d as usize * TASK_WORDS + k as usize] = v;
 }
 
 // The task at depth d, where the last step was done at time t.
@@ -96,7 +99,7 @@ pub fn read_task(w: &[u32], d: u32, t: u32) -> Standing
 fn popping_at(d: u32, q: u32) -> usize
     ensures { result ≡ task_at d (POPPING + q) }
 {
-    d as usize * 10 + (POPPING + q as usize)
+    d as usize * TASK_WORDS + (POPPING + q as usize)
 }
 
 fn queue_at(q: u32, k: u32) -> usize
@@ -137,19 +140,6 @@ fn set_place(w: &mut [u32], q: u32, i: u32, k: u32, v: u32)
     );
 }
 
-// TIMES
-pub fn later(a: u32, b: u32) -> u32
-    ensures { result ≡ later a b }
-{
-    if a < b { b } else { a }
-}
-
-pub fn sum(a: u32, b: u32) -> u32
-    ensures { result ≡ sum a b }
-{
-    std::num::wrapping_add_u32(a, b)
-}
-
 // A look in queue q by the task at depth d, which is held up until `own` by what concerns no queue.
 pub fn look(w: &[u32], d: u32, q: u32, own: u32) -> Seen
     ensures { Looks w.now d q own result }
@@ -159,19 +149,19 @@ pub fn look(w: &[u32], d: u32, q: u32, own: u32) -> Seen
     if n < queue(w, q, PUSHED) {
         return Seen {
             front: Some(place(w, q, n, VALUE)),
-            time: later(own, later(a, place(w, q, n, TIME))),
+            time: own.max(a.max(place(w, q, n, TIME))),
         };
     }
     Seen {
         front: None,
-        time: later(own, later(a, queue(w, q, PUSHERS))),
+        time: own.max(a.max(queue(w, q, PUSHERS))),
     }
 }
 
 fn raise(w: &mut [u32], a: usize, t: u32)
     ensures { w.new ≡ raised w.old a t }
 {
-    memory::put(w, a, later(memory::get(w, a), t));
+    memory::put(w, a, memory::get(w, a).max(t));
 }
 
 fn raise_if(w: &mut [u32], go: bool, a: usize, t: u32)
@@ -189,8 +179,8 @@ pub fn enqueue(w: &mut [u32], q: u32, v: u32, t: u32)
     let n = queue(w, q, PUSHED);
     let p = queue(w, q, PUSHERS);
     set_place(w, q, n, VALUE, v);
-    set_place(w, q, n, TIME, later(t, p));
-    set_queue(w, q, PUSHED, sum(n, 1));
+    set_place(w, q, n, TIME, t.max(p));
+    set_queue(w, q, PUSHED, n.wrapping_add(1));
 }
 
 // The first value of queue q is taken, if there is one.
@@ -199,7 +189,7 @@ pub fn unqueue(w: &mut [u32], q: u32)
 {
     let n = queue(w, q, TAKEN);
     if n < queue(w, q, PUSHED) {
-        set_queue(w, q, TAKEN, sum(n, 1));
+        set_queue(w, q, TAKEN, n.wrapping_add(1));
     }
 }
 
@@ -208,16 +198,8 @@ fn put_task(w: &mut [u32], d: u32, p: u32, x: u32, t: u32, older: u32)
     requires { (d ≤ 128) × (length w.old ≡ SPAN) }
     ensures { w.new ≡ task_words w.old d p x t older }
 {
-    set_task(w, d, PROCEDURE, p);
-    set_task(w, d, POSITION, 0);
-    set_task(w, d, REGISTER, x);
-    set_task(w, d, OWN, t);
-    set_task(w, d, CHILDREN, 0);
-    set_task(w, d, OLDER, older);
-    set_task(w, d, 6, 0);
-    set_task(w, d, 7, 0);
-    set_task(w, d, 8, 0);
-    set_task(w, d, 9, 0);
+    let a = d as usize * TASK_WORDS;
+    w[a..a + TASK_WORDS].copy_from_slice(&[p, 0, x, t, 0, older, 0, 0, 0, 0]);
 }
 
 // The latest finish of a child of the task at depth d that may pop queue q, where r has that right.
@@ -226,16 +208,17 @@ fn sharing(w: &[u32], d: u32, r: u32, q: u32) -> u32
     ensures { result ≡ sharing w.now d r q }
 {
     if rights::pops(r, q) {
-        return memory::get(w, popping_at(d, q));
+        memory::get(w, popping_at(d, q))
+    } else {
+        0
     }
-    0
 }
 
 fn older_for(w: &[u32], d: u32, r: u32) -> u32
     ensures { result ≡ older_for w.now d r }
 {
-    let a = later(sharing(w, d, r, 0), sharing(w, d, r, 1));
-    later(a, later(sharing(w, d, r, 2), sharing(w, d, r, 3)))
+    let a = sharing(w, d, r, 0).max(sharing(w, d, r, 1));
+    a.max(sharing(w, d, r, 2).max(sharing(w, d, r, 3)))
 }
 
 // The task at depth d makes a child, with procedure p, rights r and register x, at time t.
@@ -268,7 +251,7 @@ fn finished_on(w: &mut [u32], d: u32, r: u32, t: u32, q: u32)
 pub fn child_finished(w: &mut [u32], d: u32, r: u32, t: u32)
     ensures { w.new ≡ child_finished w.old d r t }
 {
-    raise(w, d as usize * 10 + CHILDREN as usize, t);
+    raise(w, d as usize * TASK_WORDS + CHILDREN as usize, t);
     finished_on(w, d, r, t, 0);
     finished_on(w, d, r, t, 1);
     finished_on(w, d, r, t, 2);
@@ -281,7 +264,5 @@ pub fn begin(w: &mut [u32])
     ensures { w.new ≡ pass_opened w.old }
 {
     put_task(w, 1, 0, 0, 0, 0);
-    memory::put4(w, 1290, 0, 0, 0, 0);
-    memory::put4(w, 1294, 0, 0, 0, 0);
-    memory::put4(w, 1298, 0, 0, 0, 0);
+    w[QUEUES..PLACES].fill(0);
 }

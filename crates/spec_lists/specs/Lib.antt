@@ -4,3 +4,4 @@ pub mod Tests
 pub mod Marks
 pub mod Distinct
 pub mod Maps
+pub mod Ranges

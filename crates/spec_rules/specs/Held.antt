@@ -1,5 +1,5 @@
 -- HOW MANY SEGMENTS ARE HELD. A segment opened is held where it is not on the stack of free ones (`Held`, Rules.antt).
-use Rattle.std.specs.Prelude.{◌≡◌, Bool, ℕ, ◌+◌, ◌-◌, ◌<◌, eqb, length}
+use Rattle.std.specs.Prelude.{◌≡◌, Bool, ℕ, ◌+◌, ◌<◌, eqb, length}
 use Rattle.std.proofs.Common.{arith}
 use Rattle.spec_lists.specs.Counting.{one, occurrences, total, length_total, total_plus}
 use Rattle.spec_lists.specs.Distinct.{distinct}

@@ -1,7 +1,7 @@
 -- What the code's functions find at a head and at a tail, and what the test over the events makes of it.
 use Rattle.std.proofs.Math.Path.{◌≡◌, refl, ap₂, sym}
 use Rattle.std.proofs.Common.{ap, ◌∙◌, lt-ltb, le-ltb, le-leb, eq-eqb, ne_eqb}
-use Rattle.std.specs.Prelude.{Bool, ℕ, ◌+◌, ◌%◌, ◌^◌, ◌<◌, ◌≤◌, ltb, get_or, set}
+use Rattle.std.specs.Prelude.{Option, Some, None, Bool, ℕ, ◌+◌, ◌%◌, ◌^◌, ◌<◌, ◌≤◌, ltb, get_or, set}
 use Rattle.std.proofs.Math.Bool.{true, false}
 use mathlib.Core.List.{List, ◌∷◌}
 use native.Mathlib.Omega.{arith}
@@ -26,17 +26,17 @@ pub raise_at : (w : List ℕ) (k v r : ℕ) → r ≡ (get_or w k 0 + v) % 2 ^ 3
 unfolding raised store load
 raise_at w k v r e = ap (set w k) e
 
--- an answer 0, and one that is not
-module _ (k i : ℕ) (d e : List ℕ) where
-  lost : (b : Bool) → k ≡ 0 → answered k d ≡ pick b (placed i e) wrong → b ≡ false
+-- no answer, and one
+module _ (i : ℕ) (d e : List ℕ) where
+  lost : (b : Bool) → answered None d ≡ pick b (placed i e) wrong → b ≡ false
   unfolding answered pick
-  lost false z q = refl
-  lost true z q = let x : wrong ≡ placed i e = sym (halt _ _ (eq-eqb k 0 z)) ∙ q in let y : ◌≡◌ {A = ℕ} 0 1 = cc in let n : ⊥ = omega arith in absurd n
+  lost false q = refl
+  lost true q = let x : wrong ≡ placed i e = q in absurd (cc)
 
-  won : (b : Bool) → (k ≡ 0 → ⊥) → answered k d ≡ pick b (placed i e) wrong → (b ≡ true) × (k ≡ i) × (d ≡ e)
+  won : (b : Bool) (k : ℕ) → answered (Some k) d ≡ pick b (placed i e) wrong → (b ≡ true) × (k ≡ i) × (d ≡ e)
   unfolding answered pick
-  won true z q = let x : placed k d ≡ placed i e = sym (pass _ (ne_eqb k 0 z) refl) ∙ q in (refl, cc, cc)
-  won false z q = let x : placed k d ≡ wrong = sym (pass _ (ne_eqb k 0 z) refl) ∙ q in let y : ◌≡◌ {A = ℕ} 0 1 = cc in let n : ⊥ = omega arith in absurd n
+  won true k q = let x : placed k d ≡ placed i e = q in (refl, cc, cc)
+  won false k q = let x : placed k d ≡ wrong = q in absurd (cc)
 
 module _ (m : List ℕ) (es : List Event) where
   abbrev c : Contents
@@ -47,36 +47,37 @@ module _ (m : List ℕ) (es : List Event) where
     unfolding run
     head_far l = both_on refl ∙ sym (halt _ _ (le-leb NL h l))
 
-    module _ (d' : List ℕ) (k : ℕ) (small : get_or m 1 0 ≤ 256) (local : h < NL) (found : answered k d' ≡ placing c (get_or m 1 0) h 0 d) where
+    module _ (d' : List ℕ) (r : Option ℕ) (small : get_or m 1 0 ≤ 256) (local : h < NL) (found : answered r d' ≡ placing c (get_or m 1 0) h 0 d) where
       abbrev segs : List ℕ
       segs = chain c c.number h
 
-      given : answered k d' ≡ pick (both (fresh c.number segs d) (each (filled c) segs)) (placed (0 + length segs) (marking segs d)) wrong
-      given =
-          found
+      given : (o : Option ℕ) → r ≡ o → answered o d' ≡ pick (both (fresh c.number segs d) (each (filled c) segs)) (placed (0 + length segs) (marking segs d)) wrong
+      given o e =
+          ap (λ (x : Option ℕ). answered x d') (sym e)
+          ∙ found
           ∙ ap (λ (j : ℕ). placing c j h 0 d) (number_at m)
           ∙ placing_chain c (rw (number_at m) at small) c.number h 0 d
 
-      pub head_wrong : (x : Bool) → k ≡ 0 → both false x ≡ run c (head h ∷ es) d f w
+      pub head_wrong : (x : Bool) → r ≡ None → both false x ≡ run c (head h ∷ es) d f w
       unfolding run
       head_wrong x z =
           both_off x refl
-          ∙ sym (pass _ (lt-leb NL h local) (sym (grouped _ _ _) ∙ both_off _ (lost k _ d' _ _ z given)))
+          ∙ sym (pass _ (lt-leb NL h local) (sym (grouped _ _ _) ∙ both_off _ (lost _ d' _ _ (given None z))))
 
-      head_placed : (k ≡ 0 → ⊥) → both true (run c es d' f (raised (raised w PLACED k) HEADS 1)) ≡ run c (head h ∷ es) d f w
+      head_placed : (k : ℕ) → r ≡ Some k → both true (run c es d' f (raised (raised w PLACED k) HEADS 1)) ≡ run c (head h ∷ es) d f w
       unfolding run
-      head_placed z =
-          let g = won k _ d' _ _ z given in
+      head_placed k z =
+          let g = won _ d' _ _ k (given (Some k) z) in
           let n : k ≡ length segs = g.1 ∙ (let y : 0 + length segs ≡ length segs = omega arith in y) in
           both_on refl
           ∙ ap₂ (λ (x : List ℕ) (j : ℕ). run c es x f (raised (raised w PLACED j) HEADS 1)) g.2 n
           ∙ sym (pass _ (lt-leb NL h local) (sym (grouped _ _ _) ∙ both_on g.0))
 
-      pub head_right : (k ≡ 0 → ⊥) → (i j : ℕ) → i ≡ (get_or w PLACED 0 + k) % 2 ^ 32 → j ≡ (get_or (set w PLACED i) HEADS 0 + 1) % 2 ^ 32
+      pub head_right : (k : ℕ) → r ≡ Some k → (i j : ℕ) → i ≡ (get_or w PLACED 0 + k) % 2 ^ 32 → j ≡ (get_or (set w PLACED i) HEADS 0 + 1) % 2 ^ 32
           → both true (run c es d' f (set (set w PLACED i) HEADS j)) ≡ run c (head h ∷ es) d f w
-      head_right z i j p q =
+      head_right k z i j p q =
           ap (λ (x : List ℕ). both true (run c es d' f x)) (raise_at (set w PLACED i) HEADS 1 j q ∙ ap (λ (x : List ℕ). raised x HEADS 1) (raise_at w PLACED k i p))
-          ∙ head_placed z
+          ∙ head_placed k z
 
   module _ (d f w : List ℕ) (e : ℕ) where
     pub tail_far : NL ≤ e → both true (run c es d f w) ≡ run c (tail e ∷ es) d f w

@@ -3,6 +3,10 @@ use mathlib.Core.Path.{◌≡◌, refl, ap, sym}
 use mathlib.Core.List.{List}
 use Prim.Native.Nat.{ℕ, ◌+◌, ◌-◌, ◌*◌, ◌/◌, ◌%◌, ◌<◌, ◌≤◌}
 use native.Mathlib.Omega.{arith}
+use lib.ListN.{get_or, take, drop}
+use lib.Seq.{get_or-drop}
+use mathlib.Core.Path.{◌∙◌}
+use Rattle.std.proofs.lemmas.List.{get_or-take}
 use native.Mathlib.Numerals.{add-one}
 use Rattle.spec_words.specs.Words.{load, store}
 use Rattle.spec_lists.specs.Counting.{total}
@@ -10,6 +14,11 @@ use Rattle.spec_lists.specs.Tests.{turn_left, turns_over}
 use Rattle.tree_test.specs.Counted.{faults_from, near_from}
 
 module _ (m : List ℕ) (h i : ℕ) where
+  -- the entry as an element of the stack
+  pub entry_at : i < h → get_or (take (320 + h - 320) (drop 320 m)) i 0 ≡ load m (320 + i)
+  unfolding load
+  entry_at l = get_or-take (320 + h - 320) (drop 320 m) i 0 (omega arith) ∙ get_or-drop 320 m i 0
+
   -- w is the sum so far
   pub faults_more : (w : ℕ) → i < h → w + faults_from (h - i) m i ≡ faults_from h m 0
       → w + (load m (320 + i) / 128 + load m (1472 + load m (320 + i) % 128 * 48)) + faults_from (h - (i + 1)) m (i + 1) ≡ faults_from h m 0

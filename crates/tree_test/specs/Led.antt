@@ -1,7 +1,7 @@
 -- A stretch of the walk: i of n marks are written in xs and x is the next one; later j are in ys, and y is the next one.
-use Rattle.std.specs.Prelude.{◌≡◌, refl, true, false, List, [], ◌∷◌, ◌++◌, eqb, length, set}
+use Rattle.std.specs.Prelude.{Option, Some, None, ◌≡◌, refl, true, false, List, [], ◌∷◌, ◌++◌, eqb, length, set}
 use Rattle.std.proofs.Math.Path.{ap, sym}
-use Rattle.std.proofs.Common.{◌∙◌, append-nil, le_of_suc-le-suc}
+use Rattle.std.proofs.Common.{subst, ◌∙◌, append-nil, le_of_suc-le-suc}
 use Rattle.std.proofs.lemmas.Bool.{false≢true}
 use Prim.Native.Nat.{ℕ, zero, suc, ◌+◌, ◌-◌, ◌<◌, ◌≤◌}
 use native.Mathlib.Omega.{arith}
@@ -12,6 +12,7 @@ use Rattle.spec_lists.specs.Tests.{turn_left}
 use Rattle.spec_tree.specs.Tour.{END, tour}
 use Rattle.spec_rules.specs.Contents.{Contents}
 use Rattle.spec_rules.specs.Test.{tree_test}
+use Rattle.tree_test.specs.declared.Spot.{Spot}
 use Rattle.tree_test.specs.Walk.{next_mark, walk_test, path, walk_same, path_tour}
 
 last_one : (n i : ℕ) → i < n → eqb (n - (i + 1)) 0 ≡ eqb (i + 1) n
@@ -32,10 +33,10 @@ module _ (c : Contents) (n : ℕ) where
     pub test : walk_test c (n - j) y ≡ walk_test c (n - i) x
     pub marks : take j ys ++ path c (n - j) y ≡ take i xs ++ path c (n - i) x
 
-  -- the walk came to where a task is entered or the top is exited; or it failed, and y is above 128
-  pub record Led (x i : ℕ) (xs : List ℕ) (y j : ℕ) (ys : List ℕ) : Type 0 where
-    pub on : y ≤ 128 → Same x i xs y j ys
-    pub wrong : 128 < y → false ≡ walk_test c (n - i) x
+  -- the walk came to where a task is entered or the top is exited, with k marks written or more; or it failed
+  pub record Led (x i : ℕ) (xs : List ℕ) (k : ℕ) (r : Option Spot) (ys : List ℕ) : Type 0 where
+    pub on : (s : Spot) → r ≡ Some s → (s.mark ≤ 128) × (k ≤ s.written) × Same x i xs s.mark s.written ys
+    pub wrong : r ≡ None → false ≡ walk_test c (n - i) x
 
   pub same_here : (x i : ℕ) (xs : List ℕ) → Same x i xs x i xs
   same_here x i xs = record { test = refl; marks = refl }
@@ -43,14 +44,20 @@ module _ (c : Contents) (n : ℕ) where
   pub same_on : {x i : ℕ} {xs : List ℕ} {y j : ℕ} {ys : List ℕ} {z k : ℕ} {zs : List ℕ} → Same x i xs y j ys → Same y j ys z k zs → Same x i xs z k zs
   same_on a b = record { test = b.test ∙ a.test; marks = b.marks ∙ a.marks }
 
-  pub led_on : {x i : ℕ} {xs : List ℕ} {y j : ℕ} {ys : List ℕ} {z k : ℕ} {zs : List ℕ} → Same x i xs y j ys → Led y j ys z k zs → Led x i xs z k zs
-  led_on a b = record { on = λ h. same_on a (b.on h); wrong = λ h. b.wrong h ∙ a.test }
+  pub led_on : {x i : ℕ} {xs : List ℕ} {y j : ℕ} {ys : List ℕ} {k : ℕ} {r : Option Spot} {zs : List ℕ} → Same x i xs y j ys
+      → Led y j ys k r zs → Led x i xs k r zs
+  led_on a b = record { on = λ s e. let d = b.on s e in (d.0, d.1, same_on a d.2); wrong = λ e. b.wrong e ∙ a.test }
 
-  pub led_here : {x i : ℕ} {xs : List ℕ} {y j : ℕ} {ys : List ℕ} → y ≤ 128 → Same x i xs y j ys → Led x i xs y j ys
-  led_here h a = record { on = λ l. a; wrong = λ l. let z : ⊥ = omega (arith, h, l) in absurd z }
+  pub led_here : {x i : ℕ} {xs : List ℕ} {s : Spot} {k : ℕ} {ys : List ℕ} → s.mark ≤ 128 → k ≤ s.written → Same x i xs s.mark s.written ys
+      → Led x i xs k (Some s) ys
+  led_here {x = x} {i = i} {xs = xs} {s = s} {k = k} {ys = ys} h l a =
+      record {
+        on = λ r e. let q : s ≡ r = cc in subst (λ (z : Spot). (z.mark ≤ 128) × (k ≤ z.written) × Same x i xs z.mark z.written ys) q (h, l, a);
+        wrong = λ e. absurd (cc);
+      }
 
-  pub led_wrong : {x i : ℕ} {xs : List ℕ} {j : ℕ} {ys : List ℕ} → false ≡ walk_test c (n - i) x → Led x i xs END j ys
-  led_wrong e = record { on = λ l. let z : ⊥ = omega (arith, l) in absurd z; wrong = λ l. e }
+  pub led_wrong : {x i : ℕ} {xs : List ℕ} {k : ℕ} {r : Option Spot} {ys : List ℕ} → r ≡ None → false ≡ walk_test c (n - i) x → Led x i xs k r ys
+  led_wrong q e = record { on = λ s d. absurd (cc); wrong = λ d. e }
 
   -- ONE MARK
   module _ (i x : ℕ) where

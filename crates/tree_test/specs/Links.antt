@@ -1,9 +1,8 @@
 -- One link of the task tree, test by test, as the code makes them.
-use Rattle.std.specs.Prelude.{◌≡◌, Bool, true, false, ℕ, ◌<◌, ◌≤◌, leb, eqb}
-use Rattle.std.proofs.Math.Path.{sym}
-use Rattle.std.proofs.Common.{◌∙◌, arith}
-use borrow.Author.Tests.{leb-true, le-leb, lt-leb, eqb-true, ne_eqb, eq-eqb}
-use Rattle.spec_words.specs.Words.{both, both_on, both_off, both_true, true_both}
+use Rattle.std.specs.Prelude.{◌≡◌, Bool, true, ℕ, leb, eqb}
+use Rattle.std.proofs.Common.{arith}
+use borrow.Author.Tests.{leb-true, le-leb, eqb-true, eq-eqb}
+use Rattle.spec_words.specs.Words.{both, both_true, true_both}
 use Rattle.spec_layout.specs.Layout.{STATUS, PARENT, YOUNGER, UNFINISHED}
 use Rattle.spec_tree.specs.Rights.{subset}
 use Rattle.spec_rules.specs.Contents.{Contents, word, task_rights}
@@ -16,35 +15,10 @@ module _ (c : Contents) where
       both (leb 1 t) (both (leb t 127) (both (eqb (word c t STATUS) UNFINISHED) (both (eqb (word c t PARENT) p) (both (eqb (word c t YOUNGER) y)
       (subset (task_rights c t) b)))))
 
-  module _ (t p y b : ℕ) where
-    pub fit_top : t < 1 → false ≡ fitting t p y b
-    unfolding fitting
-    fit_top h = sym (both_off _ (lt-leb 1 t h))
-
-    module _ (low : 1 ≤ t) where
-      pub fit_far : 127 < t → false ≡ fitting t p y b
-      unfolding fitting
-      fit_far h = sym (both_on (le-leb 1 t low) ∙ both_off _ (lt-leb t 127 h))
-
-      module _ (high : t ≤ 127) where
-        in_reach : (x : Bool) → both (leb 1 t) (both (leb t 127) x) ≡ x
-        in_reach x = both_on (le-leb 1 t low) ∙ both_on (le-leb t 127 high)
-
-        pub fit_free : (word c t STATUS ≡ UNFINISHED → ⊥) → false ≡ fitting t p y b
-        unfolding fitting
-        fit_free n = sym (in_reach _ ∙ both_off _ (ne_eqb _ _ n))
-
-        pub fit_parent : word c t STATUS ≡ UNFINISHED → (word c t PARENT ≡ p → ⊥) → false ≡ fitting t p y b
-        unfolding fitting
-        fit_parent e n = sym (in_reach _ ∙ both_on (eq-eqb _ _ e) ∙ both_off _ (ne_eqb _ _ n))
-
-        pub fit_younger : word c t STATUS ≡ UNFINISHED → word c t PARENT ≡ p → (word c t YOUNGER ≡ y → ⊥) → false ≡ fitting t p y b
-        unfolding fitting
-        fit_younger e f n = sym (in_reach _ ∙ both_on (eq-eqb _ _ e) ∙ both_on (eq-eqb _ _ f) ∙ both_off _ (ne_eqb _ _ n))
-
-        pub fit_rights : word c t STATUS ≡ UNFINISHED → word c t PARENT ≡ p → word c t YOUNGER ≡ y → subset (task_rights c t) b ≡ fitting t p y b
-        unfolding fitting
-        fit_rights e f g = sym (in_reach _ ∙ both_on (eq-eqb _ _ e) ∙ both_on (eq-eqb _ _ f) ∙ both_on (eq-eqb _ _ g))
+  -- the same of its record alone
+  unfoldable pub record_fits : ℕ → ℕ → ℕ → ℕ → Bool
+  record_fits t p y b =
+      both (eqb (word c t STATUS) UNFINISHED) (both (eqb (word c t PARENT) p) (both (eqb (word c t YOUNGER) y) (subset (task_rights c t) b)))
 
   -- what the tests say together
   pub fit_says : (t p y : ℕ) → fitting t p y (task_rights c p) ≡ true → Kin c t p y

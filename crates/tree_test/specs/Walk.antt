@@ -1,5 +1,5 @@
 -- The walk along the task tree, mark by mark, as the code makes it; and that it tests what tree_test says.
-use Rattle.std.specs.Prelude.{◌≡◌, Bool, List, [], ◌∷◌, ◌⊎◌, ltb, eqb}
+use Rattle.std.specs.Prelude.{Some, None, ◌≡◌, Bool, List, [], ◌∷◌, ◌⊎◌, ltb, eqb}
 use Rattle.std.proofs.Math.Path.{refl, ap, sym}
 use Rattle.std.proofs.Common.{◌∙◌, subst, inl, inr, arith}
 use Rattle.std.proofs.Math.Bool.{true, false}
@@ -8,6 +8,8 @@ use Rattle.std.proofs.Math.Logic.{⊎_elim}
 use Prim.Native.Nat.{ℕ, zero, suc, ◌+◌, ◌-◌, ◌<◌, ◌≤◌}
 use Rattle.std.proofs.Math.Dec.{leb}
 use borrow.Author.Tests.{ltb-true, ltb-false, lt-ltb, le-ltb, leb-true, leb-false, le-leb, lt-leb, eqb-true, ne_eqb, eq-eqb}
+use Rattle.std.specs.Bool.{then_some}
+use Rattle.spec_words.specs.Found.{found, found_some, found_none}
 use Rattle.spec_words.specs.Words.{pick, pick_true, pick_false, pass, halt, same_test}
 use Rattle.spec_lists.specs.Counting.{equal?}
 use Rattle.spec_layout.specs.Layout.{NONE, PARENT, OLDER, YOUNGEST}
@@ -61,10 +63,24 @@ module _ (c : Contents) where
   entered_wrong t u e n f =
       sym (pass _ (ne_eqb _ _ (λ q. n (e ∙ q))) (pass _ (ap (λ (v : ℕ). fitting c v t NONE (task_rights c t)) (sym e) ∙ f) refl))
 
+  -- the answer as the code has it
+  pub entered_up : (t u : ℕ) → t < 128 → u ≡ word c t YOUNGEST → u ≡ NONE → Some (128 + t) ≡ found END (entered_next t)
+  entered_up t u l e q = found_some END (128 + t) (omega arith) ∙ ap (found END) (entered_leaf t u e q)
+
+  pub entered_fits : (t u : ℕ) (b : Bool) → u ≡ word c t YOUNGEST → (u ≡ NONE → ⊥) → b ≡ fitting c u t NONE (task_rights c t)
+      → then_some b u ≡ found END (entered_next t)
+  entered_fits t u true e n f =
+      let k = (fit_says c u t NONE (sym f)).below in
+      found_some END u (omega (arith, k)) ∙ ap (found END) (entered_down t u e n (sym f))
+  entered_fits t u false e n f = found_none END END (omega arith) ∙ ap (found END) (entered_wrong t u e n (sym f))
+
   module _ (t p : ℕ) (a : p ≡ word c t PARENT) where
     pub left_out : 127 < p → END ≡ exited_next t
     unfolding exited_next
     left_out h = sym (halt _ _ (le-leb 128 (word c t PARENT) (omega (arith, a, h))))
+
+    pub left_none : 127 < p → None ≡ found END (exited_next t)
+    left_none h = found_none END END (omega arith) ∙ ap (found END) (left_out h)
 
     module _ (h : p ≤ 127) (u : ℕ) (e : u ≡ word c t OLDER) where
       inside : leb 128 (word c t PARENT) ≡ false
@@ -84,6 +100,15 @@ module _ (c : Contents) where
       pub exited_wrong : (u ≡ NONE → ⊥) → fitting c u p t (task_rights c p) ≡ false → END ≡ exited_next t
       unfolding exited_next
       exited_wrong n f = sym (pass _ inside (pass _ (ne_eqb _ _ (λ q. n (e ∙ q))) (pass _ (same ∙ f) refl)))
+
+      pub exited_rises : u ≡ NONE → Some (128 + p) ≡ found END (exited_next t)
+      exited_rises q = found_some END (128 + p) (omega (arith, h)) ∙ ap (found END) (exited_up q)
+
+      pub exited_fits : (b : Bool) → (u ≡ NONE → ⊥) → b ≡ fitting c u p t (task_rights c p) → then_some b u ≡ found END (exited_next t)
+      exited_fits true n f =
+          let k = (fit_says c u p t (sym f)).below in
+          found_some END u (omega (arith, k)) ∙ ap (found END) (exited_over n (sym f))
+      exited_fits false n f = found_none END END (omega arith) ∙ ap (found END) (exited_wrong n (sym f))
 
   pub next_entered : (x : ℕ) → x < 128 → entered_next x ≡ next_mark x
   unfolding next_mark

@@ -39,33 +39,31 @@ fn next(m: &[u32], s: u32) -> u32
     m[NEXT_AT + s as usize * SEGMENT_WORDS]
 }
 
-// Places the segments of the chain from h on: their number, 0 where the chain is wrong.
-fn place(d: &mut [u8; 256], m: &[u32], h: u32) -> u32
+// Places the segments of the chain from h on: their number, if the chain is right.
+fn place(d: &mut [u8; 256], m: &[u32], h: u32) -> Option<u32>
     requires { Ready m.now }
     ensures { answered result d.new ≡ placing (decode m.now) (slice_index m.now 1) h 0 d.old }
 {
     let n = m[NUMBER_AT];
     let mut s = h;
-    let mut k: u32 = 0;
-    while k < n {
+    for k in 0..n {
         if s >= n {
-            return 0;
+            return None;
         }
         if d[s as usize] != 0 {
-            return 0;
+            return None;
         }
         d[s as usize] = 1;
-        k += 1;
         let behind = next(m, s);
         if behind == NONE {
-            return k;
+            return Some(k + 1);
         }
         if count(m, s) == 0 {
-            return 0;
+            return None;
         }
         s = behind;
     }
-    0
+    None
 }
 
 // The head of a view: where it is local, its chain is placed.
@@ -77,12 +75,11 @@ fn head(d: &mut [u8; 256], w: &mut [u32; 12], m: &[u32], h: u32) -> bool
     if h >= NL {
         return true;
     }
-    let k = place(d, m, h);
-    if k == 0 {
+    let Some(k) = place(d, m, h) else {
         return false;
-    }
-    w[PLACED] = std::num::wrapping_add_u32(w[PLACED], k);
-    w[HEADS] = std::num::wrapping_add_u32(w[HEADS], 1);
+    };
+    w[PLACED] = w[PLACED].wrapping_add(k);
+    w[HEADS] = w[HEADS].wrapping_add(1);
     true
 }
 
@@ -105,11 +102,12 @@ fn tail(f: &mut [u8; 256], w: &mut [u32; 12], m: &[u32], e: u32) -> bool
         return false;
     }
     f[e as usize] = 1;
-    w[TAILS] = std::num::wrapping_add_u32(w[TAILS], 1);
+    w[TAILS] = w[TAILS].wrapping_add(1);
     true
 }
 
 // 1 for a non-local end of a view.
+#[tactic(auto, unfolding(spec_rules::specs::Test::passed, spec_rules::specs::Test::marked, spec_words::specs::Words::pick, spec_words::specs::Words::both, spec_words::specs::Words::either))]
 fn marked(w: u32) -> u32
     ensures { result ≡ marked w }
 {
@@ -117,19 +115,14 @@ fn marked(w: u32) -> u32
 }
 
 // The order of a queue in front of a view with head h and tail e, where it is o behind it.
+#[tactic(auto, unfolding(spec_rules::specs::Test::passed, spec_rules::specs::Test::marked, spec_words::specs::Words::pick, spec_words::specs::Words::both, spec_words::specs::Words::either))]
 fn passed(h: u32, e: u32, o: u32) -> u32
     ensures { result ≡ passed h e o }
 {
-    if h == NONE {
-        if e == NONE {
-            return o;
-        }
-        return 2;
+    if h == NONE && e == NONE {
+        return o;
     }
-    if e == NONE {
-        return 2;
-    }
-    if marked(e) != o {
+    if h == NONE || e == NONE || marked(e) != o {
         return 2;
     }
     marked(h)
@@ -159,10 +152,7 @@ pub fn view(
         return false;
     }
     w[q] = passed(h, e, w[q]);
-    if !tail(f, w, m, e) {
-        return false;
-    }
-    head(d, w, m, h)
+    tail(f, w, m, e) && head(d, w, m, h)
 }
 
 // The queue view of queue q whose head stands at address a.

@@ -14,7 +14,9 @@ ghost use Rattle.spec_view_events.specs.Groups.{Blank};
 ghost use Rattle.spec_view_events.specs.Sees.{Ready, Sees, SeesHeads};
 ghost use Rattle.law_view_events.specs.Begun.{Begun};
 
-use layout::{HEADS_AT, NONE, NUMBER_AT, QUEUE_HEADS_AT, RIGHTS_AT, TAILS_AT, TASK_WORDS, TASKS};
+use layout::{
+    HEADS_AT, NONE, NUMBER_AT, QUEUE_HEADS_AT, QUEUES, RIGHTS_AT, TAILS_AT, TASK_WORDS, TASKS,
+};
 use view_steps::{HEADS, ORDERS, PLACED, SEEN, TAILS};
 
 // The kinds of views, which count words here.
@@ -56,13 +58,11 @@ fn four(
 {
     let a = HEADS_AT + t * TASK_WORDS + k * 4;
     let mut r = m[RIGHTS_AT + t * TASK_WORDS];
-    let mut q: usize = 0;
-    while q < 4 {
+    for q in 0..QUEUES as usize {
         if !view_steps::view(d, f, w, m, a + q, r, q) {
             return false;
         }
         r = r / 4;
-        q += 1;
     }
     true
 }
@@ -93,10 +93,7 @@ fn user(d: &mut [u8; 256], f: &mut [u8; 256], w: &mut [u32; 12], m: &[u32], t: u
     ensures { Sees m.now (kind_at (decode m.now) t USER) result
         d.old f.old w.old d.new f.new w.new }
 {
-    if empty(m, t, USER) {
-        return true;
-    }
-    four(d, f, w, m, t, USER)
+    empty(m, t, USER) || four(d, f, w, m, t, USER)
 }
 
 // The right views of task t and, in front of them, its user views.
@@ -108,10 +105,7 @@ fn right(d: &mut [u8; 256], f: &mut [u8; 256], w: &mut [u32; 12], m: &[u32], t: 
     if empty(m, t, RIGHT) {
         return user(d, f, w, m, t);
     }
-    if !four(d, f, w, m, t, RIGHT) {
-        return false;
-    }
-    user(d, f, w, m, t)
+    four(d, f, w, m, t, RIGHT) && user(d, f, w, m, t)
 }
 
 // Task t where it is entered.
@@ -124,10 +118,7 @@ fn entered(d: &mut [u8; 256], f: &mut [u8; 256], w: &mut [u32; 12], m: &[u32], t
     if shared(m, QUEUE_HEADS_AT + t * TASK_WORDS) == NONE {
         return right(d, f, w, m, t);
     }
-    if !queues(d, w, m, t) {
-        return false;
-    }
-    right(d, f, w, m, t)
+    queues(d, w, m, t) && right(d, f, w, m, t)
 }
 
 // Task t where it is exited.
@@ -136,10 +127,7 @@ fn exited(d: &mut [u8; 256], f: &mut [u8; 256], w: &mut [u32; 12], m: &[u32], t:
     ensures { Sees m.now (kind_at (decode m.now) t CHILDREN) result
         d.old f.old w.old d.new f.new w.new }
 {
-    if empty(m, t, CHILDREN) {
-        return true;
-    }
-    four(d, f, w, m, t, CHILDREN)
+    empty(m, t, CHILDREN) || four(d, f, w, m, t, CHILDREN)
 }
 
 // A mark of the tour.
@@ -155,37 +143,21 @@ fn mark(d: &mut [u8; 256], f: &mut [u8; 256], w: &mut [u32; 12], m: &[u32], x: u
 }
 
 // The four words of the state from a on are 1.
+#[tactic(auto, unfolding(spec_view_events::specs::Run::four_ones, spec_words::specs::Words::load, spec_words::specs::Words::both, spec_words::specs::Words::pick))]
 fn ones(w: &[u32; 12], a: usize) -> bool
     requires { a < 9 }
     ensures { result ≡ four_ones w.now a }
 {
-    if w[a] != 1 {
-        return false;
-    }
-    if w[a + 1] != 1 {
-        return false;
-    }
-    if w[a + 2] != 1 {
-        return false;
-    }
-    w[a + 3] == 1
+    w[a] == 1 && w[a + 1] == 1 && w[a + 2] == 1 && w[a + 3] == 1
 }
 
 // The end: the order of each queue is right, each queue view was seen, each segment placed, each chain has its tail.
+#[tactic(auto, unfolding(spec_view_events::specs::Run::whole, spec_layout::specs::Layout::read, spec_layout::specs::Layout::address, spec_words::specs::Words::load, spec_words::specs::Words::both, spec_words::specs::Words::pick))]
 fn whole(w: &[u32; 12], m: &[u32]) -> bool
     requires { length m.now ≡ 16384 }
     ensures { result ≡ whole (decode m.now) w.now }
 {
-    if !ones(w, ORDERS) {
-        return false;
-    }
-    if !ones(w, SEEN) {
-        return false;
-    }
-    if w[PLACED] != m[NUMBER_AT] {
-        return false;
-    }
-    w[HEADS] == w[TAILS]
+    ones(w, ORDERS) && ones(w, SEEN) && w[PLACED] == m[NUMBER_AT] && w[HEADS] == w[TAILS]
 }
 
 // All marks of the tour.
@@ -194,12 +166,10 @@ fn walk(d: &mut [u8; 256], f: &mut [u8; 256], w: &mut [u32; 12], m: &[u32], xs: 
     ensures { result ≡ run (decode m.now) (events (decode m.now) xs.now)
         d.old f.old w.old }
 {
-    let mut i = 0;
-    while i < xs.len() {
-        if !mark(d, f, w, m, xs[i]) {
+    for x in xs {
+        if !mark(d, f, w, m, *x) {
             return false;
         }
-        i += 1;
     }
     whole(w, m)
 }

@@ -1,2 +1,1 @@
-pub mod Reduce
-pub mod Memory
+pub mod Queues

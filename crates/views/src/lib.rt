@@ -1,157 +1,143 @@
-// Views: a view is its head and its tail. Reading, writing and reducing them, and sync.
-#![tactic(auto)]
+// Views: reading, writing and reducing them, and sync.
+#![tactic(auto, unfolding(spec_outcomes::specs::Sync::synced, spec_outcomes::specs::Sync::synced_queue, spec_outcomes::specs::Sync::syncs, spec_outcomes::specs::Views::behind, spec_outcomes::specs::Views::frees, spec_outcomes::specs::Views::head_of, spec_outcomes::specs::Views::is_empty, spec_outcomes::specs::Views::joined, spec_outcomes::specs::Views::merged, spec_outcomes::specs::Views::reduced, spec_outcomes::specs::Views::reducible, spec_outcomes::specs::Views::set_view, spec_outcomes::specs::Views::tail_of, spec_outcomes::specs::Views::view_of, spec_words::specs::Words::both, spec_words::specs::Words::either, spec_words::specs::Words::pick))]
 
-ghost use Rattle.std.specs.Prelude.{◌≡◌, List, ℕ, ltb};
+ghost use Rattle.std.specs.Prelude.{◌≡◌, ltb};
 ghost use Rattle.spec_words.specs.Words.{both};
 ghost use Rattle.spec_layout.specs.Layout.{NL};
-ghost use Rattle.spec_rules.specs.Views.View.{view};
-ghost use Rattle.spec_outcomes.specs.Views.{is_empty, head_of, tail_of, reducible, frees, behind, reduced, set_view, joined, merged};
+ghost use Rattle.spec_outcomes.specs.Views.{view_of, is_empty, reducible, frees, behind, reduced, set_view, joined, merged};
 ghost use Rattle.spec_outcomes.specs.Sync.{syncs, synced_queue, synced};
+ghost use Rattle.views.specs.Ends.{seen};
 
-use layout::{CHILDREN, NL, NONE, USER};
+use layout::{CHILDREN, NL, NONE, QUEUES, USER};
 
-pub fn is_empty(h: u32, e: u32) -> bool
-    ensures { result ≡ is_empty (view h e) }
-{
-    if h != NONE {
-        return false;
-    }
-    e == NONE
+// A view is its two ends: a segment, none, or a non-local end.
+#[derive(Clone, Copy)]
+pub struct View {
+    pub head: u32,
+    pub tail: u32,
 }
 
-// The paper has the reduction of the two views.
-pub fn reducible(h1: u32, e1: u32, h2: u32, e2: u32) -> bool
-    ensures { result ≡ reducible (view h1 e1) (view h2 e2) }
-{
-    if is_empty(h1, e1) {
-        return true;
+const EMPTY: View = View {
+    head: NONE,
+    tail: NONE,
+};
+
+impl View {
+    // View k of task t.
+    pub fn of(m: &[u32], q: u32, t: u32, k: u32) -> Self
+        ensures { seen result ≡ view_of m.now q t k }
+    {
+        View {
+            head: memory::head(m, k, t, q),
+            tail: memory::tail(m, k, t, q),
+        }
     }
-    if is_empty(h2, e2) {
-        return true;
+
+    pub fn is_empty(self) -> bool
+        ensures { result ≡ is_empty (seen self) }
+    {
+        self.head == NONE && self.tail == NONE
     }
-    if e1 == NL {
-        return h2 == NL;
+
+    // The paper has the reduction of the two views.
+    pub fn reducible(self, behind: Self) -> bool
+        ensures { result ≡ reducible (seen self) (seen behind) }
+    {
+        if self.is_empty() || behind.is_empty() {
+            return true;
+        }
+        if self.tail == NL {
+            return behind.head == NL;
+        }
+        behind.head != NL && self.tail != behind.head
     }
-    if h2 == NL {
-        return false;
+
+    // Reducing the two views frees the tail of the left one.
+    pub fn frees(self, m: &[u32], behind: Self) -> bool
+        ensures { result ≡ frees m.now (seen self) (seen behind) }
+    {
+        !self.is_empty()
+            && !behind.is_empty()
+            && local(self.tail, behind.head)
+            && memory::count(m, self.tail) == 0
     }
-    e1 != h2
+
+    // What a view has become when `left` and `right` are reduced. Its tail stays.
+    pub fn after(self, m: &[u32], left: Self, right: Self) -> Self
+        ensures { seen result ≡ behind m.now (seen left) (seen right) (seen self) }
+    {
+        if self.head == left.tail && left.frees(m, right) {
+            return View {
+                head: right.head,
+                tail: self.tail,
+            };
+        }
+        self
+    }
+
+    // What the two views are reduced to.
+    pub fn reduced(self, m: &[u32], behind: Self) -> Self
+        ensures { seen result ≡ reduced m.now (seen self) (seen behind) }
+    {
+        if self.is_empty() {
+            return behind;
+        }
+        if behind.is_empty() {
+            return self;
+        }
+        View {
+            head: self.after(m, self, behind).head,
+            tail: behind.tail,
+        }
+    }
 }
 
-pub fn set_view(m: &mut [u32], q: u32, t: u32, k: u32, h: u32, e: u32)
-    ensures { m.new ≡ set_view m.old q t k (view h e) }
+pub fn set_view(m: &mut [u32], q: u32, t: u32, k: u32, v: View)
+    ensures { m.new ≡ set_view m.old q t k (seen v) }
 {
-    memory::set_head(m, k, t, q, h);
-    memory::set_tail(m, k, t, q, e);
+    memory::set_head(m, k, t, q, v.head);
+    memory::set_tail(m, k, t, q, v.tail);
 }
 
 // Both ends are segments.
 fn local(e: u32, h: u32) -> bool
     ensures { result ≡ both (ltb e NL) (ltb h NL) }
 {
-    if NL <= e {
-        return false;
-    }
-    h < NL
+    e < NL && h < NL
 }
 
-// Reducing the two views frees the tail of the left one.
-pub fn frees(m: &[u32], h1: u32, e1: u32, h2: u32, e2: u32) -> bool
-    ensures { result ≡ frees m.now (view h1 e1) (view h2 e2) }
+// View k of task t becomes its reduction with view v.
+pub fn join(m: &mut [u32], q: u32, t: u32, k: u32, v: View)
+    ensures { m.new ≡ joined m.old q t k (seen v) }
 {
-    if is_empty(h1, e1) {
-        return false;
-    }
-    if is_empty(h2, e2) {
-        return false;
-    }
-    if !local(e1, h2) {
-        return false;
-    }
-    memory::count(m, e1) == 0
-}
-
-// What the head h of a view has become when the two views are reduced. Its tail stays.
-pub fn head_behind(m: &[u32], h1: u32, e1: u32, h2: u32, e2: u32, h: u32) -> u32
-    ensures { (e : ℕ) → view result e ≡ behind m.now (view h1 e1) (view h2 e2) (view h e) }
-{
-    if h != e1 {
-        return h;
-    }
-    if frees(m, h1, e1, h2, e2) {
-        return h2;
-    }
-    h
-}
-
-// The head of what the two views are reduced to.
-pub fn reduced_head(m: &[u32], h1: u32, e1: u32, h2: u32, e2: u32) -> u32
-    ensures { result ≡ head_of (reduced m.now (view h1 e1) (view h2 e2)) }
-{
-    if is_empty(h1, e1) {
-        return h2;
-    }
-    if is_empty(h2, e2) {
-        return h1;
-    }
-    head_behind(m, h1, e1, h2, e2, h1)
-}
-
-// Its tail, which the memory does not change.
-pub fn reduced_tail(h1: u32, e1: u32, h2: u32, e2: u32) -> u32
-    ensures { (m : List ℕ) → result ≡ tail_of (reduced m (view h1 e1) (view h2 e2)) }
-{
-    if is_empty(h1, e1) {
-        return e2;
-    }
-    if is_empty(h2, e2) {
-        return e1;
-    }
-    e2
-}
-
-// View k of task t becomes its reduction with the view from h to e.
-pub fn join(m: &mut [u32], q: u32, t: u32, k: u32, h: u32, e: u32)
-    ensures { m.new ≡ joined m.old q t k (view h e) }
-{
-    if is_empty(h, e) {
+    if v.is_empty() {
         return;
     }
-    let b = memory::tail(m, k, t, q);
-    if is_empty(memory::head(m, k, t, q), b) {
-        set_view(m, q, t, k, h, e);
+    let u = View::of(m, q, t, k);
+    if u.is_empty() {
+        set_view(m, q, t, k, v);
         return;
     }
-    if local(b, h) {
-        segments::link(m, q, b, h);
-        memory::set_tail(m, k, t, q, e);
-        return;
+    if local(u.tail, v.head) {
+        segments::link(m, q, u.tail, v.head);
     }
-    memory::set_tail(m, k, t, q, e);
+    memory::set_tail(m, k, t, q, v.tail);
 }
 
 // View k of task t becomes its reduction with view k2 of task t2, which becomes empty.
 pub fn merge(m: &mut [u32], q: u32, t: u32, k: u32, t2: u32, k2: u32)
     ensures { m.new ≡ merged m.old q t k t2 k2 }
 {
-    let h = memory::head(m, k2, t2, q);
-    let e = memory::tail(m, k2, t2, q);
-    join(m, q, t, k, h, e);
-    set_view(m, q, t2, k2, NONE, NONE);
+    let v = View::of(m, q, t2, k2);
+    join(m, q, t, k, v);
+    set_view(m, q, t2, k2, EMPTY);
 }
 
 // The paper has sync's reduction of queue q.
 pub fn syncs(m: &[u32], t: u32, q: u32) -> bool
     ensures { result ≡ syncs m.now t q }
 {
-    let h = memory::head(m, CHILDREN, t, q);
-    let e = memory::tail(m, CHILDREN, t, q);
-    reducible(
-        h,
-        e,
-        memory::head(m, USER, t, q),
-        memory::tail(m, USER, t, q),
-    )
+    View::of(m, q, t, CHILDREN).reducible(View::of(m, q, t, USER))
 }
 
 // The user view of queue q becomes the reduction of children view and user view.
@@ -159,17 +145,16 @@ fn sync_queue(m: &mut [u32], t: u32, q: u32)
     ensures { m.new ≡ synced_queue m.old t q }
 {
     merge(m, q, t, CHILDREN, t, USER);
-    let h = memory::head(m, CHILDREN, t, q);
-    let e = memory::tail(m, CHILDREN, t, q);
-    set_view(m, q, t, USER, h, e);
-    set_view(m, q, t, CHILDREN, NONE, NONE);
+    let v = View::of(m, q, t, CHILDREN);
+    set_view(m, q, t, USER, v);
+    set_view(m, q, t, CHILDREN, EMPTY);
 }
 
+#[tactic(auto, using(memory::specs::Queues::none_done, memory::specs::Queues::one_more_done, crate::proofs::Queues::all_synced))]
 pub fn sync_all(m: &mut [u32], t: u32)
     ensures { m.new ≡ synced m.old t }
 {
-    sync_queue(m, t, 0);
-    sync_queue(m, t, 1);
-    sync_queue(m, t, 2);
-    sync_queue(m, t, 3);
+    for q in 0..QUEUES {
+        sync_queue(m, t, q);
+    }
 }

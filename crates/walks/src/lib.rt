@@ -1,17 +1,18 @@
 // Walks over tasks: the tour of the task tree, siblings, and what the calls ask of them. Each walk is bounded by the
 // number of its steps, so it ends on any memory.
-#![tactic(auto)]
+#![tactic(auto, using(crate::proofs::Found::or_end, crate::proofs::Found::some_before_end), unfolding(spec_words::specs::Words::pick, spec_words::specs::Words::both, spec_words::specs::Words::either, spec_tree::specs::Tour::exiting, spec_tree::specs::Tour::entering, spec_outcomes::specs::Views::task_at, spec_outcomes::specs::Views::kind_at, spec_outcomes::specs::Views::has_part, spec_outcomes::specs::Views::stands_at, spec_outcomes::specs::Views::just_before, spec_outcomes::specs::Views::returned_to, spec_outcomes::specs::Views::view_of, spec_outcomes::specs::Views::is_empty, spec_outcomes::specs::Views::head_of, spec_outcomes::specs::Finish::heir, spec_outcomes::specs::Waits::unfinished, spec_outcomes::specs::Waits::blocked, spec_outcomes::specs::Waits::child_pops, spec_outcomes::specs::Waits::has_child, spec_outcomes::specs::Waits::pusher_before, crate::specs::Asked::counts, spec_words::specs::Found::found))]
 
-ghost use Rattle.std.specs.Prelude.{◌≡◌, not, ◌<◌, ltb, eqb};
+ghost use Rattle.std.specs.Prelude.{◌≡◌, ℕ, Bool, not, ◌<◌, ltb, eqb};
 ghost use Rattle.spec_words.specs.Words.{pick, both};
-ghost use Rattle.spec_layout.specs.Layout.{rights_of, record_of};
+ghost use Rattle.spec_words.specs.Found.{found};
+ghost use Rattle.spec_layout.specs.Layout.{NONE, rights_of, record_of};
 ghost use Rattle.spec_tree.specs.Rights.{pushes, pops, shares_pop};
 ghost use Rattle.spec_tree.specs.Tour.{MARKS, exiting, entering, after, seek, sibling, oldest};
 ghost use Rattle.spec_rules.specs.Views.{view};
 ghost use Rattle.spec_outcomes.specs.Waits.{unfinished, blocked, child_pops, has_child, pusher_before};
 ghost use Rattle.spec_outcomes.specs.Views.{task_at, kind_at, has_part, stands_at, just_before, returned_to};
 ghost use Rattle.spec_outcomes.specs.Finish.{heir};
-ghost use Rattle.walks.specs.Asked.{counts, asked};
+ghost use Rattle.walks.specs.Asked.{counts, Tests};
 
 use layout::{CHILDREN, END, MARKS, NL, NONE, RIGHT, TASKS, UNFINISHED};
 
@@ -30,6 +31,7 @@ fn entering(p: u32, c: u32) -> u32
 }
 
 // The mark after x.
+#[tactic(auto, using(crate::proofs::Tour::after_entered, crate::proofs::Tour::after_exited))]
 pub fn after(m: &[u32], x: u32) -> u32
     ensures { result ≡ after (record_of m.now) x }
 {
@@ -44,45 +46,38 @@ pub fn after(m: &[u32], x: u32) -> u32
 pub fn unfinished(m: &[u32], t: u32) -> bool
     ensures { result ≡ unfinished m.now t }
 {
-    if t < TASKS {
-        memory::status(m, t) == UNFINISHED
-    } else {
-        false
-    }
+    t < TASKS && memory::status(m, t) == UNFINISHED
 }
 
-// The first of `from` and its older siblings that shares a pop right with rights a.
-fn sharing(m: &[u32], a: u32, from: u32) -> u32
-    ensures { result ≡ sibling 128 (λ c. shares_pop (rights_of m.now c) a) (record_of m.now) from }
+// One of `from` and its older siblings shares a pop right with rights a.
+#[tactic(auto, using(crate::specs::Steps::sibling_none, crate::specs::Steps::sibling_end, crate::specs::Steps::sibling_here, crate::specs::Steps::sibling_on))]
+fn sharing(m: &[u32], a: u32, from: u32) -> bool
+    ensures { result ≡ not (eqb (sibling 128 (λ c. shares_pop (rights_of m.now c) a) (record_of m.now) from) NONE) }
 {
     let mut c = from;
-    let mut n: u32 = TASKS;
-    while 0 < n {
+    for _ in 0..TASKS {
         if TASKS <= c {
-            return NONE;
+            return false;
         }
         if rights::shares_pop(memory::rights(m, c), a) {
-            return c;
+            return true;
         }
         c = memory::older(m, c);
-        n -= 1;
     }
-    NONE
+    false
 }
 
 pub fn blocked(m: &[u32], t: u32) -> bool
     ensures { result ≡ blocked m.now t }
 {
-    let a = memory::rights(m, t);
-    let c = memory::older(m, t);
-    sharing(m, a, c) != NONE
+    sharing(m, memory::rights(m, t), memory::older(m, t))
 }
 
 pub fn child_pops(m: &[u32], t: u32, q: u32) -> bool
     requires { q < 4 }
     ensures { result ≡ child_pops m.now t q }
 {
-    sharing(m, rights::pop_right(q), memory::youngest(m, t)) != NONE
+    sharing(m, rights::pop_right(q), memory::youngest(m, t))
 }
 
 pub fn has_child(m: &[u32], t: u32) -> bool
@@ -96,11 +91,7 @@ fn meets_pusher(m: &[u32], q: u32, x: u32) -> bool
     requires { q < 4 }
     ensures { result ≡ both (ltb x 128) (pushes (rights_of m.now x) q) }
 {
-    if x < TASKS {
-        rights::pushes(memory::rights(m, x), q)
-    } else {
-        false
-    }
+    x < TASKS && rights::pushes(memory::rights(m, x), q)
 }
 
 // The task that is entered or exited at mark x.
@@ -128,13 +119,9 @@ fn takes_part(m: &[u32], q: u32, x: u32) -> bool
 fn counts(m: &[u32], q: u32, x: u32) -> bool
     ensures { result ≡ counts m.now q x }
 {
-    if x <= TASKS {
-        return true;
-    }
-    if memory::head(m, CHILDREN, x - TASKS, q) != NONE {
-        return true;
-    }
-    memory::tail(m, CHILDREN, x - TASKS, q) != NONE
+    x <= TASKS
+        || memory::head(m, CHILDREN, x - TASKS, q) != NONE
+        || memory::tail(m, CHILDREN, x - TASKS, q) != NONE
 }
 
 // Most marks of a long walk have an empty children view, so that is asked first.
@@ -142,77 +129,54 @@ fn stands_at(m: &[u32], q: u32, x: u32) -> bool
     requires { q < 4 }
     ensures { result ≡ stands_at m.now q x }
 {
-    if !counts(m, q, x) {
-        return false;
-    }
-    takes_part(m, q, x)
+    counts(m, q, x) && takes_part(m, q, x)
 }
 
-// What a walk over the tour asks of a mark: is a task entered there that may push to the queue, has its task a right to it, does a view of it
-// stand there?
-#[derive(Clone, Copy)]
-enum Asks {
-    Pushes,
-    TakesPart,
-    Stands,
-}
-
-fn holds(m: &[u32], a: Asks, q: u32, x: u32) -> bool
-    requires { q < 4 }
-    ensures { result ≡ asked a m.now q x }
-{
-    match a {
-        Asks::Pushes => meets_pusher(m, q, x),
-        Asks::TakesPart => takes_part(m, q, x),
-        Asks::Stands => stands_at(m, q, x),
-    }
-}
-
-// The first mark from `from` on for which it holds.
-fn seek(m: &[u32], a: Asks, q: u32, from: u32) -> u32
-    requires { q < 4 }
-    ensures { result ≡ seek MARKS (asked a m.now q) (record_of m.now) from }
+// The first mark from `from` on of which the test holds.
+pub fn seek<F: Fn(u32) -> bool>(m: &[u32], from: u32, test: F) -> Option<u32>
+    requires { F.IsAlwaysCallable test }
+    ensures { (f : ℕ → Bool) → Tests (F.post test) f → result ≡ found MARKS (seek MARKS f (record_of m.now) from) }
 {
     let mut x = from;
-    let mut n: u32 = MARKS;
-    while 0 < n {
+    for _ in 0..MARKS {
         if END <= x {
-            return END;
+            return None;
         }
-        if holds(m, a, q, x) {
-            return x;
+        if test(x) {
+            return Some(x);
         }
         x = after(m, x);
-        n -= 1;
     }
-    END
+    None
 }
 
 pub fn pusher_before(m: &[u32], t: u32, q: u32) -> bool
     requires { q < 4 }
     ensures { result ≡ pusher_before m.now t q }
 {
-    seek(m, Asks::Pushes, q, after(m, t)) != END
+    seek(m, after(m, t), |x| meets_pusher(m, q, x)).is_some()
 }
 
 pub fn just_before(m: &[u32], q: u32, t: u32) -> u32
     requires { q < 4 }
     ensures { result ≡ just_before m.now q t }
 {
-    seek(m, Asks::Stands, q, after(m, t))
+    seek(m, after(m, t), |x| stands_at(m, q, x)).unwrap_or(END)
 }
 
 // The view (h, e) goes by its head alone.
+#[tactic(auto, using(crate::proofs::Found::or_end), unfolding(spec_words::specs::Words::pick, spec_outcomes::specs::Views::returned_to, spec_outcomes::specs::Views::head_of))]
 pub fn returned_to(m: &[u32], q: u32, t: u32, h: u32, e: u32) -> u32
     requires { (q < 4) × (t < 128) }
     ensures { result ≡ returned_to m.now q t (view h e) }
 {
     let x = after(m, t + TASKS);
-    if h == NL {
-        seek(m, Asks::TakesPart, q, x)
+    let found = if h == NL {
+        seek(m, x, |x| takes_part(m, q, x))
     } else {
-        seek(m, Asks::Stands, q, x)
-    }
+        seek(m, x, |x| stands_at(m, q, x))
+    };
+    found.unwrap_or(END)
 }
 
 // c where c is a sibling of t that may pop q, else d.
@@ -220,10 +184,7 @@ fn heir_or(m: &[u32], t: u32, q: u32, c: u32, d: u32) -> u32
     requires { q < 4 }
     ensures { result ≡ pick (both (not (eqb c t)) (pops (rights_of m.now c) q)) c d }
 {
-    if c == t {
-        return d;
-    }
-    if rights::pops(memory::rights(m, c), q) {
+    if c != t && rights::pops(memory::rights(m, c), q) {
         c
     } else {
         d
@@ -231,20 +192,19 @@ fn heir_or(m: &[u32], t: u32, q: u32, c: u32, d: u32) -> u32
 }
 
 // The oldest of `from` and its older siblings that may pop q and is not t, else p.
+#[tactic(auto, using(crate::specs::Steps::oldest_none, crate::specs::Steps::oldest_end, crate::specs::Steps::oldest_on))]
 fn oldest_popping(m: &[u32], t: u32, q: u32, from: u32, p: u32) -> u32
     requires { q < 4 }
     ensures { result ≡ oldest 128 (λ c. both (not (eqb c t)) (pops (rights_of m.now c) q)) (record_of m.now) from p }
 {
     let mut c = from;
     let mut d = p;
-    let mut n: u32 = TASKS;
-    while 0 < n {
+    for _ in 0..TASKS {
         if TASKS <= c {
             return d;
         }
         d = heir_or(m, t, q, c, d);
         c = memory::older(m, c);
-        n -= 1;
     }
     d
 }

@@ -1,26 +1,18 @@
-use mathlib.Core.Path.{refl, ◌∙◌}
-use Rattle.core_blocked.proofs.Steps.{none_left, past_youngest, one_noted}
+use mathlib.Core.Path.{◌≡◌}
+use Prim.Native.Nat.{◌+◌, ◌-◌}
+use Rattle.std.proofs.Common.{arith}
+use Rattle.std.proofs.lemmas.Bool.Decides.{nat_tests}
+use Rattle.spec_words.specs.Words.{pick}
+use Rattle.core_blocked.proofs.Steps.{none, step}
 use Rattle.core_blocked.proofs.note.Goals as goal
 
-pub loop-n-init : goal.loop-n-init
-loop-n-init c = (refl, refl)
-
-pub shape_of-a-then-c-ge-TASKS : goal.shape_of-a-then-c-ge-TASKS
-shape_of-a-then-c-ge-TASKS c = c.loop-n.invariant.0
-
 pub returns-then-c-ge-TASKS : goal.returns-then-c-ge-TASKS
-returns-then-c-ge-TASKS c = past_youngest _ _ _ _ _ c.if-c-ge-TASKS.true ∙ c.loop-n.invariant.1
+unfolding pick
+returns-then-c-ge-TASKS c = grind (arith, nat_tests, step)
 
-pub loop-n-preserved : goal.loop-n-preserved
-loop-n-preserved c = (
-  c.put.auto.m ∙ c.loop-n.invariant.0,
-  one_noted _ _ _ _ _ c.loop-n-test.true
-      c.if-c-ge-TASKS.false c.put.ensures c.rights-w.ensures
-      c.younger-c.ensures ∙ c.loop-n.invariant.1,
-)
-
-pub shape_of-a : goal.shape_of-a
-shape_of-a c = c.loop-n.invariant.0
+pub loop-preserved : goal.loop-preserved
+unfolding pick
+loop-preserved c = let e : 128 - (c.loop.counter + 1) ≡ 128 - c.loop.counter - 1 = omega arith in grind (arith, nat_tests, step)
 
 pub returns : goal.returns
-returns c = none_left _ _ _ _ _ c.loop-n-test.false ∙ c.loop-n.invariant.1
+returns c = let e : 128 - c.loop.counter ≡ 0 = omega arith in grind (arith, none, e)

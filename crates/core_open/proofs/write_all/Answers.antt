@@ -6,6 +6,6 @@ returns c =
     all_made
     c.args.m.now _ _ _ _ _ _ _
     c.requires.0
-    c.clear.ensures c.write_header.ensures
+    c.clear.ensures c.put_all.ensures
     c.stack.ensures
     c.segment.ensures c.top.ensures

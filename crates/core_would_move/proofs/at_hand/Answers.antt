@@ -1,8 +1,5 @@
-use mathlib.Core.Path.{sym, ◌∙◌}
-use borrow.Author.Tests.{not-false}
-use Rattle.core_return.proofs.Deciding.{empty_is}
+use Rattle.std.proofs.Common.{arith}
 use Rattle.core_would_move.proofs.Before.{child_before, sibling_before}
-use Rattle.std.proofs.Common.{ap, not}
 use Rattle.core_would_move.proofs.at_hand.Goals as goal
 
 pub returns-then-c-lt-TASKS : goal.returns-then-c-lt-TASKS
@@ -10,8 +7,4 @@ returns-then-c-lt-TASKS c = child_before _ _ _ c.requires.1 c.youngest-c.ensures
 
 pub returns : goal.returns
 returns c =
-    sibling_before _ _ _ c.requires.1
-    c.youngest-c.ensures _
-    c.if-c-lt-TASKS.false c.if-t-eq0.false
-    (sym (empty_is _ _ _ _ _ _ _ c.head-h.ensures c.tail.ensures
-    c.is_empty.ensures) ∙ not-false _ (ap not c.if-not-is_empty.false)) c.older.ensures c.entered-2.ensures
+    sibling_before _ _ _ c.requires.1 c.youngest-c.ensures _ c.if-c-lt-TASKS.false c.if-t-eq0.false (grind arith) c.older.ensures c.entered-2.ensures

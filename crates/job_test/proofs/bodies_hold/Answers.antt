@@ -1,34 +1,12 @@
-use mathlib.Core.Path.{ap, sym, ◌∙◌}
-use Prim.Native.Nat.{ℕ, ◌-◌}
-use native.Mathlib.Omega.{arith}
-use borrow.Author.Tests.{not-true, not-false}
-use Rattle.spec_lists.specs.Tests.{upto}
+use Rattle.std.proofs.Common.{rules, ◌∙◌, arith, tests}
+use Rattle.std.proofs.lemmas.Iterator.{YieldsList-from_range}
+use Rattle.std.proofs.lemmas.Iterator.Search.{all_from_yields_List}
+use Rattle.spec_job.specs.Fields.{procedures}
 use Rattle.spec_job.specs.Test.{body_holds}
-use Rattle.job_test.proofs.Loops.{upto_start, upto_next, upto_stop, upto_end}
-use Rattle.std.proofs.Common.{not}
+use Rattle.spec_lists.specs.Ranges.{all_upto}
 use Rattle.job_test.proofs.bodies_hold.Goals as goal
-
-pub loop-p-init : goal.loop-p-init
-loop-p-init c = (omega arith, upto_start _ _)
-
-pub body_holds-requires : goal.body_holds-requires
-body_holds-requires c =
-    (c.requires.0, c.requires.1, rw c.procedures-n.ensures at c.loop-p-test.true)
-
-pub returns-then-not-body_holds : goal.returns-then-not-body_holds
-returns-then-not-body_holds c =
-    upto_stop _ _ _ c.loop-p-test.true (sym c.body_holds.ensures ∙ not-true _ (ap not c.if-not-body_holds.true))
-    ∙ c.loop-p.invariant.1 ∙ ap (λ (k : ℕ). upto (body_holds c.args.job.now) k 0)
-    c.procedures-n.ensures
-
-pub loop-p-preserved : goal.loop-p-preserved
-loop-p-preserved c = (
-  omega arith,
-  upto_next _ _ _ c.loop-p-test.true (sym c.body_holds.ensures ∙ not-false _ (ap not c.if-not-body_holds.false))
-      ∙ c.loop-p.invariant.1,
-)
 
 pub returns : goal.returns
 returns c =
-    upto_end _ _ _ c.loop-p-test.false ∙ c.loop-p.invariant.1 ∙ ap (λ (k : ℕ). upto (body_holds c.args.job.now) k 0)
-    c.procedures-n.ensures
+    all_from_yields_List (body_holds c.args.job.now) _ _ _ c.all.ensures.ran (YieldsList-from_range 0 (procedures c.args.job.now) (procedures c.args.job.now) (search rules) (omega arith)) (λ x b q k. search (rules, tests))
+    ∙ all_upto _ _ _

@@ -1,56 +1,33 @@
-use mathlib.Core.Path.{refl, sym, ◌∙◌}
-use Prim.Native.Nat.{◌-◌}
-use native.Mathlib.Omega.{arith}
-use borrow.Author.Tests.{not-true, not-false}
+use Rattle.std.proofs.Common.{rules, tests, Bool, ◌≡◌, sym, ◌∙◌, ℕ, ◌+◌, ◌*◌, arith}
+use Rattle.std.proofs.iter.Serving.{serving}
+use Rattle.std.proofs.lemmas.Iterator.{YieldsList-from_range}
+use Rattle.std.proofs.lemmas.Iterator.Search.{all_from_yields_List}
 use Rattle.spec_words.specs.Words.{both_off}
-use Rattle.spec_job.specs.Test.{instruction_holds, body_holds}
+use Rattle.spec_lists.specs.Ranges.{all_upto}
+use Rattle.spec_job.specs.Fields.{instruction_from}
+use Rattle.spec_job.specs.Test.{fitting, instruction_holds, body_holds}
 use Rattle.job_test.proofs.Fields.{instruction_says, body_says}
 use Rattle.job_test.proofs.Inside.{entry_inside, instruction_inside}
-use Rattle.job_test.proofs.Loops.{upto_start, upto_next, upto_stop, upto_end}
-use Rattle.std.proofs.Common.{ap, not}
 use Rattle.job_test.proofs.body_holds.Goals as goal
 
-pub returns-then-not-last_holds : goal.returns-then-not-last_holds
-unfolding body_holds
-returns-then-not-last_holds c = sym (both_off _ (sym c.last_holds.ensures ∙ not-true _ (ap not c.if-not-last_holds.true)))
-
 pub procedure_at-e-requires : goal.procedure_at-e-requires
-procedure_at-e-requires c = entry_inside _ _ c.requires.0 refl c.requires.2
+procedure_at-e-requires c = entry_inside _ _ c.requires.0 c.requires.2
 
-pub loop-i-init : goal.loop-i-init
-loop-i-init c = (omega arith, upto_start _ _)
+pub all-requires-clause-callable : goal.all-requires-clause-callable
+all-requires-clause-callable c =
+    let h = instruction_inside _ _ c.requires.1 c.requires.2 c.procedure_at-e.ensures.0 c.procedure_at-e.ensures.1 in grind (serving, h)
 
-pub instruction_holds-requires : goal.instruction_holds-requires
-instruction_holds-requires c = (
-  c.requires.0,
-  instruction_inside _ _
-      c.requires.1 c.requires.2
-      c.procedure_at-e.ensures.0 c.procedure_at-e.ensures.1 _ c.loop-i-test.true,
-)
+pub returns-then-last_holds : goal.returns-then-last_holds
+returns-then-last_holds c =
+    let says : (i : ℕ) (b : Bool) → b ≡ fitting c.args.job.now c.procedure_at-e.result.rights c.procedure_at-e.result.count
+    (instruction_from c.args.job.now (c.procedure_at-e.result.offset + i * 6)) → b ≡ instruction_holds c.args.job.now c.args.p i
+    = λ i b e. sym (instruction_says _ _ _ c.procedure_at-e.ensures.0 c.procedure_at-e.ensures.1 c.procedure_at-e.ensures.2 e) in
+    body_says _ _ c.last_holds.ensures c.if-last_holds.true c.procedure_at-e.ensures.1
+    (all_from_yields_List (instruction_holds c.args.job.now c.args.p) _ _ _ c.all.ensures.ran
+    (YieldsList-from_range 0 c.procedure_at-e.result.count c.procedure_at-e.result.count (search rules) (omega arith))
+    (λ x b q k. search (rules, tests, says))
+    ∙ all_upto _ _ _)
 
-pub returns-then-not-instruction_holds : goal.returns-then-not-instruction_holds
-returns-then-not-instruction_holds c =
-    body_says _ _ c.last_holds.ensures
-    (not-false _ (ap not c.if-not-last_holds.false)) c.procedure_at-e.ensures.1
-    (upto_stop _ _ _ c.loop-i-test.true
-    (instruction_says _ _ _ c.procedure_at-e.ensures.0
-    c.procedure_at-e.ensures.1 c.procedure_at-e.ensures.2
-    c.instruction_holds.ensures
-    ∙ not-true _ (ap not c.if-not-instruction_holds.true))
-    ∙ c.loop-i.invariant.1)
-
-pub loop-i-preserved : goal.loop-i-preserved
-loop-i-preserved c = (
-  omega arith,
-  upto_next _ _ _ c.loop-i-test.true
-      (instruction_says _ _ _ c.procedure_at-e.ensures.0
-      c.procedure_at-e.ensures.1 c.procedure_at-e.ensures.2
-      c.instruction_holds.ensures
-      ∙ not-false _ (ap not c.if-not-instruction_holds.false))
-      ∙ c.loop-i.invariant.1,
-)
-
-pub returns : goal.returns
-returns c =
-    body_says _ _ c.last_holds.ensures (not-false _ (ap not c.if-not-last_holds.false))
-    c.procedure_at-e.ensures.1 (upto_end _ _ _ c.loop-i-test.false ∙ c.loop-i.invariant.1)
+pub returns-else-last_holds : goal.returns-else-last_holds
+unfolding body_holds
+returns-else-last_holds c = c.if-last_holds.false ∙ sym (both_off _ (sym c.last_holds.ensures ∙ c.if-last_holds.false))

@@ -7,6 +7,3 @@ use Rattle.job_test.proofs.entries_hold.Given as goal
 
 abbrev pub invariant-loop-p : goal.invariant-loop-p
 invariant-loop-p l = (l.p ≤ l.n) × (l.a ≤ 4 + l.n * 6 + l.p * 768) × (entries_hold l.job (l.n - l.p) l.p l.a ≡ entries_hold l.job l.n 0 (entry_at l.n))
-
-abbrev pub decreases-loop-p : goal.decreases-loop-p
-decreases-loop-p l = l.n - l.p

@@ -1,4 +1,6 @@
 -- The job, then the form, are decided before a word is written; the words that the opening leaves are where a run begins.
+use Rattle.runner_words.specs.Numbers.{refusal_number}
+use Rattle.runner_words.proofs.Numbers.{number_some}
 use Rattle.runner_run.specs.Made.{opened_reached}
 use Rattle.replay.specs.At.{starts}
 use Rattle.replay.specs.Whole.{stays_shut, other_form, agrees, differs}
@@ -8,15 +10,18 @@ use Rattle.std.proofs.Common.{ap, not}
 use native.Mathlib.Omega.{arith}
 use Rattle.replay.proofs.replay.Goals as goal
 
-pub returns-then-k-ne0 : goal.returns-then-k-ne0
-returns-then-k-ne0 c = stays_shut _ _ _ _ c.refusal-k.ensures c.if-k-ne0.true
+pub returns-in-Err : goal.returns-in-Err
+unfolding refusal_number
+returns-in-Err c = rw c.number.ensures (stays_shut _ _ _ _ c.in-Err.ensures (number_some _))
 
 pub returns-then-not-has_form : goal.returns-then-not-has_form
-returns-then-not-has_form c = other_form _ _ _ _ c.refusal-k.ensures c.if-k-ne0.false (sym
+unfolding refusal_number
+returns-then-not-has_form c = other_form _ _ _ _ c.in_default.ensures refl (sym
     c.has_form.ensures ∙ not-true _ (ap not c.if-not-has_form.true))
 
 pub open_tested-requires : goal.open_tested-requires
-open_tested-requires c = sym c.if-k-ne0.false ∙ c.refusal-k.ensures
+unfolding refusal_number
+open_tested-requires c = c.in_default.ensures
 
 pub compare-requires : goal.compare-requires
 compare-requires c = (

@@ -7,4 +7,4 @@ use Rattle.runner_step.proofs.done.Goals as goal
 pub returns : goal.returns
 returns c =
     subst (λ (v : ℕ). Makes c.args.t c.args.s (found_of c.args.found) v c.args.r.now c.answer.result c.write.new.r) c.unwrap_or-v.ensures
-    (does_it _ _ _ _ _ _ c.position-i.ensures c.register-x.ensures c.effect-e.ensures c.write.ensures c.answer.ensures)
+    (does_it _ _ _ _ _ _ c.position-i.ensures c.register-x.ensures c.from.ensures c.effect-e.ensures c.write.ensures c.answer.ensures)

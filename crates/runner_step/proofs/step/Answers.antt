@@ -1,34 +1,25 @@
--- The tests are made in the order of `step_outcome`; what they say is what the rest of the step asks.
+use Rattle.std.proofs.Common.{refl, sym, ◌∙◌}
 use Rattle.spec_words.specs.Words.{size}
-use Rattle.runner_step.proofs.Tests.{first_refused, core_fails, runner_fails, passes, ready}
-use Rattle.runner_words.specs.Refusals.{fits}
-use Rattle.std.proofs.Common.{ap, not}
+use Rattle.spec_runner.specs.Step.{step_outcome}
+use Rattle.spec_runner.specs.Rules.{refused}
+use Rattle.runner_words.specs.Numbers.{refusal_number}
+use Rattle.runner_words.specs.Tested.{refused_first, tests_pass, rules_held, runner_held, fitted, held_size}
+use Rattle.runner_words.proofs.Numbers.{number_some}
+use Rattle.runner_step.proofs.Tests.{position_small}
 use Rattle.runner_step.proofs.step.Goals as goal
 
-pub returns-then-k-ne0 : goal.returns-then-k-ne0
-returns-then-k-ne0 c = first_refused _ _ _ _ c.refusal-k.ensures c.if-k-ne0.true
-
-pub rules_hold-requires : goal.rules_hold-requires
-unfolding size
-rules_hold-requires c = (fits _ _ _ c.refusal-k.ensures c.if-k-ne0.false).core
-
-pub returns-then-not-rules_hold : goal.returns-then-not-rules_hold
-returns-then-not-rules_hold c =
-    core_fails _ _ _ _ c.refusal-k.ensures c.if-k-ne0.false c.rules_hold.ensures (ap not c.if-not-rules_hold.true)
-
-pub holds-requires : goal.holds-requires
-holds-requires c = fits _ _ _ c.refusal-k.ensures c.if-k-ne0.false
-
-pub returns-then-not-holds : goal.returns-then-not-holds
-returns-then-not-holds c =
-    runner_fails _ _ _ _ c.refusal-k.ensures c.if-k-ne0.false c.rules_hold.ensures (ap not c.if-not-rules_hold.false) c.holds.ensures (ap not c.if-not-holds.true)
-
 pub step_tested-requires : goal.step_tested-requires
-unfolding size
-step_tested-requires c =
-    ready _ _ _ _ c.refusal-k.ensures c.if-k-ne0.false c.rules_hold.ensures (ap not c.if-not-rules_hold.false) c.holds.ensures (ap not c.if-not-holds.false)
+unfolding size refusal_number
+step_tested-requires c = (
+  held_size _ _ _ c.in-Ok.ensures refl,
+  rules_held _ _ _ c.in-Ok.ensures refl,
+  position_small _ _ _ _ (fitted _ _ _ c.in-Ok.ensures refl) (runner_held _ _ _ c.in-Ok.ensures refl),
+)
 
-pub returns : goal.returns
-returns c =
-    passes _ _ _ _ c.refusal-k.ensures
-    c.if-k-ne0.false c.rules_hold.ensures (ap not c.if-not-rules_hold.false) c.holds.ensures (ap not c.if-not-holds.false) c.step_tested.ensures
+pub returns-in-Ok : goal.returns-in-Ok
+unfolding step_outcome refusal_number
+returns-in-Ok c = c.step_tested.ensures ∙ sym (tests_pass _ _ _ c.in-Ok.ensures refl _)
+
+pub returns-in-Err : goal.returns-in-Err
+unfolding step_outcome refused refusal_number
+returns-in-Err c = refused_first _ _ _ (c.number.ensures ∙ c.in-Err.ensures) (λ z. number_some _ (sym c.number.ensures ∙ z)) _

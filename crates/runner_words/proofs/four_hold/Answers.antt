@@ -1,23 +1,12 @@
--- Four free records hold; any others are tested one by one.
-use mathlib.Core.Path.{◌≡◌, ap, sym, ◌∙◌}
-use Prim.Native.Nat.{ℕ, ◌+◌, ◌-◌}
-use native.Mathlib.Omega.{arith}
-use Rattle.spec_words.specs.Words.{size}
-use Rattle.spec_lists.specs.Tests.{upto}
+use Rattle.std.proofs.Common.{rules, tests, ◌∙◌, ◌+◌, arith}
+use Rattle.std.proofs.lemmas.Iterator.{YieldsList-from_range}
+use Rattle.std.proofs.lemmas.Iterator.Search.{all_from_yields_List}
+use Rattle.spec_lists.specs.Ranges.{all_upto}
 use Rattle.spec_runner.specs.Rules.{record_holds}
 use Rattle.runner_words.proofs.four_hold.Goals as goal
 
-pub four_free-requires : goal.four_free-requires
-unfolding size
-four_free-requires c = (c.requires.0.core, c.requires.0.runner, c.requires.1)
-
-pub returns-then-four_free : goal.returns-then-four_free
-returns-then-four_free c = sym (c.four_free.ensures _ c.if-four_free.true)
-
-pub returns : goal.returns
-returns c =
-    c.records_hold.ensures
-    ∙ ap (λ (k : ℕ). upto (record_holds c.args.job.now
-    c.args.m.now c.args.r.now) k
-    c.args.t)
-    (let z : c.args.t + 4 - c.args.t ≡ 4 = omega arith in z)
+pub returns-else-four_free : goal.returns-else-four_free
+returns-else-four_free c =
+    all_from_yields_List (record_holds c.args.job.now c.args.m.now c.args.r.now) _ _ _ c.all.ensures.ran
+    (YieldsList-from_range c.args.t (c.args.t + 4) 4 (search rules) (omega arith)) (λ x b q k. search (rules, tests))
+    ∙ all_upto _ _ _

@@ -1,21 +1,15 @@
-use mathlib.Core.Path.{◌∙◌}
-use Prim.Native.Nat.{◌-◌}
-use native.Mathlib.Omega.{arith}
-use Rattle.segments.proofs.Links.{head_start, head_found, head_next, head_none}
+use Rattle.std.proofs.Common.{ap, ◌∙◌, arith}
+use Rattle.spec_words.specs.Words.{pick}
+use Rattle.spec_words.specs.Found.{found}
+use Rattle.spec_words.specs.Found.{found_some}
+use Rattle.segments.proofs.Links.{head_found, head_none}
 use Rattle.segments.proofs.head_index.Goals as goal
 
-pub loop-i-init : goal.loop-i-init
-loop-i-init c = (omega arith, head_start _ _ _)
-
 pub returns-then-task-s : goal.returns-then-task-s
-returns-then-task-s c = head_found _ _ _ _ _ c.loop-i-test.true c.task.ensures c.if-task-s.true ∙ c.loop-i.invariant.1
-
-pub loop-i-preserved : goal.loop-i-preserved
-loop-i-preserved c = (
-  omega arith,
-  head_next _ _ _ _ _ c.loop-i-test.true c.task.ensures c.if-task-s.false
-      ∙ c.loop-i.invariant.1,
-)
+returns-then-task-s c =
+    found_some _ _ (omega arith)
+    ∙ ap (found 16) (head_found _ _ _ _ _ (omega arith) c.task.ensures c.if-task-s.true ∙ c.loop-i.invariant)
 
 pub returns : goal.returns
-returns c = head_none _ _ _ _ c.loop-i.invariant.0 c.loop-i-test.false ∙ c.loop-i.invariant.1
+unfolding found pick
+returns c = ap (found 16) (head_none _ _ _ _ (omega arith) (omega arith) ∙ c.loop-i.invariant)

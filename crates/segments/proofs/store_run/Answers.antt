@@ -6,7 +6,7 @@ pub store_from-requires : goal.store_from-requires
 store_from-requires c =
     run_fits _ _ _ _ _ _ _ c.requires
     c.length_of-l.ensures c.read_record-r.ensures
-    c.place-p.ensures c.smaller-k.ensures
+    c.place-p.ensures c.min-k.ensures
 
 pub returns : goal.returns
 returns c =
@@ -15,6 +15,6 @@ returns c =
     c.length_of-l.ensures
     c.read_record-r.ensures
     c.place-p.ensures
-    c.smaller-k.ensures _ _ _
+    c.min-k.ensures _ _ _
     c.store_from.ensures
     c.with_more-r.ensures c.set_count.ensures

@@ -1,10 +1,10 @@
 use borrow.Enum.Refused.{opened}
-use Rattle.serial_runner.proofs.Arms.{inner, inner_some, eight_some, none_low}
+use Rattle.serial_runner.proofs.Arms.{spawns, returns, inner, inner_some, eight_some}
 use Rattle.serial_runner.proofs.Measures.{body_falls, child_falls, size_kept}
 use Rattle.serial_runner.specs.Child.{child_too_deep, child_runs}
 use Rattle.serial_runner.specs.Body.{position_small, goes_start, body_spent, body_full, body_returns, body_stops, goes_inner, child_less}
 use Rattle.serial_runner.specs.Body.{goes_child}
-use Rattle.std.proofs.Common.{sym, refl, ◌∙◌, inr, ⊎_elim, arith, rules}
+use Rattle.std.proofs.Common.{sym, refl, ◌∙◌, arith, rules}
 use Rattle.serial_runner.proofs.+run_body_run_child.Goals as goal
 
 pub run_body-loop-left-init : goal.run_body-loop-left-init
@@ -42,31 +42,31 @@ run_body-returns-in_default-end t c =
     c.requires.3 _
     c.instruction_at-s.ensures
     c.loop-left-test.true _ _ _ _
-    c.in-8.is
-    c.wrapping_add_u32-x.ensures.value
+    (spawns _ c.from.ensures c.in-Spawn.is)
+    refl
     c.run_child-child.ensures (opened c.in_default-end.in_default-end-own.keys2)
 
 pub run_body-overflow_add-i : goal.run_body-overflow_add-i
 run_body-overflow_add-i t c =
     let z = position_small _ _ _ _ _ c.instruction_at-s.ensures
-    (eight_some _ c.in-8.is)
+    (eight_some _ (spawns _ c.from.ensures c.in-Spawn.is))
     c.requires.1 in
     omega (arith, z)
 
-pub run_body-loop-left-smaller-in-8 : goal.run_body-loop-left-smaller-in-8
-run_body-loop-left-smaller-in-8 t c =
+pub run_body-loop-left-smaller-in-Spawn : goal.run_body-loop-left-smaller-in-Spawn
+run_body-loop-left-smaller-in-Spawn t c =
     child_less _ _ _ _ _ _ _ _ _ c.loop-left.invariant.4
     c.requires.3 _
     c.instruction_at-s.ensures
     c.loop-left-test.true _ _ _ _
-    c.in-8.is
-    c.wrapping_add_u32-x.ensures.value
+    (spawns _ c.from.ensures c.in-Spawn.is)
+    refl
     c.run_child-child.ensures c.in-Ended.in-Ended-own.keys1
 
-pub run_body-loop-left-preserved-in-8 : goal.run_body-loop-left-preserved-in-8
-run_body-loop-left-preserved-in-8 t c =
+pub run_body-loop-left-preserved-in-Spawn : goal.run_body-loop-left-preserved-in-Spawn
+run_body-loop-left-preserved-in-Spawn t c =
     let z = position_small _ _ _ _ _ c.instruction_at-s.ensures
-    (eight_some _ c.in-8.is)
+    (eight_some _ (spawns _ c.from.ensures c.in-Spawn.is))
     c.requires.1 in (
       c.run_child-child.auto.w
           ∙ c.loop-left.invariant.0,
@@ -78,8 +78,8 @@ run_body-loop-left-preserved-in-8 t c =
           c.requires.3 _
           c.instruction_at-s.ensures
           c.loop-left-test.true _ _ _ _
-          c.in-8.is
-          c.wrapping_add_u32-x.ensures.value
+          (spawns _ c.from.ensures c.in-Spawn.is)
+          refl
           c.run_child-child.ensures c.in-Ended.in-Ended-own.keys1,
     )
 
@@ -91,16 +91,16 @@ run_body-shape_of-a-then-is_full t c = c.loop-left.invariant.1
 
 pub run_body-returns-then-is_full : goal.run_body-returns-then-is_full
 run_body-returns-then-is_full t c =
-    body_full _ _ _ _ _ _ _ _ _ c.loop-left.invariant.4
+    rw c.number.ensures
+    (body_full _ _ _ _ _ _ _ _ _ c.loop-left.invariant.4
     c.requires.3 _
     c.instruction_at-s.ensures
-    c.loop-left-test.true c.in-1-to-10.in_default-own.rest.1
-    (sym c.is_full.ensures ∙ c.if-is_full.true)
+    c.loop-left-test.true (inner _ c.from.ensures c.in_default.not-Spawn c.in_default.not-Return).inside
+    (sym c.is_full.ensures ∙ c.if-is_full.true))
 
 pub run_body-step-m-requires : goal.run_body-step-m-requires
 run_body-step-m-requires t c =
-    let h = inner _ c.in-1-to-10.if-k-lt1-own.false c.in-1-to-10.if-k-lt11-own.true
-    c.in-1-to-10.in_default-own.rest.1 in (
+    let h = inner _ c.from.ensures c.in_default.not-Spawn c.in_default.not-Return in (
       size_kept _ _ _ c.loop-left.invariant.0
           c.requires.0,
       h,
@@ -108,18 +108,6 @@ run_body-step-m-requires t c =
       position_small _ _ _ _ _ c.instruction_at-s.ensures (inner_some _ h)
           c.requires.1,
     )
-
-pub run_body-overflow_sub-left : goal.run_body-overflow_sub-left
-run_body-overflow_sub-left t c = let f =
-    c.loop-left.invariant.4.fewer in omega (
-      arith,
-      f,
-      c.requires.3,
-    )
-
-pub run_body-overflow_sub-left-in-1-to-10 : goal.run_body-overflow_sub-left-in-1-to-10
-run_body-overflow_sub-left-in-1-to-10 t c =
-    c.loop-left-test.true
 
 pub run_body-loop-left-smaller : goal.run_body-loop-left-smaller
 run_body-loop-left-smaller t c = omega (
@@ -131,7 +119,7 @@ pub run_body-loop-left-preserved : goal.run_body-loop-left-preserved
 run_body-loop-left-preserved t c = (
   c.step-m.auto.w ∙
       c.loop-left.invariant.0,
-  c.write_answer.auto.a ∙
+  c.write_answer-in_default.auto.a ∙
       c.loop-left.invariant.1,
   search rules,
   search rules,
@@ -140,37 +128,25 @@ run_body-loop-left-preserved t c = (
       c.requires.3 _
       c.instruction_at-s.ensures
       c.loop-left-test.true _ _
-      (inner _ c.in-1-to-10.if-k-lt1-own.false
-      c.in-1-to-10.if-k-lt11-own.true
-      c.in-1-to-10.in_default-own.rest.1) (sym
+      (inner _ c.from.ensures c.in_default.not-Spawn c.in_default.not-Return) (sym
       c.is_full.ensures ∙
       c.if-is_full.false) c.step-m.ensures
-      c.write_answer.ensures,
+      c.write_answer-in_default.ensures,
 )
 
-pub run_body-overflow_sub-left-in_default : goal.run_body-overflow_sub-left-in_default
-run_body-overflow_sub-left-in_default t c = let f = c.loop-left.invariant.4.fewer in omega (
-  arith,
-  f,
-  c.requires.3,
-)
+pub run_body-shape_of-w-in-Return : goal.run_body-shape_of-w-in-Return
+run_body-shape_of-w-in-Return t c = c.loop-left.invariant.0
 
-pub run_body-overflow_sub-left-in_default-2 : goal.run_body-overflow_sub-left-in_default-2
-run_body-overflow_sub-left-in_default-2 t c = c.loop-left-test.true
+pub run_body-shape_of-a-in-Return : goal.run_body-shape_of-a-in-Return
+run_body-shape_of-a-in-Return t c = c.write_answer.auto.a ∙ c.loop-left.invariant.1
 
-pub run_body-shape_of-w-in_default : goal.run_body-shape_of-w-in_default
-run_body-shape_of-w-in_default t c = c.loop-left.invariant.0
-
-pub run_body-shape_of-a-in_default : goal.run_body-shape_of-a-in_default
-run_body-shape_of-a-in_default t c = c.write_answer-in_default.auto.a ∙ c.loop-left.invariant.1
-
-pub run_body-returns-in_default : goal.run_body-returns-in_default
-run_body-returns-in_default t c =
+pub run_body-returns-in-Return : goal.run_body-returns-in-Return
+run_body-returns-in-Return t c =
     body_returns _ _ _ _ _ _ _ _ _ c.loop-left.invariant.4
     c.requires.3 _
     c.instruction_at-s.ensures
     c.loop-left-test.true
-    (⊎_elim (λ s. none_low _ s.if-k-lt1-1.true) (λ s. inr s.if-k-lt11-1.false) c.in_default.branch-raw) c.write_answer-in_default.ensures
+    (returns _ c.from.ensures c.in-Return.is) c.write_answer.ensures
 
 pub run_body-shape_of-w : goal.run_body-shape_of-w
 run_body-shape_of-w t c = c.loop-left.invariant.0
@@ -183,7 +159,7 @@ run_body-returns t c = body_spent _ _ _ _ _ _ _ _ _ c.loop-left.invariant.4 c.re
 
 pub run_child-returns-then-depth-ge-DEPTH : goal.run_child-returns-then-depth-ge-DEPTH
 run_child-returns-then-depth-ge-DEPTH t c =
-    child_too_deep _ _ _ _ _ _ _ _ _ c.requires.3 c.requires.4 c.if-depth-ge-DEPTH.true
+    rw c.number.ensures (child_too_deep _ _ _ _ _ _ _ _ _ c.requires.3 c.requires.4 c.if-depth-ge-DEPTH.true)
 
 pub run_child-overflow_sub-left : goal.run_child-overflow_sub-left
 run_child-overflow_sub-left t c = c.requires.4

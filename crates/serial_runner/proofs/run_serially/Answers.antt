@@ -8,11 +8,11 @@ use Rattle.serial_runner.proofs.run_serially.Goals as goal
 
 pub returns-then-w-ne-WORKING : goal.returns-then-w-ne-WORKING
 unfolding turned_down
-returns-then-w-ne-WORKING c = wrong_working _ _ _ c.if-w-ne-WORKING.true
+returns-then-w-ne-WORKING c = rw c.number.ensures (wrong_working _ _ _ c.if-w-ne-WORKING.true)
 
 pub returns-then-a-ne-ANSWERS : goal.returns-then-a-ne-ANSWERS
 unfolding turned_down
-returns-then-a-ne-ANSWERS c = wrong_answers _ _ _ c.if-w-ne-WORKING.false c.if-a-ne-ANSWERS.true
+returns-then-a-ne-ANSWERS c = rw c.number-then-a-ne-ANSWERS.ensures (wrong_answers _ _ _ c.if-w-ne-WORKING.false c.if-a-ne-ANSWERS.true)
 
 pub returns-in-Refused : goal.returns-in-Refused
 unfolding turned_down

@@ -1,37 +1,14 @@
-use mathlib.Core.Path.{refl, ◌∙◌}
-use native.Mathlib.Omega.{arith}
-use Rattle.span_pass.proofs.Rounds.{one_more, all_returned, no_more, from_opened, some_depth}
+use Rattle.std.proofs.Common.{◌≡◌, ◌-◌, ◌+◌, ◌∙◌, arith}
+use Rattle.span_pass.proofs.Rounds.{one_more, all_returned, no_more, from_opened}
 use Rattle.span_pass.proofs.span.Goals as goal
 
-pub begin-requires : goal.begin-requires
-begin-requires c = c.requires
+pub loop-preserved : goal.loop-preserved
+loop-preserved c =
+    let e : 65535 - (c.loop.counter + 1) ≡ 65535 - c.loop.counter - 1 = omega arith in
+    (c.step-h.ensures.holds, rw e (one_more _ _ _ _ _ _ (omega arith) c.if-h-eq0.false c.step-h.ensures ∙ c.loop.invariant.1))
 
-pub read_task-h-requires : goal.read_task-h-requires
-read_task-h-requires c = (omega arith, c.begin.auto.w ∙ c.requires)
-
-pub loop-n-init : goal.loop-n-init
-loop-n-init c = (c.read_task-h.ensures.0, refl, refl)
-
-pub shape_of-w-then-h-eq0 : goal.shape_of-w-then-h-eq0
-shape_of-w-then-h-eq0 c = c.loop-n.invariant.1 ∙ c.begin.auto.w
+pub returns-after-loop : goal.returns-after-loop
+returns-after-loop c = no_more _ _ _ _ _ _ (omega arith) ∙ c.loop.invariant.1 ∙ from_opened _ _ _ c.begin.ensures c.read_task-h.ensures.1 c.read_task-h.ensures.2
 
 pub returns-then-h-eq0 : goal.returns-then-h-eq0
-returns-then-h-eq0 c = all_returned _ _ _ _ _ _ c.loop-n-test.true c.if-h-eq0.true ∙ c.loop-n.invariant.2 ∙ from_opened _ _ _ c.begin.ensures c.read_task-h.ensures.1 c.read_task-h.ensures.2
-
-pub step-h-requires : goal.step-h-requires
-step-h-requires c = (c.loop-n.invariant.0, some_depth _ c.if-h-eq0.false)
-
-pub overflow_sub-n : goal.overflow_sub-n
-overflow_sub-n c = omega arith
-
-pub loop-n-smaller : goal.loop-n-smaller
-loop-n-smaller c = omega arith
-
-pub loop-n-preserved : goal.loop-n-preserved
-loop-n-preserved c = (c.step-h.ensures.holds, c.step-h.auto.w ∙ c.loop-n.invariant.1, one_more _ _ _ _ _ _ c.loop-n-test.true c.if-h-eq0.false c.step-h.ensures ∙ c.loop-n.invariant.2)
-
-pub shape_of-w : goal.shape_of-w
-shape_of-w c = c.loop-n.invariant.1 ∙ c.begin.auto.w
-
-pub returns : goal.returns
-returns c = no_more _ _ _ _ _ _ c.loop-n-test.false ∙ c.loop-n.invariant.2 ∙ from_opened _ _ _ c.begin.ensures c.read_task-h.ensures.1 c.read_task-h.ensures.2
+returns-then-h-eq0 c = all_returned _ _ _ _ _ _ (omega arith) c.if-h-eq0.true ∙ c.loop.invariant.1 ∙ from_opened _ _ _ c.begin.ensures c.read_task-h.ensures.1 c.read_task-h.ensures.2

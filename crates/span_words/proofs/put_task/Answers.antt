@@ -1,15 +1,13 @@
-use Rattle.std.proofs.Common.{◌∙◌, arith}
-use Rattle.span_words.proofs.Written.{ten_stored}
+use Rattle.std.proofs.Common.{ap, ◌∙◌, ◌≡◌, ◌+◌, ◌*◌, ℕ, [], ◌∷◌, arith}
+use Rattle.spec_words.specs.Parts.{put_block}
+use Rattle.spec_words.specs.Blocks.{store_all}
+use Rattle.span_words.specs.Words.{task_words}
 use Rattle.span_words.proofs.put_task.Goals as goal
 
-pub set_task-requires-9 : goal.set_task-requires-9
-set_task-requires-9 c = (c.requires.0, omega arith, c.set_task-8.auto.w ∙ c.set_task-7.auto.w ∙ c.set_task-6.auto.w ∙ c.set_task-5.auto.w ∙ c.set_task-4.auto.w ∙ c.set_task-3.auto.w ∙ c.set_task-2.auto.w ∙ c.set_task.auto.w ∙ c.requires.1)
-
-pub set_task-requires-10 : goal.set_task-requires-10
-set_task-requires-10 c = (c.requires.0, omega arith, c.set_task-9.auto.w ∙ c.set_task-8.auto.w ∙ c.set_task-7.auto.w ∙ c.set_task-6.auto.w ∙ c.set_task-5.auto.w ∙ c.set_task-4.auto.w ∙ c.set_task-3.auto.w ∙ c.set_task-2.auto.w ∙ c.set_task.auto.w ∙ c.requires.1)
-
-pub shape_of-w : goal.shape_of-w
-shape_of-w c = c.set_task-10.auto.w ∙ c.set_task-9.auto.w ∙ c.set_task-8.auto.w ∙ c.set_task-7.auto.w ∙ c.set_task-6.auto.w ∙ c.set_task-5.auto.w ∙ c.set_task-4.auto.w ∙ c.set_task-3.auto.w ∙ c.set_task-2.auto.w ∙ c.set_task.auto.w
-
 pub returns : goal.returns
-returns c = ten_stored _ _ _ _ _ _ c.set_task.ensures c.set_task-2.ensures c.set_task-3.ensures c.set_task-4.ensures c.set_task-5.ensures c.set_task-6.ensures c.set_task-7.ensures c.set_task-8.ensures c.set_task-9.ensures c.set_task-10.ensures
+unfolding task_words
+returns c =
+    let e : c.args.d * 10 ≡ c.args.d * 10 + 0 = omega arith in
+    rw c.copy_from_slice.ensures.after
+    (put_block (c.args.d * 10) _ c.args.w.now _ (omega arith) (omega arith)
+    ∙ ap (λ (a : ℕ). store_all c.args.w.now a (c.args.p ∷ 0 ∷ c.args.x ∷ c.args.t ∷ 0 ∷ c.args.older ∷ 0 ∷ 0 ∷ 0 ∷ 0 ∷ [])) e)

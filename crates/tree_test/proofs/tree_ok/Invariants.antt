@@ -1,9 +1,7 @@
 -- The marks written so far are the tour's, and the links followed are right; what is left of the test is the test from x on.
+use Rattle.std.proofs.Common.{◌≡◌, ◌<◌, ◌-◌, length}
 use Rattle.tree_test.specs.Led.{Same}
 use Rattle.spec_rules.specs.Contents.{decode}
-use lib.ListN.{length}
-use Prim.Native.Nat.{◌<◌, ◌-◌}
-use mathlib.Core.Path.{◌≡◌}
 use Rattle.tree_test.proofs.tree_ok.Given as goal
 
 abbrev pub invariant-loop-i : goal.invariant-loop-i

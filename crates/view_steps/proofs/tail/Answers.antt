@@ -1,6 +1,6 @@
 -- The cases of one event: a mark, a number that is no segment, a tail seen before or with a next, or one seen now.
 use Rattle.spec_view_events.specs.Steps.{tail_far, tail_out, tail_again, tail_inner, tail_right}
-use Rattle.std.proofs.Common.{sym, ◌∙◌}
+use Rattle.std.proofs.Common.{refl, sym, ◌∙◌}
 use Rattle.view_steps.proofs.tail.Goals as goal
 
 pub returns-then-e-ge-NL : goal.returns-then-e-ge-NL
@@ -25,5 +25,5 @@ returns c =
     λ d. record {
       same = λ es. tail_right _ es d _ _ _ c.if-e-ge-NL.false
           c.if-e-m.false c.if-f-e-ne0.false
-          (sym c.next.ensures ∙ c.if-next.false) _ c.wrapping_add_u32.ensures.value;
+          (sym c.next.ensures ∙ c.if-next.false) _ refl;
     }

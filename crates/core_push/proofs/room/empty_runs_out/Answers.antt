@@ -1,4 +1,6 @@
+use mathlib.Core.Path.{◌∙◌}
 use native.Mathlib.Omega.{arith}
+use borrow.Author.Tests.{lt-ltb}
 use Rattle.core_push.proofs.RunsOut.{few_values, none_free, enough, too_few, by_link}
 use Rattle.core_push.proofs.room.empty_runs_out.Goals as goal
 
@@ -22,11 +24,12 @@ overflow_add-longest c =
 
 pub returns-then-longest-n : goal.returns-then-longest-n
 returns-then-longest-n c =
-    too_few _ _ _ _ c.requires.3 c.free_segments-f.ensures
+    lt-ltb _ _ c.if-longest-n.true
+    ∙ too_few _ _ _ _ c.requires.3 c.free_segments-f.ensures
     c.if-f-eq0.false c.next_free.ensures c.length_of-l.ensures c.if-longest-n.true
 
-pub returns : goal.returns
-returns c =
+pub returns-else-longest-n : goal.returns-else-longest-n
+returns-else-longest-n c =
     by_link _ _ _ _ c.requires.3
     c.free_segments-f.ensures c.if-f-eq0.false
     c.next_free.ensures c.length_of-l.ensures c.if-n-most.false

@@ -1,8 +1,0 @@
-use mathlib.Core.Path.{ap₂}
-use Prim.Native.Nat.{ℕ, ◌+◌, ◌*◌}
-use Rattle.spec_job.specs.Fields.{bytes2}
-use Rattle.job_fields.proofs.bytes2.Goals as goal
-
-pub returns : goal.returns
-unfolding bytes2
-returns c = ap₂ (λ (x y : ℕ). x + y * 256) c.byte.ensures c.byte-2.ensures

@@ -1,6 +1,0 @@
-use Rattle.spec_layout.specs.Layout.{read, address}
-use Rattle.memory.proofs.segment.Goals as goal
-
-pub returns : goal.returns
-unfolding read address
-returns c = c.get.ensures
