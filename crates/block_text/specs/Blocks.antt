@@ -1,9 +1,7 @@
 -- A block of lines at the start of lent bytes.
 use Rattle.std.specs.Prelude.{◌≡◌, List, ℕ, ◌+◌, ◌*◌, ◌≤◌, length, take}
 use Rattle.std.proofs.Common.{sym, le_antisymm, arith, length-take-le}
-use Rattle.spec_words.specs.Words.{load}
 use Rattle.text.specs.Puts.{Puts, puts_then, puts_first, puts_whole}
-use Rattle.run_text.specs.Lines.{line}
 use Rattle.block_text.specs.Lines.{lines_from, lines_more}
 
 -- the first r bytes of m, or words, are ws
@@ -34,13 +32,3 @@ one_line f i n p q = rw (lines_more f n i) (puts_then p q)
 pub all_lines : (f : ℕ → List ℕ) (first i n : ℕ) {m m1 : List ℕ} {a : ℕ} → length m1 ≡ length m → 65536 ≤ length m → n ≤ 1024 → i ≤ n → n ≤ i → a ≤ i * 52
     → Puts m 0 (lines_from f first i) m1 a → Block m1 a (lines_from f first n)
 all_lines f first i n e h k l g b p = rw (← le_antisymm l g) (block e (omega arith) p)
-
--- the line of row i of the words a, where c calls were made before row 0
-unfoldable pub row_line : List ℕ → ℕ → ℕ → List ℕ
-row_line a c i = line (c + i + 1) (load a (i * 3)) (load a (i * 3 + 1)) (load a (i * 3 + 2))
-
--- the line of a row by the words read
-pub row_line_lem : {m m1 : List ℕ} {p r t k v : ℕ} (a : List ℕ) (c i : ℕ) → t ≡ load a (i * 3) → k ≡ load a (i * 3 + 1) → v ≡ load a (i * 3 + 2)
-    → Puts m p (line (c + i + 1) t k v) m1 r → Puts m p (row_line a c i) m1 r
-unfolding row_line
-row_line_lem a c i et ek ev q = rw (← et, ← ek, ← ev) q

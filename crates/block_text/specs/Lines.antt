@@ -32,3 +32,10 @@ module _ (f : ℕ → List ℕ) where
   pub lines_more : (n i : ℕ) → lines_from f i (n + 1) ≡ lines_from f i n ++ f (i + n)
   unfolding lines_from
   lines_more n i = lines_split n 1 i ∙ ap (λ (l : List ℕ). lines_from f i n ++ l) (append-nil (f (i + n)))
+
+-- lines f of the numbers from a on, counted from 0
+pub lines_shifted : (f : ℕ → List ℕ) (a n i : ℕ) → lines_from (λ (j : ℕ). f (a + j)) i n ≡ lines_from f (a + i) n
+unfolding lines_from
+lines_shifted f a zero i = refl
+lines_shifted f a (suc n) i =
+    ap (λ (l : List ℕ). f (a + i) ++ l) (lines_shifted f a n (i + 1) ∙ ap (λ (k : ℕ). lines_from f k n) (let z : a + (i + 1) ≡ a + i + 1 = omega arith in z))

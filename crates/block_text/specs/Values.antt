@@ -1,13 +1,13 @@
 -- THE VALUES LEFT IN A QUEUE: their lines, and the values as they are read one after the other until there is none.
-use Rattle.std.specs.Prelude.{◌≡◌, refl, ℕ, zero, suc, ◌+◌, ◌-◌, ◌*◌, ◌<◌, ◌≤◌, length, drop, get_or, set}
+use Rattle.std.specs.Prelude.{◌≡◌, refl, ℕ, zero, suc, ◌+◌, ◌-◌, ◌<◌, ◌≤◌, length, drop}
 use Rattle.std.proofs.Math.Path.{ap}
-use Rattle.std.proofs.Common.{sym, ◌∙◌, subst, add-zero, suc-add, add-one, take-suc, take_all, length-take-le}
+use Rattle.std.proofs.Common.{sym, ◌∙◌, subst, suc-add}
 use mathlib.Core.List.{List, [], ◌∷◌, ◌++◌, append-nil, append_assoc}
 use Rattle.std.proofs.Math.Option.{Option, none, some}
 use Rattle.std.proofs.Math.Nat.{sub-zero}
 use native.Mathlib.Omega.{arith}
-use Rattle.std.proofs.Math.ListN.{take, get_elem?, length-set}
-use Rattle.std.proofs.Math.Seq.{drop-nil, take-suc-set, append_snoc}
+use Rattle.std.proofs.Math.ListN.{take, get_elem?}
+use Rattle.std.proofs.Math.Seq.{drop-nil, append_snoc}
 use Rattle.spec_lists.specs.Tests.{turn_left, turns_over}
 use Rattle.text.specs.Puts.{Puts, puts_then, puts_first}
 use Rattle.run_text.specs.Lines.{left_line}
@@ -33,16 +33,6 @@ no_values q m = puts_first m 0
 one_value : (q v : ℕ) → value_lines q (v ∷ []) ≡ left_line q v
 unfolding value_lines
 one_value q v = append-nil (left_line q v)
-
-pub next_value : (q : ℕ) (vs : List ℕ) (i : ℕ) {m m1 m2 : List ℕ} {a b : ℕ} → i < length vs → Puts m 0 (value_lines q (take i vs)) m1 a
-    → Puts m1 a (left_line q (get_or vs i 0)) m2 b → Puts m 0 (value_lines q (take (i + 1) vs)) m2 b
-next_value q vs i h p n =
-    rw (add-one i, take-suc vs i 0 h, lines_behind q (take i vs) (get_or vs i 0 ∷ []), one_value q (get_or vs i 0)) (puts_then p n)
-
-pub all_values : (q : ℕ) (vs : List ℕ) (i : ℕ) {m m1 : List ℕ} {a : ℕ} → length m1 ≡ length m → length vs * 27 ≤ length m → i ≤ length vs
-    → length vs ≤ i → a ≤ i * 27 → Puts m 0 (value_lines q (take i vs)) m1 a → Block m1 a (value_lines q vs)
-all_values q vs i {m} {m1} {a} e h l g b p =
-    block e (omega arith) (subst (λ (us : List ℕ). Puts m 0 (value_lines q us) m1 a) (take_all i vs g) p)
 
 -- the lines of values under another name
 pub lines_of : {m vs us : List ℕ} {r : ℕ} (q : ℕ) → vs ≡ us → Block m r (value_lines q vs) → Block m r (value_lines q us)
@@ -76,53 +66,53 @@ read_list [] (suc k) i = sym (ap (take (suc k)) (drop-nil i))
 read_list (x ∷ xs) (suc k) zero = ap (λ (l : List ℕ). x ∷ l) (read_rest x xs k 0 ∙ read_list xs k 0)
 read_list (x ∷ xs) (suc k) (suc i) = read_rest x xs (suc k) i ∙ read_list xs (suc k) i
 
--- READING into the k words vs, one value after the other from number a on: i values are there
-pub record Read (f : ℕ → Option ℕ) (k a i : ℕ) (vs : List ℕ) : Type 0 where
-  pub room : length vs ≡ k
-  pub few : i ≤ k
-  pub rest : take i vs ++ read_from f (k - i) (a + i) ≡ read_from f k a
+-- the values that f gives from number a on
+pub read_shifted : (f : ℕ → Option ℕ) (a k i : ℕ) → read_from (λ (j : ℕ). f (a + j)) k i ≡ read_from f k (a + i)
+unfolding read_from
+read_shifted f a zero i = refl
+read_shifted f a (suc k) i =
+    ap (onto (f (a + i))) (read_shifted f a k (i + 1) ∙ ap (read_from f k) (let z : a + (i + 1) ≡ a + i + 1 = omega arith in z))
 
-module _ (f : ℕ → Option ℕ) (a : ℕ) where
-  pub read_none : (vs : List ℕ) → Read f (length vs) a 0 vs
-  read_none vs = record { room = refl; few = omega arith; rest = rw (sub-zero (length vs), add-zero a) refl }
+-- WRITING the lines of the values that f gives, one after the other: those of i values are there, of k at most
+pub record Written (f : ℕ → Option ℕ) (q k i : ℕ) (m m1 : List ℕ) (a : ℕ) : Type 0 where
+  pub values : List ℕ
+  pub text : Puts m 0 (value_lines q values) m1 a
+  pub rest : values ++ read_from f (k - i) i ≡ read_from f k 0
 
-  module _ (i : ℕ) (vs : List ℕ) {k : ℕ} (r : Read f k a i vs) where
-    next : i < k → (o : Option ℕ) → f (a + i) ≡ o → read_from f (k - i) (a + i) ≡ onto o (read_from f (k - (i + 1)) (a + (i + 1)))
+module _ (f : ℕ → Option ℕ) (q k : ℕ) {m : List ℕ} where
+  pub none_written : Written f q k 0 m m 0
+  none_written = record { values = []; text = no_values q m; rest = rw (sub-zero k) refl }
+
+  module _ (i : ℕ) {m1 : List ℕ} {a : ℕ} (w : Written f q k i m m1 a) where
+    next : i < k → (o : Option ℕ) → f i ≡ o → read_from f (k - i) i ≡ onto o (read_from f (k - (i + 1)) (i + 1))
     unfolding read_from
     next h o e =
-        ap (λ (j : ℕ). read_from f j (a + i)) (turn_left k i h)
-        ∙ ap (λ (j : ℕ). onto (f (a + i)) (read_from f (k - (i + 1)) j)) (let z : a + i + 1 ≡ a + (i + 1) = omega arith in z)
-        ∙ ap (λ (o : Option ℕ). onto o (read_from f (k - (i + 1)) (a + (i + 1)))) e
+        ap (λ (j : ℕ). read_from f j i) (turn_left k i h)
+        ∙ ap (λ (o : Option ℕ). onto o (read_from f (k - (i + 1)) (i + 1))) e
 
-    pub read_one : {v : ℕ} → i < length vs → f (a + i) ≡ some v → Read f k a (i + 1) (set vs i v)
+    pub one_written : {m2 : List ℕ} {b v : ℕ} → i < k → f i ≡ some v → Puts m1 a (left_line q v) m2 b → Written f q k (i + 1) m m2 b
     unfolding onto
-    read_one {v} h e =
-        let l = r.room in
+    one_written {m2} {b} {v} h e p =
         record {
-          room = length-set vs i v ∙ r.room;
-          few = omega (arith, h, l);
+          values = w.values ++ (v ∷ []);
+          text = rw (lines_behind q w.values (v ∷ []), one_value q v) (puts_then w.text p);
           rest =
-              ap (λ (us : List ℕ). us ++ read_from f (k - (i + 1)) (a + (i + 1)))
-              (ap (λ (j : ℕ). take j (set vs i v)) (add-one i) ∙ take-suc-set vs i v h)
-              ∙ append_snoc (take i vs) v (read_from f (k - (i + 1)) (a + (i + 1)))
-              ∙ ap (λ (us : List ℕ). take i vs ++ us) (sym (next (omega (arith, h, l)) (some v) e))
-              ∙ r.rest;
+              append_snoc w.values v (read_from f (k - (i + 1)) (i + 1))
+              ∙ ap (λ (us : List ℕ). w.values ++ us) (sym (next h (some v) e))
+              ∙ w.rest;
         }
 
-    -- nothing more is read
-    all_read : read_from f (k - i) (a + i) ≡ [] → Block vs i (read_from f k a)
-    all_read e =
-        let h : i ≤ length vs = let l = r.room in let g = r.few in omega (arith, l, g) in
-        record {
-          inside = h;
-          counted = sym (length-take-le i vs h);
-          text = sym (append-nil (take i vs)) ∙ ap (λ (us : List ℕ). take i vs ++ us) (sym e) ∙ r.rest;
-        }
+    -- nothing more is written
+    all_written : read_from f (k - i) i ≡ [] → length m1 ≡ length m → a ≤ length m → Block m1 a (value_lines q (read_from f k 0))
+    all_written e l h =
+        block l h
+        (subst (λ (us : List ℕ). Puts m 0 (value_lines q us) m1 a)
+        (sym (append-nil w.values) ∙ ap (λ (us : List ℕ). w.values ++ us) (sym e) ∙ w.rest) w.text)
 
-    pub read_ends : i < length vs → f (a + i) ≡ none → Block vs i (read_from f k a)
+    pub written_ends : i < k → f i ≡ none → length m1 ≡ length m → a ≤ length m → Block m1 a (value_lines q (read_from f k 0))
     unfolding onto
-    read_ends h e = all_read (next (let l = r.room in omega (arith, h, l)) none e)
+    written_ends h e = all_written (next h none e)
 
-    pub read_full : length vs ≤ i → Block vs i (read_from f k a)
+    pub written_full : k ≤ i → length m1 ≡ length m → a ≤ length m → Block m1 a (value_lines q (read_from f k 0))
     unfolding read_from
-    read_full h = all_read (ap (λ (j : ℕ). read_from f j (a + i)) (turns_over k i (let l = r.room in omega (arith, h, l))))
+    written_full h = all_written (ap (λ (j : ℕ). read_from f j i) (turns_over k i h))

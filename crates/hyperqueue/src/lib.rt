@@ -15,22 +15,22 @@ ghost use Rattle.spec_outcomes.specs.Take.{take_outcome};
 ghost use Rattle.spec_outcomes.specs.Sync.{sync_outcome};
 ghost use Rattle.spec_outcomes.specs.Finish.{finish_outcome};
 ghost use Rattle.spec_outcomes.specs.Left.{left_outcome};
-ghost use Rattle.hyperqueue.specs.Packed.{memory_refusal, packed, Handed};
+ghost use Rattle.hyperqueue.specs.Packed.{Tested, packed, Handed};
 
 use answer_numbers::{EMPTY, WAITS};
 use spec_answers::Answer;
 
-// 1 "a lent memory has another length", 2 "the memory rules fail"; 0 where a call may be made.
-fn refusal(m: &[u32]) -> u32
-    ensures { result ≡ memory_refusal m.now }
+// The refusal of a call on these words, if they have one: 1 "a lent memory has another length", 2 "the memory rules fail".
+fn refusal(m: &[u32]) -> Option<Answer>
+    ensures { Tested m.now result }
 {
     if m.len() != layout::WORDS {
-        return 1;
+        return Some(Answer::Refused(1));
     }
     if !memory_test::rules_hold(m) {
-        return 2;
+        return Some(Answer::Refused(2));
     }
-    0
+    None
 }
 
 pub fn open(m: &mut [u32], length: u32, segments: u32) -> Answer
@@ -42,9 +42,8 @@ pub fn open(m: &mut [u32], length: u32, segments: u32) -> Answer
 pub fn spawn(m: &mut [u32], t: u32, r: u32) -> Answer
     ensures { outcome result m.new ≡ spawn_outcome m.old t r }
 {
-    let k = refusal(m);
-    if k != 0 {
-        return Answer::Refused(k);
+    if let Some(a) = refusal(m) {
+        return a;
     }
     core_spawn::spawn(m, t, r)
 }
@@ -52,9 +51,8 @@ pub fn spawn(m: &mut [u32], t: u32, r: u32) -> Answer
 pub fn push(m: &mut [u32], t: u32, q: u32, vs: &[u32]) -> Answer
     ensures { outcome result m.new ≡ push_outcome m.old t q vs.now }
 {
-    let k = refusal(m);
-    if k != 0 {
-        return Answer::Refused(k);
+    if let Some(a) = refusal(m) {
+        return a;
     }
     core_push::push(m, t, q, vs)
 }
@@ -62,9 +60,8 @@ pub fn push(m: &mut [u32], t: u32, q: u32, vs: &[u32]) -> Answer
 pub fn take(m: &mut [u32], t: u32, q: u32, keep: bool) -> Answer
     ensures { outcome result m.new ≡ take_outcome m.old t q keep }
 {
-    let k = refusal(m);
-    if k != 0 {
-        return Answer::Refused(k);
+    if let Some(a) = refusal(m) {
+        return a;
     }
     core_take::take(m, t, q, keep)
 }
@@ -72,9 +69,8 @@ pub fn take(m: &mut [u32], t: u32, q: u32, keep: bool) -> Answer
 pub fn sync(m: &mut [u32], t: u32) -> Answer
     ensures { outcome result m.new ≡ sync_outcome m.old t }
 {
-    let k = refusal(m);
-    if k != 0 {
-        return Answer::Refused(k);
+    if let Some(a) = refusal(m) {
+        return a;
     }
     core_finish::sync(m, t)
 }
@@ -82,9 +78,8 @@ pub fn sync(m: &mut [u32], t: u32) -> Answer
 pub fn finish(m: &mut [u32], t: u32) -> Answer
     ensures { outcome result m.new ≡ finish_outcome m.old t }
 {
-    let k = refusal(m);
-    if k != 0 {
-        return Answer::Refused(k);
+    if let Some(a) = refusal(m) {
+        return a;
     }
     core_finish::finish(m, t)
 }
@@ -92,9 +87,8 @@ pub fn finish(m: &mut [u32], t: u32) -> Answer
 pub fn left(m: &mut [u32], q: u32, i: u32) -> Answer
     ensures { outcome result m.new ≡ left_outcome m.old q i }
 {
-    let k = refusal(m);
-    if k != 0 {
-        return Answer::Refused(k);
+    if let Some(a) = refusal(m) {
+        return a;
     }
     core_left::left(m, q, i)
 }

@@ -8,39 +8,15 @@ use spec_simulate::Simulated;
 
 const SPENT: u32 = 35;
 
-// The number of an answer: 0 at the job's end, 35 where it is spent, 8 or 9 where that stops it, or that of a refusal.
-fn status(a: Simulated) -> u32
-    ensures { result ≡ status_of a }
+// The number of an answer, the ticks used and the work: 0 at the job's end, and with no ticks and no work 35 where it is spent, 8 or 9 where
+// that stops it, or the number of a refusal.
+fn numbers(a: Simulated) -> (u32, u32, u32)
+    ensures { (result.0 ≡ status_of a) × (result.1 ≡ ticks_used a) × (result.2 ≡ work_done a) }
 {
     match a {
-        Simulated::Ended(_, _) => 0,
-        Simulated::Spent => SPENT,
-        Simulated::Stopped(k) => k,
-        Simulated::Refused(k) => k,
-    }
-}
-
-// The ticks used; 0 where the job's end is not reached.
-fn ticks_used(a: Simulated) -> u32
-    ensures { result ≡ ticks_used a }
-{
-    match a {
-        Simulated::Ended(ticks, _) => ticks,
-        Simulated::Spent => 0,
-        Simulated::Stopped(_) => 0,
-        Simulated::Refused(_) => 0,
-    }
-}
-
-// The work; 0 where the job's end is not reached.
-fn work_done(a: Simulated) -> u32
-    ensures { result ≡ work_done a }
-{
-    match a {
-        Simulated::Ended(_, work) => work,
-        Simulated::Spent => 0,
-        Simulated::Stopped(_) => 0,
-        Simulated::Refused(_) => 0,
+        Simulated::Ended(ticks, work) => (0, ticks, work),
+        Simulated::Spent => (SPENT, 0, 0),
+        Simulated::Stopped(k) | Simulated::Refused(k) => (k, 0, 0),
     }
 }
 
@@ -59,7 +35,7 @@ pub extern "C" fn hq_simulate(
         (listed_outcome job.now our_ticks workers words.old runner.old working.old) }
 {
     let l = simulate_listed::simulate_listed(job, workers, words, runner, working);
-    let a = l.answer;
-    *out = [ticks_used(a) as u64, work_done(a) as u64, l.span as u64];
-    packing::pack(status(a), 0)
+    let (status, ticks, work) = numbers(l.answer);
+    *out = [ticks as u64, work as u64, l.span as u64];
+    packing::pack(status, 0)
 }

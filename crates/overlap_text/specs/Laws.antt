@@ -1,6 +1,6 @@
 -- Lines of calls in blocks: a block behind another goes on with the calls' numbers.
 use Rattle.std.specs.Prelude.{◌≡◌, length}
-use Rattle.std.proofs.Math.Path.{ap}
+use Rattle.std.proofs.Math.Path.{ap, refl}
 use Rattle.std.proofs.Common.{sym, ◌∙◌, add-zero}
 use mathlib.Core.List.{List, [], ◌∷◌, ◌++◌, append_assoc}
 use Prim.Native.Nat.{ℕ, suc, ◌+◌, ◌/◌, ◌%◌}
@@ -8,8 +8,8 @@ use native.Mathlib.Omega.{arith}
 use Rattle.std.proofs.Math.ListN.{get_or}
 use Rattle.spec_runner.specs.declared.StepAnswer.{StepAnswer}
 use Rattle.spec_runner.specs.Answers.{status_of, value_of}
-use Rattle.text.specs.Puts.{Puts}
 use Rattle.run_text.specs.Lines.{line}
+use Rattle.block_text.specs.declared.Row.{Row}
 use Rattle.overlap_text.specs.Whole.{call_lines}
 
 -- calls behind calls
@@ -31,8 +31,12 @@ lines_append c (t ∷ ts) us (x ∷ xs) ys e =
 unfoldable pub packed_line : List ℕ → List ℕ → ℕ → ℕ → List ℕ
 packed_line ts ps c i = line (c + i + 1) (get_or ts i 0) (get_or ps i 0 / 4294967296) (get_or ps i 0 % 4294967296)
 
+-- the call of task t with answer p
+abbrev pub Unpacked : ℕ → ℕ → Row → Type 0
+Unpacked t p x = (x.task ≡ t) × (x.answer ≡ p / 4294967296) × (x.value ≡ p % 4294967296)
+
 -- the line by the halves read
-pub packed_line_lem : {m m1 : List ℕ} {p r k v : ℕ} (ts ps : List ℕ) (c i : ℕ) → k ≡ get_or ps i 0 / 4294967296 → v ≡ get_or ps i 0 % 4294967296
-    → Puts m p (line (c + i + 1) (get_or ts i 0) k v) m1 r → Puts m p (packed_line ts ps c i) m1 r
+pub packed_prints : (ts ps : List ℕ) (c i : ℕ) {x : Row} → Unpacked (get_or ts i 0) (get_or ps i 0) x
+    → packed_line ts ps c i ≡ line (c + i + 1) x.task x.answer x.value
 unfolding packed_line
-packed_line_lem ts ps c i ek ev q = rw (← ek, ← ev) q
+packed_prints ts ps c i u = rw (u.0, u.1, u.2) refl

@@ -1,8 +1,8 @@
-// Reading a file: once, its start as far as lent bytes go, or the job of a program; and the line that says why it was not read.
+// Reading a file: its start as far as lent bytes go, or the job of a program; and the line that says why it was not read.
 #![tactic(auto)]
 
 ghost use Rattle.std.specs.Prelude.{◌≤◌, length, OnOk};
-ghost use Rattle.read_file.specs.Inside.{Inside};
+ghost use Rattle.std.specs.Io.{ReadsAtMost};
 ghost use Rattle.read_file.specs.Said.{Says};
 
 use std::env::Env;
@@ -13,52 +13,30 @@ use std::io::{Error, ErrorKind, Read, Result, Write};
 // The largest job has 49,540 bytes. A longer file is none, and is refused by its first 49,541 bytes as by all of them.
 pub const JOB_BYTES: usize = 49541;
 
-// How many bytes were read, or why none were.
-#[derive(Clone, Copy)]
-pub enum Bytes {
-    Read(usize),
-    Unread(Error),
-}
-
-// Reads once, at most as many bytes as are lent; none at the end of the file.
-pub fn read_some<R: Read>(file: &mut R, bytes: &mut [u8]) -> Bytes
-    ensures { Inside result bytes.new }
-{
-    match file.read(bytes) {
-        Ok(n) => Bytes::Read(n),
-        Err(e) => Bytes::Unread(e),
-    }
-}
-
-// Reads the start of a file, as far as the lent bytes go.
-fn read_start<R: Read>(file: &mut R, bytes: &mut [u8]) -> Bytes
-    ensures { Inside result bytes.new }
+// Reads the start of a file, as far as the lent bytes go. A while loop: each read says how far it got.
+fn read_start<R: Read>(file: &mut R, bytes: &mut [u8]) -> Result<usize>
+    ensures { ReadsAtMost result bytes.new }
 {
     let mut n: usize = 0;
     while n < bytes.len() {
-        match read_some(file, &mut bytes[n..]) {
-            Bytes::Read(0) => return Bytes::Read(n),
-            Bytes::Read(k) => n += k,
-            Bytes::Unread(e) => return Bytes::Unread(e),
+        let k = file.read(&mut bytes[n..])?;
+        if k == 0 {
+            break;
         }
+        n += k;
     }
-    Bytes::Read(n)
+    Ok(n)
 }
 
 // Reads the start of the file of that name.
-fn read_path<F: Files>(files: &F, path: &[u8], bytes: &mut [u8]) -> Bytes
-    ensures { Inside result bytes.new }
+fn read_path<F: Files>(files: &F, path: &[u8], bytes: &mut [u8]) -> Result<usize>
+    ensures { ReadsAtMost result bytes.new }
 {
     let Ok(name) = str::from_utf8(path) else {
-        return Bytes::Unread(Error::new(ErrorKind::InvalidInput, "the name is not UTF-8"));
+        return Err(Error::new(ErrorKind::InvalidInput, "the name is not UTF-8"));
     };
-    match fs::open(files, name) {
-        Ok(file) => {
-            let mut file = file;
-            read_start(&mut file, bytes)
-        }
-        Err(e) => Bytes::Unread(e),
-    }
+    let mut file = fs::open(files, name)?;
+    read_start(&mut file, bytes)
 }
 
 // Reads the start of the file that the program's first argument names. Where there is no argument it writes `usage` to
@@ -68,17 +46,17 @@ pub fn read_job<R: Env + Files, W: Write>(
     errors: &mut W,
     usage: &[u8],
     bytes: &mut [u8],
-) -> Bytes
-    ensures { Inside result bytes.new }
+) -> Result<usize>
+    ensures { ReadsAtMost result bytes.new }
 {
     let mut path = io::buffer();
     let Ok(length) = rt.arg(1, &mut path) else {
         let _ = errors.write_all(usage);
-        return Bytes::Unread(Error::new(ErrorKind::InvalidInput, "no argument"));
+        return Err(Error::new(ErrorKind::InvalidInput, "no argument"));
     };
     let got = read_path(rt, &path[..length], bytes);
-    if let Bytes::Unread(e) = got {
-        let _ = fail(errors, &path[..length], &e);
+    if let Err(e) = &got {
+        let _ = fail(errors, &path[..length], e);
     }
     got
 }

@@ -1,7 +1,8 @@
 -- What the parts of a replay say.
-use Rattle.std.specs.Prelude.{◌≡◌, refl, Bool, true, false, ℕ, ◌+◌, ◌/◌, ◌%◌, ◌≤◌, length}
+use Rattle.std.specs.Prelude.{◌≡◌, refl, Bool, true, false, ℕ, ◌+◌, ◌/◌, ◌%◌, ◌<◌, Result, MatchResult}
 use Rattle.std.proofs.Math.Path.{ap, ap₂}
-use Rattle.std.proofs.Common.{sym, ◌∙◌, subst, true≢false}
+use Rattle.std.proofs.Common.{sym, ◌∙◌, subst, true≢false, arith}
+use mathlib.Core.Option.{none}
 use mathlib.Core.List.{List, ◌∷◌, ◌++◌}
 use Rattle.spec_words.specs.Words.{pick, halt, pass}
 use Rattle.spec_runner.specs.declared.StepAnswer.{StepAnswer}
@@ -19,7 +20,9 @@ use Rattle.spec_replay.specs.declared.Replayed.TheVariants.{Refused}
 use Rattle.spec_replay.specs.Expected.{call_text, end_texts, printed_from}
 use Rattle.spec_replay.specs.Replay.{tasks_of, is_same_text, first_difference, replay_answer}
 use Rattle.law_any_two.specs.Reached.{Reached, reached_tested, reached_step}
-use Rattle.replay.specs.At.{lines_at, Room, none_left, Next}
+use Rattle.spec_trace.specs.Read.{line_at}
+use Rattle.replay.specs.declared.Place.{Place}
+use Rattle.replay.specs.At.{lines_of, Room, none_left, Next}
 
 unfoldable pub task_of : Line → ℕ
 task_of (Call n t k v) = t
@@ -35,18 +38,23 @@ pub record Stepped (j : List ℕ) (c : ℕ) (l : Line) (b : Bool) (m r m' r' : L
 
 -- the first line of a trace that differs from what is printed from the words m and r on
 unfoldable pub difference : List ℕ → List ℕ → List ℕ → List ℕ → ℕ
-difference j bs m r = first_difference 0 (lines_at bs 0) (printed_from j 0 (tasks_of (lines_at bs 0)) m r)
+difference j bs m r = first_difference 0 (lines_of bs) (printed_from j 0 (tasks_of (lines_of bs)) m r)
 
--- n lines were compared, up to position p, and d says whether the last of them differs. The first difference is a, or is found by comparing
--- the lines from there on with es.
-pub record Compared (bs : List ℕ) (a : ℕ) (es : List (List ℕ)) (p n : ℕ) (d : Bool) : Type 0 where
-  pub stops : d ≡ true → a ≡ n
-  pub goes : d ≡ false → a ≡ first_difference n (lines_at bs p) es
-  pub room : d ≡ false → Room bs p n
+-- the number of the line that differs, 0 where none does
+abbrev pub DiffersAt : Result (Unit {0}) ℕ → ℕ → Type 0
+DiffersAt o a = MatchResult o (λ _. a ≡ 0) (λ n. (a ≡ n) × (0 < n))
+
+pub differs_as : (o : Result (Unit {0}) ℕ) {a b : ℕ} → a ≡ b → DiffersAt o b → DiffersAt o a
+differs_as o e d = subst (DiffersAt o) (sym e) d
+
+-- Lines were compared. The first difference is a: that of the last of them, or it is found by comparing the lines that are left with es.
+abbrev pub Compared : Result Place ℕ → ℕ → List (List ℕ) → Type 0
+Compared o a es =
+    MatchResult o (λ p. (a ≡ first_difference p.lines (lines_of p.rest.now) es) × Room p.rest.now p.lines) (λ n. (a ≡ n) × (0 < n))
 
 -- the same where the lines ts are expected first, and then any others
-abbrev pub Passed : List ℕ → ℕ → ℕ → List (List ℕ) → ℕ → ℕ → Bool → Type 0
-Passed bs p n ts p' n' d = (es : List (List ℕ)) → Compared bs (first_difference n (lines_at bs p) (ts ++ es)) es p' n' d
+abbrev pub Passed : Result Place ℕ → List ℕ → ℕ → List (List ℕ) → Type 0
+Passed o bs n ts = (es : List (List ℕ)) → Compared o (first_difference n (lines_of bs) (ts ++ es)) es
 
 -- THE WHOLE: no refused replay changes a word
 pub record Replays (j bs m r : List ℕ) (a : Replayed) (m' r' : List ℕ) : Type 0 where
@@ -72,18 +80,11 @@ call_stepped j m r c n t k v {x} {b} {a} {s} {y} {m'} {r'} h e p es ey eb =
       reached = reached_step h t x m' r' o;
     }
 
--- the same under the name of the line
-pub line_stepped : {j m r m' r' : List ℕ} {c : ℕ} {k l : Line} {b : Bool} → l ≡ k → Stepped j c k b m r m' r' → Stepped j c l b m r m' r'
-line_stepped {j} {m} {r} {m'} {r'} {c} {k} {l} {b} e s = subst (λ (x : Line). Stepped j c x b m r m' r') (sym e) s
-
-pub no_call : {l k : Line} {A : Type 0} → is_call l ≡ true → l ≡ k → is_call k ≡ false → A
-no_call h e f = absurd (true≢false (sym h ∙ ap is_call e ∙ f))
-
--- THE CALLS: n lines are compared, up to position p, and their tasks have moved
-pub record Going (j bs m₀ r₀ : List ℕ) (p n : ℕ) (m r : List ℕ) : Type 0 where
-  pub room : Room bs p n
+-- THE CALLS: n lines are compared, the bytes ds are left, and their tasks have moved
+pub record Going (j bs m₀ r₀ ds : List ℕ) (n : ℕ) (m r : List ℕ) : Type 0 where
+  pub room : Room ds n
   pub reached : Reached j m r
-  pub same : difference j bs m₀ r₀ ≡ first_difference n (lines_at bs p) (printed_from j n (tasks_of (lines_at bs p)) m r)
+  pub same : difference j bs m₀ r₀ ≡ first_difference n (lines_of ds) (printed_from j n (tasks_of (lines_of ds)) m r)
 
 tasks_call : (l : Line) (ls : List Line) → is_call l ≡ true → tasks_of (l ∷ ls) ≡ task_of l ∷ tasks_of ls
 unfolding is_call tasks_of task_of
@@ -91,64 +92,58 @@ tasks_call (Call n t k v) ls e = refl
 tasks_call (Left q v) ls e = absurd (true≢false (sym e))
 tasks_call (Open n) ls e = absurd (true≢false (sym e))
 
-pub begun : (j bs m r : List ℕ) → Reached j m r → Room bs 0 0 → Going j bs m r 0 0 m r
+no_call_line : (l : Line) → ((n t k v : ℕ) → l ≡ Call n t k v → ⊥) → is_call l ≡ false
+unfolding is_call
+no_call_line (Call n t k v) f = absurd (f n t k v refl)
+no_call_line (Left q v) f = refl
+no_call_line (Open n) f = refl
+
+pub begun : (j bs m r : List ℕ) → Reached j m r → Room bs 0 → Going j bs m r bs 0 m r
 unfolding difference
 begun j bs m r h g = record { room = g; reached = h; same = refl }
 
-module _ {j bs m₀ r₀ : List ℕ} {p n : ℕ} {m r : List ℕ} (g : Going j bs m₀ r₀ p n m r) where
+module _ {j bs m₀ r₀ ds : List ℕ} {n : ℕ} {m r : List ℕ} (g : Going j bs m₀ r₀ ds n m r) where
   -- nothing is left
-  pub all_compared : length bs ≤ p → Compared bs (difference j bs m₀ r₀) (end_texts m) p n false
+  pub all_compared : (line_at ds).rest ≡ none → (difference j bs m₀ r₀ ≡ first_difference n (lines_of ds) (end_texts m)) × Room ds n
   unfolding first_difference
   all_compared h =
-      let z = none_left g.room h in
-      record {
-        stops = λ e. absurd (true≢false (sym e));
-        goes = λ _. g.same ∙ ap (λ (ls : List Line). first_difference n ls (printed_from j n (tasks_of ls) m r)) z ∙ ap (λ
-            (ls : List Line). first_difference n ls (end_texts m)) (sym z);
-        room = λ _. g.room;
-      }
+      let z = none_left g.room h in (
+        g.same
+            ∙ ap (λ (ls : List Line). first_difference n ls (printed_from j n (tasks_of ls) m r)) z
+            ∙ ap (λ (ls : List Line). first_difference n ls (end_texts m)) (sym z),
+        g.room,
+      )
 
-  module _ {l : Line} {next : ℕ} (x : Next bs p n l next) where
+  module _ {l : Line} {rs : List ℕ} (x : Next ds n l rs) where
     -- a line of the end
-    pub calls_over : is_call l ≡ false → Compared bs (difference j bs m₀ r₀) (end_texts m) p n false
+    pub calls_over : ((n t k v : ℕ) → l ≡ Call n t k v → ⊥) → (difference j bs m₀ r₀ ≡ first_difference n (lines_of ds) (end_texts m)) × Room ds n
     unfolding printed_from
     calls_over e =
-        record {
-          stops = λ f. absurd (true≢false (sym f));
-          goes = λ _. g.same ∙ ap (λ (ts : List ℕ). first_difference n (lines_at bs p) (printed_from j n ts m r)) (x.ended e);
-          room = λ _. g.room;
-        }
+        (g.same ∙ ap (λ (ts : List ℕ). first_difference n (lines_of ds) (printed_from j n ts m r)) (x.ended (no_call_line l e)), g.room)
 
-    module _ (e : is_call l ≡ true) {b : Bool} {m' r' : List ℕ} (s : Stepped j n l b m r m' r') where
+    module _ {i t k v : ℕ} (e : l ≡ Call i t k v) {b : Bool} {m' r' : List ℕ} (s : Stepped j n (Call i t k v) b m r m' r') where
       rest : ℕ
-      rest = first_difference (n + 1) (lines_at bs next) (printed_from j (n + 1) (tasks_of (lines_at bs next)) m' r')
+      rest = first_difference (n + 1) (lines_of rs) (printed_from j (n + 1) (tasks_of (lines_of rs)) m' r')
 
       one_line : difference j bs m₀ r₀ ≡ pick b rest (n + 1)
       unfolding rest first_difference printed_from
       one_line =
           g.same
-          ∙ ap (λ (ls : List Line). first_difference n ls (printed_from j n (tasks_of ls) m r)) x.lines
-          ∙ ap (λ (ts : List ℕ). first_difference n (l ∷ lines_at bs next) (printed_from j n ts m r)) (tasks_call l (lines_at bs next) e)
-          ∙ ap₂ (λ (u v : List ℕ). pick (is_same_text (render l) (call_text n (task_of l) (step_outcome j m r (task_of l))))
-          (first_difference (n + 1) (lines_at bs next) (printed_from j (n + 1) (tasks_of (lines_at bs next)) u v)) (n + 1)) (sym s.core) (sym s.runner)
+          ∙ ap (λ (ls : List Line). first_difference n ls (printed_from j n (tasks_of ls) m r)) (x.lines ∙ ap (λ (l : Line). l ∷ lines_of rs) e)
+          ∙ ap (λ (ts : List ℕ). first_difference n (c ∷ lines_of rs) (printed_from j n ts m r)) (tasks_call c (lines_of rs) said)
+          ∙ ap₂ (λ (u v : List ℕ). pick (is_same_text (render c) (call_text n (task_of c) (step_outcome j m r (task_of c))))
+          (first_difference (n + 1) (lines_of rs) (printed_from j (n + 1) (tasks_of (lines_of rs)) u v)) (n + 1)) (sym s.core) (sym s.runner)
           ∙ ap (λ (c : Bool). pick c rest (n + 1)) (sym s.same)
+        where
+          c : Line
+          c = Call i t k v
 
-      pub call_differs : b ≡ false → Compared bs (difference j bs m₀ r₀) (end_texts m') p (n + 1) true
-      call_differs f =
-          record {
-            stops = λ _. one_line ∙ pass _ f refl;
-            goes = λ z. absurd (true≢false z);
-            room = λ z. absurd (true≢false z);
-          }
+          said : is_call c ≡ true
+          said = unfold is_call in refl
 
-      pub call_same : b ≡ true → Going j bs m₀ r₀ next (n + 1) m' r'
+      pub call_differs : b ≡ false → (difference j bs m₀ r₀ ≡ n + 1) × (0 < n + 1)
+      call_differs f = (one_line ∙ pass _ f refl, omega arith)
+
+      pub call_same : b ≡ true → Going j bs m₀ r₀ rs (n + 1) m' r'
       unfolding rest
       call_same f = record { room = x.room; reached = s.reached; same = one_line ∙ halt _ _ f }
-
--- the calls, then the end
-pub found_in_calls : {bs : List ℕ} {a : ℕ} {es : List (List ℕ)} {p n : ℕ} {d : Bool} → Compared bs a es p n d → d ≡ true → n ≡ a
-found_in_calls c e = sym (c.stops e)
-
-pub found_at_end : {bs : List ℕ} {a k : ℕ} {es : List (List ℕ)} {p n : ℕ} {d : Bool} → Compared bs a es p n d → d ≡ false
-    → k ≡ first_difference n (lines_at bs p) es → k ≡ a
-found_at_end c e f = f ∙ sym (c.goes e)

@@ -101,3 +101,16 @@ module _ (n : ℕ) (hn : n < 4294967296) where
   unfolding render first
   open_count {l} {b} a h g e =
       told {k = Open n} h hn (λ t. g ∙ ap Open (eqb-true _ _ (sym e ∙ t))) (λ z. e ∙ eq-eqb _ _ (ap first (sym g ∙ z)))
+
+-- lines of another form
+pub not_left : (l : Line) → ((q v : ℕ) → l ≡ Left q v → ⊥) → form l ≡ 1 → ⊥
+unfolding form
+not_left (Call n t k v) f e = omega (arith, e)
+not_left (Left q v) f e = f q v refl
+not_left (Open n) f e = omega (arith, e)
+
+pub not_open : (l : Line) → ((n : ℕ) → l ≡ Open n → ⊥) → form l ≡ 2 → ⊥
+unfolding form
+not_open (Call n t k v) f e = omega (arith, e)
+not_open (Left q v) f e = omega (arith, e)
+not_open (Open n) f e = f n refl

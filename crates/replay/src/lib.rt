@@ -13,8 +13,8 @@ ghost use Rattle.spec_trace.specs.Form.{is_call};
 ghost use Rattle.spec_replay.specs.Expected.{queue_texts, queues_from, end_texts};
 ghost use Rattle.spec_replay.specs.Replay.{is_same_text, first_difference};
 ghost use Rattle.law_any_two.specs.Reached.{Reached};
-ghost use Rattle.replay.specs.At.{lines_at, Room};
-ghost use Rattle.replay.specs.Judged.{Stepped, difference, Compared, Passed, Replays};
+ghost use Rattle.replay.specs.At.{lines_of, Room};
+ghost use Rattle.replay.specs.Judged.{Stepped, difference, DiffersAt, Compared, Passed, Replays};
 
 use answer_numbers::{EMPTY, FINISHED, MOVED, NOT_EMPTY, PUSHED, SPAWNED, TOOK, WAITS};
 use layout::{QUEUES, WORDS};
@@ -25,12 +25,11 @@ use trace_line::REFUSED;
 // 13: the trace has another form.
 const TRACE_FORM: u32 = 13;
 
-// Where the comparison stands: a position in the trace, how many lines were compared, and whether the last of them differs.
+// Where the comparison stands: the bytes that are left, and how many lines were compared.
 #[derive(Clone, Copy)]
-struct Place {
-    at: usize,
+struct Place<'a> {
+    rest: &'a [u8],
     lines: u32,
-    differs: bool,
 }
 
 // The number of the word of an answer that has number k.
@@ -67,24 +66,12 @@ fn printed_number(k: u32, v: u32) -> u32
     }
 }
 
-fn same_pair(a: u32, b: u32, c: u32, d: u32) -> bool
-    ensures { result ≡ both (eqb a c) (eqb b d) }
-{
-    if a != c {
-        return false;
-    }
-    b == d
-}
-
 // Whether a call line behind n lines is that of an answer with number k and value v.
 fn answer_agrees(n: u32, number: u32, task: u32, word: u32, value: u32, k: u32, v: u32) -> bool
     requires { ValidCall number task word value × (n < 65535) }
     ensures { result ≡ is_same_text (render (Call number task word value)) (line (n + 1) task k v) }
 {
-    if number != n + 1 {
-        return false;
-    }
-    same_pair(word, value, word_number(k), printed_number(k, v))
+    number == n + 1 && word == word_number(k) && value == printed_number(k, v)
 }
 
 // Moves the task of a call line behind n lines, and says whether the line is the one that is printed.
@@ -114,53 +101,24 @@ fn call_agrees(
     )
 }
 
-// The same for a line that is known to be one of a call.
-fn line_agrees(job: &[u8], m: &mut [u32], r: &mut [u32], n: u32, l: Line) -> bool
-    requires { Reached job.now m.old r.old × Valid l × (is_call l ≡ true) × (n < 65535) }
-    ensures { Stepped job.now n l result m.old r.old m.new r.new }
+// Moves the tasks of the call lines. An error is the number of the first line that differs.
+fn calls<'a>(job: &[u8], trace: &'a [u8], m: &mut [u32], r: &mut [u32]) -> Result<Place<'a>, u32>
+    requires { Reached job.now m.old r.old × Room trace.now 0 }
+    ensures { Compared result (difference job.now trace.now m.old r.old) (end_texts m.new) }
 {
-    match l {
-        Line::Call(number, task, word, value) => call_agrees(
-            job, m, r, n, number, task, word, value,
-        ),
-        Line::Left(_, _) => false,
-        Line::Open(_) => false,
-    }
-}
-
-// Moves the tasks of the call lines, up to the first that differs.
-fn calls(job: &[u8], trace: &[u8], m: &mut [u32], r: &mut [u32]) -> Place
-    requires { Reached job.now m.old r.old × Room trace.now 0 0 }
-    ensures { Compared trace.now (difference job.now trace.now m.old r.old)
-        (end_texts m.new) result.at result.lines result.differs }
-{
-    let mut at: usize = 0;
+    let mut rest = trace;
     let mut n: u32 = 0;
-    while at < trace.len() {
-        let x = trace_line::read(trace, at);
-        let l = x.line;
-        if !trace_form::is_call(l) {
-            return Place {
-                at,
-                lines: n,
-                differs: false,
-            };
+    while let Some((line, behind)) = trace_line::read(rest) {
+        let Line::Call(number, task, word, value) = line else {
+            break;
+        };
+        if !call_agrees(job, m, r, n, number, task, word, value) {
+            return Err(n + 1);
         }
-        if !line_agrees(job, m, r, n, l) {
-            return Place {
-                at,
-                lines: n + 1,
-                differs: true,
-            };
-        }
-        at = x.next;
+        rest = behind;
         n += 1;
     }
-    Place {
-        at,
-        lines: n,
-        differs: false,
-    }
+    Ok(Place { rest, lines: n })
 }
 
 // Whether a line is that of value v left in queue q.
@@ -169,66 +127,56 @@ fn left_agrees(l: Line, q: u32, v: u32) -> bool
     ensures { result ≡ is_same_text (render l) (left_line q v) }
 {
     match l {
-        Line::Call(_, _, _, _) => false,
-        Line::Left(queue, value) => same_pair(queue, value, q, v),
-        Line::Open(_) => false,
+        Line::Left(queue, value) => queue == q && value == v,
+        _ => false,
     }
 }
 
 // Compares lines with those of the values left in queue q, which are no more than the core has words.
-fn queue_end(m: &[u32], trace: &[u8], start: usize, before: u32, q: u32) -> Place
-    requires { Room trace.now start before × (q < 4) }
-    ensures { Passed trace.now start before (queue_texts m.now q) result.at result.lines result.differs }
+fn queue_end<'a>(m: &[u32], start: Place<'a>, q: u32) -> Result<Place<'a>, u32>
+    requires { Room start.rest.now start.lines × (q < 4) }
+    ensures { Passed result start.entry.rest.now start.entry.lines (queue_texts m.now q) }
 {
-    let mut at = start;
-    let mut n = before;
-    let mut i: usize = 0;
-    while i < WORDS {
-        let v = overlap_text::left_value(m, q, i as u32);
-        if !v.there {
+    let mut rest = start.rest;
+    let mut n = start.lines;
+    for i in 0..WORDS {
+        let Some(v) = overlap_text::left_value(m, q, i as u32) else {
             break;
-        }
-        if at >= trace.len() {
+        };
+        let Some((line, behind)) = trace_line::read(rest) else {
             break;
+        };
+        if !left_agrees(line, q, v) {
+            return Err(n + 1);
         }
-        let x = trace_line::read(trace, at);
-        let l = x.line;
-        if !left_agrees(l, q, v.value) {
-            return Place {
-                at,
-                lines: n + 1,
-                differs: true,
-            };
-        }
-        at = x.next;
+        rest = behind;
         n += 1;
-        i += 1;
     }
-    Place {
-        at,
-        lines: n,
-        differs: false,
+    Ok(Place { rest, lines: n })
+}
+
+// Nothing more is printed: a line more differs.
+fn nothing_more(place: Place) -> Result<(), u32>
+    requires { Room place.rest.now place.lines }
+    ensures { DiffersAt result (first_difference place.entry.lines (lines_of place.entry.rest.now) []) }
+{
+    if place.rest.is_empty() {
+        Ok(())
+    } else {
+        Err(place.lines + 1)
     }
 }
 
-// Compares lines with those of the values left, queues in order. 0, or the number of the line that differs; so does a line more.
-fn left_end(m: &[u32], trace: &[u8], start: usize, before: u32) -> u32
-    requires { Room trace.now start before }
-    ensures { result ≡ first_difference before (lines_at trace.now start) (queues_from m.now 0 4) }
+// Compares lines with those of the values left, queues in order.
+fn left_end(m: &[u32], start: Place) -> Result<(), u32>
+    requires { Room start.rest.now start.lines }
+    ensures { DiffersAt result (first_difference start.entry.lines (lines_of start.entry.rest.now) (queues_from m.now 0 4)) }
 {
-    let mut at = start;
-    let mut n = before;
-    let mut q: u32 = 0;
-    while q < QUEUES {
-        let p = queue_end(m, trace, at, n, q);
-        if p.differs {
-            return p.lines;
-        }
-        at = p.at;
-        n = p.lines;
-        q += 1;
+    let mut place = start;
+    for q in 0..QUEUES {
+        place = queue_end(m, place, q)?;
     }
-    if at < trace.len() { n + 1 } else { 0 }
+    nothing_more(place)
 }
 
 // Whether a line says how many tasks are unfinished.
@@ -237,49 +185,44 @@ fn open_agrees(l: Line, m: &[u32]) -> bool
     ensures { result ≡ is_same_text (render l) (open_line (unfinished_in m.now)) }
 {
     match l {
-        Line::Call(_, _, _, _) => false,
-        Line::Left(_, _) => false,
         Line::Open(k) => k == overlap_text::unfinished_count(m),
+        _ => false,
     }
 }
 
 // Compares lines with that of a run whose top is unfinished.
-fn open_end(m: &[u32], trace: &[u8], at: usize, n: u32) -> u32
-    requires { Room trace.now at n }
-    ensures { result ≡ first_difference n (lines_at trace.now at) (open_line (unfinished_in m.now) ∷ []) }
+fn open_end(m: &[u32], start: Place) -> Result<(), u32>
+    requires { Room start.rest.now start.lines }
+    ensures { DiffersAt result (first_difference start.entry.lines (lines_of start.entry.rest.now) (open_line (unfinished_in m.now) ∷ [])) }
 {
-    if at >= trace.len() {
-        return 0;
+    let Some((line, rest)) = trace_line::read(start.rest) else {
+        return Ok(());
+    };
+    let lines = start.lines + 1;
+    if !open_agrees(line, m) {
+        return Err(lines);
     }
-    let x = trace_line::read(trace, at);
-    let l = x.line;
-    if !open_agrees(l, m) {
-        return n + 1;
-    }
-    if x.next < trace.len() { n + 2 } else { 0 }
+    nothing_more(Place { rest, lines })
 }
 
 // Compares lines with those of the end of a run.
-fn ends(m: &[u32], trace: &[u8], at: usize, n: u32) -> u32
-    requires { Room trace.now at n }
-    ensures { result ≡ first_difference n (lines_at trace.now at) (end_texts m.now) }
+fn ends(m: &[u32], start: Place) -> Result<(), u32>
+    requires { Room start.rest.now start.lines }
+    ensures { DiffersAt result (first_difference start.entry.lines (lines_of start.entry.rest.now) (end_texts m.now)) }
 {
     if walks::unfinished(m, 0) {
-        return open_end(m, trace, at, n);
+        return open_end(m, start);
     }
-    left_end(m, trace, at, n)
+    left_end(m, start)
 }
 
-// The number of the first line that differs, 0 where all agree.
-fn first_difference(job: &[u8], trace: &[u8], m: &mut [u32], r: &mut [u32]) -> u32
-    requires { Reached job.now m.old r.old × Room trace.now 0 0 }
-    ensures { result ≡ difference job.now trace.now m.old r.old }
+// Compares a trace with the run. An error is the number of the first line that differs.
+fn compare(job: &[u8], trace: &[u8], m: &mut [u32], r: &mut [u32]) -> Result<(), u32>
+    requires { Reached job.now m.old r.old × Room trace.now 0 }
+    ensures { DiffersAt result (difference job.now trace.now m.old r.old) }
 {
-    let p = calls(job, trace, m, r);
-    if p.differs {
-        return p.lines;
-    }
-    ends(m, trace, p.at, p.lines)
+    let place = calls(job, trace, m, r)?;
+    ends(m, place)
 }
 
 // Replays a trace of a job, on any bytes and words. The words are for working: they are as they were only where it is refused.
@@ -293,9 +236,8 @@ pub fn replay(job: &[u8], trace: &[u8], m: &mut [u32], r: &mut [u32]) -> Replaye
         return Replayed::Refused(TRACE_FORM);
     }
     runner_open::open_tested(job, m, r);
-    let n = first_difference(job, trace, m, r);
-    if n == 0 {
-        return Replayed::Agrees;
+    match compare(job, trace, m, r) {
+        Ok(()) => Replayed::Agrees,
+        Err(n) => Replayed::Differs(n),
     }
-    Replayed::Differs(n)
 }

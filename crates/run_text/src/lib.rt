@@ -11,20 +11,11 @@ use answer_numbers::{EMPTY, FINISHED, MOVED, NOT_EMPTY, PUSHED, SPAWNED, TOOK, W
 use spec_serial::End;
 
 // A number and a space behind it.
-fn spaced_number(out: &mut [u8], at: usize, n: u32) -> usize
+fn spaced_number(out: &mut [u8], at: usize, n: u64) -> usize
     requires { at < 2 ^ 39 }
-    ensures { Puts out.old at (spaced (decimal n)) out.new result × (result ≤ at + 11) }
+    ensures { Puts out.old at (spaced (decimal n)) out.new result × (result ≤ at + 21) × (n < 2 ^ 32 → result ≤ at + 11) }
 {
     let b = text::number(out, at, n);
-    text::put(out, b, b" ")
-}
-
-// The same for a number of a call, which may need 64 bits.
-fn spaced_long(out: &mut [u8], at: usize, n: u64) -> usize
-    requires { at < 2 ^ 39 }
-    ensures { Puts out.old at (spaced (decimal n)) out.new result × (result ≤ at + 21) }
-{
-    let b = text::long_number(out, at, n);
     text::put(out, b, b" ")
 }
 
@@ -33,7 +24,7 @@ fn ended_number(out: &mut [u8], at: usize, n: u32) -> usize
     requires { at < 2 ^ 39 }
     ensures { Puts out.old at (ended (decimal n)) out.new result × (result ≤ at + 11) }
 {
-    let b = text::number(out, at, n);
+    let b = text::number(out, at, n as u64);
     text::put(out, b, b"\n")
 }
 
@@ -77,8 +68,8 @@ pub fn line(out: &mut [u8], at: usize, n: u64, t: u32, k: u32, v: u32) -> usize
     requires { at < 2 ^ 38 }
     ensures { Puts out.old at (line n t k v) out.new result × (result ≤ at + 52) }
 {
-    let a = spaced_long(out, at, n);
-    let b = spaced_number(out, a, t);
+    let a = spaced_number(out, at, n);
+    let b = spaced_number(out, a, t as u64);
     answer(out, b, k, v)
 }
 
@@ -88,7 +79,7 @@ pub fn left_line(out: &mut [u8], at: usize, q: u32, v: u32) -> usize
     ensures { Puts out.old at (left_line q v) out.new result × (result ≤ at + 27) }
 {
     let a = text::put(out, at, b"left ");
-    let b = spaced_number(out, a, q);
+    let b = spaced_number(out, a, q as u64);
     ended_number(out, b, v)
 }
 

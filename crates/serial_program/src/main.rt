@@ -4,11 +4,14 @@
 
 ghost use Rattle.std.specs.Prelude.{◌+◌, ◌^◌, ◌<◌, ◌≤◌};
 
-use read_file::{Bytes, JOB_BYTES};
+use read_file::JOB_BYTES;
 use serial_queues::WORKING;
 use serial_runner::ANSWERS;
 use spec_serial::End;
 use std::io::{Result, Write};
+
+// The most lines of a block.
+const BLOCK: usize = 1024;
 
 // Prints the lines of n steps from step `first` on.
 fn print_step_block<O: Write>(to: &mut O, a: &[u32], first: u32, n: u32) -> Result<()>
@@ -21,11 +24,8 @@ fn print_step_block<O: Write>(to: &mut O, a: &[u32], first: u32, n: u32) -> Resu
 
 // Prints a line for each step.
 fn print_steps<O: Write>(to: &mut O, a: &[u32], steps: u32) -> Result<()> {
-    let mut first: u32 = 0;
-    while first < steps {
-        let n = block_text::part(steps, first);
-        print_step_block(to, a, first, n)?;
-        first += n;
+    for first in (0..steps).step_by(BLOCK) {
+        print_step_block(to, a, first, block_text::part(steps, first))?;
     }
     Ok(())
 }
@@ -42,10 +42,8 @@ fn print_value_block<O: Write>(to: &mut O, w: &[u32], q: u32, first: usize) -> R
 // Prints a line for each value left in queue q.
 fn print_queue<O: Write>(to: &mut O, w: &[u32], q: u32) -> Result<()> {
     let count = serial_queues::count(w, q) as usize;
-    let mut first: usize = 0;
-    while first < count {
+    for first in (0..count).step_by(BLOCK) {
         print_value_block(to, w, q, first)?;
-        first += 1024;
     }
     Ok(())
 }
@@ -90,7 +88,7 @@ fn main(rt: HostRuntime) {
     let mut errors = rt.stderr();
     let mut file = [0u8; JOB_BYTES];
     let got = read_file::read_job(&rt, &mut errors, b"usage: serial_program FILE\n", &mut file);
-    if let Bytes::Read(n) = got {
+    if let Ok(n) = got {
         run(&mut rt.stdout(), &mut errors, &file[..n]);
     }
 }

@@ -1,6 +1,6 @@
 -- Text put into lent bytes: from a position on, with the position behind it.
 use Rattle.std.specs.Prelude.{◌≡◌, refl, List, [], ◌∷◌, ◌++◌, ℕ, zero, suc, ◌+◌, ◌<◌, ◌≤◌, length, take, get_or}
-use Rattle.std.proofs.Common.{ap, sym, ◌∙◌, le_of_suc-le-suc, add-one, arith, length-append, take-suc, take_all, length-take-le}
+use Rattle.std.proofs.Common.{ap, sym, ◌∙◌, le_of_suc-le-suc, add-one, arith, length-append, take-suc, length-take-le}
 use Rattle.spec_words.specs.Words.{store}
 use Rattle.spec_words.specs.Blocks.{store_all, store_none, store_more, store_append}
 
@@ -28,7 +28,7 @@ puts_then {m} {xs} {m1} {ys} {m2} {a} {b} {c} p q =
 pub puts_one : (m : List ℕ) (a v : ℕ) {m' : List ℕ} → m' ≡ store m a v → Puts m a (v ∷ []) m' (a + 1)
 puts_one m a v e = record { stored = e ∙ sym (store_more m a v [] ∙ store_none (store m a v) (suc a)); end = refl }
 
--- the first bytes of a text, one more of them, and all of them
+-- the first bytes of a text, and one more of them
 pub puts_first : (m : List ℕ) (a : ℕ) → Puts m a [] m (a + 0)
 puts_first m a = record { stored = sym (store_none m a); end = refl }
 
@@ -42,9 +42,6 @@ puts_more m s a i {m1} {m2} h p e =
   where
     q : Puts m a (take i s ++ (get_or s i 0 ∷ [])) m2 (a + i + 1)
     q = puts_then p (puts_one m1 (a + i) (get_or s i 0) e)
-
-pub puts_all : (m s : List ℕ) (a i : ℕ) {m1 : List ℕ} → length s ≤ i → Puts m a (take i s) m1 (a + i) → Puts m a s m1 (a + length s)
-puts_all m s a i h p = record { stored = p.stored ∙ ap (store_all m a) (take_all i s h); end = refl }
 
 -- the text where all of it fits
 fits : (ws m : List ℕ) → length ws ≤ length m → take (length ws) (store_all m zero ws) ≡ ws

@@ -7,6 +7,7 @@ ghost use Rattle.spec_words.specs.Words.{store};
 ghost use Rattle.text.specs.Text.{decimal};
 ghost use Rattle.text.specs.Puts.{Puts};
 
+#[tactic(auto, unfolding(spec_words::specs::Words::store))]
 fn put_byte(out: &mut [u8], at: usize, b: u8)
     ensures { out.new ≡ store out.old at b }
 {
@@ -20,28 +21,18 @@ pub fn put(out: &mut [u8], at: usize, text: &[u8]) -> usize
     requires { at < 2 ^ 40 }
     ensures { Puts out.old at text.now out.new result }
 {
-    let mut i: usize = 0;
-    while i < text.len() {
-        put_byte(out, at + i, text[i]);
-        i += 1;
+    for (i, &b) in text.iter().enumerate() {
+        put_byte(out, at + i, b);
     }
     at + text.len()
 }
 
 // A number in decimal digits.
-pub fn long_number(out: &mut [u8], at: usize, n: u64) -> usize
+pub fn number(out: &mut [u8], at: usize, n: u64) -> usize
     requires { at < 2 ^ 40 }
     ensures { Puts out.old at (decimal n) out.new result }
 {
     let mut digits = [0u8; 20];
     let k = io::decimal(n, &mut digits);
     put(out, at, &digits[..k])
-}
-
-// A word in decimal digits.
-pub fn number(out: &mut [u8], at: usize, n: u32) -> usize
-    requires { at < 2 ^ 40 }
-    ensures { Puts out.old at (decimal n) out.new result }
-{
-    long_number(out, at, n as u64)
 }

@@ -1,4 +1,4 @@
-pub mod Places
-pub mod Figures
+pub mod Texts
+pub mod Digits
 pub mod Words
 pub mod Lines

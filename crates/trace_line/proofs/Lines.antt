@@ -1,95 +1,232 @@
--- The parts of a line, one behind the other: each is read from where the one before it ended.
-use mathlib.Core.Path.{◌≡◌, refl, sym, ap, ◌∙◌}
-use mathlib.Core.List.{List}
-use Prim.Native.Nat.{ℕ, zero, suc, ◌<◌, ◌≤◌}
+-- The parts of a line, one behind the other: each is read from where the one before it ended. Where the bytes are of another form
+-- nothing stands behind, and no line feed is found.
+use mathlib.Core.Path.{◌≡◌, refl, sym, ap, ap₂, ◌∙◌}
+use mathlib.Core.List.{List, [], ◌∷◌}
+use mathlib.Core.Option.{none, some}
+use Prim.Native.Nat.{ℕ, ◌<◌, ◌≤◌}
 use native.Mathlib.Omega.{arith}
-use lib.ListN.{length, drop, length-drop}
-use borrow.Author.Tests.{eq-eqb, ne_eqb, lt-ltb, le-ltb}
-use Rattle.spec_words.specs.Words.{pass, halt}
+use lib.Dec.{ltb}
+use mathlib.Core.Bool.{Bool, true, false}
+use borrow.Author.Tests.{lt-ltb, le-ltb, eq-eqb, ne_eqb}
+use Rattle.std.proofs.Common.{subst, ◌⊎◌, inr, Bor}
+use Rattle.std.specs.Prelude.{Option as Given}
+use Rattle.spec_words.specs.Words.{pick, pass, halt}
+use Rattle.spec_job.specs.Effects.{Word}
 use Rattle.spec_job.specs.Numbers.{number_of, word_numbered, word_numbered_lem}
 use Rattle.text.specs.Text.{ascii}
+use Rattle.run_text.specs.Lines.{word_row, spaced}
 use Rattle.spec_trace.specs.declared.Line.{Line}
 use Rattle.spec_trace.specs.declared.Line.TheVariants.{Call, Left, Open}
-use Rattle.spec_trace.specs.Read.{front, behind_byte, behind_text, digit_of, Numbered, numbered, number_at, below, word_at, value_of, behind_feed}
-use Rattle.spec_trace.specs.Read.{LineRead, call_at, left_at, open_at, line_at}
-use Rattle.trace_line.specs.Reads.{Behind, NumberRead, rest_from, Reads}
-use Rattle.law_trace.specs.Rendered.{shorter}
+use Rattle.spec_trace.specs.Read.{front, behind_byte, behind_text, Numbered, numbered, number_at, below, word_at, value_at, value_of, behind_feed}
+use Rattle.spec_trace.specs.Read.{digit_of, LineRead, call_at, left_at, open_at, line_at}
+use Rattle.trace_line.specs.Reads.{IsRead}
+use Rattle.trace_line.proofs.Digits.{digit_here, digit_far}
 
--- what is read from p on, where rest stands there
-byte_on : {bs rest : List ℕ} {p q : ℕ} (c : ℕ) → Behind bs p rest → Behind bs q (behind_byte c (drop p bs)) → Behind bs q (behind_byte c rest)
-byte_on c b r = rw b.there at r
+pub below_few : (k v : ℕ) (rs : List ℕ) → v < k → below k (numbered v rs) ≡ rs
+unfolding below
+below_few k v rs l = halt rs [] (lt-ltb v k l)
 
-pub number_on : {bs rest : List ℕ} {v p q : ℕ} → Behind bs p rest → NumberRead bs v q (number_at (drop p bs)) → NumberRead bs v q (number_at rest)
-number_on b r = rw b.there at r
+pub below_many : (k v : ℕ) (rs : List ℕ) → k ≤ v → below k (numbered v rs) ≡ []
+unfolding below
+below_many k v rs l = pass rs (le-ltb v k l) refl
 
-below_on : {bs : List ℕ} {v p q : ℕ} {x : Numbered} (k : ℕ) → NumberRead bs v p x → Behind bs q (below k (numbered v (drop p bs)))
-    → Behind bs q (below k x)
-below_on k n r = rw (n.value, n.behind.there) at r
+pub below_nothing : (k : ℕ) {x : Numbered} → numbered 0 [] ≡ x → below k x ≡ []
+below_nothing k e = ap (below k) (sym e) ∙ at
+  where
+    same : (b : Bool) → ◌≡◌ {A = List ℕ} (pick b [] []) []
+    same true = unfold pick in refl
+    same false = unfold pick in refl
 
--- a line that was read, its bytes those of r
-abbrev pub Ends : List ℕ → Line → ℕ → LineRead → Type 0
-Ends bs l next r = (l ≡ r.line) × (rest_from bs next ≡ r.rest) × (next ≤ length bs)
+    at : below k (numbered 0 []) ≡ []
+    at = unfold below in same (ltb 0 k)
 
-pub call_ends : (bs : List ℕ) (p : ℕ) {n a1 a2 t a3 a4 a5 b k v a6 next : ℕ} → NumberRead bs n a1 (number_at (drop p bs))
-    → Behind bs a2 (behind_byte 32 (drop a1 bs)) → NumberRead bs t a3 (number_at (drop a2 bs)) → Behind bs a4 (below 256 (numbered t (drop a3 bs)))
-    → Behind bs a5 (behind_byte 32 (drop a4 bs)) → b ≡ front (drop a5 bs) → k ≡ number_of (word_at b)
-    → NumberRead bs v a6 (value_of (word_numbered k) (drop a5 bs)) → rest_from bs next ≡ behind_feed (drop a6 bs) → next ≤ length bs
-    → Ends bs (Call n t k v) next (call_at (drop p bs))
-unfolding call_at
-call_ends bs p {b = b} {k = k} h1 h2 h3 h4 h5 h6 h7 h8 h9 h10 =
-    let g2 = byte_on 32 h1.behind h2 in
-    let g3 = number_on g2 h3 in
-    let g5 = byte_on 32 (below_on 256 g3 h4) h5 in
-    let e = h6 ∙ ap front g5.there in
-    let f = h7 ∙ ap (λ (x : ℕ). number_of (word_at x)) e in
-    let w = ap word_numbered f ∙ word_numbered_lem _ in
-    let g8 = rw (w, g5.there) at h8 in
-    let x = h1.value in let y = g3.value in let z = g8.value in
-    ((cc), h9 ∙ ap behind_feed g8.behind.there, h10)
+none_read : {x y : LineRead} → x ≡ y → y.rest ≡ none → x.rest ≡ none
+none_read e f = ap (λ (x : LineRead). x.rest) e ∙ f
 
-pub left_ends : (bs : List ℕ) (p : ℕ) {q a1 a2 a3 v a4 next : ℕ} → NumberRead bs q a1 (number_at (behind_text (ascii "left ") (drop p bs)))
-    → Behind bs a2 (below 4 (numbered q (drop a1 bs))) → Behind bs a3 (behind_byte 32 (drop a2 bs)) → NumberRead bs v a4 (number_at (drop a3 bs))
-    → rest_from bs next ≡ behind_feed (drop a4 bs) → next ≤ length bs → Ends bs (Left q v) next (left_at (drop p bs))
-unfolding left_at
-left_ends bs p h1 h2 h3 h4 h5 h6 =
-    let g4 = number_on (byte_on 32 (below_on 4 h1 h2) h3) h4 in
-    let x = h1.value in let y = g4.value in
-    ((cc), h5 ∙ ap behind_feed g4.behind.there, h6)
+-- A CALL, part by part
+abbrev after_value : ℕ → ℕ → ℕ → Numbered → LineRead
+after_value n t k v = record { line = Call n t k v.value; rest = behind_feed v.rest }
 
-pub open_ends : (bs : List ℕ) (p : ℕ) {n a1 next : ℕ} → NumberRead bs n a1 (number_at (behind_text (ascii "open ") (drop p bs)))
-    → rest_from bs next ≡ behind_feed (drop a1 bs) → next ≤ length bs → Ends bs (Open n) next (open_at (drop p bs))
-unfolding open_at
-open_ends bs p h1 h2 h3 = let x = h1.value in ((cc), h2 ∙ ap behind_feed h1.behind.there, h3)
+abbrev after_word : ℕ → ℕ → List ℕ → LineRead
+after_word n t a = after_value n t (number_of (word_at (front a))) (value_of (word_at (front a)) a)
 
--- a line is not empty, so that its end is behind its beginning
-goes_on : (bs : List ℕ) (p next : ℕ) → rest_from bs next ≡ (line_at (drop p bs)).rest → next ≤ length bs → (next ≡ 0 → ⊥) → p < next
-unfolding rest_from
-goes_on bs p zero e h n = absurd (n refl)
-goes_on bs p (suc next) e h n =
-    let s = shorter (drop p bs) (drop (suc next) bs) (sym e) in omega (arith, simp length-drop at s)
+abbrev after_task : ℕ → Numbered → LineRead
+after_task n t = after_word n t.value (behind_byte 32 (below 256 t))
 
-reads : (bs : List ℕ) (p : ℕ) {l : Line} {next : ℕ} {r : LineRead} → line_at (drop p bs) ≡ r → Ends bs l next r → Reads bs p l next
-reads bs p {next = next} e h =
-    let f = h.1 ∙ sym (ap (λ (x : LineRead). x.rest) e) in
-    record { line = h.0 ∙ sym (ap (λ (x : LineRead). x.line) e); rest = f; inside = h.2; forward = goes_on bs p next f h.2 }
+no_feed : behind_feed [] ≡ none
+unfolding behind_feed
+no_feed = refl
 
--- which line it is, by its first byte
-pub reads_call : (bs : List ℕ) (p b d : ℕ) {l : Line} {next : ℕ} → b ≡ front (drop p bs) → d ≡ digit_of b → d < 10
-    → Ends bs l next (call_at (drop p bs)) → Reads bs p l next
-unfolding line_at
-reads_call bs p b d e f h =
-    let g : digit_of (front (drop p bs)) < 10 = omega (arith, f ∙ ap digit_of e) in reads bs p (halt _ _ (lt-ltb (digit_of (front (drop p bs))) 10 g))
+no_word : (n t : ℕ) (a : List ℕ) → a ≡ [] → (after_word n t a).rest ≡ none
+no_word n t a e = ap (λ (a : List ℕ). (after_word n t a).rest) e ∙ at
+  where
+    at : (after_word n t []).rest ≡ none
+    at = unfold front word_at value_of value_at word_row spaced ascii behind_text behind_byte number_at behind_feed pick in refl
 
-pub reads_left : (bs : List ℕ) (p b d : ℕ) {l : Line} {next : ℕ} → b ≡ front (drop p bs) → d ≡ digit_of b → 10 ≤ d → b ≡ 108
-    → Ends bs l next (left_at (drop p bs)) → Reads bs p l next
-unfolding line_at
-reads_left bs p b d e f h i =
-    let g : 10 ≤ digit_of (front (drop p bs)) = omega (arith, f ∙ ap digit_of e) in
-    reads bs p (pass _ (le-ltb (digit_of (front (drop p bs))) 10 g) (halt _ _ (eq-eqb (front (drop p bs)) 108 (sym e ∙ i))))
+no_task : (n : ℕ) (t : Numbered) → below 256 t ≡ [] → (after_task n t).rest ≡ none
+no_task n t e = no_word n t.value (behind_byte 32 (below 256 t)) (ap (behind_byte 32) e ∙ at)
+  where
+    at : behind_byte 32 [] ≡ []
+    at = unfold behind_byte in refl
 
-pub reads_open : (bs : List ℕ) (p b d : ℕ) {l : Line} {next : ℕ} → b ≡ front (drop p bs) → d ≡ digit_of b → 10 ≤ d → (b ≡ 108 → ⊥)
-    → Ends bs l next (open_at (drop p bs)) → Reads bs p l next
-unfolding line_at
-reads_open bs p b d e f h i =
-    let g : 10 ≤ digit_of (front (drop p bs)) = omega (arith, f ∙ ap digit_of e) in
-    reads bs p (pass _ (le-ltb (digit_of (front (drop p bs))) 10 g) (pass _ (ne_eqb (front (drop p bs)) 108 (λ z. i (e ∙ z))) refl))
+module _ (bs : List ℕ) where
+  at0 : call_at bs ≡ (let x = number_at bs in after_task x.value (number_at (behind_byte 32 x.rest)))
+  unfolding call_at
+  at0 = refl
+
+  pub call_no_number : numbered 0 [] ≡ number_at bs → (call_at bs).rest ≡ none
+  call_no_number e =
+      none_read (at0 ∙ ap (λ (x : Numbered). after_task x.value (number_at (behind_byte 32 x.rest))) (sym e))
+      (no_task 0 (number_at (behind_byte 32 [])) (ap (below 256) at ∙ below_few 256 0 [] (omega arith)))
+    where
+      at : number_at (behind_byte 32 []) ≡ numbered 0 []
+      at = unfold behind_byte number_at in refl
+
+  module _ {n : ℕ} {r1 : List ℕ} (e1 : numbered n r1 ≡ number_at bs) where
+    at1 : call_at bs ≡ after_task n (number_at (behind_text (32 ∷ []) r1))
+    at1 = at0 ∙ ap (λ (x : Numbered). after_task x.value (number_at (behind_byte 32 x.rest))) (sym e1) ∙ same
+      where
+        same : after_task n (number_at (behind_byte 32 r1)) ≡ after_task n (number_at (behind_text (32 ∷ []) r1))
+        same = unfold behind_text in refl
+
+    pub call_no_task : below 256 (number_at (behind_text (32 ∷ []) r1)) ≡ [] → (call_at bs).rest ≡ none
+    call_no_task e = none_read at1 (no_task n (number_at (behind_text (32 ∷ []) r1)) e)
+
+    module _ {t : ℕ} {r2 : List ℕ} (e2 : (t < 256) × (numbered t r2 ≡ number_at (behind_text (32 ∷ []) r1))) where
+      at3 : call_at bs ≡ after_word n t (behind_text (32 ∷ []) r2)
+      at3 = at1 ∙ ap (after_task n) (sym e2.1) ∙ ap (λ (a : List ℕ). after_word n t (behind_byte 32 a)) (below_few 256 t r2 e2.0) ∙ same
+        where
+          same : after_word n t (behind_byte 32 r2) ≡ after_word n t (behind_text (32 ∷ []) r2)
+          same = unfold behind_text in refl
+
+      pub call_no_word : [] ≡ behind_text (32 ∷ []) r2 → (call_at bs).rest ≡ none
+      call_no_word e = none_read at3 (no_word n t (behind_text (32 ∷ []) r2) (sym e))
+
+      module _ {a : List ℕ} (e3 : a ≡ behind_text (32 ∷ []) r2) where
+        pub call_no_first : a ≡ [] → (call_at bs).rest ≡ none
+        call_no_first e = call_no_word (sym e ∙ e3)
+
+        module _ {k : ℕ} (e4 : k ≡ number_of (word_at (front a))) where
+          at5 : call_at bs ≡ after_value n t k (value_of (word_numbered k) a)
+          at5 =
+              at3
+              ∙ ap (after_word n t) (sym e3)
+              ∙ ap₂ (λ (k : ℕ) (w : Word). after_value n t k (value_of w a)) (sym e4) (sym (ap word_numbered e4 ∙ word_numbered_lem _))
+
+          pub call_no_value : numbered 0 [] ≡ value_of (word_numbered k) a → (call_at bs).rest ≡ none
+          call_no_value e = none_read (at5 ∙ ap (after_value n t k) (sym e)) no_feed
+
+          module _ {v : ℕ} {r4 : List ℕ} (e5 : numbered v r4 ≡ value_of (word_numbered k) a) where
+            at6 : call_at bs ≡ after_value n t k (numbered v r4)
+            at6 = at5 ∙ ap (after_value n t k) (sym e5)
+
+            pub call_no_feed : none ≡ behind_feed r4 → (call_at bs).rest ≡ none
+            call_no_feed e = none_read at6 (sym e)
+
+            pub call_read : {r5 : List ℕ} → some r5 ≡ behind_feed r4 → (Call n t k v ≡ (call_at bs).line) × (some r5 ≡ (call_at bs).rest)
+            call_read e = (sym (ap (λ (x : LineRead). x.line) at6), e ∙ sym (ap (λ (x : LineRead). x.rest) at6))
+
+-- A VALUE LEFT, part by part
+abbrev after_left : ℕ → Numbered → LineRead
+after_left q v = record { line = Left q v.value; rest = behind_feed v.rest }
+
+abbrev after_queue : Numbered → LineRead
+after_queue q = after_left q.value (number_at (behind_byte 32 (below 4 q)))
+
+no_queue : (q : Numbered) → below 4 q ≡ [] → (after_queue q).rest ≡ none
+no_queue q e = ap (λ (a : List ℕ). (after_left q.value (number_at (behind_byte 32 a))).rest) e ∙ at
+  where
+    at : (after_left q.value (number_at (behind_byte 32 []))).rest ≡ none
+    at = unfold behind_byte number_at behind_feed in refl
+
+module _ (bs ls : List ℕ) (es : ls ≡ ascii "left ") where
+  left0 : left_at bs ≡ after_queue (number_at (behind_text ls bs))
+  left0 = at ∙ ap (λ (ls : List ℕ). after_queue (number_at (behind_text ls bs))) (sym es)
+    where
+      at : left_at bs ≡ after_queue (number_at (behind_text (ascii "left ") bs))
+      at = unfold left_at in refl
+
+  pub left_no_queue : below 4 (number_at (behind_text ls bs)) ≡ [] → (left_at bs).rest ≡ none
+  left_no_queue e = none_read left0 (no_queue (number_at (behind_text ls bs)) e)
+
+  module _ {q : ℕ} {r1 : List ℕ} (e1 : (q < 4) × (numbered q r1 ≡ number_at (behind_text ls bs))) where
+    left2 : left_at bs ≡ after_left q (number_at (behind_text (32 ∷ []) r1))
+    left2 = left0 ∙ ap after_queue (sym e1.1) ∙ ap (λ (a : List ℕ). after_left q (number_at (behind_byte 32 a))) (below_few 4 q r1 e1.0) ∙ same
+      where
+        same : after_left q (number_at (behind_byte 32 r1)) ≡ after_left q (number_at (behind_text (32 ∷ []) r1))
+        same = unfold behind_text in refl
+
+    pub left_no_value : numbered 0 [] ≡ number_at (behind_text (32 ∷ []) r1) → (left_at bs).rest ≡ none
+    left_no_value e = none_read (left2 ∙ ap (after_left q) (sym e)) no_feed
+
+    module _ {v : ℕ} {r2 : List ℕ} (e2 : numbered v r2 ≡ number_at (behind_text (32 ∷ []) r1)) where
+      left3 : left_at bs ≡ after_left q (numbered v r2)
+      left3 = left2 ∙ ap (after_left q) (sym e2)
+
+      pub left_no_feed : none ≡ behind_feed r2 → (left_at bs).rest ≡ none
+      left_no_feed e = none_read left3 (sym e)
+
+      pub left_read : {r3 : List ℕ} → some r3 ≡ behind_feed r2 → (Left q v ≡ (left_at bs).line) × (some r3 ≡ (left_at bs).rest)
+      left_read e = (sym (ap (λ (x : LineRead). x.line) left3), e ∙ sym (ap (λ (x : LineRead). x.rest) left3))
+
+-- THE LINE of a run that is not over
+abbrev after_open : Numbered → LineRead
+after_open n = record { line = Open n.value; rest = behind_feed n.rest }
+
+module _ (bs ls : List ℕ) (es : ls ≡ ascii "open ") where
+  open0 : open_at bs ≡ after_open (number_at (behind_text ls bs))
+  open0 = at ∙ ap (λ (ls : List ℕ). after_open (number_at (behind_text ls bs))) (sym es)
+    where
+      at : open_at bs ≡ after_open (number_at (behind_text (ascii "open ") bs))
+      at = unfold open_at in refl
+
+  pub open_no_number : numbered 0 [] ≡ number_at (behind_text ls bs) → (open_at bs).rest ≡ none
+  open_no_number e = none_read (open0 ∙ ap after_open (sym e)) no_feed
+
+  module _ {n : ℕ} {r1 : List ℕ} (e1 : numbered n r1 ≡ number_at (behind_text ls bs)) where
+    open1 : open_at bs ≡ after_open (numbered n r1)
+    open1 = open0 ∙ ap after_open (sym e1)
+
+    pub open_no_feed : none ≡ behind_feed r1 → (open_at bs).rest ≡ none
+    open_no_feed e = none_read open1 (sym e)
+
+    pub open_read : {r2 : List ℕ} → some r2 ≡ behind_feed r1 → (Open n ≡ (open_at bs).line) × (some r2 ≡ (open_at bs).rest)
+    open_read e = (sym (ap (λ (x : LineRead). x.line) open1), e ∙ sym (ap (λ (x : LineRead). x.rest) open1))
+
+pub word_first : (a : List ℕ) {b k : ℕ} → b ≡ front a → k ≡ number_of (word_at b) → k ≡ number_of (word_at (front a))
+word_first a e f = f ∙ ap (λ (b : ℕ). number_of (word_at b)) e
+
+-- WHICH LINE it is, by its first byte
+pub no_line : (bs : List ℕ) → bs ≡ [] → (line_at bs).rest ≡ none
+no_line bs e = ap (λ (bs : List ℕ). (line_at bs).rest) e ∙ at
+  where
+    at : (line_at []).rest ≡ none
+    at = unfold line_at front digit_of pick open_at ascii behind_text behind_byte number_at behind_feed in refl
+
+read_as : (o : Given (Line × Bor (List ℕ))) {x y : LineRead} → x ≡ y → IsRead o x → IsRead o y
+read_as o e r = subst (IsRead o) e r
+
+module _ (bs : List ℕ) {b : ℕ} (e : b ≡ front bs) (o : Given (Line × Bor (List ℕ))) where
+  pub as_call : 48 ≤ b → b < 58 → IsRead o (call_at bs) → IsRead o (line_at bs)
+  as_call h l r = read_as o (sym at) r
+    where
+      small : digit_of (front bs) < 10
+      small = let z = digit_here b h in let f = ap digit_of e in omega (arith, z, f, h, l)
+
+      at : line_at bs ≡ call_at bs
+      at = unfold line_at in halt _ _ (lt-ltb (digit_of (front bs)) 10 small)
+
+  large : (b < 48) ⊎ (58 ≤ b) → 10 ≤ digit_of (front bs)
+  large h = let f = ap digit_of e in let g = digit_far b h in omega (arith, f, g)
+
+  pub as_left : b ≡ 108 → IsRead o (left_at bs) → IsRead o (line_at bs)
+  as_left f r = read_as o (sym at) r
+    where
+      at : line_at bs ≡ left_at bs
+      at = unfold line_at in pass _ (le-ltb (digit_of (front bs)) 10 (large (inr (omega (arith, f))))) (halt _ _ (eq-eqb (front bs) 108 (sym e ∙ f)))
+
+  pub as_open : (b < 48) ⊎ (58 ≤ b) → (b ≡ 108 → ⊥) → IsRead o (open_at bs) → IsRead o (line_at bs)
+  as_open h n r = read_as o (sym at) r
+    where
+      at : line_at bs ≡ open_at bs
+      at = unfold line_at in pass _ (le-ltb (digit_of (front bs)) 10 (large h)) (pass _ (ne_eqb (front bs) 108 (λ z. n (e ∙ z))) refl)

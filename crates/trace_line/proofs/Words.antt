@@ -2,14 +2,11 @@
 use mathlib.Core.Path.{◌≡◌, refl, sym, ap, ◌∙◌}
 use mathlib.Core.List.{List}
 use Prim.Native.Nat.{ℕ}
-use lib.ListN.{drop}
 use borrow.Author.Tests.{ne_eqb}
 use Rattle.spec_words.specs.Words.{pass}
 use Rattle.spec_job.specs.Effects.{Word, refused}
 use Rattle.spec_job.specs.Numbers.{number_of, word_numbered}
 use Rattle.spec_trace.specs.Read.{Numbered, word_at, value_of}
-use Rattle.trace_line.specs.Reads.{NumberRead}
-use Rattle.trace_line.proofs.Figures.{read_as}
 
 -- byte i is the first of the word that has number k
 pub word_here : (b i k : ℕ) → b ≡ i → k ≡ number_of (word_at i) → k ≡ number_of (word_at b)
@@ -30,10 +27,8 @@ word_none b o =
     (pass _ (ne_eqb b 119 o.1) refl)))))))))
 
 -- what goes with the word that has number i, and with that of any other number
-pub value_here : {bs : List ℕ} {v q : ℕ} {x : Numbered} (p k i : ℕ) → k ≡ i → x ≡ value_of (word_numbered i) (drop p bs) → NumberRead bs v q x
-    → NumberRead bs v q (value_of (word_numbered k) (drop p bs))
-value_here {bs} p k i e f r = read_as (f ∙ ap (λ (j : ℕ). value_of (word_numbered j) (drop p bs)) (sym e)) r
+pub value_here : (bs : List ℕ) (k i : ℕ) {r x : Numbered} → k ≡ i → x ≡ value_of (word_numbered i) bs → r ≡ x → r ≡ value_of (word_numbered k) bs
+value_here bs k i e f r = r ∙ f ∙ ap (λ (j : ℕ). value_of (word_numbered j) bs) (sym e)
 
-pub value_none : {bs : List ℕ} {v q : ℕ} {x : Numbered} (p k : ℕ) → word_numbered k ≡ refused → x ≡ value_of refused (drop p bs)
-    → NumberRead bs v q x → NumberRead bs v q (value_of (word_numbered k) (drop p bs))
-value_none {bs} p k e f r = read_as (f ∙ ap (λ (w : Word). value_of w (drop p bs)) (sym e)) r
+pub value_none : (bs : List ℕ) (k : ℕ) {r x : Numbered} → word_numbered k ≡ refused → x ≡ value_of refused bs → r ≡ x → r ≡ value_of (word_numbered k) bs
+value_none bs k e f r = r ∙ f ∙ ap (λ (w : Word). value_of w bs) (sym e)

@@ -1,27 +1,33 @@
--- What a position in the trace says of the bytes behind it.
-use Rattle.std.specs.Prelude.{◌≡◌, List, ℕ, zero, suc, ◌<◌, ◌≤◌, length, drop}
-use Rattle.std.proofs.Math.Option.{Option, none, some}
+-- What the code reads at the front of bytes, in the words of the definition.
+use Rattle.std.specs.Prelude.{◌≡◌, List, [], ℕ, ◌<◌, ◌≤◌, Option, Some, None, MatchOption, drop}
+use Rattle.std.proofs.Math.Option.{Option as Left, none, some}
+use Rattle.std.proofs.Common.{Bor}
 use Rattle.spec_trace.specs.declared.Line.{Line}
-use Rattle.spec_trace.specs.Read.{Numbered, line_at}
+use Rattle.spec_trace.specs.Read.{Numbered, numbered, front, digit_of, below, LineRead}
 
--- from position p of the bytes bs on stands rest
-pub record Behind (bs : List ℕ) (p : ℕ) (rest : List ℕ) : Type 0 where
-  pub inside : p ≤ length bs
-  pub there : drop p bs ≡ rest
+-- the digit at the front, and what stands behind it
+abbrev pub Digit : List ℕ → Option (ℕ × Bor (List ℕ)) → Type 0
+Digit bs o = MatchOption o (10 ≤ digit_of (front bs)) (λ x. (x.0 < 10) × (x.0 ≡ digit_of (front bs)) × (x.1.now ≡ drop 1 bs))
 
--- a number v that was read, and the position behind it
-pub record NumberRead (bs : List ℕ) (v p : ℕ) (x : Numbered) : Type 0 where
-  pub value : v ≡ x.value
-  pub behind : Behind bs p x.rest
+-- what stands behind a text; nothing does where the bytes are of another form
+unfoldable pub rest_of : Option (Bor (List ℕ)) → List ℕ
+rest_of None = []
+rest_of (Some r) = r.now
 
--- the position behind a line; 0 where there was none
-unfoldable pub rest_from : List ℕ → ℕ → Option (List ℕ)
-rest_from bs zero = none
-rest_from bs (suc p) = some (drop (suc p) bs)
+-- what stands behind a line feed, if there is one
+unfoldable pub left_behind : Option (Bor (List ℕ)) → Left (List ℕ)
+left_behind None = none
+left_behind (Some r) = some r.now
 
--- the line read from position p on
-pub record Reads (bs : List ℕ) (p : ℕ) (l : Line) (next : ℕ) : Type 0 where
-  pub line : l ≡ (line_at (drop p bs)).line
-  pub rest : rest_from bs next ≡ (line_at (drop p bs)).rest
-  pub inside : next ≤ length bs
-  pub forward : (next ≡ 0 → ⊥) → p < next
+-- a number, and what stands behind it
+unfoldable pub number_of : Option (ℕ × Bor (List ℕ)) → Numbered
+number_of None = numbered 0 []
+number_of (Some x) = numbered x.0 x.1.now
+
+-- the number x and what stands behind it, if it is below k
+abbrev pub Below : ℕ → Numbered → Option (ℕ × Bor (List ℕ)) → Type 0
+Below k x o = MatchOption o (below k x ≡ []) (λ r. (r.0 < k) × (numbered r.0 r.1.now ≡ x))
+
+-- a line, and what stands behind it
+abbrev pub IsRead : Option (Line × Bor (List ℕ)) → LineRead → Type 0
+IsRead o x = MatchOption o (x.rest ≡ none) (λ r. (r.0 ≡ x.line) × (some r.1.now ≡ x.rest))

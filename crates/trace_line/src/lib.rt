@@ -1,11 +1,11 @@
-// Reading a line of a trace. A position is handed on from part to part; where the bytes are of another form it is the trace's
-// length, behind which no part finds anything.
-#![tactic(auto)]
+// Reading a line of a trace. Each part is read at the front of the bytes and gives what stands behind it, or nothing where the bytes
+// are of another form.
+#![tactic(auto, unfolding(crate::specs::Reads::rest_of, crate::specs::Reads::left_behind, crate::specs::Reads::number_of))]
 
-ghost use Rattle.std.specs.Prelude.{◌≡◌, ◌+◌, ◌<◌, ◌≤◌, length, drop};
+ghost use Rattle.std.specs.Prelude.{◌≡◌, ◌<◌};
 ghost use Rattle.spec_job.specs.Numbers.{number_of, word_numbered};
-ghost use Rattle.spec_trace.specs.Read.{front, behind_byte, behind_text, digit_of, numbered, more_digits, fitting, number_at, below, word_at, value_of, behind_feed, call_at, left_at, open_at};
-ghost use Rattle.trace_line.specs.Reads.{Behind, NumberRead, rest_from, Reads};
+ghost use Rattle.spec_trace.specs.Read.{behind_text, numbered, more_digits, number_at, word_at, value_of, behind_feed, call_at, left_at, open_at, line_at};
+ghost use Rattle.trace_line.specs.Reads.{Digit, rest_of, left_behind, number_of as read_number, Below, IsRead};
 
 use answer_numbers::{EMPTY, FINISHED, MOVED, NOT_EMPTY, PUSHED, SPAWNED, TOOK, WAITS};
 use spec_trace::Line;
@@ -13,132 +13,64 @@ use spec_trace::Line;
 // The number of the word "refused", which is that of no answer.
 pub const REFUSED: u32 = 0;
 
-// A line that was read, and the position behind it; 0 where the bytes are of another form.
-#[derive(Clone, Copy)]
-pub struct Found {
-    pub line: Line,
-    pub next: usize,
-}
-
-#[derive(Clone, Copy)]
-struct Numeral {
-    value: u32,
-    next: usize,
-}
-
-// The byte at a position.
-fn front(trace: &[u8], at: usize) -> u8
-    ensures { result ≡ front (drop at trace.now) }
+// The bytes behind a text.
+fn behind<'a>(bytes: &'a [u8], text: &[u8]) -> Option<&'a [u8]>
+    ensures { rest_of result ≡ behind_text text.now bytes.now }
 {
-    if at < trace.len() { trace[at] } else { 0 }
+    bytes.strip_prefix(text)
 }
 
-// The position behind the byte c.
-fn behind_byte(trace: &[u8], at: usize, c: u8) -> usize
-    ensures { Behind trace.now result (behind_byte c (drop at trace.now)) }
+// The bytes behind a line feed.
+fn behind_feed(bytes: &[u8]) -> Option<&[u8]>
+    ensures { left_behind result ≡ behind_feed bytes.now }
 {
-    if at < trace.len() {
-        if trace[at] == c {
-            return at + 1;
-        }
-    }
-    trace.len()
+    let (b, rest) = bytes.split_first()?;
+    if *b == b'\n' { Some(rest) } else { None }
 }
 
-// The position behind a text.
-fn behind_text(trace: &[u8], at: usize, text: &[u8]) -> usize
-    requires { at ≤ length trace.now }
-    ensures { Behind trace.now result (behind_text text.now (drop at trace.now)) }
+// The digit at the front.
+fn digit(bytes: &[u8]) -> Option<(u32, &[u8])>
+    ensures { Digit bytes.now result }
 {
-    if trace.len() - at < text.len() {
-        return trace.len();
-    }
-    let mut i: usize = 0;
-    while i < text.len() {
-        if trace[at + i] != text[i] {
-            return trace.len();
-        }
-        i += 1;
-    }
-    at + text.len()
-}
-
-// The digit that a byte is; 10 or more where it is none.
-fn digit(b: u8) -> u32
-    ensures { result ≡ digit_of b }
-{
-    if b < 48 {
-        return 10;
-    }
-    (b - 48) as u32
-}
-
-// A number that fits a word.
-fn fitting(trace: &[u8], v: u64, at: usize) -> Numeral
-    requires { at ≤ length trace.now }
-    ensures { NumberRead trace.now result.value result.next (fitting (numbered v (drop at trace.now))) }
-{
-    if v < 4294967296 {
-        return Numeral {
-            value: v as u32,
-            next: at,
-        };
-    }
-    Numeral {
-        value: 0,
-        next: trace.len(),
+    let (b, rest) = bytes.split_first()?;
+    match *b {
+        b'0'..=b'9' => Some(((*b - b'0') as u32, rest)),
+        _ => None,
     }
 }
 
 // The number whose first digit is d, of ten digits at most.
-fn more_digits(trace: &[u8], at: usize, d: u32) -> Numeral
-    requires { (at ≤ length trace.now) × (d < 10) }
-    ensures { NumberRead trace.now result.value result.next (fitting (more_digits 9 d (drop at trace.now))) }
+fn more_digits(bytes: &[u8], d: u32) -> (u64, &[u8])
+    requires { d < 10 }
+    ensures { numbered result.0 result.1.now ≡ more_digits 9 d bytes.now }
 {
     let mut v = d as u64;
-    let mut p = at;
-    let mut k: u32 = 0;
-    while k < 9 {
-        let c = digit(front(trace, p));
-        if c >= 10 {
-            return fitting(trace, v, p);
-        }
+    let mut rest = bytes;
+    for _k in 0..9u32 {
+        let Some((c, tail)) = digit(rest) else {
+            return (v, rest);
+        };
         v = v * 10 + c as u64;
-        p += 1;
-        k += 1;
+        rest = tail;
     }
-    fitting(trace, v, p)
+    (v, rest)
 }
 
-// A number in decimal digits, without leading zeros.
-fn number(trace: &[u8], at: usize) -> Numeral
-    ensures { NumberRead trace.now result.value result.next (number_at (drop at trace.now)) }
+// A number in decimal digits that fits a word, without leading zeros.
+fn number(bytes: &[u8]) -> Option<(u32, &[u8])>
+    ensures { read_number result ≡ number_at bytes.now }
 {
-    let d = digit(front(trace, at));
+    let (d, rest) = digit(bytes)?;
     if d == 0 {
-        return Numeral {
-            value: 0,
-            next: at + 1,
-        };
+        return Some((0, rest));
     }
-    if d >= 10 {
-        return Numeral {
-            value: 0,
-            next: trace.len(),
-        };
-    }
-    more_digits(trace, at + 1, d)
-}
-
-// The position behind a number that is below k.
-fn below(trace: &[u8], v: u32, next: usize, k: u32) -> usize
-    requires { next ≤ length trace.now }
-    ensures { Behind trace.now result (below k (numbered v (drop next trace.now))) }
-{
-    if v < k { next } else { trace.len() }
+    let (v, rest) = more_digits(rest, d);
+    let v = u32::try_from(v).ok()?;
+    Some((v, rest))
 }
 
 // The number of the only word that may begin with a byte.
+#[tactic(auto, unfolding(spec_trace::specs::Read::word_at, spec_job::specs::Numbers::number_of, spec_words::specs::Words::pick))]
 fn word_at(b: u8) -> u32
     ensures { result ≡ number_of (word_at b) }
 {
@@ -156,112 +88,80 @@ fn word_at(b: u8) -> u32
 }
 
 // The number behind a text.
-fn number_behind(trace: &[u8], at: usize, text: &[u8]) -> Numeral
-    requires { at ≤ length trace.now }
-    ensures { NumberRead trace.now result.value result.next (number_at (behind_text text.now (drop at trace.now))) }
+fn number_behind<'a>(bytes: &'a [u8], text: &[u8]) -> Option<(u32, &'a [u8])>
+    ensures { read_number result ≡ number_at (behind_text text.now bytes.now) }
 {
-    let p = behind_text(trace, at, text);
-    number(trace, p)
+    number(behind(bytes, text)?)
+}
+
+// The number behind a text, if it is below k.
+fn number_below<'a>(bytes: &'a [u8], text: &[u8], k: u32) -> Option<(u32, &'a [u8])>
+    ensures { Below k (number_at (behind_text text.now bytes.now)) result }
+{
+    let (v, rest) = number_behind(bytes, text)?;
+    if v < k { Some((v, rest)) } else { None }
 }
 
 // A text that ends with "-", for which 0 stands.
-fn dash_behind(trace: &[u8], at: usize, text: &[u8]) -> Numeral
-    requires { at ≤ length trace.now }
-    ensures { NumberRead trace.now result.value result.next (numbered 0 (behind_text text.now (drop at trace.now))) }
+fn dash_behind<'a>(bytes: &'a [u8], text: &[u8]) -> Option<(u32, &'a [u8])>
+    ensures { read_number result ≡ numbered 0 (behind_text text.now bytes.now) }
 {
-    Numeral {
-        value: 0,
-        next: behind_text(trace, at, text),
-    }
+    Some((0, behind(bytes, text)?))
 }
 
 // The word that has number k, and what goes with it.
-fn value(trace: &[u8], at: usize, k: u32) -> Numeral
-    requires { at ≤ length trace.now }
-    ensures { NumberRead trace.now result.value result.next (value_of (word_numbered k) (drop at trace.now)) }
+fn value(bytes: &[u8], k: u32) -> Option<(u32, &[u8])>
+    ensures { read_number result ≡ value_of (word_numbered k) bytes.now }
 {
     match k {
-        SPAWNED => number_behind(trace, at, b"spawned "),
-        PUSHED => number_behind(trace, at, b"pushed "),
-        TOOK => number_behind(trace, at, b"took "),
-        FINISHED => dash_behind(trace, at, b"finished -"),
-        MOVED => dash_behind(trace, at, b"moved -"),
-        EMPTY => dash_behind(trace, at, b"empty -"),
-        NOT_EMPTY => dash_behind(trace, at, b"not -"),
-        WAITS => dash_behind(trace, at, b"waits -"),
-        _ => number_behind(trace, at, b"refused "),
+        SPAWNED => number_behind(bytes, b"spawned "),
+        PUSHED => number_behind(bytes, b"pushed "),
+        TOOK => number_behind(bytes, b"took "),
+        FINISHED => dash_behind(bytes, b"finished -"),
+        MOVED => dash_behind(bytes, b"moved -"),
+        EMPTY => dash_behind(bytes, b"empty -"),
+        NOT_EMPTY => dash_behind(bytes, b"not -"),
+        WAITS => dash_behind(bytes, b"waits -"),
+        _ => number_behind(bytes, b"refused "),
     }
-}
-
-// The position behind a line feed; 0 where there is none.
-fn behind_feed(trace: &[u8], at: usize) -> usize
-    ensures { (rest_from trace.now result ≡ behind_feed (drop at trace.now)) × (result ≤ length trace.now) }
-{
-    if at < trace.len() {
-        if trace[at] == 10 {
-            return at + 1;
-        }
-    }
-    0
 }
 
 // A call line.
-fn call(trace: &[u8], at: usize) -> Found
-    ensures { (result.line ≡ (call_at (drop at trace.now)).line) × (rest_from trace.now result.next ≡ (call_at (drop at trace.now)).rest)
-        × (result.next ≤ length trace.now) }
+fn call(bytes: &[u8]) -> Option<(Line, &[u8])>
+    ensures { IsRead result (call_at bytes.now) }
 {
-    let n = number(trace, at);
-    let t = number(trace, behind_byte(trace, n.next, b' '));
-    let p = behind_byte(trace, below(trace, t.value, t.next, 256), b' ');
-    let k = word_at(front(trace, p));
-    let v = value(trace, p, k);
-    Found {
-        line: Line::Call(n.value, t.value, k, v.value),
-        next: behind_feed(trace, v.next),
-    }
+    let (n, rest) = number(bytes)?;
+    let (t, rest) = number_below(rest, b" ", 256)?;
+    let rest = behind(rest, b" ")?;
+    let k = word_at(*rest.first()?);
+    let (v, rest) = value(rest, k)?;
+    Some((Line::Call(n, t, k, v), behind_feed(rest)?))
 }
 
 // A line of a value left.
-fn left(trace: &[u8], at: usize) -> Found
-    requires { at ≤ length trace.now }
-    ensures { (result.line ≡ (left_at (drop at trace.now)).line) × (rest_from trace.now result.next ≡ (left_at (drop at trace.now)).rest)
-        × (result.next ≤ length trace.now) }
+fn left(bytes: &[u8]) -> Option<(Line, &[u8])>
+    ensures { IsRead result (left_at bytes.now) }
 {
-    let q = number_behind(trace, at, b"left ");
-    let v = number(
-        trace,
-        behind_byte(trace, below(trace, q.value, q.next, 4), b' '),
-    );
-    Found {
-        line: Line::Left(q.value, v.value),
-        next: behind_feed(trace, v.next),
-    }
+    let (q, rest) = number_below(bytes, b"left ", 4)?;
+    let (v, rest) = number_behind(rest, b" ")?;
+    Some((Line::Left(q, v), behind_feed(rest)?))
 }
 
 // The line of a run that is not over.
-fn open(trace: &[u8], at: usize) -> Found
-    requires { at ≤ length trace.now }
-    ensures { (result.line ≡ (open_at (drop at trace.now)).line) × (rest_from trace.now result.next ≡ (open_at (drop at trace.now)).rest)
-        × (result.next ≤ length trace.now) }
+fn open(bytes: &[u8]) -> Option<(Line, &[u8])>
+    ensures { IsRead result (open_at bytes.now) }
 {
-    let n = number_behind(trace, at, b"open ");
-    Found {
-        line: Line::Open(n.value),
-        next: behind_feed(trace, n.next),
-    }
+    let (n, rest) = number_behind(bytes, b"open ")?;
+    Some((Line::Open(n), behind_feed(rest)?))
 }
 
-// The line from position `at` on.
-pub fn read(trace: &[u8], at: usize) -> Found
-    requires { at ≤ length trace.now }
-    ensures { Reads trace.now at result.line result.next }
+// The line at the front of the bytes, and the bytes behind it.
+pub fn read(bytes: &[u8]) -> Option<(Line, &[u8])>
+    ensures { IsRead result (line_at bytes.now) }
 {
-    let b = front(trace, at);
-    if digit(b) < 10 {
-        return call(trace, at);
+    match *bytes.first()? {
+        b'0'..=b'9' => call(bytes),
+        b'l' => left(bytes),
+        _ => open(bytes),
     }
-    if b == b'l' {
-        return left(trace, at);
-    }
-    open(trace, at)
 }

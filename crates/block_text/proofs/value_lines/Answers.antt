@@ -1,25 +1,25 @@
-use Rattle.block_text.specs.Values.{no_values, next_value, all_values}
-use Prim.Native.Nat.{◌-◌}
 use native.Mathlib.Omega.{arith}
-use mathlib.Core.Path.{refl, ◌∙◌}
+use Rattle.block_text.specs.Given.{left_of}
+use Rattle.block_text.specs.Values.{none_written, one_written, written_ends, written_full}
 use Rattle.block_text.proofs.value_lines.Goals as goal
 
 pub loop-i-init : goal.loop-i-init
-loop-i-init c = (omega arith, omega arith, refl, no_values _ _)
+loop-i-init g c = (omega arith, λ f p. none_written _ _ _)
+
+pub returns-in_default : goal.returns-in_default
+unfolding left_of
+returns-in_default g c = λ f p.
+    written_ends f _ _ _ (c.loop-i.invariant.1 f p) c.loop-i-test.true (p _ _ c.loop-i-test.true c.in_default.ensures) c.loop-i.auto.out
+    (let h = c.loop-i.invariant.0 in omega (arith, h, c.loop-i-test.true, c.requires.0))
 
 pub loop-i-preserved : goal.loop-i-preserved
-loop-i-preserved c = (
-  omega arith,
-  omega arith,
-  c.left_line-at.auto.out ∙ c.loop-i.invariant.2,
-  next_value _ _ _ c.loop-i-test.true c.loop-i.invariant.3
-      c.left_line-at.ensures.0,
+unfolding left_of
+loop-i-preserved g c = (
+  omega (arith, c.left_line-at.ensures.1, c.loop-i.invariant.0),
+  λ f p. one_written f _ _ _ (c.loop-i.invariant.1 f p) c.loop-i-test.true (p _ _ c.loop-i-test.true c.in-Some.ensures) c.left_line-at.ensures.0,
 )
 
-pub shape_of-out : goal.shape_of-out
-shape_of-out c = c.loop-i.invariant.2
-
 pub returns : goal.returns
-returns c =
-    all_values _ _ _ c.loop-i.invariant.2 c.requires.0 c.loop-i.invariant.0 c.loop-i-test.false
-    c.loop-i.invariant.1 c.loop-i.invariant.3
+returns g c = λ f p.
+    written_full f _ _ _ (c.loop-i.invariant.1 f p) c.loop-i-test.false c.loop-i.auto.out
+    (let h = c.loop-i.invariant.0 in omega (arith, h, c.loop-i.auto.i-end, c.requires.0))

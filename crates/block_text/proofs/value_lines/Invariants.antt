@@ -1,13 +1,10 @@
--- The invariant: the lines of the first i values stand at the start, each of at most 27 bytes, so that all fit.
-use Rattle.block_text.specs.Values.{value_lines}
-use Rattle.text.specs.Puts.{Puts}
-use Prim.Native.Nat.{◌*◌, ◌-◌, ◌≤◌}
-use lib.ListN.{length, take}
-use mathlib.Core.Path.{◌≡◌}
+-- The lines of the first i values stand at the start, each of at most 27 bytes, so that all fit.
+use Rattle.std.proofs.Common.{ℕ, ◌*◌, ◌≤◌}
+use Rattle.std.proofs.Math.Option.{Option as Left}
+use Rattle.block_text.specs.Given.{Finds}
+use Rattle.block_text.specs.Values.{Written}
 use Rattle.block_text.proofs.value_lines.Given as goal
 
 abbrev pub invariant-loop-i : goal.invariant-loop-i
-invariant-loop-i l = (l.i ≤ length l.values) × (l.at ≤ l.i * 27) × (length l.out ≡ length l.initial.out) × Puts l.initial.out 0 (value_lines l.q (take l.i l.values)) l.out l.at
-
-abbrev pub decreases-loop-i : goal.decreases-loop-i
-decreases-loop-i l = length l.values - l.i
+invariant-loop-i g l =
+    (l.at ≤ l.i * 27) × ((f : ℕ → Left ℕ) → Finds (goal.F-post g l.value) l.most f → Written f l.q l.most l.i l.fn.out l.out l.at)

@@ -1,19 +1,17 @@
-use Rattle.hyperqueue.specs.Packed.{turned_down, goes_on, passes}
-use Rattle.spec_outcomes.specs.Finish.{finish_outcome}
+use Rattle.std.proofs.Common.{◌∙◌}
 use Rattle.spec_words.specs.Words.{size}
-use mathlib.Core.Path.{◌∙◌}
+use Rattle.spec_outcomes.specs.Finish.{finish_outcome}
+use Rattle.hyperqueue.specs.Packed.{goes_on}
 use Rattle.hyperqueue.proofs.finish.Goals as goal
 
-pub returns-then-k-ne0 : goal.returns-then-k-ne0
+pub returns-in-Some : goal.returns-in-Some
 unfolding finish_outcome
-returns-then-k-ne0 c = turned_down _ _ _ c.refusal-k.ensures c.if-k-ne0.true
+returns-in-Some c = c.in-Some.ensures _
 
 pub finish-requires : goal.finish-requires
 unfolding size
-finish-requires c = (passes _ c.refusal-k.ensures c.if-k-ne0.false).0
+finish-requires c = c.in_default.ensures.0
 
 pub returns : goal.returns
 unfolding finish_outcome
-returns c =
-    c.finish.ensures ∙ goes_on _ _ _ c.refusal-k.ensures
-    c.if-k-ne0.false
+returns c = c.finish.ensures ∙ goes_on _ _ c.in_default.ensures

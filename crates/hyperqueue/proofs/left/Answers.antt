@@ -1,14 +1,12 @@
-use Rattle.hyperqueue.specs.Packed.{turned_down, goes_on}
+use Rattle.std.proofs.Common.{◌∙◌}
 use Rattle.spec_outcomes.specs.Left.{left_outcome}
-use mathlib.Core.Path.{◌∙◌}
+use Rattle.hyperqueue.specs.Packed.{goes_on}
 use Rattle.hyperqueue.proofs.left.Goals as goal
 
-pub returns-then-k-ne0 : goal.returns-then-k-ne0
+pub returns-in-Some : goal.returns-in-Some
 unfolding left_outcome
-returns-then-k-ne0 c = turned_down _ _ _ c.refusal-k.ensures c.if-k-ne0.true
+returns-in-Some c = c.in-Some.ensures _
 
 pub returns : goal.returns
 unfolding left_outcome
-returns c =
-    c.left.ensures
-    ∙ goes_on _ _ _ c.refusal-k.ensures c.if-k-ne0.false
+returns c = c.left.ensures ∙ goes_on _ _ c.in_default.ensures

@@ -1,6 +1,6 @@
-use Rattle.hyperqueue.specs.Packed.{other_length, rules_fail, may_call}
+use Rattle.std.proofs.Common.{sym, ◌∙◌}
 use Rattle.spec_words.specs.Words.{size}
-use Rattle.std.proofs.Common.{ap, not}
+use Rattle.hyperqueue.specs.Packed.{other_length, rules_fail}
 use Rattle.hyperqueue.proofs.refusal.Goals as goal
 
 pub returns-then-m-ne-WORDS : goal.returns-then-m-ne-WORDS
@@ -9,8 +9,8 @@ returns-then-m-ne-WORDS c = other_length _ c.if-m-ne-WORDS.true
 
 pub returns-then-not-rules_hold : goal.returns-then-not-rules_hold
 unfolding size
-returns-then-not-rules_hold c = rules_fail _ c.if-m-ne-WORDS.false c.rules_hold.ensures (ap not c.if-not-rules_hold.true)
+returns-then-not-rules_hold c = rules_fail _ c.if-m-ne-WORDS.false c.rules_hold.ensures c.if-not-rules_hold.true
 
 pub returns : goal.returns
 unfolding size
-returns c = may_call _ c.if-m-ne-WORDS.false c.rules_hold.ensures (ap not c.if-not-rules_hold.false)
+returns c = (c.if-m-ne-WORDS.false, sym c.rules_hold.ensures ∙ c.if-not-rules_hold.false)

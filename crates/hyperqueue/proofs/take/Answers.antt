@@ -1,13 +1,12 @@
-use Rattle.hyperqueue.specs.Packed.{turned_down, goes_on}
+use Rattle.std.proofs.Common.{◌∙◌}
 use Rattle.spec_outcomes.specs.Take.{take_outcome}
-use mathlib.Core.Path.{◌∙◌}
+use Rattle.hyperqueue.specs.Packed.{goes_on}
 use Rattle.hyperqueue.proofs.take.Goals as goal
 
-pub returns-then-k-ne0 : goal.returns-then-k-ne0
+pub returns-in-Some : goal.returns-in-Some
 unfolding take_outcome
-returns-then-k-ne0 c = turned_down _ _ _ c.refusal-k.ensures c.if-k-ne0.true
+returns-in-Some c = c.in-Some.ensures _
 
 pub returns : goal.returns
 unfolding take_outcome
-returns c =
-    c.take.ensures ∙ goes_on _ _ _ c.refusal-k.ensures c.if-k-ne0.false
+returns c = c.take.ensures ∙ goes_on _ _ c.in_default.ensures

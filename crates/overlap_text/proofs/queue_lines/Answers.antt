@@ -1,7 +1,7 @@
-use Rattle.overlap_text.specs.Blocks.{queue_block}
+use Rattle.std.proofs.Common.{rules}
+use Rattle.overlap_text.specs.Whole.{value_in, queue_lines}
 use Rattle.overlap_text.proofs.queue_lines.Goals as goal
 
 pub returns : goal.returns
-returns c =
-    queue_block _ _ c.requires.1
-    c.left_values-n.ensures c.value_lines.ensures
+unfolding queue_lines
+returns c = c.value_lines.ensures (value_in c.args.m.now c.args.q) (λ i o l p. search rules)

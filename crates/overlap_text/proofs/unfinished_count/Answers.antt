@@ -1,21 +1,13 @@
-use Rattle.overlap_text.specs.Blocks.{none_counted, one_small, one_counted, all_counted}
-use Prim.Native.Nat.{◌-◌}
-use native.Mathlib.Omega.{arith}
-use mathlib.Core.Path.{sym}
+use Rattle.std.proofs.Common.{ℕ, rules, tests, arith}
+use Rattle.std.proofs.lemmas.Iterator.{YieldsList-from_range}
+use Rattle.std.proofs.lemmas.Iterator.Consumers.{count_from_yields_List, YieldsList-from_filter}
+use Rattle.spec_outcomes.specs.Waits.{unfinished}
+use Rattle.overlap_text.specs.Blocks.{all_counted}
 use Rattle.overlap_text.proofs.unfinished_count.Goals as goal
 
-pub loop-t-init : goal.loop-t-init
-loop-t-init c = (omega arith, omega arith, sym (none_counted _))
-
-pub overflow_add-n : goal.overflow_add-n
-overflow_add-n c = let h = one_small _ c.one-n.ensures in omega (arith, h)
-
-pub loop-t-preserved : goal.loop-t-preserved
-loop-t-preserved c = (
-  omega arith,
-  (let h = one_small _ c.one-n.ensures in omega (arith, h)),
-  one_counted _ _ _ c.loop-t.invariant.2 c.unfinished.ensures c.one-n.ensures,
-)
-
 pub returns : goal.returns
-returns c = all_counted _ _ _ c.loop-t-test.false c.loop-t.invariant.0 c.loop-t.invariant.2
+returns c =
+    all_counted c.args.m.now
+    (count_from_yields_List _ _ c.count.ensures.ran
+    (YieldsList-from_filter _ (λ (t : ℕ). unfinished c.args.m.now t) (YieldsList-from_range 0 128 128 c.filter.ensures.source (omega arith)) c.filter.ensures.closure
+    (λ x b q k. search (rules, tests))))

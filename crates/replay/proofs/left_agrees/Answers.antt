@@ -1,20 +1,18 @@
 -- Only a line of the form has the text; then its queue and its value decide.
-use Rattle.replay.specs.Same.{form, left_form, left_pair}
-use mathlib.Core.Path.{ap}
-use native.Mathlib.Omega.{arith}
-use borrow.Author.Rules.{rules}
+use Rattle.std.proofs.Common.{sym, ◌∙◌, rules}
+use borrow.Author.Tests.{eq-eqb, ne_eqb}
+use Rattle.spec_words.specs.Words.{both_on, both_off}
+use Rattle.replay.specs.Same.{left_form, left_pair, not_left}
 use Rattle.replay.proofs.left_agrees.Goals as goal
 
-pub returns-in-Call : goal.returns-in-Call
-unfolding form
-returns-in-Call c = left_form _ _ c.requires.1 (search rules) _ c.requires.0 (λ z. let e = ap form c.in-Call.is in omega
-    (arith, e, z))
+pub returns-then-queue-q : goal.returns-then-queue-q
+returns-then-queue-q c =
+    left_pair _ _ c.requires.1 (search rules) _ _ c.requires.0 c.in-Left.is (sym (both_on (eq-eqb _ _ c.if-queue-q.true)))
 
-pub returns-in-Left : goal.returns-in-Left
-returns-in-Left c = left_pair _ _ c.requires.1 (search rules) _ _ c.requires.0
-    c.in-Left.is c.same_pair.ensures
+pub returns-else-queue-q : goal.returns-else-queue-q
+returns-else-queue-q c =
+    left_pair _ _ c.requires.1 (search rules) _ _ c.requires.0 c.in-Left.is
+    (ne_eqb _ _ c.if-queue-q.false ∙ sym (both_off _ (ne_eqb _ _ c.if-queue-q.false)))
 
-pub returns-in-Open : goal.returns-in-Open
-unfolding form
-returns-in-Open c = left_form _ _ c.requires.1 (search rules) _ c.requires.0 (λ z. let e = ap form
-    c.in-Open.is in omega (arith, e, z))
+pub returns-in_default : goal.returns-in_default
+returns-in_default c = left_form _ _ c.requires.1 (search rules) _ c.requires.0 (not_left _ c.in_default.not-Left)

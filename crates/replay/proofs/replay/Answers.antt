@@ -7,6 +7,7 @@ use Rattle.replay.specs.Whole.{stays_shut, other_form, agrees, differs}
 use mathlib.Core.Path.{refl, sym, ◌∙◌}
 use borrow.Author.Tests.{not-true, not-false}
 use Rattle.std.proofs.Common.{ap, not}
+use native.Mathlib.Omega.{arith}
 use Rattle.replay.proofs.replay.Goals as goal
 
 pub returns-in-Err : goal.returns-in-Err
@@ -22,20 +23,21 @@ pub open_tested-requires : goal.open_tested-requires
 unfolding refusal_number
 open_tested-requires c = c.in_default.ensures
 
-pub first_difference-n-requires : goal.first_difference-n-requires
-first_difference-n-requires c = (
+pub compare-requires : goal.compare-requires
+compare-requires c = (
   opened_reached _ _ _ c.open_tested.ensures refl,
   (starts _ (sym
       c.has_form.ensures ∙ not-false _
       (ap not c.if-not-has_form.false))).1,
 )
 
-pub returns-then-n-eq0 : goal.returns-then-n-eq0
-returns-then-n-eq0 c =
+pub returns-in-Ok : goal.returns-in-Ok
+returns-in-Ok c =
     agrees _ _ _ _ c.open_tested.ensures (sym
-    c.has_form.ensures ∙ not-false _ (ap not c.if-not-has_form.false)) c.first_difference-n.ensures c.if-n-eq0.true
+    c.has_form.ensures ∙ not-false _ (ap not c.if-not-has_form.false)) refl c.in-Ok.ensures
 
-pub returns : goal.returns
-returns c =
+pub returns-in-Err : goal.returns-in-Err
+returns-in-Err c =
     differs _ _ _ _ c.open_tested.ensures (sym
-    c.has_form.ensures ∙ not-false _ (ap not c.if-not-has_form.false)) c.first_difference-n.ensures c.if-n-eq0.false
+    c.has_form.ensures ∙ not-false _ (ap not c.if-not-has_form.false)) (sym c.in-Err.ensures.0)
+    (let h = c.in-Err.ensures.1 in λ z. omega (arith, h, z))

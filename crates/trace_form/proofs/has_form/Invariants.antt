@@ -1,11 +1,6 @@
--- The invariant: n lines are tested up to position `at`, and the trace has the form where the rest of it has.
+-- The lines read are of the form, and the trace has it where the bytes left have.
 use Rattle.trace_form.specs.Steps.{Tested}
-use lib.ListN.{length}
-use Prim.Native.Nat.{◌-◌}
 use Rattle.trace_form.proofs.has_form.Given as goal
 
-abbrev pub invariant-loop-at : goal.invariant-loop-at
-invariant-loop-at l = Tested l.trace l.at l.ended l.n
-
-abbrev pub decreases-loop-at : goal.decreases-loop-at
-decreases-loop-at l = length l.trace - l.at
+abbrev pub invariant-loop-n : goal.invariant-loop-n
+invariant-loop-n l = Tested l.trace l.rest l.ended l._n

@@ -1,12 +1,15 @@
-use native.Mathlib.Omega.{arith}
-use Rattle.trace_line.proofs.Places.{feed_here, feed_other, feed_none}
+use Rattle.trace_line.specs.Reads.{left_behind}
+use Rattle.trace_line.proofs.Texts.{feed_none, feed_here, feed_other}
 use Rattle.trace_line.proofs.behind_feed.Goals as goal
 
-pub returns-then-trace-at-eq10 : goal.returns-then-trace-at-eq10
-returns-then-trace-at-eq10 c = (feed_here _ _ c.if-at-trace.true c.if-trace-at-eq10.true, omega arith)
+pub returns-in_err-b : goal.returns-in_err-b
+unfolding left_behind
+returns-in_err-b c = rw c.from_residual.ensures (feed_none _ c.in_err-b.ensures.cases)
 
-pub returns-else-trace-at-eq10 : goal.returns-else-trace-at-eq10
-returns-else-trace-at-eq10 c = (feed_other _ _ c.if-at-trace.true c.if-trace-at-eq10.false, omega arith)
+pub returns-then-b-eq10 : goal.returns-then-b-eq10
+unfolding left_behind
+returns-then-b-eq10 c = feed_here _ c.in_ok-b.ensures.cases.0 c.if-b-eq10.true
 
-pub returns-else-at-trace : goal.returns-else-at-trace
-returns-else-at-trace c = (feed_none _ _ c.if-at-trace.false, omega arith)
+pub returns-else-b-eq10 : goal.returns-else-b-eq10
+unfolding left_behind
+returns-else-b-eq10 c = feed_other _ c.in_ok-b.ensures.cases.0 c.if-b-eq10.false

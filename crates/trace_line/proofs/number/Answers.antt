@@ -1,37 +1,26 @@
--- By the first digit; where there is one, the position is inside the trace.
-use mathlib.Core.Path.{◌∙◌, ap}
-use native.Mathlib.Omega.{arith}
-use Rattle.spec_trace.specs.Read.{digit_of}
-use Rattle.trace_line.proofs.Figures.{digit_at, read_zero, read_none, read_more}
+use Rattle.std.proofs.Common.{◌≡◌, ◌<◌, ◌≤◌, ◌∙◌, arith}
+use Rattle.std.proofs.lemmas.Grind.{common_steps}
+use Rattle.trace_line.specs.Reads.{number_of}
+use Rattle.trace_line.proofs.Digits.{number_none, number_zero, number_is, fits, too_much}
 use Rattle.trace_line.proofs.number.Goals as goal
 
-pub overflow_add-result : goal.overflow_add-result
-overflow_add-result c =
-    let z = c.if-d-eq0.true in let h = digit_at c.args.trace.now c.args.at _
-    (c.digit-d.ensures ∙ ap digit_of c.front.ensures) (omega (arith, z)) in record { fits = omega (arith, h) }
+pub returns-in_err-d : goal.returns-in_err-d
+unfolding number_of
+returns-in_err-d c = rw c.from_residual.ensures (number_none _ c.in_err-d.ensures)
 
 pub returns-then-d-eq0 : goal.returns-then-d-eq0
-returns-then-d-eq0 c = read_zero _ _ _ (c.digit-d.ensures ∙ ap digit_of c.front.ensures) c.if-d-eq0.true
+unfolding number_of
+returns-then-d-eq0 c = number_zero _ c.if-d-eq0.true c.in_ok-d.ensures
 
-pub returns-then-d-ge10 : goal.returns-then-d-ge10
-returns-then-d-ge10 c =
-    read_none _ c.args.at _
-    (c.digit-d.ensures ∙ ap digit_of c.front.ensures) c.if-d-ge10.true
-
-pub overflow_add-at : goal.overflow_add-at
-overflow_add-at c =
-    let h = digit_at c.args.trace.now c.args.at _
-    (c.digit-d.ensures ∙ ap digit_of c.front.ensures) c.if-d-ge10.false in record { fits = omega (arith, h) }
-
-pub more_digits-requires : goal.more_digits-requires
-more_digits-requires c = (
-  (let h = digit_at c.args.trace.now c.args.at _
-      (c.digit-d.ensures ∙ ap digit_of c.front.ensures) c.if-d-ge10.false in omega (arith, h)),
-  c.if-d-ge10.false,
-)
+pub returns-in_err-v : goal.returns-in_err-v
+unfolding number_of
+returns-in_err-v c =
+    let h : 4294967296 ≤ c.more_digits-v.result.0 = grind (arith, common_steps) in
+    rw c.from_residual-in_err-v.ensures (too_much _ _ h ∙ number_is _ c.if-d-eq0.false c.in_ok-d.ensures c.more_digits-v.ensures)
 
 pub returns : goal.returns
+unfolding number_of
 returns c =
-    read_more _ c.args.at _
-    (c.digit-d.ensures ∙ ap digit_of c.front.ensures) c.if-d-eq0.false
-    c.if-d-ge10.false c.more_digits.ensures
+    let e : c.in_ok-v.v ≡ c.more_digits-v.result.0 = grind (arith, common_steps) in
+    let h : c.more_digits-v.result.0 < 4294967296 = grind (arith, common_steps) in
+    rw e (fits _ _ h ∙ number_is _ c.if-d-eq0.false c.in_ok-d.ensures c.more_digits-v.ensures)
