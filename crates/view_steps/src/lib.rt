@@ -8,7 +8,7 @@ ghost use Rattle.spec_view_events.specs.Events.{queue_of, view_of};
 ghost use Rattle.spec_view_events.specs.Events.Event.{tail, head};
 ghost use Rattle.spec_view_events.specs.Place.{placing, answered};
 ghost use Rattle.spec_view_events.specs.Sees.{Ready};
-ghost use Rattle.view_steps.specs.Goes.{Goes, GoesHeads};
+ghost use Rattle.view_steps.specs.Goes.{Goes, GoesBesideTails};
 
 use layout::{COUNT_AT, NEXT_AT, NL, NONE, NUMBER_AT, SEGMENT_WORDS, TAIL_BEHIND};
 
@@ -112,7 +112,7 @@ impl State {
     // The head of a view: where it is local, its chain is placed.
     fn head(&mut self, m: &[u32], h: u32) -> bool
         requires { Ready m.now }
-        ensures { GoesHeads m.now (λ es. head h ∷ es) result self.old self.new }
+        ensures { GoesBesideTails m.now (λ es. head h ∷ es) result self.old self.new }
     {
         if h >= NL {
             return true;
@@ -168,7 +168,7 @@ impl State {
     // The queue view of queue q whose head stands at address a.
     pub fn queue(&mut self, m: &[u32], a: usize, r: u32, q: usize) -> bool
         requires { Ready m.now × (a < 16000) × (q < 4) }
-        ensures { GoesHeads m.now (queue_of (not (r % 4 == 0)) q (slice_index m.now a)) result self.old self.new }
+        ensures { GoesBesideTails m.now (queue_of (not (r % 4 == 0)) q (slice_index m.now a)) result self.old self.new }
     {
         let h = m[a];
         if h == NONE {

@@ -1,7 +1,7 @@
 -- The cases of one event: an empty view, a view without a right, or one whose head and tail are seen in turn.
 use Rattle.std.proofs.Common.{◌+◌, not, ap, ◌∙◌, arith, eq-eqb, ne_eqb}
 use Rattle.spec_view_events.specs.Open.{stops, goes, and_none, and_some, view_none, view_refused, view_open}
-use Rattle.view_steps.specs.Goes.{goes_heads}
+use Rattle.view_steps.specs.Goes.{beside_tails}
 use Rattle.view_steps.proofs.State.view.Goals as goal
 
 pub returns-then-h-e : goal.returns-then-h-e
@@ -26,7 +26,7 @@ returns-else-tail c =
 pub returns-then-tail : goal.returns-then-tail
 returns-then-tail c =
     record {
-      same = λ es. (goes_heads c.head.ensures).same es ∙ goes c.if-tail.true
+      same = λ es. (beside_tails c.head.ensures).same es ∙ goes c.if-tail.true
           (c.tail.ensures.same _)
           ∙ view_open _ es _ _ _ _ _ _ _ (and_some _ _ c.if-h-e.false) _
           (ap not (ne_eqb _ _ c.if-r-eq0.false))
