@@ -16,7 +16,7 @@ use Rattle.spec_simulate.specs.declared.Would.TheVariants.{Moves, Waits, Refused
 use Rattle.spec_simulate.specs.declared.Simulated.TheVariants as Simulated
 use Rattle.spec_simulate.specs.declared.Phase.{Phase}
 use Rattle.spec_simulate.specs.Ticks.{ticks_for, operation_of}
-use Rattle.spec_simulate.specs.Machine.{State, Led, on, over, next, each, would_be, step_of, ticks_of, taking, chosen, choose_one}
+use Rattle.spec_simulate.specs.Machine.{State, Led, on, next, each, would_be, step_of, ticks_of, taking, chosen, choose_one}
 use Rattle.simulate.specs.Listed.{listed, listed_at}
 use Rattle.simulate.specs.Parts.{GoesOn, Numbers, Holds, goes_to, stops_at, ends_by, Asks, Chooses}
 

@@ -16,7 +16,6 @@ use Rattle.law_any_two.specs.Reached.{Reached, reached_tested, reached_step}
 use Rattle.spec_simulate.specs.declared.Would.{Would}
 use Rattle.spec_simulate.specs.declared.Would.TheVariants.{Moves, Waits, Refused}
 use Rattle.spec_simulate.specs.declared.Simulated.{Simulated}
-use Rattle.spec_simulate.specs.declared.Simulated.TheVariants as Simulated
 use Rattle.spec_simulate.specs.declared.Phase.{Phase}
 use Rattle.spec_simulate.specs.Ticks.{ticks_for, operation_of}
 use Rattle.spec_simulate.specs.Machine.{State, Led, on, over, next, each, would_be, step_of, ticks_of, falling, judged, fell, fall_one}

@@ -1,5 +1,5 @@
 -- What the parts of a simulation say: each leads where the definition leads, whatever the history.
-use Rattle.std.specs.Prelude.{◌≡◌, true, false, List, ℕ, ◌+◌, ◌*◌, ◌<◌, ◌≤◌, eqb}
+use Rattle.std.specs.Prelude.{◌≡◌, refl, true, false, Result, Ok, Err, List, ℕ, ◌+◌, ◌*◌, ◌<◌, ◌≤◌, eqb}
 use Rattle.std.proofs.Common.{ap, sym, ◌∙◌, true≢false}
 use Rattle.spec_words.specs.Words.{load, store, pick}
 use Rattle.spec_outcomes.specs.Waits.{unfinished}
@@ -10,14 +10,22 @@ use Rattle.law_any_two.specs.Reached.{Reached}
 use Rattle.spec_simulate.specs.declared.Would.{Would}
 use Rattle.spec_simulate.specs.declared.Would.TheVariants.{Moves, Waits, Refused}
 use Rattle.spec_simulate.specs.declared.Simulated.{Simulated}
-use Rattle.spec_simulate.specs.declared.Simulated.TheVariants as Simulated
 use Rattle.spec_simulate.specs.declared.Phase.{Phase}
+use Rattle.simulate.specs.declared.Clock.{Clock}
 use Rattle.spec_simulate.specs.Ticks.{ticks_for, operation_of}
 use Rattle.spec_simulate.specs.Machine.{State, Led, on, over, each, would_be, choose_one, fall_one, round, rounds, start, simulation, outcome_of}
 
 -- no number of a table is so large that the ticks of a whole simulation wrap
 abbrev pub Table : List ℕ → Type 0
 Table table = (k : ℕ) → load table k ≤ 1000
+
+-- the phase in which the code goes on, and the one that its result leads to
+abbrev pub phase_of : Clock → Phase
+phase_of c = record { over = false; answer = Simulated.Spent; clock = c.now; free = c.free; effects = c.effects; work = c.work }
+
+abbrev pub led_by : Result Clock Simulated → Phase
+led_by (Ok c) = phase_of c
+led_by (Err a) = record { over = true; answer = a; clock = 0; free = 0; effects = 0; work = 0 }
 
 -- a phase goes on, with these numbers
 pub record GoesOn (p : Phase) (c f n k : ℕ) : Type 0 where
@@ -26,6 +34,9 @@ pub record GoesOn (p : Phase) (c f n k : ℕ) : Type 0 where
   pub free : p.free ≡ f
   pub effects : p.effects ≡ n
   pub work : p.work ≡ k
+
+pub phase_goes : (c : Clock) → GoesOn (phase_of c) c.now c.free c.effects c.work
+phase_goes c = record { on = refl; clock = refl; free = refl; effects = refl; work = refl }
 
 -- the numbers of a phase that goes on are small
 pub record Counts (p : Phase) : Type 0 where

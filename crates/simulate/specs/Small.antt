@@ -16,7 +16,6 @@ use Rattle.law_simulate.proofs.Soonest.{soonest_is}
 use Rattle.spec_simulate.specs.declared.Would.{Would}
 use Rattle.spec_simulate.specs.declared.Would.TheVariants.{Moves, Waits, Refused}
 use Rattle.spec_simulate.specs.declared.Simulated.{Simulated}
-use Rattle.spec_simulate.specs.declared.Simulated.TheVariants as Simulated
 use Rattle.spec_simulate.specs.Ticks.{ticks_for, number, operation_of}
 use Rattle.spec_simulate.specs.Machine.{State, Led, on, over, next, each, in_program_order, would_be, step_of, ticks_of, taking, chosen, choose_one, choose, soonest}
 use Rattle.spec_simulate.specs.Machine.{clock_at, advance, falling, judged, fell, fall_one, fall, round}

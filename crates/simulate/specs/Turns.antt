@@ -14,7 +14,6 @@ use Rattle.law_any_two.specs.Reached.{Reached}
 use Rattle.law_any_order.proofs.Unfinished.{toured_unfinished}
 use Rattle.law_simulate.proofs.Calls.{order_occurs}
 use Rattle.spec_simulate.specs.declared.Simulated.{Simulated}
-use Rattle.spec_simulate.specs.declared.Simulated.TheVariants as Simulated
 use Rattle.spec_simulate.specs.declared.Phase.{Phase}
 use Rattle.spec_simulate.specs.Machine.{State, Led, on, over, next, each, in_program_order, choose_one, choose, soonest, clock_at, advance}
 use Rattle.spec_simulate.specs.Machine.{fall_one, fall, round, rounds, start, simulation, outcome_of}

@@ -1,6 +1,6 @@
 // A JOB WITH W WORKERS: how many ticks it uses, and the work. The job is tested once and opened afresh, and each effect is a step made
 // behind its tests, since words that only the core wrote pass them.
-#![tactic(auto)]
+#![tactic(auto, unfolding(spec_words::specs::Words::pick, spec_words::specs::Words::either, spec_words::specs::Words::size, spec_simulate::specs::Machine::earlier, spec_simulate::specs::Machine::would_be))]
 
 ghost use Rattle.std.specs.Prelude.{◌≡◌, true, ◌+◌, ◌<◌, ◌≤◌, length, replicate};
 ghost use Rattle.spec_words.specs.Words.{load};
@@ -10,45 +10,27 @@ ghost use Rattle.law_any_two.specs.Reached.{Reached};
 ghost use Rattle.spec_simulate.specs.Ticks.{ticks_for, operation_of};
 ghost use Rattle.spec_simulate.specs.Machine.{would_be, earlier, soonest, in_program_order, simulation, simulate_outcome};
 ghost use Rattle.simulate.specs.Listed.{listed, Noted};
-ghost use Rattle.simulate.specs.Parts.{Table, Counts, GoesOn, Asks, Chooses, Judges, Falls, FallsAll, Rounds, RoundsAll};
+ghost use Rattle.simulate.specs.Parts.{Table, Counts, phase_of, led_by, Asks, Chooses, Judges, Falls, FallsAll, Rounds, RoundsAll};
 
 use layout::{END, MARKS, TASKS};
+use operations::Operation;
+use refusals::Refusal;
 use runner_words::instruction_for;
 use spec_runner::StepAnswer;
-use spec_simulate::{Phase, Simulated, Would};
-
-// 14: another number of workers than 1 to 16.
-const WORKERS_WRONG: u32 = 14;
+use spec_simulate::{Simulated, Would};
 
 const MOST_WORKERS: u32 = 16;
 
 // "Once 65,535 effects have fallen with the top unfinished it answers "spent"."
 const MOST_EFFECTS: u32 = 65535;
 
-fn goes_on(clock: u32, free: u32, effects: u32, work: u32) -> Phase
-    ensures { GoesOn result clock free effects work }
-{
-    Phase {
-        over: false,
-        answer: Simulated::Spent,
-        clock,
-        free,
-        effects,
-        work,
-    }
-}
-
-fn is_over(answer: Simulated) -> Phase
-    ensures { (result.over ≡ true) × (result.answer ≡ answer) }
-{
-    Phase {
-        over: true,
-        answer,
-        clock: 0,
-        free: 0,
-        effects: 0,
-        work: 0,
-    }
+// Where a simulation stands: the clock, the free workers, the effects fallen and their ticks together.
+#[derive(Clone, Copy)]
+struct Clock {
+    now: u32,
+    free: u32,
+    effects: u32,
+    work: u32,
 }
 
 // The list of n tasks with the one that is entered at mark x, if one is.
@@ -68,16 +50,14 @@ fn list_tasks(m: &[u32], order: &mut [u32]) -> usize
     requires { length order.old ≡ 256 }
     ensures { listed order.new result ≡ in_program_order m.now }
 {
-    let mut x: u32 = 0;
-    let mut n: usize = 0;
-    let mut k: u32 = MARKS;
-    while 0 < k {
+    let mut x = 0;
+    let mut n = 0;
+    for _ in 0..MARKS {
         if END <= x {
-            return n;
+            break;
         }
         n = note(order, n, x);
         x = walks::after(m, x);
-        k -= 1;
     }
     n
 }
@@ -87,7 +67,7 @@ fn ticks_of(job: &[u8], r: &[u32], ticks: &[u32], t: u32) -> u32
     ensures { result ≡ ticks_for ticks.now (operation_of job.now r.now t) }
 {
     let s = instruction_for(job, r, t);
-    job_ticks::ticks_for(ticks, s.operation)
+    job_ticks::ticks_for(ticks, Operation::from(s.operation))
 }
 
 // A worker comes to task t: one that is under way is passed, as one that waits.
@@ -126,31 +106,28 @@ fn choose(
     ends: &mut [u32],
     order: &[u32],
     n: usize,
-    c: Phase,
-) -> Phase
-    requires { Reached job.now m.now r.now × All (λ t. unfinished m.now t ≡ true) (listed order.now n) × Table ticks.now × (c.clock < 2147483648) }
+    c: Clock,
+) -> Result<Clock, Simulated>
+    requires { Reached job.now m.now r.now × All (λ t. unfinished m.now t ≡ true) (listed order.now n) × Table ticks.now × (c.now < 2147483648) }
     ensures { Chooses job.now ticks.now (listed order.now n) m.now r.now
-        ends.old c result ends.new }
+        ends.old (phase_of c) (led_by result) ends.new }
 {
-    let mut f = c.free;
-    let mut i = n;
-    while 0 < i {
-        if f == 0 {
+    let mut free = c.free;
+    for i in (0..n).rev() {
+        if free == 0 {
             break;
         }
-        i -= 1;
-        let x = choose_one(job, m, r, ticks, ends, c.clock, memory::get(order, i));
-        match x {
+        match choose_one(job, m, r, ticks, ends, c.now, memory::get(order, i)) {
             Would::Moves => {
-                f -= 1;
+                free -= 1;
             }
             Would::Waits => {}
             Would::Refused(k) => {
-                return is_over(Simulated::Stopped(k));
+                return Err(Simulated::Stopped(k));
             }
         }
     }
-    goes_on(c.clock, f, c.effects, c.work)
+    Ok(Clock { free, ..c })
 }
 
 // The earlier of two ends, where 0 is none.
@@ -170,44 +147,36 @@ fn earlier(d: u32, e: u32) -> u32
 fn due(ends: &[u32], order: &[u32], n: usize) -> u32
     ensures { result ≡ soonest ends.now (listed order.now n) 0 }
 {
-    let mut d: u32 = 0;
-    let mut i = n;
-    while 0 < i {
-        i -= 1;
+    let mut d = 0;
+    for i in (0..n).rev() {
         let t = memory::get(order, i);
         d = earlier(d, memory::get(ends, t as usize));
     }
     d
 }
 
-// What a step's answer says of it.
+// What a step's answer says of it. A From would have to stand beside Would, in a crate of definitions.
 fn would_be(x: StepAnswer) -> Would
     ensures { result ≡ would_be x }
 {
     match x {
-        StepAnswer::Spawned(_) => Would::Moves,
-        StepAnswer::Pushed(_) => Would::Moves,
-        StepAnswer::Took(_) => Would::Moves,
-        StepAnswer::Finished => Would::Moves,
-        StepAnswer::Moved => Would::Moves,
-        StepAnswer::Empty => Would::Moves,
-        StepAnswer::NotEmpty => Would::Moves,
         StepAnswer::Waits => Would::Waits,
         StepAnswer::Refused(k) => Would::Refused(k),
+        _ => Would::Moves,
     }
 }
 
 // After an effect: the job's end, or "spent".
-fn judge(m: &[u32], clock: u32, free: u32, effects: u32, work: u32) -> Phase
-    ensures { Judges m.now clock free effects work result }
+fn judge(m: &[u32], c: Clock) -> Result<Clock, Simulated>
+    ensures { Judges m.now c.now c.free c.effects c.work (led_by result) }
 {
     if !walks::unfinished(m, 0) {
-        return is_over(Simulated::Ended(clock, work));
+        return Err(Simulated::Ended(c.now, c.work));
     }
-    if effects == MOST_EFFECTS {
-        return is_over(Simulated::Spent);
+    if c.effects == MOST_EFFECTS {
+        return Err(Simulated::Spent);
     }
-    goes_on(clock, free, effects, work)
+    Ok(c)
 }
 
 // The effect of task t's instruction falls, which is due.
@@ -218,21 +187,28 @@ fn fall_one(
     ticks: &[u32],
     ends: &mut [u32],
     t: u32,
-    c: Phase,
-) -> Phase
-    requires { Reached job.now m.old r.old × Table ticks.now × Counts c × (load ends.old t ≡ c.clock) }
-    ensures { Falls job.now ticks.now t m.old r.old ends.old c
-        result m.new r.new ends.new }
+    c: Clock,
+) -> Result<Clock, Simulated>
+    requires { Reached job.now m.old r.old × Table ticks.now × Counts (phase_of c) × (load ends.old t ≡ c.now) }
+    ensures { Falls job.now ticks.now t m.old r.old ends.old (phase_of c)
+        (led_by result) m.new r.new ends.new }
 {
     let k = ticks_of(job, r, ticks, t);
-    let x = would_be(runner_step::step_tested(job, m, r, t));
-    match x {
+    match would_be(runner_step::step_tested(job, m, r, t)) {
         Would::Moves => {
             memory::put(ends, t as usize, 0);
-            judge(m, c.clock, c.free + 1, c.effects + 1, c.work + k)
+            judge(
+                m,
+                Clock {
+                    now: c.now,
+                    free: c.free + 1,
+                    effects: c.effects + 1,
+                    work: c.work + k,
+                },
+            )
         }
-        Would::Waits => c,
-        Would::Refused(n) => is_over(Simulated::Stopped(n)),
+        Would::Waits => Ok(c),
+        Would::Refused(n) => Err(Simulated::Stopped(n)),
     }
 }
 
@@ -245,25 +221,20 @@ fn fall(
     ends: &mut [u32],
     order: &[u32],
     n: usize,
-    c: Phase,
-) -> Phase
-    requires { Reached job.now m.old r.old × Table ticks.now × Counts c }
-    ensures { FallsAll job.now ticks.now (listed order.now n) m.old r.old ends.old c
-        result m.new r.new ends.new }
+    c: Clock,
+) -> Result<Clock, Simulated>
+    requires { Reached job.now m.old r.old × Table ticks.now × Counts (phase_of c) }
+    ensures { FallsAll job.now ticks.now (listed order.now n) m.old r.old ends.old (phase_of c)
+        (led_by result) m.new r.new ends.new }
 {
     let mut p = c;
-    let mut i = n;
-    while 0 < i {
-        i -= 1;
+    for i in (0..n).rev() {
         let t = memory::get(order, i);
-        if memory::get(ends, t as usize) == p.clock {
-            p = fall_one(job, m, r, ticks, ends, t, p);
-            if p.over {
-                return p;
-            }
+        if memory::get(ends, t as usize) == p.now {
+            p = fall_one(job, m, r, ticks, ends, t, p)?;
         }
     }
-    p
+    Ok(p)
 }
 
 // A round: workers choose, the clock goes on, effects fall.
@@ -274,32 +245,20 @@ fn round(
     ticks: &[u32],
     ends: &mut [u32],
     order: &mut [u32],
-    c: Phase,
-) -> Phase
-    requires { Reached job.now m.old r.old × (unfinished m.old 0 ≡ true) × Table ticks.now × Counts c × (c.clock < 2147483648)
+    c: Clock,
+) -> Result<Clock, Simulated>
+    requires { Reached job.now m.old r.old × (unfinished m.old 0 ≡ true) × Table ticks.now × Counts (phase_of c) × (c.now < 2147483648)
         × (length order.old ≡ 256) }
-    ensures { Rounds job.now ticks.now m.old r.old ends.old c
-        result m.new r.new ends.new }
+    ensures { Rounds job.now ticks.now m.old r.old ends.old (phase_of c)
+        (led_by result) m.new r.new ends.new }
 {
     let n = list_tasks(m, order);
-    let p = choose(job, m, r, ticks, ends, order, n, c);
-    if p.over {
-        return p;
+    let p = choose(job, m, r, ticks, ends, order, n, c)?;
+    let now = due(ends, order, n);
+    if now == 0 {
+        return Err(Simulated::Spent);
     }
-    let d = due(ends, order, n);
-    if d == 0 {
-        return is_over(Simulated::Spent);
-    }
-    fall(
-        job,
-        m,
-        r,
-        ticks,
-        ends,
-        order,
-        n,
-        goes_on(d, p.free, p.effects, p.work),
-    )
+    fall(job, m, r, ticks, ends, order, n, Clock { now, ..p })
 }
 
 // Rounds of words just opened, until it is over. Each has an effect, so that as many as effects are enough.
@@ -316,14 +275,21 @@ fn rounds(
         result m.new r.new ends.new }
 {
     let mut order = [0u32; 256];
-    let mut p = goes_on(0, workers, 0, 0);
-    let mut n: u32 = MOST_EFFECTS;
-    while 0 < n {
-        p = round(job, m, r, ticks, ends, &mut order, p);
-        if p.over {
-            return p.answer;
+    let mut p = Clock {
+        now: 0,
+        free: workers,
+        effects: 0,
+        work: 0,
+    };
+    for _ in 0..MOST_EFFECTS {
+        match round(job, m, r, ticks, ends, &mut order, p) {
+            Ok(next) => {
+                p = next;
+            }
+            Err(answer) => {
+                return answer;
+            }
         }
-        n -= 1;
     }
     Simulated::Spent
 }
@@ -342,16 +308,15 @@ pub fn simulate_by(
         ≡ simulate_outcome job.now ticks.now workers m.old r.old ends.old }
 {
     if ends.len() != TASKS as usize {
-        return Simulated::Refused(1);
+        return Simulated::Refused(Refusal::LengthWrong.number());
     }
-    let k = runner_words::refusal(job, m, r);
-    if k != 0 {
-        return Simulated::Refused(k);
+    if let Err(e) = runner_words::check_job(job, m, r) {
+        return Simulated::Refused(e.number());
     }
-    if workers < 1 || MOST_WORKERS < workers {
-        return Simulated::Refused(WORKERS_WRONG);
+    if !(1..=MOST_WORKERS).contains(&workers) {
+        return Simulated::Refused(Refusal::WorkersWrong.number());
     }
     runner_open::open_tested(job, m, r);
-    memory::clear(ends);
+    ends.fill(0);
     rounds(job, m, r, ticks, ends, workers)
 }

@@ -1,6 +1,6 @@
 // A JOB WITH W WORKERS, and at its end its span: the simulation on the first words that are lent for working, and the span's pass on those
 // behind them.
-#![tactic(auto)]
+#![tactic(auto, unfolding(spec_span::specs::Listing::span_for))]
 
 ghost use Rattle.std.specs.Prelude.{◌≡◌, length, take};
 ghost use Rattle.spec_simulate.specs.Ticks.{our_ticks};
@@ -9,6 +9,7 @@ ghost use Rattle.spec_span.specs.Listing.{span_for, listed_outcome};
 ghost use Rattle.spec_span.specs.Listing.Listing.{listing};
 ghost use Rattle.simulate.specs.Parts.{Table};
 
+use refusals::Refusal;
 use spec_simulate::Simulated;
 use spec_span::Listed;
 
@@ -45,7 +46,7 @@ pub fn simulate_listed_by(
 {
     if working.len() != WORKING {
         return Listed {
-            answer: Simulated::Refused(1),
+            answer: Simulated::Refused(Refusal::LengthWrong.number()),
             span: 0,
         };
     }

@@ -1,5 +1,4 @@
-use mathlib.Core.Path.{sym, ◌∙◌}
-use native.Mathlib.Omega.{arith}
+use Rattle.std.proofs.Common.{sym, ◌∙◌, arith}
 use Rattle.simulate.specs.Leaves.{soonest_more, soonest_end}
 use Rattle.simulate.proofs.due.Goals as goal
 

@@ -1,23 +1,25 @@
 -- Workers choose, the clock goes on, effects fall: each part leads where the definition leads.
+use Rattle.std.proofs.Common.{◌≡◌, refl, Err, arith}
+use Rattle.std.proofs.lemmas.Grind.{common_steps}
+use Rattle.simulate.specs.Parts.{phase_goes}
 use Rattle.simulate.specs.Turns.{all_unfinished, still_small, round_stops, round_idle, round_falls}
 use Rattle.simulate.proofs.round.Goals as goal
 
-pub choose-p-requires : goal.choose-p-requires
-choose-p-requires c = (c.requires.0, all_unfinished _ _ _ _ _ c.requires.0 c.requires.1 c.list_tasks-n.ensures, c.requires.2, c.requires.4)
+pub choose-requires : goal.choose-requires
+choose-requires c = (c.requires.0, all_unfinished _ _ _ _ _ c.requires.0 c.requires.1 c.list_tasks-n.ensures, c.requires.2, c.requires.4)
 
-pub returns-then-p : goal.returns-then-p
-returns-then-p c = round_stops _ _ _ _ _ _ _ _ _ _ c.list_tasks-n.ensures c.choose-p.ensures c.if-p.true
+pub returns-in_err-p : goal.returns-in_err-p
+returns-in_err-p c =
+    let e : c.from_residual.result ≡ Err c.in_err-p.field-0.0 = grind (arith, common_steps) in
+    rw e (round_stops _ _ _ _ _ _ _ _ _ _ c.list_tasks-n.ensures c.in_err-p.ensures refl)
 
-pub returns-then-d-eq0 : goal.returns-then-d-eq0
-returns-then-d-eq0 c = round_idle _ _ _ _ _ _ _ _ _ _ c.list_tasks-n.ensures c.choose-p.ensures c.if-p.false c.due-d.ensures c.if-d-eq0.true c.is_over.ensures
+pub returns-then-now-eq0 : goal.returns-then-now-eq0
+returns-then-now-eq0 c =
+    round_idle _ _ _ _ _ _ _ _ _ _ c.list_tasks-n.ensures c.in_ok-p.ensures refl c.due-now.ensures c.if-now-eq0.true (refl, refl)
 
 pub fall-requires : goal.fall-requires
-fall-requires c = (c.requires.0, c.requires.2, still_small c.requires.3 c.choose-p.ensures c.if-p.false c.goes_on.ensures)
-
-pub shape_of-order : goal.shape_of-order
-shape_of-order c = c.list_tasks-n.auto.order
+fall-requires c = (c.requires.0, c.requires.2, still_small c.requires.3 c.in_ok-p.ensures refl (phase_goes _))
 
 pub returns : goal.returns
 returns c =
-    round_falls _ _ _ _ _ _ _ _ _ _ c.list_tasks-n.ensures c.choose-p.ensures c.if-p.false c.due-d.ensures c.if-d-eq0.false c.goes_on.ensures
-    c.fall.ensures
+    round_falls _ _ _ _ _ _ _ _ _ _ c.list_tasks-n.ensures c.in_ok-p.ensures refl c.due-now.ensures c.if-now-eq0.false (phase_goes _) c.fall.ensures

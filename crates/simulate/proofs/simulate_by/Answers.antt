@@ -1,39 +1,39 @@
 -- The job, then the workers, are decided before a word is written; the words that the opening leaves are where a run begins.
-use mathlib.Core.Path.{refl, ap, sym, ◌∙◌}
-use mathlib.Core.Logic.{inl, inr}
-use Prim.Native.Nat.{ℕ}
-use lib.ListN.{replicate}
-use borrow.Author.Tests.{ltb-false}
+use Rattle.std.proofs.Common.{◌≡◌, ◌<◌, ◌⊎◌, refl, ap, ◌∙◌, ℕ, replicate, length, rules, arith}
+use Rattle.std.proofs.lemmas.Grind.{common_steps}
+use Rattle.runner_words.specs.Numbers.{refusal_number}
+use Rattle.runner_words.proofs.Numbers.{number_some}
 use Rattle.runner_run.specs.Made.{opened_reached}
 use Rattle.simulate.specs.Whole.{other_length, stays_shut, wrong_workers, runs, top_unfinished}
 use Rattle.simulate.proofs.simulate_by.Goals as goal
-use Rattle.simulate.proofs.simulate_by.Goals.{then-workers-lt1-via-then-workers-lt1, then-workers-lt1-via-else-workers-lt1+then-workers-gt-MOST_WORKERS}
 
 pub returns-then-ends : goal.returns-then-ends
-returns-then-ends c = other_length _ _ _ _ _ _ c.if-ends.true
+returns-then-ends c = rw c.number.ensures (other_length _ _ _ _ _ _ c.if-ends.true)
 
-pub returns-then-k-ne0 : goal.returns-then-k-ne0
-returns-then-k-ne0 c = stays_shut _ _ _ _ _ _ c.if-ends.false c.refusal-k.ensures c.if-k-ne0.true
+pub returns-in-Err : goal.returns-in-Err
+unfolding refusal_number
+returns-in-Err c = rw c.number-in-Err.ensures (stays_shut _ _ _ _ _ _ c.if-ends.false c.in-Err.ensures (number_some _))
 
-pub returns-then-workers-lt1 : goal.returns-then-workers-lt1
-returns-then-workers-lt1 c =
-    wrong_workers _ _ _ _ _ _ c.if-ends.false c.refusal-k.ensures c.if-k-ne0.false (elim c.then-workers-lt1.branch [
-      | then-workers-lt1-via-then-workers-lt1 w ↦ inl w.if-workers-lt1.true
-      | then-workers-lt1-via-else-workers-lt1+then-workers-gt-MOST_WORKERS w ↦ inr w.if-workers-gt-MOST_WORKERS.true
-    ])
+pub returns-then-not-contains : goal.returns-then-not-contains
+unfolding refusal_number
+returns-then-not-contains c =
+    let wrong : (c.args.workers < 1) ⊎ (16 < c.args.workers) = grind (arith, common_steps) in
+    rw c.number-then-not-contains.ensures (wrong_workers _ _ _ _ _ _ c.if-ends.false c.in_default.ensures refl wrong)
 
 pub open_tested-requires : goal.open_tested-requires
-open_tested-requires c = sym c.if-k-ne0.false ∙ c.refusal-k.ensures
+unfolding refusal_number
+open_tested-requires c = c.in_default.ensures
 
 pub rounds-requires : goal.rounds-requires
+unfolding refusal_number
 rounds-requires c = (
   opened_reached _ _ _ c.open_tested.ensures refl,
-  top_unfinished _ _ _ c.refusal-k.ensures c.if-k-ne0.false c.open_tested.ensures,
+  top_unfinished _ _ _ c.in_default.ensures refl c.open_tested.ensures,
   c.requires,
-  ltb-false _ _ (c.if-workers-gt-MOST_WORKERS.false-raw),
-  c.clear.ensures ∙ ap (λ (n : ℕ). replicate n 0) c.if-ends.false,
+  grind (arith, common_steps),
+  (let e : c.fill.new.self ≡ replicate (length c.args.ends.now) 0 = search rules in e ∙ ap (λ (n : ℕ). replicate n 0) c.if-ends.false),
 )
 
 pub returns : goal.returns
-returns c =
-    runs _ _ _ _ _ _ c.if-ends.false c.refusal-k.ensures c.if-k-ne0.false c.if-workers-lt1.false (ltb-false _ _ c.if-workers-gt-MOST_WORKERS.false-raw) c.open_tested.ensures c.rounds.ensures
+unfolding refusal_number
+returns c = runs _ _ _ _ _ _ c.if-ends.false c.in_default.ensures refl (grind (arith, common_steps)) (grind (arith, common_steps)) c.open_tested.ensures c.rounds.ensures

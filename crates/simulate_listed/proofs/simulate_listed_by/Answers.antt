@@ -2,7 +2,7 @@ use Rattle.simulate_listed.proofs.Parts.{wrong_size, first_part, second_part, is
 use Rattle.simulate_listed.proofs.simulate_listed_by.Goals as goal
 
 pub returns-then-working-ne-WORKING : goal.returns-then-working-ne-WORKING
-returns-then-working-ne-WORKING c = wrong_size _ _ _ _ _ _ c.if-working-ne-WORKING.true
+returns-then-working-ne-WORKING c = rw c.number.ensures (wrong_size _ _ _ _ _ _ c.if-working-ne-WORKING.true)
 
 pub slice_bounds-simulate_by-end-2 : goal.slice_bounds-simulate_by-end-2
 slice_bounds-simulate_by-end-2 c = first_part c.args.working.now c.if-working-ne-WORKING.false
