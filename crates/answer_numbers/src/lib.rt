@@ -1,4 +1,5 @@
-// The numbers of the answers of a step, as in `number_of` of crate `spec_job`.
+// The numbers of the answers of a step, as in `number_of` of crate `spec_job`. Numbers and no enum: they stand in words that are lent, for
+// hosts in other languages.
 #![tactic(auto)]
 
 pub const WAITS: u32 = 32;

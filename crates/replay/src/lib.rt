@@ -33,35 +33,24 @@ struct Place<'a> {
 }
 
 // The number of the word of an answer that has number k.
+#[tactic(auto, unfolding(spec_job::specs::Numbers::word_numbered, spec_job::specs::Numbers::number_of, spec_words::specs::Words::pick))]
 fn word_number(k: u32) -> u32
     ensures { result ≡ number_of (word_numbered k) }
 {
     match k {
-        SPAWNED => k,
-        PUSHED => k,
-        TOOK => k,
-        FINISHED => k,
-        MOVED => k,
-        EMPTY => k,
-        NOT_EMPTY => k,
-        WAITS => k,
+        SPAWNED | PUSHED | TOOK | FINISHED | MOVED | EMPTY | NOT_EMPTY | WAITS => k,
         _ => REFUSED,
     }
 }
 
 // What is printed behind the word of an answer that has number k and value v.
+#[tactic(auto, unfolding(spec_job::specs::Numbers::word_numbered, run_text::specs::Lines::printed_number, spec_words::specs::Words::pick))]
 fn printed_number(k: u32, v: u32) -> u32
     ensures { result ≡ printed_number (word_numbered k) k v }
 {
     match k {
-        SPAWNED => v,
-        PUSHED => v,
-        TOOK => v,
-        FINISHED => 0,
-        MOVED => 0,
-        EMPTY => 0,
-        NOT_EMPTY => 0,
-        WAITS => 0,
+        SPAWNED | PUSHED | TOOK => v,
+        FINISHED | MOVED | EMPTY | NOT_EMPTY | WAITS => 0,
         _ => k,
     }
 }

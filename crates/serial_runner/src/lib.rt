@@ -54,6 +54,7 @@ fn run_body(
         (lists w.old) a.old result (lists w.new) a.new }
 {
     let mut i: u32 = 0;
+    // A while loop: the steps that remain fall in the bodies of children too.
     while 0 < left {
         let s = job_fields::instruction_at(job, procedure, i);
         match Operation::from(s.operation) {
@@ -182,8 +183,5 @@ pub fn run_packed(job: &[u8], w: &mut [u32], a: &mut [u32]) -> u64
     ensures { Handed result (lists w.new) a.new (serial_outcome job.now w.old a.old) }
 {
     let r = run_serially(job, w, a);
-    let e = r.end;
-    let n = r.steps;
-    let s = status(e);
-    packing::pack(s, n)
+    packing::pack(status(r.end), r.steps)
 }

@@ -63,7 +63,8 @@ fn test_step(w: &[u32], q: u32, x: u32, i: u32, r: u32) -> Made
     requires { i < 2 ^ 31 }
     ensures { Does go_if_empty q x i r (lists w.now) result (lists w.now) }
 {
-    job_effect::effect(Operation::GoIfEmpty, x, i, r, serial_queues::value(w, q, 0))
+    let n = serial_queues::count(w, q);
+    job_effect::effect(Operation::GoIfEmpty, x, i, r, (n != 0).then_some(0))
 }
 
 // A step of a task at instruction i, which is s, with register r.

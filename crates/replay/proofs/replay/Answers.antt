@@ -36,8 +36,8 @@ returns-in-Ok c =
     agrees _ _ _ _ c.open_tested.ensures (sym
     c.has_form.ensures ∙ not-false _ (ap not c.if-not-has_form.false)) refl c.in-Ok.ensures
 
-pub returns-in-Err : goal.returns-in-Err
-returns-in-Err c =
+pub returns-in-Err-compare : goal.returns-in-Err-compare
+returns-in-Err-compare c =
     differs _ _ _ _ c.open_tested.ensures (sym
-    c.has_form.ensures ∙ not-false _ (ap not c.if-not-has_form.false)) (sym c.in-Err.ensures.0)
-    (let h = c.in-Err.ensures.1 in λ z. omega (arith, h, z))
+    c.has_form.ensures ∙ not-false _ (ap not c.if-not-has_form.false)) (sym c.in-Err-compare.ensures.0)
+    (let h = c.in-Err-compare.ensures.1 in λ z. omega (arith, h, z))

@@ -2,4 +2,4 @@ use Rattle.serial_runner.specs.Handed.{handed}
 use Rattle.serial_runner.proofs.run_packed.Goals as goal
 
 pub returns : goal.returns
-returns c = handed c.run_serially-r.ensures c.status-s.ensures c.pack.ensures
+returns c = handed c.run_serially-r.ensures c.status.ensures c.pack.ensures
