@@ -39,12 +39,6 @@ pub fn put_all(m: &mut [u32], a: usize, ws: &[u32])
     }
 }
 
-pub fn put4(m: &mut [u32], a: u32, w0: u32, w1: u32, w2: u32, w3: u32)
-    ensures { m.new ≡ store_all m.old a (w0 ∷ w1 ∷ w2 ∷ w3 ∷ []) }
-{
-    put_all(m, a as usize, &[w0, w1, w2, w3]);
-}
-
 // Every word 0.
 pub fn clear(m: &mut [u32])
     ensures { m.new ≡ replicate (length m.old) 0 }

@@ -101,27 +101,27 @@ fn lowest(w0: u32, w1: u32, w2: u32, w3: u32) -> u32
     NONE
 }
 
-fn write_map(out: &mut [u32], w0: u32, w1: u32, w2: u32, w3: u32, n: u32, t: u32)
-    requires { length out.old ≡ 6 }
-    ensures { out.new ≡ w0 ∷ w1 ∷ w2 ∷ w3 ∷ n ∷ t ∷ [] }
-{
-    memory::put4(out, 0, w0, w1, w2, w3);
-    memory::put(out, 4, n);
-    memory::put(out, 5, t);
-}
-
-// The map of memories that pass the tests.
-fn write_ready(job: &[u8], m: &[u32], r: &[u32], a: &[u32; 128], out: &mut [u32])
-    requires { (length m.now ≡ 16384) × Tell m.now a.now × (length out.old ≡ 6) }
-    ensures { out.new ≡ map_of (words_for (step_moves job.now m.now r.now)) }
+// The map of memories that pass the tests: four words of bits, how many are set, and the lowest task.
+fn map(job: &[u8], m: &[u32], r: &[u32], a: &[u32; 128]) -> [u32; 6]
+    requires { (length m.now ≡ 16384) × Tell m.now a.now }
+    ensures { result ≡ map_of (words_for (step_moves job.now m.now r.now)) }
 {
     let w0 = word_from(job, m, r, a, 0);
     let w1 = word_from(job, m, r, a, 32);
     let w2 = word_from(job, m, r, a, 64);
     let w3 = word_from(job, m, r, a, 96);
-    let n = count(w0, w1, w2, w3);
-    write_map(out, w0, w1, w2, w3, n, lowest(w0, w1, w2, w3));
+    [
+        w0,
+        w1,
+        w2,
+        w3,
+        count(w0, w1, w2, w3),
+        lowest(w0, w1, w2, w3),
+    ]
 }
+
+// The map without a ready task.
+const NO_MAP: [u32; 6] = [0, 0, 0, 0, 0, NONE];
 
 // The map of any words. Where it is refused it has no ready task; words lent for it that are not six stay as they are.
 pub fn ready(job: &[u8], m: &[u32], r: &[u32], out: &mut [u32]) -> StepAnswer
@@ -131,11 +131,11 @@ pub fn ready(job: &[u8], m: &[u32], r: &[u32], out: &mut [u32]) -> StepAnswer
         return StepAnswer::Refused(Refusal::LengthWrong.number());
     }
     if let Err(e) = runner_words::check_rules(job, m, r) {
-        write_map(out, 0, 0, 0, 0, 0, NONE);
+        out.copy_from_slice(&NO_MAP);
         return StepAnswer::Refused(e.number());
     }
     let mut a = [0u32; 128];
     core_blocked::blocked_all(m, &mut a);
-    write_ready(job, m, r, &a, out);
+    out.copy_from_slice(&map(job, m, r, &a));
     StepAnswer::Moved
 }

@@ -3,12 +3,9 @@ use mathlib.Core.Path.{◌≡◌, refl, ap, sym, ◌∙◌, fun_ext}
 use mathlib.Core.Bool.{Bool, true, false, not}
 use mathlib.Core.List.{List, [], ◌∷◌}
 use Prim.Native.Nat.{ℕ, ◌<◌}
-use native.Mathlib.Omega.{arith}
 use lib.Count.{ones}
-use lib.ListN.{length}
 use borrow.Author.Tests.{eq-eqb, ne_eqb}
-use Rattle.spec_words.specs.Words.{store, size, pick, pass, halt}
-use Rattle.spec_words.specs.Blocks.{store_all}
+use Rattle.spec_words.specs.Words.{size, pick, pass, halt}
 use Rattle.spec_lists.specs.Counting.{over}
 use Rattle.spec_layout.specs.Layout.{length_of}
 use Rattle.law_in_range.specs.Sound.{rules_sound}
@@ -20,27 +17,11 @@ use Rattle.spec_runner.specs.Moves.{step_moves}
 use Rattle.spec_runner.proofs.MovesLaws.{ready_moves}
 use Rattle.runner_words.specs.Tested.{map_refusal, refused_with, tests_pass, rules_held, held_size}
 
--- six words, all written
-written : (o : List ℕ) (w0 w1 w2 w3 n t : ℕ) → length o ≡ 6 → store (store (store_all o 0 (w0 ∷ w1 ∷ w2 ∷ w3 ∷ [])) 4 n) 5 t ≡ w0 ∷ w1 ∷ w2 ∷ w3 ∷ n ∷ t ∷ []
-unfolding store store_all
-written [] w0 w1 w2 w3 n t e = absurd (omega (arith, e))
-written (a ∷ []) w0 w1 w2 w3 n t e = absurd (omega (arith, e))
-written (a ∷ b ∷ []) w0 w1 w2 w3 n t e = absurd (omega (arith, e))
-written (a ∷ b ∷ c ∷ []) w0 w1 w2 w3 n t e = absurd (omega (arith, e))
-written (a ∷ b ∷ c ∷ d ∷ []) w0 w1 w2 w3 n t e = absurd (omega (arith, e))
-written (a ∷ b ∷ c ∷ d ∷ f ∷ []) w0 w1 w2 w3 n t e = absurd (omega (arith, e))
-written (a ∷ b ∷ c ∷ d ∷ f ∷ g ∷ []) w0 w1 w2 w3 n t e = refl
-written (a ∷ b ∷ c ∷ d ∷ f ∷ g ∷ h ∷ o) w0 w1 w2 w3 n t e = absurd (omega (arith, e))
-
-pub six : (o o1 o2 o3 : List ℕ) (w0 w1 w2 w3 n t : ℕ) → length o ≡ 6 → o1 ≡ store_all o 0 (w0 ∷ w1 ∷ w2 ∷ w3 ∷ []) → o2 ≡ store o1 4 n → o3 ≡ store o2 5 t
-    → o3 ≡ w0 ∷ w1 ∷ w2 ∷ w3 ∷ n ∷ t ∷ []
-six o o1 o2 o3 w0 w1 w2 w3 n t l e1 e2 e3 = e3 ∙ rw (e2, e1) refl ∙ written o w0 w1 w2 w3 n t l
-
-pub map_written : (f : ℕ → Bool) (o : List ℕ) (w0 w1 w2 w3 n t : ℕ) → w0 ≡ bits_from f 32 0 → w1 ≡ bits_from f 32 32 → w2 ≡ bits_from f 32 64
+pub map_made : (f : ℕ → Bool) (w0 w1 w2 w3 n t : ℕ) → w0 ≡ bits_from f 32 0 → w1 ≡ bits_from f 32 32 → w2 ≡ bits_from f 32 64
     → w3 ≡ bits_from f 32 96 → n ≡ over (w0 ∷ w1 ∷ w2 ∷ w3 ∷ []) ones → t ≡ lowest_from 0 (w0 ∷ w1 ∷ w2 ∷ w3 ∷ [])
-    → o ≡ w0 ∷ w1 ∷ w2 ∷ w3 ∷ n ∷ t ∷ [] → o ≡ map_of (words_for f)
+    → w0 ∷ w1 ∷ w2 ∷ w3 ∷ n ∷ t ∷ [] ≡ map_of (words_for f)
 unfolding map_of words_for
-map_written f o w0 w1 w2 w3 n t e0 e1 e2 e3 en et eo = eo ∙ rw (en, et, e0, e1, e2, e3) refl
+map_made f w0 w1 w2 w3 n t e0 e1 e2 e3 en et = rw (en, et, e0, e1, e2, e3) refl
 
 -- THE ANSWER
 module _ (j m r o : List ℕ) where
