@@ -18,6 +18,8 @@ fn test_and_count(m: &[u32]) -> Option<u32>
     }
     let mut d = [0u8; 256];
     let held = segment_test::count_held(&mut d, m)?;
+    // The walk over the views starts with the free segments placed.
+    let free = memory::number(m) - held;
     if !tree_test::top_ok(m) {
         return None;
     }
@@ -30,7 +32,7 @@ fn test_and_count(m: &[u32]) -> Option<u32>
         return None;
     }
     let e = k as usize;
-    if !view_test::views_hold(&d, memory::number(m) - held, m, &xs[0..e]) {
+    if !view_test::views_hold(&d, free, m, &xs[0..e]) {
         return None;
     }
     Some(held)

@@ -25,8 +25,8 @@ count_held-requires c = (
 pub returns-in_err-held : goal.returns-in_err-held
 returns-in_err-held c = stack_wrong _ (search rules) (wrong_says _ c.in_err-held.was c.count_held.ensures.0)
 
-pub overflow_sub-number : goal.overflow_sub-number
-overflow_sub-number c = held_few _ c.number-2.ensures (held_says _ c.in_ok-held.was c.count_held.ensures.0).2
+pub overflow_sub-free : goal.overflow_sub-free
+overflow_sub-free c = held_few _ c.number-2.ensures (held_says _ c.in_ok-held.was c.count_held.ensures.0).2
 
 pub returns-then-not-top_ok : goal.returns-then-not-top_ok
 returns-then-not-top_ok c = wrong _ (λ p. p.top) c.top_ok.ensures (ap not c.if-not-top_ok.true)
