@@ -7,7 +7,6 @@ ghost use Rattle.spec_rules.specs.Test.{rules_hold};
 ghost use Rattle.segment_test.specs.Count.{Counts};
 
 use layout::MARKS;
-use view_steps::{PLACED, State};
 
 // How many segments are held, where all memory rules hold. They are counted once, ahead of every loop over task records.
 fn test_and_count(m: &[u32]) -> Option<u32>
@@ -17,10 +16,10 @@ fn test_and_count(m: &[u32]) -> Option<u32>
     if !tree_test::in_range(memory::length_of(m, 0), memory::number(m)) {
         return None;
     }
+    let mut d = [0u8; 256];
+    let held = segment_test::count_held(&mut d, m)?;
     // The walk over the views starts with the free segments placed.
-    let mut state = State::new();
-    let held = segment_test::count_held(&mut state.placed, m)?;
-    state.counts[PLACED] = memory::number(m) - held;
+    let free = memory::number(m) - held;
     if !tree_test::top_ok(m) {
         return None;
     }
@@ -33,7 +32,7 @@ fn test_and_count(m: &[u32]) -> Option<u32>
         return None;
     }
     let e = k as usize;
-    if !view_test::views_hold(&mut state, m, &xs[0..e]) {
+    if !view_test::views_hold(&d, free, m, &xs[0..e]) {
         return None;
     }
     Some(held)

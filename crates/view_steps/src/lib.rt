@@ -1,12 +1,13 @@
 // One view of the memory test: its head starts a chain of segments, its tail ends one.
 #![tactic(auto)]
 
-ghost use Rattle.std.specs.Prelude.{◌≡◌, ◌+◌, ◌%◌, ◌<◌, not, ◌∷◌, length, replicate, ◌==◌, slice_index};
+ghost use Rattle.std.specs.Prelude.{◌≡◌, ◌+◌, ◌%◌, ◌<◌, not, ◌∷◌, length, set, replicate, ◌==◌, slice_index};
 ghost use Rattle.spec_rules.specs.Contents.{decode, part};
 ghost use Rattle.spec_rules.specs.Test.{marked, passed};
 ghost use Rattle.spec_view_events.specs.Events.{queue_of, view_of};
 ghost use Rattle.spec_view_events.specs.Events.Event.{tail, head};
 ghost use Rattle.spec_view_events.specs.Place.{placing, answered};
+ghost use Rattle.spec_view_events.specs.Run.{PLACED};
 ghost use Rattle.spec_view_events.specs.Sees.{Ready};
 ghost use Rattle.view_steps.specs.Goes.{Goes, GoesBesideTails};
 
@@ -98,14 +99,16 @@ fn passed(h: u32, e: u32, o: u32) -> u32
 }
 
 impl State {
-    // Nothing seen.
-    pub fn new() -> State
-        ensures { (result.placed ≡ replicate 256 0) × (result.ended ≡ replicate 256 0) × (result.counts ≡ replicate 12 0) }
+    // The n free segments, which are marked in d, count as placed from the start, and no chain may end with one.
+    pub fn new(d: &[u8; 256], n: u32) -> State
+        ensures { (result.placed ≡ d.now) × (result.ended ≡ d.now) × (result.counts ≡ set (replicate 12 0) PLACED n) }
     {
+        let mut counts = [0; 12];
+        counts[PLACED] = n;
         State {
-            placed: [0; 256],
-            ended: [0; 256],
-            counts: [0; 12],
+            placed: *d,
+            ended: *d,
+            counts,
         }
     }
 

@@ -168,16 +168,15 @@ fn walk(state: &mut State, m: &[u32], xs: &[u32]) -> bool
     whole(&state.counts, m)
 }
 
-// The memory test of views and segments: xs are the marks of the tour, the free segments count as placed from the start, so as many are
-// counted as were opened and are not held.
-pub fn views_hold(state: &mut State, m: &[u32], xs: &[u32]) -> bool
-    requires { Begun m.now xs.now × (state.old.placed ≡ marking (decode m.now).free (replicate 256 0))
-        × (state.old.counts ≡ set (replicate 12 0) PLACED (get_or m.now 1 0 - held_count (decode m.now))) }
+// The memory test of views and segments: xs are the marks of the tour, d has those of the n free segments, which count as placed
+// from the start.
+pub fn views_hold(d: &[u8; 256], n: u32, m: &[u32], xs: &[u32]) -> bool
+    requires { Begun m.now xs.now × (d.now ≡ marking (decode m.now).free (replicate 256 0))
+        × (n ≡ get_or m.now 1 0 - held_count (decode m.now)) }
     ensures { result ≡ view_tests (decode m.now) xs.now }
 {
     if !segment_test::segments_hold(m) {
         return false;
     }
-    state.ended = state.placed;
-    walk(state, m, xs)
+    walk(&mut State::new(d, n), m, xs)
 }

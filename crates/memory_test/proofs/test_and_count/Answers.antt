@@ -6,11 +6,9 @@ use Rattle.segment_test.specs.Count.{held_says, wrong_says}
 use borrow.Author.Tests.{not-false}
 use native.Mathlib.Omega.{arith}
 use mathlib.Core.Path.{◌∙◌, ap}
-use lib.ListN.{set}
-use Rattle.spec_view_events.specs.Run.{PLACED}
 use Rattle.std.proofs.Common.{not}
 use Rattle.std.proofs.Common.{rules}
-use Rattle.std.proofs.Common.{ap₂, List, ℕ}
+use Rattle.std.proofs.Common.{refl}
 use Rattle.memory_test.proofs.test_and_count.Goals as goal
 
 pub returns-then-not-in_range : goal.returns-then-not-in_range
@@ -21,14 +19,14 @@ pub count_held-requires : goal.count_held-requires
 count_held-requires c = (
   ready _ (so (in_range_at _ c.in_range.ensures c.length_of.ensures
       c.number.ensures) (ap not c.if-not-in_range.false)) c.requires,
-  c.new-state.ensures.0,
+  refl,
 )
 
 pub returns-in_err-held : goal.returns-in_err-held
 returns-in_err-held c = stack_wrong _ (search rules) (wrong_says _ c.in_err-held.was c.count_held.ensures.0)
 
-pub overflow_sub-state : goal.overflow_sub-state
-overflow_sub-state c = held_few _ c.number-2.ensures (held_says _ c.in_ok-held.was c.count_held.ensures.0).2
+pub overflow_sub-free : goal.overflow_sub-free
+overflow_sub-free c = held_few _ c.number-2.ensures (held_says _ c.in_ok-held.was c.count_held.ensures.0).2
 
 pub returns-then-not-top_ok : goal.returns-then-not-top_ok
 returns-then-not-top_ok c = wrong _ (λ p. p.top) c.top_ok.ensures (ap not c.if-not-top_ok.true)
@@ -65,7 +63,7 @@ views_hold-requires c = (
       c.tree_ok.new.xs ∙ c.tree_ok.ensures.1
       (not-false _ (ap not c.if-not-tree_ok.false))),
   c.count_held.ensures.1 (held_says _ c.in_ok-held.was c.count_held.ensures.0).0,
-  ap₂ (λ (w : List ℕ) (v : ℕ). set w PLACED v) c.new-state.ensures.2 (started _ c.number-2.ensures (held_says _ c.in_ok-held.was c.count_held.ensures.0).1),
+  started _ c.number-2.ensures (held_says _ c.in_ok-held.was c.count_held.ensures.0).1,
 )
 
 pub returns-then-not-views_hold : goal.returns-then-not-views_hold
