@@ -48,10 +48,7 @@ pub fn register(r: &[u32], t: u32) -> u32
 pub fn put(r: &mut [u32], t: u32, p: u32, i: u32, x: u32)
     ensures { r.new ≡ put r.old t p i x }
 {
-    let a = t as usize * RECORD;
-    memory::put(r, a, p);
-    memory::put(r, a + 1, i);
-    memory::put(r, a + 2, x);
+    memory::put_all(r, t as usize * RECORD, &[p, i, x]);
 }
 
 // The instruction that task t is at.
@@ -75,6 +72,7 @@ fn task_holds(job: &[u8], m: &[u32], r: &[u32], t: usize) -> bool
     r[a + 1] < e.count && m[RIGHTS_AT + t * TASK_WORDS] == e.rights
 }
 
+// As in crate walks, but read without a test for the end, since the lengths are known.
 fn unfinished(m: &[u32], t: usize) -> bool
     requires { (length m.now ≡ 16384) × (t < 128) }
     ensures { result ≡ unfinished m.now t }

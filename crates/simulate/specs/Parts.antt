@@ -1,5 +1,5 @@
 -- What the parts of a simulation say: each leads where the definition leads, whatever the history.
-use Rattle.std.specs.Prelude.{◌≡◌, refl, true, false, Result, Ok, Err, List, ℕ, ◌+◌, ◌*◌, ◌<◌, ◌≤◌, eqb}
+use Rattle.std.specs.Prelude.{◌≡◌, refl, true, false, Option, Some, None, Result, Ok, Err, List, ℕ, ◌+◌, ◌*◌, ◌<◌, ◌≤◌, eqb}
 use Rattle.std.proofs.Common.{ap, sym, ◌∙◌, true≢false}
 use Rattle.spec_words.specs.Words.{load, store, pick}
 use Rattle.spec_outcomes.specs.Waits.{unfinished}
@@ -26,6 +26,14 @@ phase_of c = record { over = false; answer = Simulated.Spent; clock = c.now; fre
 abbrev pub led_by : Result Clock Simulated → Phase
 led_by (Ok c) = phase_of c
 led_by (Err a) = record { over = true; answer = a; clock = 0; free = 0; effects = 0; work = 0 }
+
+-- an end that is known is not 0, and 0 stands for none
+abbrev pub End : Option ℕ → Type 0
+End o = (d : ℕ) → o ≡ Some d → ¬ (d ≡ 0)
+
+unfoldable pub end_of : Option ℕ → ℕ
+end_of (Some d) = d
+end_of None = 0
 
 -- a phase goes on, with these numbers
 pub record GoesOn (p : Phase) (c f n k : ℕ) : Type 0 where

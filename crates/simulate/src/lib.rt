@@ -1,6 +1,6 @@
 // A JOB WITH W WORKERS: how many ticks it uses, and the work. The job is tested once and opened afresh, and each effect is a step made
 // behind its tests, since words that only the core wrote pass them.
-#![tactic(auto, unfolding(spec_words::specs::Words::pick, spec_words::specs::Words::either, spec_words::specs::Words::size, spec_simulate::specs::Machine::earlier, spec_simulate::specs::Machine::would_be))]
+#![tactic(auto, unfolding(crate::specs::Parts::end_of, spec_words::specs::Words::pick, spec_words::specs::Words::either, spec_words::specs::Words::size, spec_simulate::specs::Machine::earlier, spec_simulate::specs::Machine::would_be))]
 
 ghost use Rattle.std.specs.Prelude.{◌≡◌, true, ◌+◌, ◌<◌, ◌≤◌, length, replicate};
 ghost use Rattle.spec_words.specs.Words.{load};
@@ -10,7 +10,7 @@ ghost use Rattle.law_any_two.specs.Reached.{Reached};
 ghost use Rattle.spec_simulate.specs.Ticks.{ticks_for, operation_of};
 ghost use Rattle.spec_simulate.specs.Machine.{would_be, earlier, soonest, in_program_order, simulation, simulate_outcome};
 ghost use Rattle.simulate.specs.Listed.{listed, Noted};
-ghost use Rattle.simulate.specs.Parts.{Table, Counts, phase_of, led_by, Asks, Chooses, Judges, Falls, FallsAll, Rounds, RoundsAll};
+ghost use Rattle.simulate.specs.Parts.{Table, Counts, End, end_of, phase_of, led_by, Asks, Chooses, Judges, Falls, FallsAll, Rounds, RoundsAll};
 
 use layout::{END, MARKS, TASKS};
 use operations::Operation;
@@ -130,29 +130,28 @@ fn choose(
     Ok(Clock { free, ..c })
 }
 
-// The earlier of two ends, where 0 is none.
-fn earlier(d: u32, e: u32) -> u32
-    ensures { result ≡ earlier d e }
+// The earlier of an end, if one is known, and the word e, which is 0 where a task is not under way.
+fn earlier(due: Option<u32>, e: u32) -> Option<u32>
+    requires { End due }
+    ensures { End result × (end_of result ≡ earlier (end_of due) e) }
 {
-    if e == 0 {
-        return d;
+    match due {
+        Some(d) if e == 0 || d <= e => Some(d),
+        _ if e == 0 => None,
+        _ => Some(e),
     }
-    if d == 0 {
-        return e;
-    }
-    if e < d { e } else { d }
 }
 
-// The smallest end of the n tasks of a list.
-fn due(ends: &[u32], order: &[u32], n: usize) -> u32
-    ensures { result ≡ soonest ends.now (listed order.now n) 0 }
+// The smallest end of the n tasks of a list, if one is under way.
+fn due(ends: &[u32], order: &[u32], n: usize) -> Option<u32>
+    ensures { End result × (end_of result ≡ soonest ends.now (listed order.now n) 0) }
 {
-    let mut d = 0;
+    let mut due = None;
     for i in (0..n).rev() {
         let t = memory::get(order, i);
-        d = earlier(d, memory::get(ends, t as usize));
+        due = earlier(due, memory::get(ends, t as usize));
     }
-    d
+    due
 }
 
 // What a step's answer says of it. A From would have to stand beside Would, in a crate of definitions.
@@ -254,10 +253,9 @@ fn round(
 {
     let n = list_tasks(m, order);
     let p = choose(job, m, r, ticks, ends, order, n, c)?;
-    let now = due(ends, order, n);
-    if now == 0 {
+    let Some(now) = due(ends, order, n) else {
         return Err(Simulated::Spent);
-    }
+    };
     fall(job, m, r, ticks, ends, order, n, Clock { now, ..p })
 }
 

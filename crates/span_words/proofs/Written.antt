@@ -45,4 +45,3 @@ module _ (w : List ℕ) (d p r x t : ℕ) {o : ℕ} {w1 : List ℕ} (few : d < 1
     refl,
     refl,
   )
-
