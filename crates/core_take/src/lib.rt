@@ -4,6 +4,7 @@
 ghost use Rattle.std.specs.Prelude.{◌≡◌, ◌<◌};
 ghost use Rattle.spec_layout.specs.Layout.{count, queue_head, read};
 ghost use Rattle.spec_answers.specs.Answers.Outcome.{outcome};
+ghost use Rattle.core_take.specs.Nothing.{nothing};
 ghost use Rattle.spec_outcomes.specs.Take.{has_value, finding, popped, take_tested};
 
 use layout::{NL, NONE, QUEUES};
@@ -50,6 +51,16 @@ fn take_first(m: &mut [u32], t: u32, q: u32)
     }
 }
 
+// Where no value is found.
+fn nothing(found: Finding) -> Answer
+    ensures { result ≡ nothing found }
+{
+    match found {
+        Finding::Empty => Answer::Empty,
+        Finding::Value(_) | Finding::Waits => Answer::Waits,
+    }
+}
+
 // A take on memory that passes the rules; with `keep` the value stays queued.
 pub fn take(m: &mut [u32], t: u32, q: u32, keep: bool) -> Answer
     ensures { outcome result m.new ≡ take_tested m.old t q keep }
@@ -63,14 +74,12 @@ pub fn take(m: &mut [u32], t: u32, q: u32, keep: bool) -> Answer
     if !rights::pops(memory::rights(m, t), q) {
         return Refusal::NoRight.into();
     }
-    match find(m, t, q) {
-        Finding::Value(v) => {
-            if !keep {
-                take_first(m, t, q);
-            }
-            Answer::Moved(v)
-        }
-        Finding::Empty => Answer::Empty,
-        Finding::Waits => Answer::Waits,
+    let found = find(m, t, q);
+    let Finding::Value(v) = found else {
+        return nothing(found);
+    };
+    if !keep {
+        take_first(m, t, q);
     }
+    Answer::Moved(v)
 }

@@ -1,5 +1,5 @@
 -- What each part of a step has to give.
-use Rattle.std.specs.Prelude.{◌≡◌, ℕ, List}
+use Rattle.std.specs.Prelude.{◌≡◌, ℕ, List, ◌<◌, ◌≤◌, ◌⊎◌}
 use Rattle.std.proofs.Math.Option.{Option, none, some}
 use Rattle.spec_answers.specs.declared.Answer.TheVariants.{Empty}
 use Rattle.spec_answers.specs.Answers.{Outcome as CoreOutcome, outcome as answered}
@@ -11,6 +11,10 @@ use Rattle.spec_runner.specs.declared.StepAnswer.{StepAnswer}
 use Rattle.spec_runner.specs.Words.{register_of, instruction_for}
 use Rattle.spec_runner.specs.Answers.{Outcome, outcome}
 use Rattle.spec_runner.specs.Step.{call_of, runner_after, done, core_outcome, makes}
+
+-- operation number k pushes to a queue or looks in one
+abbrev pub UsesQueue : ℕ → Type 0
+UsesQueue k = ((1 ≤ k) × (k < 5)) ⊎ (k ≡ 10)
 
 -- What the core gives. A step without a call goes on as one that found nothing.
 unfoldable pub called : Option Call → List ℕ → CoreOutcome

@@ -12,7 +12,7 @@ ghost use Rattle.spec_runner.specs.Words.{position_of};
 ghost use Rattle.spec_runner.specs.Answers.{answer_with, outcome};
 ghost use Rattle.spec_runner.specs.Step.{call_of, step_tested, step_outcome};
 ghost use Rattle.job_effect.specs.Made.{found_of};
-ghost use Rattle.runner_step.specs.Parts.{called, acted, Writes, Makes};
+ghost use Rattle.runner_step.specs.Parts.{UsesQueue, called, acted, Writes, Makes};
 
 use answer_numbers::{EMPTY, FINISHED, MOVED, NOT_EMPTY, PUSHED, SPAWNED, TOOK, WAITS};
 use operations::Operation;
@@ -44,13 +44,13 @@ fn write(r: &mut [u32], t: u32, s: Instruction, v: u32, i: u32, x: u32)
 {
     let p = runner_words::procedure(r, t);
     let y = runner_words::register(r, t).wrapping_add(s.operand);
-    match Operation::from(s.operation) {
-        Operation::Return => runner_words::put(r, t, 0, 0, 0),
-        Operation::Spawn => {
+    match s.operation {
+        8 => {
             runner_words::put(r, t, p, i, x);
             runner_words::put(r, v, s.which, 0, y);
         }
-        _ => runner_words::put(r, t, p, i, x),
+        1..=10 => runner_words::put(r, t, p, i, x),
+        _ => runner_words::put(r, t, 0, 0, 0),
     }
 }
 
@@ -76,21 +76,32 @@ fn push_one(m: &mut [u32], t: u32, q: u32, v: u32) -> Answer
     core_push::push(m, t, q, &run)
 }
 
-// The core call of instruction s. One that makes none goes on as one that found nothing.
+// The core call of an instruction s that uses a queue. No job has a part in it, so the contract has the empty one.
+fn queue_call(m: &mut [u32], t: u32, s: Instruction, x: u32) -> Answer
+    requires { (length m.old ≡ 16384) × (rules_hold m.old ≡ true) × UsesQueue s.operation }
+    ensures { answered result m.new ≡ called (call_of (operation_at s.operation) [] t x s) m.old }
+{
+    let q = s.which;
+    match s.operation {
+        1 => push_one(m, t, q, s.operand),
+        2 => push_one(m, t, q, x.wrapping_add(s.operand)),
+        4 => core_take::take(m, t, q, true),
+        _ => core_take::take(m, t, q, false),
+    }
+}
+
+// The core call of instruction s, by the number of its operation, with a range for those that use a queue and one for those that make no call:
+// these go on as one that found nothing.
 fn core_call(job: &[u8], m: &mut [u32], t: u32, s: Instruction, x: u32) -> Answer
     requires { (length m.old ≡ 16384) × (rules_hold m.old ≡ true) }
     ensures { answered result m.new ≡ called (call_of (operation_at s.operation) job.now t x s) m.old }
 {
-    let q = s.which;
-    match Operation::from(s.operation) {
-        Operation::Return => core_finish::finish(m, t),
-        Operation::Push => push_one(m, t, q, s.operand),
-        Operation::PushSum => push_one(m, t, q, x.wrapping_add(s.operand)),
-        Operation::Pop | Operation::TakeOrGo => core_take::take(m, t, q, false),
-        Operation::GoIfEmpty => core_take::take(m, t, q, true),
-        Operation::Go | Operation::GoIfZero | Operation::Add => Answer::Empty,
-        Operation::Spawn => core_spawn::spawn(m, t, job_fields::rights(job, q)),
-        Operation::Sync => core_finish::sync(m, t),
+    match s.operation {
+        1..=4 | 10 => queue_call(m, t, s, x),
+        5..=7 => Answer::Empty,
+        8 => core_spawn::spawn(m, t, job_fields::rights(job, s.which)),
+        9 => core_finish::sync(m, t),
+        _ => core_finish::finish(m, t),
     }
 }
 

@@ -1,4 +1,4 @@
-// The record of a segment as a struct.
+// The record of a segment as a struct, lent to the two functions that change it.
 #![tactic(auto)]
 
 ghost use Rattle.std.specs.Prelude.{◌≡◌, ◌+◌, ◌<◌, ◌^◌};
@@ -14,25 +14,36 @@ pub struct Record {
 
 impl Record {
     // A run of k values more: the count is raised in the segment's own record.
-    pub fn with_more(self, k: u32) -> Record
-        requires { self.count + k < 2 ^ 32 }
-        ensures { result ≡ more self k }
+    fn store_some(&mut self, k: u32)
+        requires { self.old.count + k < 2 ^ 32 }
+        ensures { self.new ≡ more self.old k }
     {
-        Record {
-            count: self.count + k,
-            ..self
-        }
+        self.count += k;
     }
 
     // The first value is gone: the one at place p is the first now.
-    pub fn with_one_less(self, p: u32) -> Record
+    fn drop_one(&mut self, p: u32)
+        requires { 0 < self.old.count }
+        ensures { self.new ≡ one_fewer self.old p }
+    {
+        self.first = p;
+        self.count -= 1;
+    }
+
+    // For callers, whose proofs then need no walk.
+    pub fn with_more(mut self, k: u32) -> Record
+        requires { self.count + k < 2 ^ 32 }
+        ensures { result ≡ more self k }
+    {
+        self.store_some(k);
+        self
+    }
+
+    pub fn with_one_less(mut self, p: u32) -> Record
         requires { 0 < self.count }
         ensures { result ≡ one_fewer self p }
     {
-        Record {
-            first: p,
-            count: self.count - 1,
-            ..self
-        }
+        self.drop_one(p);
+        self
     }
 }
