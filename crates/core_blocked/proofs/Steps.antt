@@ -11,9 +11,9 @@ use Rattle.spec_words.specs.Words.{store, pick, pass, halt}
 use Rattle.spec_layout.specs.Layout.{YOUNGER, task, rights_of, read}
 use Rattle.core_blocked.specs.Noted.{noted, is_oldest, family_noted, all_noted}
 
-pub none : (m : List ℕ) (c w : ℕ) (a : List ℕ) → noted 0 m c w a ≡ a
+pub none_left : (m : List ℕ) (c w : ℕ) (a : List ℕ) → noted 0 m c w a ≡ a
 unfolding noted
-none m c w a = refl
+none_left m c w a = refl
 
 pub step : (n : ℕ) (m : List ℕ) (c w : ℕ) (a : List ℕ) → 0 < n
     → noted n m c w a ≡ pick (leb 128 c) a (noted (n - 1) m (read m (task c YOUNGER)) (bit_or (rights_of m c) w) (store a c w))

@@ -10,9 +10,9 @@ use Rattle.spec_answers.specs.declared.Answer.TheVariants.{Moved, Refused}
 use Rattle.spec_outcomes.specs.Segments.{value_at}
 use Rattle.spec_outcomes.specs.Left.{queued}
 
-pub none : (m : List ℕ) (s i : ℕ) → queued 0 m s i ≡ Refused 7
+pub chain_over : (m : List ℕ) (s i : ℕ) → queued 0 m s i ≡ Refused 7
 unfolding queued
-none m s i = refl
+chain_over m s i = refl
 
 pub step : (k : ℕ) (m : List ℕ) (s i : ℕ) → 0 < k
     → queued k m s i ≡ pick (leb NL s) (Refused 7) (pick (ltb i (read m (count s))) (Moved (value_at m s i)) (queued (k - 1) m (read m (next s)) (i - read m (count s))))

@@ -8,8 +8,8 @@ use Rattle.std.proofs.lemmas.List.{take_more, length-take-le}
 use Rattle.spec_words.specs.Words.{store}
 use Rattle.spec_words.specs.Blocks.{store_all, store_none, store_more, store_append}
 
-pub none : (m : List ℕ) (a : ℕ) → m ≡ store_all m a []
-none m a = sym (store_none m a)
+pub none_stored : (m : List ℕ) (a : ℕ) → m ≡ store_all m a []
+none_stored m a = sym (store_none m a)
 
 one : (m : List ℕ) (a w : ℕ) → store_all m a (w ∷ []) ≡ store m a w
 one m a w = store_more m a w [] ∙ store_none _ _

@@ -3,7 +3,7 @@ use Prim.Native.Nat.{◌+◌, ◌-◌}
 use Rattle.std.proofs.Common.{arith}
 use Rattle.std.proofs.lemmas.Bool.Decides.{nat_tests}
 use Rattle.spec_words.specs.Words.{pick}
-use Rattle.core_blocked.proofs.Steps.{none, step}
+use Rattle.core_blocked.proofs.Steps.{none_left, step}
 use Rattle.core_blocked.proofs.note.Goals as goal
 
 pub returns-then-c-ge-TASKS : goal.returns-then-c-ge-TASKS
@@ -15,4 +15,4 @@ unfolding pick
 loop-preserved c = let e : 128 - (c.loop.counter + 1) ≡ 128 - c.loop.counter - 1 = omega arith in grind (arith, nat_tests, step)
 
 pub returns : goal.returns
-returns c = let e : 128 - c.loop.counter ≡ 0 = omega arith in grind (arith, none, e)
+returns c = let e : 128 - c.loop.counter ≡ 0 = omega arith in grind (arith, none_left, e)

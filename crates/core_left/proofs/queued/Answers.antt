@@ -3,7 +3,7 @@ use Prim.Native.Nat.{◌+◌, ◌-◌}
 use Rattle.std.proofs.Common.{arith}
 use Rattle.std.proofs.lemmas.Bool.Decides.{nat_tests}
 use Rattle.spec_words.specs.Words.{pick}
-use Rattle.core_left.proofs.Chain.{none, step}
+use Rattle.core_left.proofs.Chain.{chain_over, step}
 use Rattle.core_left.proofs.queued.Goals as goal
 
 pub returns-then-s-ge-NL : goal.returns-then-s-ge-NL
@@ -19,4 +19,4 @@ unfolding pick
 loop-preserved c = let e : 256 - (c.loop.counter + 1) ≡ 256 - c.loop.counter - 1 = omega arith in grind (arith, nat_tests, step)
 
 pub returns : goal.returns
-returns c = let e : 256 - c.loop.counter ≡ 0 = omega arith in grind (arith, none, e)
+returns c = let e : 256 - c.loop.counter ≡ 0 = omega arith in grind (arith, chain_over, e)

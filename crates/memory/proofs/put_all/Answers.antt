@@ -1,8 +1,8 @@
-use Rattle.memory.proofs.Words.{none, more}
+use Rattle.memory.proofs.Words.{none_stored, more}
 use Rattle.memory.proofs.put_all.Goals as goal
 
 pub loop-i-init : goal.loop-i-init
-loop-i-init c = none _ _
+loop-i-init c = none_stored _ _
 
 pub loop-i-preserved : goal.loop-i-preserved
 loop-i-preserved c = more _ _ _ _ _ _ c.loop-i-test.true c.loop-i.invariant c.put.ensures
