@@ -4,7 +4,7 @@
 
 ghost use Rattle.std.specs.Prelude.{◌≡◌, true, ◌+◌, ◌^◌, ◌<◌, ◌≤◌, length};
 ghost use Rattle.spec_words.specs.Words.{load};
-ghost use Rattle.spec_job.specs.Fields.{bytes2, bytes4, procedures, segment_length, entry_at, offset, count, rights, reserved, instruction_from, instruction_at};
+ghost use Rattle.spec_job.specs.Fields.{bytes2, procedures, segment_length, entry_at, offset, count, rights, reserved, instruction_from, instruction_at};
 
 use spec_job::Instruction;
 

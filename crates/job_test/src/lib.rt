@@ -7,7 +7,7 @@ ghost use Rattle.spec_lists.specs.Tests.{upto};
 ghost use Rattle.spec_tree.specs.Rights.{pushes, pops, subset};
 ghost use Rattle.spec_job.specs.Fields.{procedures, entry_at, rights, instruction_from};
 ghost use Rattle.job_test.specs.Answers.{answer_for};
-ghost use Rattle.spec_job.specs.Test.{between, head_holds, entry_holds, entries_hold, contents_hold, fitting, last_holds, body_holds, job_answer};
+ghost use Rattle.spec_job.specs.Test.{head_holds, entry_holds, entries_hold, contents_hold, fitting, last_holds, body_holds, job_answer};
 
 use job_fields::{ENTRY, HEAD, INSTRUCTION};
 use refusals::Refusal;

@@ -2,7 +2,7 @@
 // Reading and writing are total: past the end a read gives 0 and a write does nothing. The test of the rules asks for what the calls test before it.
 #![tactic(auto, unfolding(crate::specs::Numbers::refusal_number, crate::specs::Refusals::job_refusal, crate::specs::Refusals::refusal_in, crate::specs::Tested::map_refusal, job_test::specs::Answers::answer_for, spec_words::specs::Words::both, spec_words::specs::Words::pick, spec_words::specs::Words::size, spec_words::specs::Words::load, spec_words::specs::Words::store, spec_layout::specs::Layout::read, spec_layout::specs::Layout::address, spec_outcomes::specs::Waits::unfinished, spec_runner::specs::Words::procedure_of, spec_runner::specs::Words::position_of, spec_runner::specs::Words::register_of, spec_runner::specs::Words::put, spec_runner::specs::Words::instruction_for, spec_runner::specs::Rules::task_holds, spec_runner::specs::Rules::zeros, spec_runner::specs::Rules::record_holds))]
 
-ghost use Rattle.std.specs.Prelude.{◌≡◌, true, List, ℕ, ◌+◌, ◌-◌, ◌<◌, ◌≤◌, length};
+ghost use Rattle.std.specs.Prelude.{◌≡◌, true, List, ℕ, ◌+◌, ◌<◌, ◌≤◌, length};
 ghost use Rattle.spec_lists.specs.Tests.{upto};
 ghost use Rattle.spec_outcomes.specs.Waits.{unfinished};
 ghost use Rattle.spec_runner.specs.Words.{procedure_of, position_of, register_of, put, instruction_for};

@@ -135,10 +135,10 @@ fn earlier(due: Option<u32>, e: u32) -> Option<u32>
     requires { End due }
     ensures { End result × (end_of result ≡ earlier (end_of due) e) }
 {
-    match due {
-        Some(d) if e == 0 || d <= e => Some(d),
-        _ if e == 0 => None,
-        _ => Some(e),
+    if e == 0 {
+        due
+    } else {
+        Some(due.map_or(e, |d| d.min(e)))
     }
 }
 

@@ -4,8 +4,6 @@
 
 ghost use Rattle.std.specs.Prelude.{◌≡◌, ◌+◌, ◌<◌, ◌≤◌, length};
 ghost use Rattle.spec_words.specs.Words.{load, store, pick};
-ghost use Rattle.spec_line.specs.Later.{later};
-ghost use Rattle.spec_job.specs.Effects.{sum};
 ghost use Rattle.spec_span.specs.Pass.{task_at, queue_at, place_at, SPAN, POPPING};
 ghost use Rattle.spec_span.specs.Pass.{queued, unqueued, sharing, older_for, with_child, raised, finished_on, child_finished, pass_opened};
 ghost use Rattle.span_words.specs.Words.{task_words, Looks, Holds};
