@@ -68,6 +68,7 @@ fn four(
 }
 
 // The four queue views of task t.
+// Four calls and no loop as in `four`: with the shifts written out no invariant is needed.
 fn queues(d: &mut [u8; 256], w: &mut [u32; 12], m: &[u32], t: usize) -> bool
     requires { Ready m.now × (t < 128) }
     ensures { SeesHeads m.now (queues_at (decode m.now) t) result
