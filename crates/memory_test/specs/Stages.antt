@@ -1,5 +1,5 @@
 -- The memory test, stage by stage, as the code goes through it: where one test fails the whole does, whatever the others say.
-use Rattle.std.specs.Prelude.{Option, Some, None, ◌≡◌, Bool, true, false, not, List, ℕ, ◌+◌, ◌-◌, ◌*◌, ◌≤◌, length, get_or, take, drop}
+use Rattle.std.specs.Prelude.{Option, Some as known, None as unknown, ◌≡◌, Bool, true, false, not, List, ℕ, ◌+◌, ◌-◌, ◌*◌, ◌≤◌, length, get_or, take, drop}
 use Rattle.std.proofs.Math.Path.{ap}
 use Rattle.std.proofs.Common.{ap₂, sym, ◌∙◌, arith, length-take, length-drop}
 use Rattle.std.proofs.lemmas.Bool.{false≢true}
@@ -31,13 +31,13 @@ module _ (m : List ℕ) where
   decoded = ap test (scan_decodes m)
 
   -- a test that every memory that passes would pass has failed
-  pub wrong : {b x : Bool} → (Passed C → x ≡ true) → b ≡ x → not b ≡ true → Counts C (rules_hold m) None
+  pub wrong : {b x : Bool} → (Passed C → x ≡ true) → b ≡ x → not b ≡ true → Counts C (rules_hold m) unknown
   wrong f e n = wrong_counts C (refuted _ (λ p. false≢true (sym (not-true _ n) ∙ e ∙ f (test_says C (sym decoded ∙ p)))))
 
-  pub stack_wrong : {r : Option ℕ} → r ≡ None → stack_test C ≡ false → Counts C (rules_hold m) r
+  pub stack_wrong : {r : Option ℕ} → r ≡ unknown → stack_test C ≡ false → Counts C (rules_hold m) r
   stack_wrong q e = rw q (wrong_counts C (refuted _ (λ p. false≢true (sym e ∙ stack_passed m p))))
 
-  pub tree_wrong : {b : Bool} {k : ℕ} → k ≡ marks C → b ≡ tree_test C k 0 → not b ≡ true → Counts C (rules_hold m) None
+  pub tree_wrong : {b : Bool} {k : ℕ} → k ≡ marks C → b ≡ tree_test C k 0 → not b ≡ true → Counts C (rules_hold m) unknown
   tree_wrong number e f = wrong (λ p. p.tree) (e ∙ ap (λ (j : ℕ). tree_test C j 0) number) f
 
   -- the count is no more than the number opened, and what is left of it is where the walk starts
@@ -72,11 +72,11 @@ module _ (m : List ℕ) where
       unfolding size
       begun = record { words = big; range = range; stack = stack; top = top; idle = idle; tree = whole; toured = begins }
 
-      pub views_wrong : {b : Bool} → b ≡ view_tests C xs → not b ≡ true → Counts C (rules_hold m) None
+      pub views_wrong : {b : Bool} → b ≡ view_tests C xs → not b ≡ true → Counts C (rules_hold m) unknown
       views_wrong e f = wrong (λ p. says_seen C (toured C) p.seen) (e ∙ ap (view_tests C) begins) f
 
       -- the count is that of a memory that passes
-      pub all_right : {b : Bool} {h : ℕ} → b ≡ view_tests C xs → not b ≡ false → h ≡ held_count C → Counts C (rules_hold m) (Some h)
+      pub all_right : {b : Bool} {h : ℕ} → b ≡ view_tests C xs → not b ≡ false → h ≡ held_count C → Counts C (rules_hold m) (known h)
       all_right e f q = right_counts C rules q (ap (λ (k : ℕ). k + length C.free) q ∙ held_and_free m rules)
         where
           rules : rules_hold m ≡ true

@@ -7,6 +7,7 @@ ghost use Rattle.spec_rules.specs.Test.{rules_hold};
 ghost use Rattle.segment_test.specs.Count.{Counts};
 
 use layout::MARKS;
+use view_steps::PLACED;
 
 // How many segments are held, where all memory rules hold. They are counted once, ahead of every loop over task records.
 fn test_and_count(m: &[u32]) -> Option<u32>
@@ -19,7 +20,8 @@ fn test_and_count(m: &[u32]) -> Option<u32>
     let mut d = [0u8; 256];
     let held = segment_test::count_held(&mut d, m)?;
     // The walk over the views starts with the free segments placed.
-    let free = memory::number(m) - held;
+    let mut w = [0u32; 12];
+    w[PLACED] = memory::number(m) - held;
     if !tree_test::top_ok(m) {
         return None;
     }
@@ -32,7 +34,7 @@ fn test_and_count(m: &[u32]) -> Option<u32>
         return None;
     }
     let e = k as usize;
-    if !view_test::views_hold(&d, free, m, &xs[0..e]) {
+    if !view_test::views_hold(&mut d, &mut w, m, &xs[0..e]) {
         return None;
     }
     Some(held)

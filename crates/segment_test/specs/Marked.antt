@@ -1,5 +1,5 @@
 -- The stack of free segments and the held ones, as the code tests and counts them by their marks.
-use Rattle.std.specs.Prelude.{Option, Some, None, ◌≡◌, Bool, true, false, not, eqb, get_or, take, drop, replicate}
+use Rattle.std.specs.Prelude.{Option, Some as known, None as unknown, ◌≡◌, Bool, true, false, not, eqb, get_or, take, drop, replicate}
 use Rattle.std.proofs.Math.Path.{ap}
 use Rattle.std.proofs.Common.{sym, ◌∙◌}
 use Rattle.std.proofs.lemmas.List.{get_or-take}
@@ -62,10 +62,10 @@ module _ (m : List ℕ) (ready : Ready m) where
   abbrev pub Stacked : Option ℕ → List ℕ → Type 0
   Stacked r d = Counts c (stack_test c) r × (stack_test c ≡ true → d ≡ marking c.free (replicate 256 0))
 
-  wrong : (d : List ℕ) → (stack_test c ≡ true → ⊥) → Stacked None d
+  wrong : (d : List ℕ) → (stack_test c ≡ true → ⊥) → Stacked unknown d
   wrong d n = (wrong_counts c (refuted _ n), λ e. absurd (n e))
 
-  pub stack_high : get_or m 1 0 < get_or m 2 0 → (d : List ℕ) → Stacked None d
+  pub stack_high : get_or m 1 0 < get_or m 2 0 → (d : List ℕ) → Stacked unknown d
   unfolding read address load
   stack_high l d =
       wrong d (λ q.
@@ -76,7 +76,7 @@ module _ (m : List ℕ) (ready : Ready m) where
       let g = ready.1 in
       omega (arith, a, b, e, f, g, l))
 
-  pub stack_far : {b : Bool} → b ≡ all_below c.number c.free → not b ≡ true → (d : List ℕ) → Stacked None d
+  pub stack_far : {b : Bool} → b ≡ all_below c.number c.free → not b ≡ true → (d : List ℕ) → Stacked unknown d
   unfolding all_below
   stack_far e f d = wrong d (λ q. false≢true (sym (not-true _ f) ∙ e ∙ says_each _ c.free (λ s p. lt-ltb s c.number ((says q).below s p))))
 
@@ -101,10 +101,10 @@ module _ (m : List ℕ) (ready : Ready m) where
         let n = number_at m in
         ((λ q. omega (arith, a, n, q)), (λ q. omega (arith, a, n, q)))
 
-    pub stack_twice : (h + get_or m 2 0 ≡ get_or m 1 0 → ⊥) → Stacked None d
+    pub stack_twice : (h + get_or m 2 0 ≡ get_or m 1 0 → ⊥) → Stacked unknown d
     stack_twice n = wrong d (λ q. n (sum.0 (ap (λ (k : ℕ). k + length c.free) counted ∙ held_free c (says q))))
 
-    pub stack_right : h + get_or m 2 0 ≡ get_or m 1 0 → Stacked (Some h) d
+    pub stack_right : h + get_or m 2 0 ≡ get_or m 1 0 → Stacked (known h) d
     unfolding stack_test all_below
     stack_right q = (
       right_counts c (says_distinct c.number c.free small (free_held c below (ap (λ (k : ℕ). k + length c.free) (sym counted) ∙ sum.1 q))) counted

@@ -17,7 +17,7 @@ use Rattle.segments.specs.Names.{held, next_is, head_here}
 use Rattle.spec_words.specs.Found.{found}
 use Rattle.spec_words.specs.Found.{some_found, none_found}
 use Rattle.walks.proofs.Found.{found_holds}
-use Rattle.std.proofs.Common.{Some, None}
+use Rattle.std.proofs.Common.{Some as known, None as unknown}
 
 -- THE HEADS of a task: the place of s, where the first i are others
 unfoldable pub head_from : List ℕ → ℕ → ℕ → ℕ → ℕ
@@ -105,7 +105,7 @@ head_at m s x e = let a = both_true (ltb x 128) (ltb (head_index m s x) 16) e in
 
 -- What names s, as an answer that was found, names h instead
 module _ (m : List ℕ) (q s h : ℕ) where
-  pub rename_head : (m1 : List ℕ) (t i : ℕ) → Some t ≡ found 256 (seek MARKS (head_here m s) (record_of m) 0) → Some i ≡ found 16 (head_index m s t)
+  pub rename_head : (m1 : List ℕ) (t i : ℕ) → known t ≡ found 256 (seek MARKS (head_here m s) (record_of m) 0) → known i ≡ found 16 (head_index m s t)
       → m1 ≡ write m (task t (16 + i)) h → m1 ≡ renamed m q s h
   unfolding renamed head_here
   rename_head m1 t i e f w =
@@ -114,25 +114,25 @@ module _ (m : List ℕ) (q s h : ℕ) where
       let c = some_found 16 (head_index m s t) i f in
       w ∙ rw (c.0, a.0) (sym (halt _ _ (ap (λ (x : ℕ). ltb x 128) (sym a.0) ∙ lt-ltb t 128 b.0)))
 
-  pub no_head : {A : Type 0} (t : ℕ) → Some t ≡ found 256 (seek MARKS (head_here m s) (record_of m) 0) → None ≡ found 16 (head_index m s t) → A
+  pub no_head : {A : Type 0} (t : ℕ) → known t ≡ found 256 (seek MARKS (head_here m s) (record_of m) 0) → unknown ≡ found 16 (head_index m s t) → A
   no_head t e f =
       let a = found_holds (head_here m s) (record_of m) 0 t e in
       let b = head_at m s t a.1 in
       let c = none_found 16 (head_index m s t) f in
       let z : ⊥ = omega (arith, b.1, c) in absurd z
 
-  module _ (et : None ≡ found 256 (seek MARKS (head_here m s) (record_of m) 0)) where
+  module _ (et : unknown ≡ found 256 (seek MARKS (head_here m s) (record_of m) 0)) where
     none_seen : ltb (seek MARKS (head_here m s) (record_of m) 0) 128 ≡ false
     none_seen = let a = none_found 256 (seek MARKS (head_here m s) (record_of m) 0) et in le-ltb _ _ (omega (arith, a))
 
-    pub rename_next : (m1 : List ℕ) (y : ℕ) → Some y ≡ found (segments_of m q) (linked_by (segments_of m q) m q s 0)
+    pub rename_next : (m1 : List ℕ) (y : ℕ) → known y ≡ found (segments_of m q) (linked_by (segments_of m q) m q s 0)
         → m1 ≡ write m (segment y 2) h → m1 ≡ renamed m q s h
     unfolding renamed head_here
     rename_next m1 y e w =
         let a = some_found (segments_of m q) (linked_by (segments_of m q) m q s 0) y e in
         w ∙ rw a.0 (sym (pass _ none_seen (halt _ _ (lt-ltb _ _ a.1))))
 
-    pub rename_none : None ≡ found (segments_of m q) (linked_by (segments_of m q) m q s 0) → m ≡ renamed m q s h
+    pub rename_none : unknown ≡ found (segments_of m q) (linked_by (segments_of m q) m q s 0) → m ≡ renamed m q s h
     unfolding renamed head_here
     rename_none e =
         let a = none_found (segments_of m q) (linked_by (segments_of m q) m q s 0) e in

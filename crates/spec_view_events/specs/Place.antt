@@ -1,5 +1,5 @@
 -- Placing the segments of a chain one after the other, as the code does it.
-use Rattle.std.specs.Prelude.{◌≡◌, Option, Some, None, Bool, not, ltb, eqb}
+use Rattle.std.specs.Prelude.{◌≡◌, Option, Some as known, None as unknown, Bool, not, ltb, eqb}
 use Rattle.std.proofs.Math.Path.{refl, ap, sym}
 use Rattle.std.proofs.Common.{◌∙◌, le-ltb}
 use Rattle.std.proofs.Math.Bool.{true, false}
@@ -34,8 +34,8 @@ placing c (suc j) s k d =
 
 -- the same as an answer of code: the number of segments, if the chain is right
 unfoldable pub answered : Option ℕ → List ℕ → Placed
-answered (Some k) d = placed k d
-answered None d = wrong
+answered (known k) d = placed k d
+answered unknown d = wrong
 
 module _ (c : Contents) (small : c.number ≤ 256) where
   -- the tests of a list of segments, and what placing them gives

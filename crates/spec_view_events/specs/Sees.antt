@@ -14,6 +14,9 @@ Ready m = (length m ≡ 16384) × (get_or m 1 0 ≤ 256)
 pub record Sees (m : List ℕ) (vs : List Event → List Event) (r : Bool) (d f w d' f' w' : List ℕ) : Type 0 where
   pub same : (es : List Event) → both r (run (decode m) es d' f' w') ≡ run (decode m) (vs es) d f w
 
--- the same of code that leaves f alone
+-- the same of code that leaves f alone, and of code that leaves d alone
 abbrev pub SeesHeads : List ℕ → (List Event → List Event) → Bool → List ℕ → List ℕ → List ℕ → List ℕ → Type 0
 SeesHeads m vs r d w d' w' = (f : List ℕ) → Sees m vs r d f w d' f w'
+
+abbrev pub SeesTails : List ℕ → (List Event → List Event) → Bool → List ℕ → List ℕ → List ℕ → List ℕ → Type 0
+SeesTails m vs r f w f' w' = (d : List ℕ) → Sees m vs r d f w d f' w'

@@ -1,7 +1,7 @@
 -- What the code's functions find at a head and at a tail, and what the test over the events makes of it.
 use Rattle.std.proofs.Math.Path.{◌≡◌, refl, ap₂, sym}
 use Rattle.std.proofs.Common.{ap, ◌∙◌, lt-ltb, le-ltb, le-leb, eq-eqb, ne_eqb}
-use Rattle.std.specs.Prelude.{Option, Some, None, Bool, ℕ, ◌+◌, ◌%◌, ◌^◌, ◌<◌, ◌≤◌, ltb, get_or, set}
+use Rattle.std.specs.Prelude.{Option, Some as known, None as unknown, Bool, ℕ, ◌+◌, ◌%◌, ◌^◌, ◌<◌, ◌≤◌, ltb, get_or, set}
 use Rattle.std.proofs.Math.Bool.{true, false}
 use mathlib.Core.List.{List, ◌∷◌}
 use native.Mathlib.Omega.{arith}
@@ -28,12 +28,12 @@ raise_at w k v r e = ap (set w k) e
 
 -- no answer, and one
 module _ (i : ℕ) (d e : List ℕ) where
-  lost : (b : Bool) → answered None d ≡ pick b (placed i e) wrong → b ≡ false
+  lost : (b : Bool) → answered unknown d ≡ pick b (placed i e) wrong → b ≡ false
   unfolding answered pick
   lost false q = refl
   lost true q = let x : wrong ≡ placed i e = q in absurd (cc)
 
-  won : (b : Bool) (k : ℕ) → answered (Some k) d ≡ pick b (placed i e) wrong → (b ≡ true) × (k ≡ i) × (d ≡ e)
+  won : (b : Bool) (k : ℕ) → answered (known k) d ≡ pick b (placed i e) wrong → (b ≡ true) × (k ≡ i) × (d ≡ e)
   unfolding answered pick
   won true k q = let x : placed k d ≡ placed i e = q in (refl, cc, cc)
   won false k q = let x : placed k d ≡ wrong = q in absurd (cc)
@@ -58,22 +58,22 @@ module _ (m : List ℕ) (es : List Event) where
           ∙ ap (λ (j : ℕ). placing c j h 0 d) (number_at m)
           ∙ placing_chain c (rw (number_at m) at small) c.number h 0 d
 
-      pub head_wrong : (x : Bool) → r ≡ None → both false x ≡ run c (head h ∷ es) d f w
+      pub head_wrong : (x : Bool) → r ≡ unknown → both false x ≡ run c (head h ∷ es) d f w
       unfolding run
       head_wrong x z =
           both_off x refl
-          ∙ sym (pass _ (lt-leb NL h local) (sym (grouped _ _ _) ∙ both_off _ (lost _ d' _ _ (given None z))))
+          ∙ sym (pass _ (lt-leb NL h local) (sym (grouped _ _ _) ∙ both_off _ (lost _ d' _ _ (given unknown z))))
 
-      head_placed : (k : ℕ) → r ≡ Some k → both true (run c es d' f (raised (raised w PLACED k) HEADS 1)) ≡ run c (head h ∷ es) d f w
+      head_placed : (k : ℕ) → r ≡ known k → both true (run c es d' f (raised (raised w PLACED k) HEADS 1)) ≡ run c (head h ∷ es) d f w
       unfolding run
       head_placed k z =
-          let g = won _ d' _ _ k (given (Some k) z) in
+          let g = won _ d' _ _ k (given (known k) z) in
           let n : k ≡ length segs = g.1 ∙ (let y : 0 + length segs ≡ length segs = omega arith in y) in
           both_on refl
           ∙ ap₂ (λ (x : List ℕ) (j : ℕ). run c es x f (raised (raised w PLACED j) HEADS 1)) g.2 n
           ∙ sym (pass _ (lt-leb NL h local) (sym (grouped _ _ _) ∙ both_on g.0))
 
-      pub head_right : (k : ℕ) → r ≡ Some k → (i j : ℕ) → i ≡ (get_or w PLACED 0 + k) % 2 ^ 32 → j ≡ (get_or (set w PLACED i) HEADS 0 + 1) % 2 ^ 32
+      pub head_right : (k : ℕ) → r ≡ known k → (i j : ℕ) → i ≡ (get_or w PLACED 0 + k) % 2 ^ 32 → j ≡ (get_or (set w PLACED i) HEADS 0 + 1) % 2 ^ 32
           → both true (run c es d' f (set (set w PLACED i) HEADS j)) ≡ run c (head h ∷ es) d f w
       head_right k z i j p q =
           ap (λ (x : List ℕ). both true (run c es d' f x)) (raise_at (set w PLACED i) HEADS 1 j q ∙ ap (λ (x : List ℕ). raised x HEADS 1) (raise_at w PLACED k i p))

@@ -1,5 +1,5 @@
 -- A stretch of the walk: i of n marks are written in xs and x is the next one; later j are in ys, and y is the next one.
-use Rattle.std.specs.Prelude.{Option, Some, None, ◌≡◌, refl, true, false, List, [], ◌∷◌, ◌++◌, eqb, length, set}
+use Rattle.std.specs.Prelude.{Option, Some as known, None as unknown, ◌≡◌, refl, true, false, List, [], ◌∷◌, ◌++◌, eqb, length, set}
 use Rattle.std.proofs.Math.Path.{ap, sym}
 use Rattle.std.proofs.Common.{subst, ◌∙◌, append-nil, le_of_suc-le-suc}
 use Rattle.std.proofs.lemmas.Bool.{false≢true}
@@ -35,8 +35,8 @@ module _ (c : Contents) (n : ℕ) where
 
   -- the walk came to where a task is entered or the top is exited, with k marks written or more; or it failed
   pub record Led (x i : ℕ) (xs : List ℕ) (k : ℕ) (r : Option Spot) (ys : List ℕ) : Type 0 where
-    pub on : (s : Spot) → r ≡ Some s → (s.mark ≤ 128) × (k ≤ s.written) × Same x i xs s.mark s.written ys
-    pub wrong : r ≡ None → false ≡ walk_test c (n - i) x
+    pub on : (s : Spot) → r ≡ known s → (s.mark ≤ 128) × (k ≤ s.written) × Same x i xs s.mark s.written ys
+    pub wrong : r ≡ unknown → false ≡ walk_test c (n - i) x
 
   pub same_here : (x i : ℕ) (xs : List ℕ) → Same x i xs x i xs
   same_here x i xs = record { test = refl; marks = refl }
@@ -49,14 +49,14 @@ module _ (c : Contents) (n : ℕ) where
   led_on a b = record { on = λ s e. let d = b.on s e in (d.0, d.1, same_on a d.2); wrong = λ e. b.wrong e ∙ a.test }
 
   pub led_here : {x i : ℕ} {xs : List ℕ} {s : Spot} {k : ℕ} {ys : List ℕ} → s.mark ≤ 128 → k ≤ s.written → Same x i xs s.mark s.written ys
-      → Led x i xs k (Some s) ys
+      → Led x i xs k (known s) ys
   led_here {x = x} {i = i} {xs = xs} {s = s} {k = k} {ys = ys} h l a =
       record {
         on = λ r e. let q : s ≡ r = cc in subst (λ (z : Spot). (z.mark ≤ 128) × (k ≤ z.written) × Same x i xs z.mark z.written ys) q (h, l, a);
         wrong = λ e. absurd (cc);
       }
 
-  pub led_wrong : {x i : ℕ} {xs : List ℕ} {k : ℕ} {r : Option Spot} {ys : List ℕ} → r ≡ None → false ≡ walk_test c (n - i) x → Led x i xs k r ys
+  pub led_wrong : {x i : ℕ} {xs : List ℕ} {k : ℕ} {r : Option Spot} {ys : List ℕ} → r ≡ unknown → false ≡ walk_test c (n - i) x → Led x i xs k r ys
   led_wrong q e = record { on = λ s d. absurd (cc); wrong = λ d. e }
 
   -- ONE MARK

@@ -1,5 +1,5 @@
 -- The walk along the task tree, mark by mark, as the code makes it; and that it tests what tree_test says.
-use Rattle.std.specs.Prelude.{Some, None, ◌≡◌, Bool, List, [], ◌∷◌, ◌⊎◌, ltb, eqb}
+use Rattle.std.specs.Prelude.{Some as known, None as unknown, ◌≡◌, Bool, List, [], ◌∷◌, ◌⊎◌, ltb, eqb}
 use Rattle.std.proofs.Math.Path.{refl, ap, sym}
 use Rattle.std.proofs.Common.{◌∙◌, subst, inl, inr, arith}
 use Rattle.std.proofs.Math.Bool.{true, false}
@@ -64,7 +64,7 @@ module _ (c : Contents) where
       sym (pass _ (ne_eqb _ _ (λ q. n (e ∙ q))) (pass _ (ap (λ (v : ℕ). fitting c v t NONE (task_rights c t)) (sym e) ∙ f) refl))
 
   -- the answer as the code has it
-  pub entered_up : (t u : ℕ) → t < 128 → u ≡ word c t YOUNGEST → u ≡ NONE → Some (128 + t) ≡ found END (entered_next t)
+  pub entered_up : (t u : ℕ) → t < 128 → u ≡ word c t YOUNGEST → u ≡ NONE → known (128 + t) ≡ found END (entered_next t)
   entered_up t u l e q = found_some END (128 + t) (omega arith) ∙ ap (found END) (entered_leaf t u e q)
 
   pub entered_fits : (t u : ℕ) (b : Bool) → u ≡ word c t YOUNGEST → (u ≡ NONE → ⊥) → b ≡ fitting c u t NONE (task_rights c t)
@@ -79,7 +79,7 @@ module _ (c : Contents) where
     unfolding exited_next
     left_out h = sym (halt _ _ (le-leb 128 (word c t PARENT) (omega (arith, a, h))))
 
-    pub left_none : 127 < p → None ≡ found END (exited_next t)
+    pub left_none : 127 < p → unknown ≡ found END (exited_next t)
     left_none h = found_none END END (omega arith) ∙ ap (found END) (left_out h)
 
     module _ (h : p ≤ 127) (u : ℕ) (e : u ≡ word c t OLDER) where
@@ -101,7 +101,7 @@ module _ (c : Contents) where
       unfolding exited_next
       exited_wrong n f = sym (pass _ inside (pass _ (ne_eqb _ _ (λ q. n (e ∙ q))) (pass _ (same ∙ f) refl)))
 
-      pub exited_rises : u ≡ NONE → Some (128 + p) ≡ found END (exited_next t)
+      pub exited_rises : u ≡ NONE → known (128 + p) ≡ found END (exited_next t)
       exited_rises q = found_some END (128 + p) (omega (arith, h)) ∙ ap (found END) (exited_up q)
 
       pub exited_fits : (b : Bool) → (u ≡ NONE → ⊥) → b ≡ fitting c u p t (task_rights c p) → then_some b u ≡ found END (exited_next t)

@@ -1,28 +1,21 @@
 // One view of the memory test: its head starts a chain of segments, its tail ends one.
 #![tactic(auto)]
 
-ghost use Rattle.std.specs.Prelude.{◌≡◌, ◌+◌, ◌%◌, ◌<◌, not, ◌∷◌, length, set, replicate, ◌==◌, slice_index};
+ghost use Rattle.std.specs.Prelude.{◌≡◌, ◌+◌, ◌%◌, ◌<◌, not, ◌∷◌, length, ◌==◌, slice_index};
 ghost use Rattle.spec_rules.specs.Contents.{decode, part};
 ghost use Rattle.spec_rules.specs.Test.{marked, passed};
 ghost use Rattle.spec_view_events.specs.Events.{queue_of, view_of};
 ghost use Rattle.spec_view_events.specs.Events.Event.{tail, head};
 ghost use Rattle.spec_view_events.specs.Place.{placing, answered};
-ghost use Rattle.spec_view_events.specs.Run.{PLACED};
-ghost use Rattle.spec_view_events.specs.Sees.{Ready};
-ghost use Rattle.view_steps.specs.Goes.{Goes, GoesBesideTails};
+ghost use Rattle.spec_view_events.specs.Sees.{Ready, Sees, SeesHeads, SeesTails};
 
 use layout::{COUNT_AT, NEXT_AT, NL, NONE, NUMBER_AT, SEGMENT_WORDS, TAIL_BEHIND};
 
-// What the test has seen so far: marks of the segments placed, marks of those that are free or whose tail was seen, and counts.
-#[derive(Drop)]
-pub struct State {
-    pub placed: [u8; 256],
-    pub ended: [u8; 256],
-    pub counts: [u32; 12],
-}
-
-// THE COUNTS: the order of each queue; whether its queue view was seen; how many segments were placed, how many heads and how
-// many tails were seen.
+// The marks d and f and the words w go from function to function by themselves: as one struct with methods the whole test took 3 to 7
+// in a hundred longer.
+//
+// THE WORKING WORDS w of the test: the order of each queue; whether its queue view was seen; how many segments were placed, how many
+// heads and how many tails were seen.
 pub const ORDERS: usize = 0;
 
 pub const SEEN: usize = 4;
@@ -76,6 +69,46 @@ fn place(d: &mut [u8; 256], m: &[u32], h: u32) -> Option<u32>
     None
 }
 
+// The head of a view: where it is local, its chain is placed.
+fn head(d: &mut [u8; 256], w: &mut [u32; 12], m: &[u32], h: u32) -> bool
+    requires { Ready m.now }
+    ensures { SeesHeads m.now (λ es. head h ∷ es) result
+        d.old w.old d.new w.new }
+{
+    if h >= NL {
+        return true;
+    }
+    let Some(k) = place(d, m, h) else {
+        return false;
+    };
+    w[PLACED] = w[PLACED].wrapping_add(k);
+    w[HEADS] = w[HEADS].wrapping_add(1);
+    true
+}
+
+// The tail of a view: where it is local, it is the end of a chain that no other tail names.
+fn tail(f: &mut [u8; 256], w: &mut [u32; 12], m: &[u32], e: u32) -> bool
+    requires { Ready m.now }
+    ensures { SeesTails m.now (λ es. tail e ∷ es) result
+        f.old w.old f.new w.new }
+{
+    if e >= NL {
+        return true;
+    }
+    if e >= m[NUMBER_AT] {
+        return false;
+    }
+    if f[e as usize] != 0 {
+        return false;
+    }
+    if next(m, e) != NONE {
+        return false;
+    }
+    f[e as usize] = 1;
+    w[TAILS] = w[TAILS].wrapping_add(1);
+    true
+}
+
 // 1 for a non-local end of a view.
 #[tactic(auto, unfolding(spec_rules::specs::Test::passed, spec_rules::specs::Test::marked, spec_words::specs::Words::pick, spec_words::specs::Words::both, spec_words::specs::Words::either))]
 fn marked(w: u32) -> u32
@@ -98,95 +131,52 @@ fn passed(h: u32, e: u32, o: u32) -> u32
     marked(h)
 }
 
-impl State {
-    // The n free segments, which are marked in d, count as placed from the start, and no chain may end with one.
-    pub fn new(d: &[u8; 256], n: u32) -> State
-        ensures { (result.placed ≡ d.now) × (result.ended ≡ d.now) × (result.counts ≡ set (replicate 12 0) PLACED n) }
-    {
-        let mut counts = [0; 12];
-        counts[PLACED] = n;
-        State {
-            placed: *d,
-            ended: *d,
-            counts,
-        }
+// The view of queue q whose head stands at address a; the two low bits of r are the task's rights to q.
+pub fn view(
+    d: &mut [u8; 256],
+    f: &mut [u8; 256],
+    w: &mut [u32; 12],
+    m: &[u32],
+    a: usize,
+    r: u32,
+    q: usize,
+) -> bool
+    requires { Ready m.now × (a < 16000) × (q < 4) }
+    ensures { Sees m.now (view_of (not (r % 4 == 0)) q
+        (slice_index m.now a) (slice_index m.now (a + 12))) result
+        d.old f.old w.old d.new f.new w.new }
+{
+    let h = m[a];
+    let e = m[a + TAIL_BEHIND];
+    if h & e == NONE {
+        return true;
     }
+    if r % 4 == 0 {
+        return false;
+    }
+    w[q] = passed(h, e, w[q]);
+    tail(f, w, m, e) && head(d, w, m, h)
+}
 
-    // The head of a view: where it is local, its chain is placed.
-    fn head(&mut self, m: &[u32], h: u32) -> bool
-        requires { Ready m.now }
-        ensures { GoesBesideTails m.now (λ es. head h ∷ es) result self.old self.new }
-    {
-        if h >= NL {
-            return true;
-        }
-        let Some(k) = place(&mut self.placed, m, h) else {
-            return false;
-        };
-        self.counts[PLACED] = self.counts[PLACED].wrapping_add(k);
-        self.counts[HEADS] = self.counts[HEADS].wrapping_add(1);
-        true
+// The queue view of queue q whose head stands at address a.
+pub fn queue(d: &mut [u8; 256], w: &mut [u32; 12], m: &[u32], a: usize, r: u32, q: usize) -> bool
+    requires { Ready m.now × (a < 16000) × (q < 4) }
+    ensures { SeesHeads m.now (queue_of (not (r % 4 == 0)) q (slice_index m.now a)) result
+        d.old w.old d.new w.new }
+{
+    let h = m[a];
+    if h == NONE {
+        return true;
     }
-
-    // The tail of a view: where it is local, it is the end of a chain that no other tail names.
-    fn tail(&mut self, m: &[u32], e: u32) -> bool
-        requires { Ready m.now }
-        ensures { Goes m.now (λ es. tail e ∷ es) result self.old self.new }
-    {
-        if e >= NL {
-            return true;
-        }
-        if e >= m[NUMBER_AT] {
-            return false;
-        }
-        if self.ended[e as usize] != 0 {
-            return false;
-        }
-        if next(m, e) != NONE {
-            return false;
-        }
-        self.ended[e as usize] = 1;
-        self.counts[TAILS] = self.counts[TAILS].wrapping_add(1);
-        true
+    if r % 4 == 0 {
+        return false;
     }
-
-    // The view of queue q whose head stands at address a; the two low bits of r are the task's rights to q.
-    pub fn view(&mut self, m: &[u32], a: usize, r: u32, q: usize) -> bool
-        requires { Ready m.now × (a < 16000) × (q < 4) }
-        ensures { Goes m.now (view_of (not (r % 4 == 0)) q
-            (slice_index m.now a) (slice_index m.now (a + 12))) result self.old self.new }
-    {
-        let h = m[a];
-        let e = m[a + TAIL_BEHIND];
-        if h & e == NONE {
-            return true;
-        }
-        if r % 4 == 0 {
-            return false;
-        }
-        self.counts[q] = passed(h, e, self.counts[q]);
-        self.tail(m, e) && self.head(m, h)
+    if h == NL {
+        return false;
     }
-
-    // The queue view of queue q whose head stands at address a.
-    pub fn queue(&mut self, m: &[u32], a: usize, r: u32, q: usize) -> bool
-        requires { Ready m.now × (a < 16000) × (q < 4) }
-        ensures { GoesBesideTails m.now (queue_of (not (r % 4 == 0)) q (slice_index m.now a)) result self.old self.new }
-    {
-        let h = m[a];
-        if h == NONE {
-            return true;
-        }
-        if r % 4 == 0 {
-            return false;
-        }
-        if h == NL {
-            return false;
-        }
-        if self.counts[SEEN + q] != 0 {
-            return false;
-        }
-        self.counts[SEEN + q] = 1;
-        self.head(m, h)
+    if w[SEEN + q] != 0 {
+        return false;
     }
+    w[SEEN + q] = 1;
+    head(d, w, m, h)
 }

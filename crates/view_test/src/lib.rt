@@ -11,14 +11,13 @@ ghost use Rattle.spec_view_events.specs.Events.{queues_at, kind_at, events_at, e
 ghost use Rattle.spec_view_events.specs.Run.{PLACED, four_ones, whole, run};
 ghost use Rattle.spec_view_events.specs.Walk.{Marks};
 ghost use Rattle.spec_view_events.specs.Groups.{Blank};
-ghost use Rattle.spec_view_events.specs.Sees.{Ready};
-ghost use Rattle.view_steps.specs.Goes.{Goes};
+ghost use Rattle.spec_view_events.specs.Sees.{Ready, Sees, SeesHeads};
 ghost use Rattle.law_view_events.specs.Begun.{Begun};
 
 use layout::{
     HEADS_AT, NONE, NUMBER_AT, QUEUE_HEADS_AT, QUEUES, RIGHTS_AT, TAILS_AT, TASK_WORDS, TASKS,
 };
-use view_steps::{HEADS, ORDERS, PLACED, SEEN, State, TAILS};
+use view_steps::{HEADS, ORDERS, PLACED, SEEN, TAILS};
 
 // The kinds of views, which count words here.
 const CHILDREN: usize = layout::CHILDREN as usize;
@@ -45,15 +44,22 @@ pub fn empty(m: &[u32], t: usize, k: usize) -> bool
 }
 
 // The four views of kind k of task t.
-fn four(state: &mut State, m: &[u32], t: usize, k: usize) -> bool
+fn four(
+    d: &mut [u8; 256],
+    f: &mut [u8; 256],
+    w: &mut [u32; 12],
+    m: &[u32],
+    t: usize,
+    k: usize,
+) -> bool
     requires { Ready m.now × (t < 128) × (k < 3) }
-    ensures { Goes m.now (kind_at (decode m.now) t k) result
-        state.old state.new }
+    ensures { Sees m.now (kind_at (decode m.now) t k) result
+        d.old f.old w.old d.new f.new w.new }
 {
     let a = HEADS_AT + t * TASK_WORDS + k * 4;
     let mut r = m[RIGHTS_AT + t * TASK_WORDS];
     for q in 0..QUEUES as usize {
-        if !state.view(m, a + q, r, q) {
+        if !view_steps::view(d, f, w, m, a + q, r, q) {
             return false;
         }
         r = r / 4;
@@ -62,78 +68,79 @@ fn four(state: &mut State, m: &[u32], t: usize, k: usize) -> bool
 }
 
 // The four queue views of task t.
-fn queues(state: &mut State, m: &[u32], t: usize) -> bool
+// Four calls and no loop as in `four`: with the shifts written out no invariant is needed.
+fn queues(d: &mut [u8; 256], w: &mut [u32; 12], m: &[u32], t: usize) -> bool
     requires { Ready m.now × (t < 128) }
-    ensures { Goes m.now (queues_at (decode m.now) t) result
-        state.old state.new }
+    ensures { SeesHeads m.now (queues_at (decode m.now) t) result
+        d.old w.old d.new w.new }
 {
     let r = m[RIGHTS_AT + t * TASK_WORDS];
     let a = QUEUE_HEADS_AT + t * TASK_WORDS;
-    if !state.queue(m, a, r, 0) {
+    if !view_steps::queue(d, w, m, a, r, 0) {
         return false;
     }
-    if !state.queue(m, a + 1, r / 4, 1) {
+    if !view_steps::queue(d, w, m, a + 1, r / 4, 1) {
         return false;
     }
-    if !state.queue(m, a + 2, r / 16, 2) {
+    if !view_steps::queue(d, w, m, a + 2, r / 16, 2) {
         return false;
     }
-    state.queue(m, a + 3, r / 64, 3)
+    view_steps::queue(d, w, m, a + 3, r / 64, 3)
 }
 
 // The user views of task t.
-fn user(state: &mut State, m: &[u32], t: usize) -> bool
+fn user(d: &mut [u8; 256], f: &mut [u8; 256], w: &mut [u32; 12], m: &[u32], t: usize) -> bool
     requires { Ready m.now × (t < 128) }
-    ensures { Goes m.now (kind_at (decode m.now) t USER) result
-        state.old state.new }
+    ensures { Sees m.now (kind_at (decode m.now) t USER) result
+        d.old f.old w.old d.new f.new w.new }
 {
-    empty(m, t, USER) || four(state, m, t, USER)
+    empty(m, t, USER) || four(d, f, w, m, t, USER)
 }
 
 // The right views of task t and, in front of them, its user views.
-fn right(state: &mut State, m: &[u32], t: usize) -> bool
+fn right(d: &mut [u8; 256], f: &mut [u8; 256], w: &mut [u32; 12], m: &[u32], t: usize) -> bool
     requires { Ready m.now × (t < 128) }
-    ensures { Goes m.now (λ es. kind_at (decode m.now) t RIGHT (kind_at (decode m.now) t USER es)) result
-        state.old state.new }
+    ensures { Sees m.now (λ es. kind_at (decode m.now) t RIGHT (kind_at (decode m.now) t USER es)) result
+        d.old f.old w.old d.new f.new w.new }
 {
     if empty(m, t, RIGHT) {
-        return user(state, m, t);
+        return user(d, f, w, m, t);
     }
-    four(state, m, t, RIGHT) && user(state, m, t)
+    four(d, f, w, m, t, RIGHT) && user(d, f, w, m, t)
 }
 
 // Task t where it is entered.
-fn entered(state: &mut State, m: &[u32], t: usize) -> bool
+fn entered(d: &mut [u8; 256], f: &mut [u8; 256], w: &mut [u32; 12], m: &[u32], t: usize) -> bool
     requires { Ready m.now × (t < 128) }
-    ensures { Goes m.now (λ es. queues_at (decode m.now) t
+    ensures { Sees m.now (λ es. queues_at (decode m.now) t
         (kind_at (decode m.now) t RIGHT (kind_at (decode m.now) t USER es))) result
-        state.old state.new }
+        d.old f.old w.old d.new f.new w.new }
 {
     if shared(m, QUEUE_HEADS_AT + t * TASK_WORDS) == NONE {
-        return right(state, m, t);
+        return right(d, f, w, m, t);
     }
-    queues(state, m, t) && right(state, m, t)
+    queues(d, w, m, t) && right(d, f, w, m, t)
 }
 
 // Task t where it is exited.
-fn exited(state: &mut State, m: &[u32], t: usize) -> bool
+fn exited(d: &mut [u8; 256], f: &mut [u8; 256], w: &mut [u32; 12], m: &[u32], t: usize) -> bool
     requires { Ready m.now × (t < 128) }
-    ensures { Goes m.now (kind_at (decode m.now) t CHILDREN) result
-        state.old state.new }
+    ensures { Sees m.now (kind_at (decode m.now) t CHILDREN) result
+        d.old f.old w.old d.new f.new w.new }
 {
-    empty(m, t, CHILDREN) || four(state, m, t, CHILDREN)
+    empty(m, t, CHILDREN) || four(d, f, w, m, t, CHILDREN)
 }
 
 // A mark of the tour.
-fn mark(state: &mut State, m: &[u32], x: u32) -> bool
+fn mark(d: &mut [u8; 256], f: &mut [u8; 256], w: &mut [u32; 12], m: &[u32], x: u32) -> bool
     requires { Ready m.now × (x < 256) }
-    ensures { Goes m.now (events_at (decode m.now) x) result
-        state.old state.new }
+    ensures { Sees m.now (events_at (decode m.now) x) result
+        d.old f.old w.old d.new f.new w.new }
 {
     if x < TASKS {
-        return entered(state, m, x as usize);
+        return entered(d, f, w, m, x as usize);
     }
-    exited(state, m, (x - TASKS) as usize)
+    exited(d, f, w, m, (x - TASKS) as usize)
 }
 
 // The four words of the state from a on are 1.
@@ -155,28 +162,29 @@ fn whole(w: &[u32; 12], m: &[u32]) -> bool
 }
 
 // All marks of the tour.
-fn walk(state: &mut State, m: &[u32], xs: &[u32]) -> bool
+fn walk(d: &mut [u8; 256], f: &mut [u8; 256], w: &mut [u32; 12], m: &[u32], xs: &[u32]) -> bool
     requires { Ready m.now × Marks xs.now }
     ensures { result ≡ run (decode m.now) (events (decode m.now) xs.now)
-        state.old.placed state.old.ended state.old.counts }
+        d.old f.old w.old }
 {
     for x in xs {
-        if !mark(state, m, *x) {
+        if !mark(d, f, w, m, *x) {
             return false;
         }
     }
-    whole(&state.counts, m)
+    whole(w, m)
 }
 
-// The memory test of views and segments: xs are the marks of the tour, d has those of the n free segments, which count as placed
-// from the start.
-pub fn views_hold(d: &[u8; 256], n: u32, m: &[u32], xs: &[u32]) -> bool
-    requires { Begun m.now xs.now × (d.now ≡ marking (decode m.now).free (replicate 256 0))
-        × (n ≡ get_or m.now 1 0 - held_count (decode m.now)) }
+// The memory test of views and segments: xs are the marks of the tour, d has those of the free segments, which count as placed
+// from the start, so w has as many as were opened and are not held.
+pub fn views_hold(d: &mut [u8; 256], w: &mut [u32; 12], m: &[u32], xs: &[u32]) -> bool
+    requires { Begun m.now xs.now × (d.old ≡ marking (decode m.now).free (replicate 256 0))
+        × (w.old ≡ set (replicate 12 0) PLACED (get_or m.now 1 0 - held_count (decode m.now))) }
     ensures { result ≡ view_tests (decode m.now) xs.now }
 {
     if !segment_test::segments_hold(m) {
         return false;
     }
-    walk(&mut State::new(d, n), m, xs)
+    let mut f = *d;
+    walk(d, &mut f, w, m, xs)
 }

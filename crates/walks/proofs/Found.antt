@@ -1,5 +1,5 @@
 -- What the answer of a walk says: of the number, and of the mark that was found.
-use Rattle.std.proofs.Common.{◌≡◌, refl, ap, ℕ, zero, suc, ◌<◌, ◌≤◌, Bool, true, false, not, eqb, leb, List, Some, unwrap_or, is_some, ◌∙◌}
+use Rattle.std.proofs.Common.{◌≡◌, refl, ap, ℕ, zero, suc, ◌<◌, ◌≤◌, Bool, true, false, not, eqb, leb, List, Some as known, unwrap_or, is_some as is_known, ◌∙◌}
 use native.Mathlib.Omega.{arith}
 use Rattle.std.proofs.lemmas.Bool.Decides.{nat_tests}
 use Rattle.spec_words.specs.Words.{pick}
@@ -30,7 +30,7 @@ seek_holds (suc n) f recs x h = go (leb 256 x) (f x) refl (seek_holds n f recs (
     go false true e r h = e
     go false false e r h = r h
 
-pub found_holds : (f : ℕ → Bool) (recs : ℕ → List ℕ) (x t : ℕ) → Some t ≡ found 256 (seek 256 f recs x) → (t ≡ seek 256 f recs x) × (f t ≡ true)
+pub found_holds : (f : ℕ → Bool) (recs : ℕ → List ℕ) (x t : ℕ) → known t ≡ found 256 (seek 256 f recs x) → (t ≡ seek 256 f recs x) × (f t ≡ true)
 found_holds f recs x t e =
     let a = some_found 256 (seek 256 f recs x) t e in
     (a.0, ap f a.0 ∙ seek_holds 256 f recs x a.1)
@@ -41,8 +41,8 @@ or_end n f recs x = go (seek n f recs x) (seek_few n f recs x)
     go : (k : ℕ) → k ≤ 256 → unwrap_or (found 256 k) 256 ≡ k
     go k h = unfold found pick in grind (arith, nat_tests)
 
-pub some_before_end : (n : ℕ) (f : ℕ → Bool) (recs : ℕ → List ℕ) (x : ℕ) → is_some (found 256 (seek n f recs x)) ≡ not (eqb (seek n f recs x) 256)
+pub some_before_end : (n : ℕ) (f : ℕ → Bool) (recs : ℕ → List ℕ) (x : ℕ) → is_known (found 256 (seek n f recs x)) ≡ not (eqb (seek n f recs x) 256)
 some_before_end n f recs x = go (seek n f recs x) (seek_few n f recs x)
   where
-    go : (k : ℕ) → k ≤ 256 → is_some (found 256 k) ≡ not (eqb k 256)
+    go : (k : ℕ) → k ≤ 256 → is_known (found 256 k) ≡ not (eqb k 256)
     go k h = unfold found pick in grind (arith, nat_tests)

@@ -192,6 +192,7 @@ fn heir_or(m: &[u32], t: u32, q: u32, c: u32, d: u32) -> u32
 }
 
 // The oldest of `from` and its older siblings that may pop q and is not t, else p.
+// It goes on to the last sibling where `sharing` stops at the first, so one walk for both would need to be told when to stop.
 #[tactic(auto, using(crate::specs::Steps::oldest_none, crate::specs::Steps::oldest_end, crate::specs::Steps::oldest_on))]
 fn oldest_popping(m: &[u32], t: u32, q: u32, from: u32, p: u32) -> u32
     requires { q < 4 }

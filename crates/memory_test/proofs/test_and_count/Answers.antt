@@ -5,10 +5,11 @@ use Rattle.memory_test.specs.Stages.{in_range_at, from_zero}
 use Rattle.segment_test.specs.Count.{held_says, wrong_says}
 use borrow.Author.Tests.{not-false}
 use native.Mathlib.Omega.{arith}
-use mathlib.Core.Path.{◌∙◌, ap}
+use mathlib.Core.Path.{refl, ◌∙◌, ap}
+use lib.ListN.{set, replicate}
+use Rattle.spec_view_events.specs.Run.{PLACED}
 use Rattle.std.proofs.Common.{not}
 use Rattle.std.proofs.Common.{rules}
-use Rattle.std.proofs.Common.{refl}
 use Rattle.memory_test.proofs.test_and_count.Goals as goal
 
 pub returns-then-not-in_range : goal.returns-then-not-in_range
@@ -25,8 +26,8 @@ count_held-requires c = (
 pub returns-in_err-held : goal.returns-in_err-held
 returns-in_err-held c = stack_wrong _ (search rules) (wrong_says _ c.in_err-held.was c.count_held.ensures.0)
 
-pub overflow_sub-free : goal.overflow_sub-free
-overflow_sub-free c = held_few _ c.number-2.ensures (held_says _ c.in_ok-held.was c.count_held.ensures.0).2
+pub overflow_sub-w : goal.overflow_sub-w
+overflow_sub-w c = held_few _ c.number-2.ensures (held_says _ c.in_ok-held.was c.count_held.ensures.0).2
 
 pub returns-then-not-top_ok : goal.returns-then-not-top_ok
 returns-then-not-top_ok c = wrong _ (λ p. p.top) c.top_ok.ensures (ap not c.if-not-top_ok.true)
@@ -63,7 +64,7 @@ views_hold-requires c = (
       c.tree_ok.new.xs ∙ c.tree_ok.ensures.1
       (not-false _ (ap not c.if-not-tree_ok.false))),
   c.count_held.ensures.1 (held_says _ c.in_ok-held.was c.count_held.ensures.0).0,
-  started _ c.number-2.ensures (held_says _ c.in_ok-held.was c.count_held.ensures.0).1,
+  ap (set (replicate 12 0) PLACED) (started _ c.number-2.ensures (held_says _ c.in_ok-held.was c.count_held.ensures.0).1),
 )
 
 pub returns-then-not-views_hold : goal.returns-then-not-views_hold

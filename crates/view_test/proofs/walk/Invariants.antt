@@ -7,4 +7,4 @@ use mathlib.Core.Path.{◌≡◌}
 use Rattle.view_test.proofs.walk.Given as goal
 
 abbrev pub invariant-loop-x : goal.invariant-loop-x
-invariant-loop-x l = (run (decode l.m) (events (decode l.m) (drop l.x-index l.xs)) l.state.placed l.state.ended l.state.counts ≡ run (decode l.m) (events (decode l.m) l.xs) l.initial.state.placed l.initial.state.ended l.initial.state.counts)
+invariant-loop-x l = (run (decode l.m) (events (decode l.m) (drop l.x-index l.xs)) l.d l.f l.w ≡ run (decode l.m) (events (decode l.m) l.xs) l.initial.d l.initial.f l.initial.w)
