@@ -2,7 +2,7 @@
 use mathlib.Core.Path.{◌≡◌, refl, ap, sym, ◌∙◌, subst}
 use mathlib.Core.Bool.{true, false, not}
 use mathlib.Core.List.{List}
-use Rattle.std.specs.Prelude.{Option, Some, None, IfSome}
+use Rattle.std.specs.Prelude.{Option, Some as known, None as unknown, IfSome}
 use Prim.Native.Nat.{ℕ, ◌+◌, ◌-◌, ◌<◌, ◌≤◌}
 use native.Mathlib.Omega.{arith}
 use borrow.Author.Tests.{lt-ltb, le-ltb, ne_eqb}
@@ -20,8 +20,8 @@ module _ (m : List ℕ) (q t : ℕ) where
   Here c o = IfSome o (λ x. (x ≡ c) × (x < 128) × (uses (rights_of m c) q ≡ true))
 
   some_is : (o : Option ℕ) {c : ℕ} → (c < 128 → uses (rights_of m c) q ≡ true → c ≡ just_before m q t) → Here c o → IfSome o (λ x. x ≡ just_before m q t)
-  some_is None f h = h
-  some_is (Some x) {c} f h = h.0 ∙ f (subst (λ (x : ℕ). x < 128) h.0 h.1) h.2
+  some_is unknown f h = h
+  some_is (known x) {c} f h = h.0 ∙ f (subst (λ (x : ℕ). x < 128) h.0 h.1) h.2
 
   -- the right view of a task with a right stands where it is entered
   stands : (c : ℕ) → c < 128 → uses (rights_of m c) q ≡ true → stands_at m q c ≡ true

@@ -4,7 +4,7 @@ use mathlib.Core.List.{List, [], ◌∷◌}
 use Prim.Native.Nat.{ℕ, ◌+◌, ◌<◌}
 use native.Mathlib.Omega.{arith}
 use Rattle.std.proofs.Common.{length, get_or, take}
-use Rattle.std.proofs.lemmas.List.{take_more, length-take-le}
+use Rattle.std.proofs.lemmas.List.{take_more as take_one_more, length-take-le}
 use Rattle.spec_words.specs.Words.{store}
 use Rattle.spec_words.specs.Blocks.{store_all, store_none, store_more, store_append}
 
@@ -22,4 +22,4 @@ more m m1 m2 a i ws l e1 e2 =
     ∙ sym (one (store_all m a (take i ws)) (a + i) (get_or ws i 0))
     ∙ ap (λ (k : ℕ). store_all (store_all m a (take i ws)) (a + k) (get_or ws i 0 ∷ [])) (sym (length-take-le i ws (omega (arith, l))))
     ∙ sym (store_append (take i ws) m a (get_or ws i 0 ∷ []))
-    ∙ ap (store_all m a) (sym (take_more ws i 0 l))
+    ∙ ap (store_all m a) (sym (take_one_more ws i 0 l))

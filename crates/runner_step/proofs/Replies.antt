@@ -1,7 +1,7 @@
 -- What the core's answer makes of the step.
 use Rattle.std.proofs.Common.{◌≡◌, ℕ, true, List, length, sym, refl, ap, ◌∙◌, subst, ap₂}
 use mathlib.Core.Option.{Option, none, some}
-use Rattle.std.specs.Prelude.{Some, None}
+use Rattle.std.specs.Prelude.{Some as known, None as unknown}
 use Rattle.spec_words.specs.Words.{size}
 use Rattle.spec_answers.specs.declared.Answer.{Answer}
 use Rattle.spec_answers.specs.declared.Answer.TheVariants.{Moved, Empty, Waits, Refused}
@@ -51,11 +51,11 @@ module _ (j m n r : List ℕ) (t : ℕ) {s : Instruction} {x : ℕ} (es : s ≡ 
 
   -- THE STEP GOES ON
   module _ {b : StepAnswer} (u : List ℕ) where
-    pub moved : {v : ℕ} → a ≡ Moved v → Makes t s (found_of (Some v)) v r b u → outcome b n u ≡ acted j m r t
+    pub moved : {v : ℕ} → a ≡ Moved v → Makes t s (found_of (known v)) v r b u → outcome b n u ≡ acted j m r t
     unfolding reply_of replied found_of
     moved h d = d.does n ∙ ap (λ (a : Answer). replied t s (reply_of a) n m r) (sym h) ∙ replied_is
 
-    pub nothing : a ≡ Empty → Makes t s (found_of None) 0 r b u → outcome b n u ≡ acted j m r t
+    pub nothing : a ≡ Empty → Makes t s (found_of unknown) 0 r b u → outcome b n u ≡ acted j m r t
     unfolding reply_of replied found_of
     nothing h d = d.does n ∙ ap (λ (a : Answer). replied t s (reply_of a) n m r) (sym h) ∙ replied_is
 

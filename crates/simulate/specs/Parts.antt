@@ -1,5 +1,5 @@
 -- What the parts of a simulation say: each leads where the definition leads, whatever the history.
-use Rattle.std.specs.Prelude.{◌≡◌, refl, true, false, Option, Some, None, Result, Ok, Err, List, ℕ, ◌+◌, ◌*◌, ◌<◌, ◌≤◌, eqb}
+use Rattle.std.specs.Prelude.{◌≡◌, refl, true, false, Option, Some as known, None as unknown, Result as Checked, Ok, Err, List, ℕ, ◌+◌, ◌*◌, ◌<◌, ◌≤◌, eqb}
 use Rattle.std.proofs.Common.{ap, sym, ◌∙◌, true≢false}
 use Rattle.spec_words.specs.Words.{load, store, pick}
 use Rattle.spec_outcomes.specs.Waits.{unfinished}
@@ -23,17 +23,17 @@ Table table = (k : ℕ) → load table k ≤ 1000
 abbrev pub phase_of : Clock → Phase
 phase_of c = record { over = false; answer = Simulated.Spent; clock = c.now; free = c.free; effects = c.effects; work = c.work }
 
-abbrev pub led_by : Result Clock Simulated → Phase
+abbrev pub led_by : Checked Clock Simulated → Phase
 led_by (Ok c) = phase_of c
 led_by (Err a) = record { over = true; answer = a; clock = 0; free = 0; effects = 0; work = 0 }
 
 -- an end that is known is not 0, and 0 stands for none
 abbrev pub End : Option ℕ → Type 0
-End o = (d : ℕ) → o ≡ Some d → ¬ (d ≡ 0)
+End o = (d : ℕ) → o ≡ known d → ¬ (d ≡ 0)
 
 unfoldable pub end_of : Option ℕ → ℕ
-end_of (Some d) = d
-end_of None = 0
+end_of (known d) = d
+end_of unknown = 0
 
 -- a phase goes on, with these numbers
 pub record GoesOn (p : Phase) (c f n k : ℕ) : Type 0 where

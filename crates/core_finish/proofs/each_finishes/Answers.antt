@@ -1,6 +1,6 @@
 use mathlib.Core.Path.{◌∙◌}
 use native.Mathlib.Omega.{arith}
-use Rattle.std.proofs.Common.{rules, tests}
+use Rattle.std.proofs.Common.{rules, tests as known_tests}
 use Rattle.std.proofs.lemmas.Iterator.{YieldsList-from_range}
 use Rattle.std.proofs.lemmas.Iterator.Search.{all_from_yields_List}
 use Rattle.spec_outcomes.specs.Finish.{finishes}
@@ -10,5 +10,5 @@ use Rattle.core_finish.proofs.each_finishes.Goals as goal
 pub returns : goal.returns
 returns c =
     all_from_yields_List (finishes c.args.m.now c.args.t) _ _ _ c.all.ensures.ran (YieldsList-from_range 0 4 4 (search rules) (omega arith))
-    (λ x b q k. search (rules, tests))
+    (λ x b q k. search (rules, known_tests))
     ∙ each_of_four _

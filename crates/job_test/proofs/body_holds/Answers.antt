@@ -1,4 +1,4 @@
-use Rattle.std.proofs.Common.{rules, tests, Bool, ◌≡◌, sym, ◌∙◌, ℕ, ◌+◌, ◌*◌, arith}
+use Rattle.std.proofs.Common.{rules, tests as known_tests, Bool, ◌≡◌, sym, ◌∙◌, ℕ, ◌+◌, ◌*◌, arith}
 use Rattle.std.proofs.iter.Serving.{serving}
 use Rattle.std.proofs.lemmas.Iterator.{YieldsList-from_range}
 use Rattle.std.proofs.lemmas.Iterator.Search.{all_from_yields_List}
@@ -25,7 +25,7 @@ returns-then-last_holds c =
     body_says _ _ c.last_holds.ensures c.if-last_holds.true c.procedure_at-e.ensures.1
     (all_from_yields_List (instruction_holds c.args.job.now c.args.p) _ _ _ c.all.ensures.ran
     (YieldsList-from_range 0 c.procedure_at-e.result.count c.procedure_at-e.result.count (search rules) (omega arith))
-    (λ x b q k. search (rules, tests, says))
+    (λ x b q k. search (rules, known_tests, says))
     ∙ all_upto _ _ _)
 
 pub returns-else-last_holds : goal.returns-else-last_holds
