@@ -1,4 +1,3 @@
 pub mod Texts
 pub mod Digits
-pub mod Words
 pub mod Lines

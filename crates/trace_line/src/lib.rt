@@ -14,6 +14,7 @@ use spec_trace::Line;
 pub const REFUSED: u32 = 0;
 
 // The bytes behind a text.
+#[inline(always)]
 fn behind<'a>(bytes: &'a [u8], text: &[u8]) -> Option<&'a [u8]>
     ensures { rest_of result ≡ behind_text text.now bytes.now }
 {
@@ -21,6 +22,7 @@ fn behind<'a>(bytes: &'a [u8], text: &[u8]) -> Option<&'a [u8]>
 }
 
 // The bytes behind a line feed.
+#[inline(always)]
 fn behind_feed(bytes: &[u8]) -> Option<&[u8]>
     ensures { left_behind result ≡ behind_feed bytes.now }
 {
@@ -29,6 +31,7 @@ fn behind_feed(bytes: &[u8]) -> Option<&[u8]>
 }
 
 // The digit at the front.
+#[inline(always)]
 fn digit(bytes: &[u8]) -> Option<(u32, &[u8])>
     ensures { Digit bytes.now result }
 {
@@ -40,6 +43,7 @@ fn digit(bytes: &[u8]) -> Option<(u32, &[u8])>
 }
 
 // The number whose first digit is d, of ten digits at most.
+#[inline(always)]
 fn more_digits(bytes: &[u8], d: u32) -> (u64, &[u8])
     requires { d < 10 }
     ensures { numbered result.0 result.1.now ≡ more_digits 9 d bytes.now }
@@ -57,6 +61,7 @@ fn more_digits(bytes: &[u8], d: u32) -> (u64, &[u8])
 }
 
 // A number in decimal digits that fits a word, without leading zeros.
+#[inline(always)]
 fn number(bytes: &[u8]) -> Option<(u32, &[u8])>
     ensures { read_number result ≡ number_at bytes.now }
 {
@@ -88,6 +93,7 @@ fn word_at(b: u8) -> u32
 }
 
 // The number behind a text.
+#[inline(always)]
 fn number_behind<'a>(bytes: &'a [u8], text: &[u8]) -> Option<(u32, &'a [u8])>
     ensures { read_number result ≡ number_at (behind_text text.now bytes.now) }
 {
@@ -95,6 +101,7 @@ fn number_behind<'a>(bytes: &'a [u8], text: &[u8]) -> Option<(u32, &'a [u8])>
 }
 
 // The number behind a text, if it is below k.
+#[inline(always)]
 fn number_below<'a>(bytes: &'a [u8], text: &[u8], k: u32) -> Option<(u32, &'a [u8])>
     ensures { Below k (number_at (behind_text text.now bytes.now)) result }
 {
@@ -103,6 +110,7 @@ fn number_below<'a>(bytes: &'a [u8], text: &[u8], k: u32) -> Option<(u32, &'a [u
 }
 
 // A text that ends with "-", for which 0 stands.
+#[inline(always)]
 fn dash_behind<'a>(bytes: &'a [u8], text: &[u8]) -> Option<(u32, &'a [u8])>
     ensures { read_number result ≡ numbered 0 (behind_text text.now bytes.now) }
 {
@@ -110,6 +118,7 @@ fn dash_behind<'a>(bytes: &'a [u8], text: &[u8]) -> Option<(u32, &'a [u8])>
 }
 
 // The word that has number k, and what goes with it.
+#[tactic(auto, unfolding(spec_trace::specs::Read::value_of, spec_trace::specs::Read::value_at, spec_trace::specs::Read::behind_text, spec_job::specs::Numbers::word_numbered, run_text::specs::Lines::word_row, run_text::specs::Lines::spaced, text::specs::Text::ascii, spec_words::specs::Words::pick))]
 fn value(bytes: &[u8], k: u32) -> Option<(u32, &[u8])>
     ensures { read_number result ≡ value_of (word_numbered k) bytes.now }
 {
