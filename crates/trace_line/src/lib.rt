@@ -76,6 +76,7 @@ fn number(bytes: &[u8]) -> Option<(u32, &[u8])>
 
 // The number of the only word that may begin with a byte.
 #[tactic(auto, unfolding(spec_trace::specs::Read::word_at, spec_job::specs::Numbers::number_of, spec_words::specs::Words::pick))]
+#[inline(always)]
 fn word_at(b: u8) -> u32
     ensures { result ≡ number_of (word_at b) }
 {
@@ -118,6 +119,7 @@ fn dash_behind<'a>(bytes: &'a [u8], text: &[u8]) -> Option<(u32, &'a [u8])>
 }
 
 // The word that has number k, and what goes with it.
+#[inline(always)]
 #[tactic(auto, unfolding(spec_trace::specs::Read::value_of, spec_trace::specs::Read::value_at, spec_trace::specs::Read::behind_text, spec_job::specs::Numbers::word_numbered, run_text::specs::Lines::word_row, run_text::specs::Lines::spaced, text::specs::Text::ascii, spec_words::specs::Words::pick))]
 fn value(bytes: &[u8], k: u32) -> Option<(u32, &[u8])>
     ensures { read_number result ≡ value_of (word_numbered k) bytes.now }
@@ -136,6 +138,7 @@ fn value(bytes: &[u8], k: u32) -> Option<(u32, &[u8])>
 }
 
 // A call line.
+#[inline(always)]
 fn call(bytes: &[u8]) -> Option<(Line, &[u8])>
     ensures { IsRead result (call_at bytes.now) }
 {
@@ -148,6 +151,7 @@ fn call(bytes: &[u8]) -> Option<(Line, &[u8])>
 }
 
 // A line of a value left.
+#[inline(always)]
 fn left(bytes: &[u8]) -> Option<(Line, &[u8])>
     ensures { IsRead result (left_at bytes.now) }
 {
@@ -157,6 +161,7 @@ fn left(bytes: &[u8]) -> Option<(Line, &[u8])>
 }
 
 // The line of a run that is not over.
+#[inline(always)]
 fn open(bytes: &[u8]) -> Option<(Line, &[u8])>
     ensures { IsRead result (open_at bytes.now) }
 {
@@ -165,6 +170,7 @@ fn open(bytes: &[u8]) -> Option<(Line, &[u8])>
 }
 
 // The line at the front of the bytes, and the bytes behind it.
+#[inline(always)]
 pub fn read(bytes: &[u8]) -> Option<(Line, &[u8])>
     ensures { IsRead result (line_at bytes.now) }
 {
