@@ -67,7 +67,7 @@ fn push_part(m: &mut [u32], t: u32, q: u32, vs: &[u32]) -> usize
     segments::store_run(m, s, &vs[1..]) + 1
 }
 
-// A run for which there is room.
+// A run for which there is room. Each turn says how many values it took, so this is no loop over an index.
 fn push_rest(m: &mut [u32], t: u32, q: u32, vs: &[u32])
     requires { (Filled t q m.old) × (t < 128) × (q < 4) × (length vs.now ≤ capacity m.old t q) }
     ensures { m.new ≡ pushed_words m.old t q vs.now }

@@ -1,5 +1,7 @@
 // Where every word of the core's memory stands, and what the numbers in it mean: docs/LAYOUT.md, and crate spec_layout for definitions.
 // What is added up to an address is a usize. The number of a word, and what a word holds, is a u32.
+// A queue and a task are numbers too, and `q < 4`, `t < 128` conditions: most come from words that may hold anything, and a type of its own would be
+// taken apart in each loop over the four queues and in each clause. The memory is one slice, as hosts lend it, with its length as a condition.
 #![tactic(auto)]
 
 // The length of the memory.

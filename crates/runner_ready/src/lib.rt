@@ -75,7 +75,7 @@ fn word_from(job: &[u8], m: &[u32], r: &[u32], a: &[u32; 128], i: u32) -> u32
     w
 }
 
-// The number of set bits.
+// The number of set bits. The four words stay apart here and in `lowest`: the sum and the first that is not zero are said of each.
 fn count(w0: u32, w1: u32, w2: u32, w3: u32) -> u32
     ensures { result ≡ over (w0 ∷ w1 ∷ w2 ∷ w3 ∷ []) ones }
 {

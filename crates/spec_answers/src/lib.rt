@@ -1,6 +1,7 @@
 #![tactic(auto)]
 
-// What a core call answers.
+// What a core call answers. A refusal has document 01's number here, since definitions and theorems say `Refused 8`; the code takes it from a name
+// of crate `refusals`.
 #[derive(Clone, Copy)]
 pub enum Answer {
     // The call moved; with it the value that it returns.

@@ -1,6 +1,6 @@
 #![tactic(auto)]
 
-// What a step of a job's task is answered.
+// What a step of a job's task is answered. A refusal has document 01's number, as in `spec_answers`.
 #[derive(Clone, Copy)]
 pub enum StepAnswer {
     // with the number of the new task

@@ -1,6 +1,6 @@
 #![tactic(auto)]
 
-// How a serial run stops.
+// How a serial run stops. A refusal has document 01's number, as in `spec_answers`.
 #[derive(Clone, Copy)]
 pub enum End {
     // The top task has finished.

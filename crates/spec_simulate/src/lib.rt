@@ -1,6 +1,6 @@
 #![tactic(auto)]
 
-// What the next step of a task would be: it moves, it waits, or it is refused with a number.
+// What the next step of a task would be: it moves, it waits, or it is refused with document 01's number, as in `spec_answers`.
 #[derive(Clone, Copy)]
 pub enum Would {
     Moves,
@@ -18,7 +18,7 @@ pub enum Simulated {
 }
 
 // What a phase leads to: it is over, with an answer, or it goes on with the clock, the free workers, the effects fallen and their ticks
-// together. The memories and the ends stand beside it.
+// together. The memories and the ends stand beside it. It is for definitions (Machine.antt); the code answers by a Result.
 #[derive(Clone, Copy)]
 pub struct Phase {
     pub over: bool,
