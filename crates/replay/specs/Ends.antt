@@ -1,5 +1,5 @@
 -- The lines of the end, compared one by one.
-use Rattle.std.specs.Prelude.{Option as Given, Some, None, ◌≡◌, Bool, true, false, ℕ, ◌+◌, ◌-◌, ◌<◌, ◌≤◌}
+use Rattle.std.specs.Prelude.{Option as Given, Some as known, None as unknown, ◌≡◌, Bool, true, false, ℕ, ◌+◌, ◌-◌, ◌<◌, ◌≤◌}
 use Rattle.std.proofs.Math.Path.{refl, ap}
 use Rattle.std.proofs.Common.{sym, ◌∙◌, true≢false, eqb, arith}
 use mathlib.Core.List.{List, [], ◌∷◌, ◌++◌, map}
@@ -90,11 +90,11 @@ module _ {bs m : List ℕ} {q n₀ : ℕ} {ds : List ℕ} {n i : ℕ} (g : Passi
         ∙ ap (λ (k : ℕ). left k i es) (turn_left 16384 i h)
         ∙ ap (λ (x : Option ℕ). first_difference n (lines_of ds) (map (left_line q) (onto x (read_from (value_in m q) (16384 - (i + 1)) (i + 1))) ++ es)) f
 
-    pub no_value : o ≡ None → Goes
+    pub no_value : o ≡ unknown → Goes
     unfolding onto left_of
     no_value f es = (turned none (e ∙ ap left_of f) es, g.room)
 
-    module _ {v : ℕ} (f : o ≡ Some v) {l : Line} {rs : List ℕ} (x : Next ds n l rs) {b : Bool} (s : b ≡ is_same_text (render l) (left_line q v)) where
+    module _ {v : ℕ} (f : o ≡ known v) {l : Line} {rs : List ℕ} (x : Next ds n l rs) {b : Bool} (s : b ≡ is_same_text (render l) (left_line q v)) where
       there : (es : List (List ℕ)) → first_difference n₀ (lines_of bs) (queue_texts m q ++ es)
           ≡ pick b (first_difference (n + 1) (lines_of rs) (map (left_line q) (read_from (value_in m q) (16384 - (i + 1)) (i + 1)) ++ es)) (n + 1)
       unfolding onto left_of

@@ -1,5 +1,5 @@
 -- What the parts of a replay say.
-use Rattle.std.specs.Prelude.{◌≡◌, refl, Bool, true, false, ℕ, ◌+◌, ◌/◌, ◌%◌, ◌<◌, Result, MatchResult}
+use Rattle.std.specs.Prelude.{◌≡◌, refl, Bool, true, false, ℕ, ◌+◌, ◌/◌, ◌%◌, ◌<◌, Result as Checked, MatchResult}
 use Rattle.std.proofs.Math.Path.{ap, ap₂}
 use Rattle.std.proofs.Common.{sym, ◌∙◌, subst, true≢false, arith}
 use mathlib.Core.Option.{none}
@@ -41,19 +41,19 @@ unfoldable pub difference : List ℕ → List ℕ → List ℕ → List ℕ → 
 difference j bs m r = first_difference 0 (lines_of bs) (printed_from j 0 (tasks_of (lines_of bs)) m r)
 
 -- the number of the line that differs, 0 where none does
-abbrev pub DiffersAt : Result (Unit {0}) ℕ → ℕ → Type 0
+abbrev pub DiffersAt : Checked (Unit {0}) ℕ → ℕ → Type 0
 DiffersAt o a = MatchResult o (λ _. a ≡ 0) (λ n. (a ≡ n) × (0 < n))
 
-pub differs_as : (o : Result (Unit {0}) ℕ) {a b : ℕ} → a ≡ b → DiffersAt o b → DiffersAt o a
+pub differs_as : (o : Checked (Unit {0}) ℕ) {a b : ℕ} → a ≡ b → DiffersAt o b → DiffersAt o a
 differs_as o e d = subst (DiffersAt o) (sym e) d
 
 -- Lines were compared. The first difference is a: that of the last of them, or it is found by comparing the lines that are left with es.
-abbrev pub Compared : Result Place ℕ → ℕ → List (List ℕ) → Type 0
+abbrev pub Compared : Checked Place ℕ → ℕ → List (List ℕ) → Type 0
 Compared o a es =
     MatchResult o (λ p. (a ≡ first_difference p.lines (lines_of p.rest.now) es) × Room p.rest.now p.lines) (λ n. (a ≡ n) × (0 < n))
 
 -- the same where the lines ts are expected first, and then any others
-abbrev pub Passed : Result Place ℕ → List ℕ → ℕ → List (List ℕ) → Type 0
+abbrev pub Passed : Checked Place ℕ → List ℕ → ℕ → List (List ℕ) → Type 0
 Passed o bs n ts = (es : List (List ℕ)) → Compared o (first_difference n (lines_of bs) (ts ++ es)) es
 
 -- THE WHOLE: no refused replay changes a word

@@ -1,7 +1,7 @@
 -- What the code of the rings knows of a queue from the words that it has read.
 use mathlib.Core.Path.{◌≡◌, ap, sym, ◌∙◌}
 use mathlib.Core.List.{List}
-use Rattle.std.specs.Prelude.{Some, None, slice_get}
+use Rattle.std.specs.Prelude.{Some as known, None as unknown, slice_get}
 use Rattle.std.proofs.lemmas.Option.{slice_get-get_or, slice_get_past}
 use Prim.Native.Nat.{ℕ, ◌+◌, ◌<◌, ◌≤◌}
 use native.Mathlib.Omega.{arith}
@@ -18,10 +18,10 @@ counted w q {n} e x = e ∙ queue_length w q (queue_there w q n e x)
 
 -- value number i of a queue, and none
 pub value_there : (w : List ℕ) (q : ℕ) {n h v : ℕ} (i : ℕ) → n ≡ length (queue (lists w) q) → i < n → h ≡ load w (first_at q) → v ≡ load w (place_at q (h + i))
-    → Some v ≡ slice_get (queue (lists w) q) i
+    → known v ≡ slice_get (queue (lists w) q) i
 unfolding ring
 value_there w q {n} i e l eh ev =
-    ap Some
+    ap known
     (ev
     ∙ ap (λ (k : ℕ). load w (place_at q (k + i))) eh
     ∙ sym (ring_at w q (load w (first_at q)) (load w (count_at q)) i (let z = counted w q e held in omega (arith, z, l)))
@@ -31,7 +31,7 @@ value_there w q {n} i e l eh ev =
     held : n ≡ 0 → ⊥
     held z = omega (arith, z, l)
 
-pub value_none : (w : List ℕ) (q : ℕ) {n : ℕ} (i : ℕ) → n ≡ length (queue (lists w) q) → n ≤ i → None ≡ slice_get (queue (lists w) q) i
+pub value_none : (w : List ℕ) (q : ℕ) {n : ℕ} (i : ℕ) → n ≡ length (queue (lists w) q) → n ≤ i → unknown ≡ slice_get (queue (lists w) q) i
 value_none w q i e l = sym (slice_get_past (queue (lists w) q) i (omega (arith, e, l)))
 
 -- there is no list to add to

@@ -1,5 +1,5 @@
 -- A text at the front of bytes.
-use Rattle.std.specs.Prelude.{◌≡◌, refl, Bool, true, false, ◌&&◌, List, [], ◌∷◌, ℕ, ◌+◌, eqb, length, take, drop, Option, Some, None, MatchOption, slice_get}
+use Rattle.std.specs.Prelude.{◌≡◌, refl, Bool, true, false, ◌&&◌, List, [], ◌∷◌, ℕ, ◌+◌, eqb, length, take, drop, Option, Some as known, None as unknown, MatchOption, slice_get}
 use Rattle.std.proofs.Common.{ap, sym, ◌∙◌, true≢false, Bor, arith}
 use Rattle.std.proofs.lemmas.Bool.{false≢true}
 use Rattle.std.proofs.Math.Option.{none, some}
@@ -41,8 +41,8 @@ pub stripped : (cs bs : List ℕ) (o : Option (Bor (List ℕ)))
     → MatchOption o (pointwise eqb (take (length cs) bs) cs ≡ false) (λ x. (pointwise eqb (take (length cs) bs) cs ≡ true) × (x.now ≡ drop (length cs) bs) × (length x.now + length cs ≡ length bs))
     → rest_of o ≡ behind_text cs bs
 unfolding rest_of
-stripped cs bs None e = other cs bs e
-stripped cs bs (Some x) e = e.1 ∙ here cs bs e.0
+stripped cs bs unknown e = other cs bs e
+stripped cs bs (known x) e = e.1 ∙ here cs bs e.0
 
 -- a line feed, and none
 pub feed_none : (bs : List ℕ) → length bs ≡ 0 → none ≡ behind_feed bs
@@ -66,11 +66,11 @@ nothing_behind e = at ∙ ap number_at e
     at = unfold number_at in refl
 
 -- the first byte, and none
-pub first_none : (bs : List ℕ) → None ≡ slice_get bs 0 → bs ≡ []
+pub first_none : (bs : List ℕ) → unknown ≡ slice_get bs 0 → bs ≡ []
 first_none [] e = refl
 first_none (b ∷ bs) e = cc
 
-pub first_is : (bs : List ℕ) {b : ℕ} → Some b ≡ slice_get bs 0 → b ≡ front bs
+pub first_is : (bs : List ℕ) {b : ℕ} → known b ≡ slice_get bs 0 → b ≡ front bs
 unfolding front
 first_is [] e = cc
 first_is (x ∷ bs) e = cc

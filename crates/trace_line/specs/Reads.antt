@@ -1,5 +1,5 @@
 -- What the code reads at the front of bytes, in the words of the definition.
-use Rattle.std.specs.Prelude.{◌≡◌, List, [], ℕ, ◌<◌, ◌≤◌, Option, Some, None, MatchOption, drop}
+use Rattle.std.specs.Prelude.{◌≡◌, List, [], ℕ, ◌<◌, ◌≤◌, Option, Some as known, None as unknown, MatchOption, drop}
 use Rattle.std.proofs.Math.Option.{Option as Left, none, some}
 use Rattle.std.proofs.Common.{Bor}
 use Rattle.spec_trace.specs.declared.Line.{Line}
@@ -11,18 +11,18 @@ Digit bs o = MatchOption o (10 ≤ digit_of (front bs)) (λ x. (x.0 < 10) × (x.
 
 -- what stands behind a text; nothing does where the bytes are of another form
 unfoldable pub rest_of : Option (Bor (List ℕ)) → List ℕ
-rest_of None = []
-rest_of (Some r) = r.now
+rest_of unknown = []
+rest_of (known r) = r.now
 
 -- what stands behind a line feed, if there is one
 unfoldable pub left_behind : Option (Bor (List ℕ)) → Left (List ℕ)
-left_behind None = none
-left_behind (Some r) = some r.now
+left_behind unknown = none
+left_behind (known r) = some r.now
 
 -- a number, and what stands behind it
 unfoldable pub number_of : Option (ℕ × Bor (List ℕ)) → Numbered
-number_of None = numbered 0 []
-number_of (Some x) = numbered x.0 x.1.now
+number_of unknown = numbered 0 []
+number_of (known x) = numbered x.0 x.1.now
 
 -- the number x and what stands behind it, if it is below k
 abbrev pub Below : ℕ → Numbered → Option (ℕ × Bor (List ℕ)) → Type 0
