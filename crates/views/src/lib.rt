@@ -1,10 +1,11 @@
 // Views: reading, writing and reducing them, and sync.
 #![tactic(auto, unfolding(spec_outcomes::specs::Sync::synced, spec_outcomes::specs::Sync::synced_queue, spec_outcomes::specs::Sync::syncs, spec_outcomes::specs::Views::behind, spec_outcomes::specs::Views::frees, spec_outcomes::specs::Views::head_of, spec_outcomes::specs::Views::is_empty, spec_outcomes::specs::Views::joined, spec_outcomes::specs::Views::merged, spec_outcomes::specs::Views::reduced, spec_outcomes::specs::Views::reducible, spec_outcomes::specs::Views::set_view, spec_outcomes::specs::Views::tail_of, spec_outcomes::specs::Views::view_of, spec_words::specs::Words::both, spec_words::specs::Words::either, spec_words::specs::Words::pick))]
 
-ghost use Rattle.std.specs.Prelude.{◌≡◌, ltb};
+ghost use Rattle.std.specs.Prelude.{◌≡◌, List, ℕ, ltb};
 ghost use Rattle.spec_words.specs.Words.{both};
 ghost use Rattle.spec_layout.specs.Layout.{NL};
-ghost use Rattle.spec_outcomes.specs.Views.{view_of, is_empty, reducible, frees, behind, reduced, set_view, joined, merged};
+ghost use Rattle.spec_rules.specs.Views.View.{view};
+ghost use Rattle.spec_outcomes.specs.Views.{view_of, is_empty, tail_of, reducible, frees, behind, reduced, set_view, joined, merged};
 ghost use Rattle.spec_outcomes.specs.Sync.{syncs, synced_queue, synced};
 ghost use Rattle.views.specs.Ends.{seen};
 
@@ -62,9 +63,10 @@ impl View {
             && memory::count(m, self.tail) == 0
     }
 
-    // What a view has become when `left` and `right` are reduced. Its tail stays.
+    // What a view has become when `left` and `right` are reduced. Its tail stays, and its head goes by its head alone.
     pub fn after(self, m: &[u32], left: Self, right: Self) -> Self
-        ensures { seen result ≡ behind m.now (seen left) (seen right) (seen self) }
+        ensures { (seen result ≡ behind m.now (seen left) (seen right) (seen self))
+            × ((e : ℕ) → view result.head e ≡ behind m.now (seen left) (seen right) (view self.head e)) }
     {
         if self.head == left.tail && left.frees(m, right) {
             return View {
@@ -75,9 +77,10 @@ impl View {
         self
     }
 
-    // What the two views are reduced to.
+    // What the two views are reduced to. The tail does not hang on the memory.
     pub fn reduced(self, m: &[u32], behind: Self) -> Self
-        ensures { seen result ≡ reduced m.now (seen self) (seen behind) }
+        ensures { (seen result ≡ reduced m.now (seen self) (seen behind))
+            × ((n : List ℕ) → result.tail ≡ tail_of (reduced n (seen self) (seen behind))) }
     {
         if self.is_empty() {
             return behind;
