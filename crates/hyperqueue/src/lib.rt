@@ -18,6 +18,7 @@ ghost use Rattle.spec_outcomes.specs.Left.{left_outcome};
 ghost use Rattle.hyperqueue.specs.Packed.{Tested, packed, Handed};
 
 use answer_numbers::{EMPTY, WAITS};
+use refusals::Refusal;
 use spec_answers::Answer;
 
 // The refusal of a call on these words, if they have one: 1 "a lent memory has another length", 2 "the memory rules fail".
@@ -25,10 +26,10 @@ fn refusal(m: &[u32]) -> Option<Answer>
     ensures { Tested m.now result }
 {
     if m.len() != layout::WORDS {
-        return Some(Answer::Refused(1));
+        return Some(Refusal::LengthWrong.into());
     }
     if !memory_test::rules_hold(m) {
-        return Some(Answer::Refused(2));
+        return Some(Refusal::RulesFail.into());
     }
     None
 }

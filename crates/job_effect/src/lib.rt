@@ -22,6 +22,12 @@ pub struct Made {
     pub next: u32,
 }
 
+// What an operation finds that uses no queue, or an empty one.
+pub const NOTHING: Option<u32> = None;
+
+// What a test finds where its queue is not empty: the value stays there, and 0 stands for it.
+pub const UNTAKEN: Option<u32> = Some(0);
+
 fn gives(answer: u32, value: u32, register: u32, next: u32) -> Made
     ensures { result ≡ gives answer value register next }
 {
@@ -33,13 +39,13 @@ fn gives(answer: u32, value: u32, register: u32, next: u32) -> Made
     }
 }
 
-// Takes the value that was found, or goes to instruction x.
-fn take_effect(x: u32, r: u32, next: u32, found: Option<u32>) -> Made
-    ensures { result ≡ option_map_or (λ v. gives TOOK v v next) found (gives EMPTY 0 r x) }
+// A take that leaves `taken` in the register: it goes to instruction x where nothing was found.
+fn take_effect(x: u32, taken: u32, next: u32, found: Option<u32>) -> Made
+    ensures { result ≡ option_map_or (λ _. gives TOOK taken taken next) found (gives EMPTY 0 taken x) }
 {
     match found {
-        Some(v) => gives(TOOK, v, v, next),
-        None => gives(EMPTY, 0, r, x),
+        Some(_) => gives(TOOK, taken, taken, next),
+        None => gives(EMPTY, 0, taken, x),
     }
 }
 
@@ -70,18 +76,19 @@ pub fn effect(operation: Operation, x: u32, i: u32, r: u32, found: Option<u32>) 
     ensures { result ≡ coded (effect (named operation) i r x (found_of found)) }
 {
     let sum = r.wrapping_add(x);
+    let taken = found.unwrap_or(r);
     let next = i + 1;
     match operation {
         Operation::Return => gives(FINISHED, 0, r, i),
         Operation::Push => gives(PUSHED, x, r, next),
         Operation::PushSum => gives(PUSHED, sum, r, next),
-        Operation::Pop => take_effect(next, r, next, found),
+        Operation::Pop => take_effect(next, taken, next, found),
         Operation::GoIfEmpty => test_effect(x, r, next, found),
         Operation::Go => gives(MOVED, 0, r, x),
         Operation::GoIfZero => zero_effect(x, r, next),
         Operation::Add => gives(MOVED, 0, sum, next),
         Operation::Spawn => gives(SPAWNED, 0, r, next),
         Operation::Sync => gives(MOVED, 0, r, next),
-        Operation::TakeOrGo => take_effect(x, r, next, found),
+        Operation::TakeOrGo => take_effect(x, taken, next, found),
     }
 }

@@ -62,7 +62,8 @@ fn spawned(job: &[u8], r: u32, w: u32) -> bool
     requires { head_holds job.now ≡ true }
     ensures { result ≡ both (ltb w (procedures job.now)) (subset (rights job.now w) r) }
 {
-    w < job_fields::procedures(job) && rights::subset(job_fields::procedure_at(job, w).rights, r)
+    let s = job_fields::rights(job, w);
+    w < job_fields::procedures(job) && rights::subset(s, r)
 }
 
 // The instruction at address a, in a body of n instructions and a procedure with rights r: an arm for each pair of what

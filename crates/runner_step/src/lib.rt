@@ -114,7 +114,7 @@ fn act(job: &[u8], m: &mut [u32], r: &mut [u32], t: u32) -> StepAnswer
     let a = core_call(job, m, t, s, runner_words::register(r, t));
     match a {
         Answer::Moved(v) => done(r, t, s, Some(v)),
-        Answer::Empty => done(r, t, s, None),
+        Answer::Empty => done(r, t, s, job_effect::NOTHING),
         Answer::Waits => StepAnswer::Waits,
         Answer::Refused(k) => StepAnswer::Refused(k),
     }

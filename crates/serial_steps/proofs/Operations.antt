@@ -1,16 +1,12 @@
 -- What the code found is what the effect asks for, and the lists are those after the operation.
 use mathlib.Core.Path.{◌≡◌, refl, ap, sym, ◌∙◌, subst}
-use mathlib.Core.Bool.{Bool, not}
 use mathlib.Core.List.{List, [], ◌∷◌, ◌++◌}
 use mathlib.Core.Logic.{inl, inr}
-use mathlib.Core.Option.{Option}
-use Rattle.std.specs.Prelude.{Option as Given, slice_get}
+use mathlib.Core.Option.{Option, none, some}
+use Rattle.std.specs.Prelude.{Option as Given, Some as known, None as unknown, slice_get}
 use Prim.Native.Nat.{ℕ}
 use native.Mathlib.Omega.{arith}
-use lib.Dec.{eqb}
 use lib.ListN.{length, set, drop}
-use borrow.Author.Tests.{ne_eqb}
-use Rattle.std.specs.Bool.{then_some}
 use Rattle.spec_job.specs.Operations.{Operation, go_if_empty, operation_at}
 use Rattle.spec_job.specs.Effects.{effect}
 use Rattle.spec_plain.specs.Machine.{queue, front, queues_after}
@@ -55,22 +51,23 @@ module _ (q x i r : ℕ) (qs : List (List ℕ)) (e : Made) where
   took us {o} tk ef eu g = record { made = with_front (named o) ef g; lists = eu ∙ taken_lists o e.value tk }
 
   -- a test asks only whether there is a front
-  looks : (vs : List ℕ) → effect go_if_empty i r x (found_of (then_some (not (eqb (length vs) 0)) 0)) ≡ effect go_if_empty i r x (front vs)
-  unfolding effect found_of front
-  looks [] = refl
-  looks (v ∷ vs) = ap (λ (b : Bool). effect go_if_empty i r x (found_of (then_some (not b) 0))) (ne_eqb (length (v ∷ vs)) 0 (λ z. omega (arith, z)))
+  looks_none : (vs : List ℕ) → length vs ≡ 0 → effect go_if_empty i r x none ≡ effect go_if_empty i r x (front vs)
+  unfolding effect front
+  looks_none [] z = refl
+  looks_none (v ∷ vs) z = let b : ⊥ = omega (arith, z) in absurd b
 
-  pub looked : {n : ℕ} {f : Given ℕ} → n ≡ length (queue qs q) → f ≡ then_some (not (eqb n 0)) 0 → e ≡ coded (effect go_if_empty i r x (found_of f))
-      → Does go_if_empty q x i r qs e qs
-  unfolding queues_after
-  looked en ef g =
-      record {
-        made =
-            g
-            ∙ ap (λ (f : Given ℕ). coded (effect go_if_empty i r x (found_of f))) (ef ∙ ap (λ (n : ℕ). then_some (not (eqb n 0)) 0) en)
-            ∙ ap coded (looks (queue qs q));
-        lists = refl;
-      }
+  looks_some : (vs : List ℕ) → (length vs ≡ 0 → ⊥) → effect go_if_empty i r x (some 0) ≡ effect go_if_empty i r x (front vs)
+  unfolding effect front
+  looks_some [] f = absurd (f refl)
+  looks_some (v ∷ vs) f = refl
+
+  pub none_there : {n : ℕ} → n ≡ length (queue qs q) → n ≡ 0 → e ≡ coded (effect go_if_empty i r x (found_of unknown)) → Does go_if_empty q x i r qs e qs
+  unfolding queues_after found_of
+  none_there en z g = record { made = g ∙ ap coded (looks_none (queue qs q) (sym en ∙ z)); lists = refl }
+
+  pub some_there : {n : ℕ} → n ≡ length (queue qs q) → (n ≡ 0 → ⊥) → e ≡ coded (effect go_if_empty i r x (found_of (known 0))) → Does go_if_empty q x i r qs e qs
+  unfolding queues_after found_of
+  some_there en f g = record { made = g ∙ ap coded (looks_some (queue qs q) (λ z. f (en ∙ z))); lists = refl }
 
   -- one that uses no queue
   pub plain_does : (o : Code.Operation) (f : Option ℕ) → (o ≡ O.Push → ⊥) → (o ≡ O.PushSum → ⊥) → (o ≡ O.Pop → ⊥) → (o ≡ O.GoIfEmpty → ⊥)

@@ -48,7 +48,7 @@ fn push_step(w: &mut [u32], o: Operation, q: u32, x: u32, i: u32, r: u32) -> Mad
     e
 }
 
-// Takes the front of queue q into the register: whether there is one, and then a pop.
+// Takes the front of queue q, if there is one, into the register.
 fn take_step(w: &mut [u32], o: Operation, q: u32, x: u32, i: u32, r: u32) -> Made
     requires { (size w.old ≡ WORKING) × Takes o × (i < 2 ^ 31) }
     ensures { Does (named o) q x i r (lists w.old) result (lists w.new) }
@@ -64,7 +64,10 @@ fn test_step(w: &[u32], q: u32, x: u32, i: u32, r: u32) -> Made
     ensures { Does go_if_empty q x i r (lists w.now) result (lists w.now) }
 {
     let n = serial_queues::count(w, q);
-    job_effect::effect(Operation::GoIfEmpty, x, i, r, (n != 0).then_some(0))
+    if n == 0 {
+        return job_effect::effect(Operation::GoIfEmpty, x, i, r, job_effect::NOTHING);
+    }
+    job_effect::effect(Operation::GoIfEmpty, x, i, r, job_effect::UNTAKEN)
 }
 
 // A step of a task at instruction i, which is s, with register r.
@@ -77,8 +80,9 @@ pub fn step(w: &mut [u32], s: Instruction, i: u32, r: u32) -> Made
     let o = Operation::from(s.operation);
     match o {
         Operation::Push | Operation::PushSum => push_step(w, o, q, x, i, r),
-        Operation::Pop | Operation::TakeOrGo => take_step(w, o, q, x, i, r),
+        Operation::Pop => take_step(w, Operation::Pop, q, x, i, r),
+        Operation::TakeOrGo => take_step(w, Operation::TakeOrGo, q, x, i, r),
         Operation::GoIfEmpty => test_step(w, q, x, i, r),
-        _ => job_effect::effect(o, x, i, r, None),
+        _ => job_effect::effect(o, x, i, r, job_effect::NOTHING),
     }
 }
