@@ -34,6 +34,7 @@ struct Clock {
 }
 
 // The list of n tasks with the one that is entered at mark x, if one is.
+// A list of tasks is the front of a fixed array, with its length beside it: there is no heap.
 fn note(order: &mut [u32], n: usize, x: u32) -> usize
     requires { (n < length order.old) × (n < 256) }
     ensures { Noted n x order.old result order.new }
@@ -98,6 +99,8 @@ fn choose_one(
 }
 
 // Free workers come to the n tasks of a list, from its end on.
+// By index here, in due and in fall: `for &t in list.iter().rev()` was tried in due, on a slice in place of order and n. Its invariant is then
+// about the tasks yielded, not about a count as in `listed`, and search left the goals loop-t-init, loop-t-preserved and returns open.
 fn choose(
     job: &[u8],
     m: &[u32],
@@ -237,6 +240,7 @@ fn fall(
 }
 
 // A round: workers choose, the clock goes on, effects fall.
+// Lent one by one: the definitions name each, and a struct of six loans would be lent again at each call.
 fn round(
     job: &[u8],
     m: &mut [u32],
