@@ -1,7 +1,7 @@
 // spawn (task, rights)
 #![tactic(auto, unfolding(spec_words::specs::Words::pick, spec_outcomes::specs::Spawn::passed_user, spec_outcomes::specs::Spawn::kept_user, spec_outcomes::specs::Spawn::for_queues, spec_outcomes::specs::Spawn::child_made, spec_outcomes::specs::Spawn::spawned, spec_outcomes::specs::Spawn::spawn_tested))]
 
-ghost use Rattle.std.specs.Prelude.{◌≡◌, ◌+◌, ◌<◌, ◌≤◌};
+ghost use Rattle.std.specs.Prelude.{ℕ, ◌≡◌, ◌+◌, ◌<◌, ◌≤◌};
 ghost use Rattle.spec_words.specs.Blocks.{store_all};
 ghost use Rattle.spec_layout.specs.Layout.{task, address, read};
 ghost use Rattle.spec_outcomes.specs.Spawn.{for_queues, passed_user, kept_user, no_words, child_views, passed_on, child_made, spawn_tested};
@@ -38,18 +38,21 @@ fn kept(m: &[u32], t: u32, a: u32, k: u32, q: u32) -> u32
     }
 }
 
+// What f gives for each of the four queues.
+fn by_queue<F: Fn(u32) -> u32>(f: F) -> [u32; 4]
+    requires { (q : ℕ) → q < 4 → F.pre f q }
+    ensures { (g : ℕ → ℕ) → ((q x : ℕ) → q < 4 → F.post f q x → x ≡ g q) → result ≡ for_queues g }
+{
+    [f(0), f(1), f(2), f(3)]
+}
+
 // The four words from word k on of the record of child c of t.
 fn pass(m: &mut [u32], c: u32, t: u32, a: u32, k: u32)
     requires { k ≤ 40 }
     ensures { m.new ≡ store_all m.old (address (task c k))
         (for_queues (λ q. passed_user a (read m.old (task t (k + q))) q)) }
 {
-    let words = [
-        passed(m, t, a, k, 0),
-        passed(m, t, a, k, 1),
-        passed(m, t, a, k, 2),
-        passed(m, t, a, k, 3),
-    ];
+    let words = by_queue(|q| passed(m, t, a, k, q));
     memory::set_words(m, c, k, &words);
 }
 
@@ -57,12 +60,7 @@ fn keep(m: &mut [u32], t: u32, a: u32, k: u32)
     requires { k ≤ 40 }
     ensures { m.new ≡ store_all m.old (address (task t k)) (for_queues (λ q. kept_user a (read m.old (task t (k + q))) q)) }
 {
-    let words = [
-        kept(m, t, a, k, 0),
-        kept(m, t, a, k, 1),
-        kept(m, t, a, k, 2),
-        kept(m, t, a, k, 3),
-    ];
+    let words = by_queue(|q| kept(m, t, a, k, q));
     memory::set_words(m, t, k, &words);
 }
 

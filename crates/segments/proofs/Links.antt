@@ -2,7 +2,8 @@
 use mathlib.Core.Path.{◌≡◌, refl, ap, sym, ◌∙◌}
 use mathlib.Core.Bool.{true, false}
 use mathlib.Core.List.{List}
-use Prim.Native.Nat.{ℕ, suc, ◌+◌, ◌-◌, ◌*◌, ◌<◌, ◌≤◌}
+use Rattle.std.specs.Prelude.{Option, MatchOption}
+use Prim.Native.Nat.{ℕ, zero, suc, ◌+◌, ◌-◌, ◌*◌, ◌<◌, ◌≤◌}
 use native.Mathlib.Omega.{arith}
 use lib.Dec.{ltb}
 use lib.ListN.{drop, get_or}
@@ -15,7 +16,7 @@ use Rattle.spec_tree.specs.Tour.{MARKS, seek}
 use Rattle.spec_outcomes.specs.Segments.{index_of, head_index, linked_by, renamed, released, linked}
 use Rattle.segments.specs.Names.{held, next_is, head_here}
 use Rattle.spec_words.specs.Found.{found}
-use Rattle.spec_words.specs.Found.{some_found, none_found}
+use Rattle.spec_words.specs.Found.{some_found, none_found, found_some, found_none}
 use Rattle.walks.proofs.Found.{found_holds}
 use Rattle.std.proofs.Common.{Some as known, None as unknown}
 
@@ -147,3 +148,17 @@ module _ (m m1 : List ℕ) (q s h n : ℕ) (en : n ≡ read m (segment s 1)) (e1
   pub link_empty : (m2 m3 : List ℕ) → n ≡ 0 → m2 ≡ renamed m1 q s h → m3 ≡ released m2 q s → m3 ≡ linked m q s h
   unfolding linked
   link_empty m2 m3 g e2 e3 = e3 ∙ ap (λ (k : List ℕ). released k q s) (e2 ∙ ap (λ (k : List ℕ). renamed k q s h) e1) ∙ sym (halt _ _ (eq-eqb _ _ (sym en ∙ g)))
+
+-- A SEARCH by `find` over the numbers below n, where g i is what seeking from i gives
+module _ (n : ℕ) (g : ℕ → ℕ) (Yes No : ℕ → Type 0) (hit : (i : ℕ) → i < n → Yes i → i ≡ g i) (miss : (i : ℕ) → i < n → No i → g (i + 1) ≡ g i) (end : n ≡ g n) where
+  walked : (i : ℕ) → i ≤ n → ((k : ℕ) → k < i → No k) → g i ≡ g 0
+  walked zero l h = refl
+  walked (suc i) l h =
+      ap g (let e : suc i ≡ i + 1 = omega arith in e) ∙ miss i (omega (arith, l)) (h i (omega arith)) ∙ walked i (omega (arith, l)) (λ k a. h k (omega (arith, a)))
+
+  pub found_first : (r : Option ℕ) → MatchOption r ((k : ℕ) → 0 ≤ k → k < n → No k) (λ i. (0 ≤ i) × (i < n) × Yes i × ((k : ℕ) → 0 ≤ k → k < i → No k))
+      → r ≡ found n (g 0)
+  found_first unknown h = found_none _ _ (omega (arith, end, walked n (omega arith) (λ k a. h k (omega arith) a)))
+  found_first (known i) h =
+      let e : i ≡ g 0 = hit i h.1 h.2 ∙ walked i (omega (arith, h.1)) (λ k a. h.3 k (omega arith) a) in
+      ap known e ∙ found_some _ _ (omega (arith, e, h.1))

@@ -160,7 +160,7 @@ pub fn release(m: &mut [u32], q: u32, s: u32)
     memory::set_free_segments(m, q, n + 1);
 }
 
-// The place of s among the heads of the views of task t.
+// The place of s among the heads of the views of task t. Head by head, as its proof goes (`head_from`).
 #[tactic(auto, using(crate::proofs::Links::head_start, crate::proofs::Links::head_next))]
 fn head_index(m: &[u32], s: u32, t: u32) -> Option<u32>
     ensures { result ≡ found VIEW_HEADS (head_index m.now s t) }
@@ -241,18 +241,13 @@ fn next_is(m: &[u32], q: u32, d: &[u8; 256], s: u32, y: u32) -> bool
 }
 
 // The segment with s as its next.
-#[tactic(auto, using(crate::proofs::Links::by_start, crate::proofs::Links::by_found, crate::proofs::Links::by_next, crate::proofs::Links::by_end), unfolding(spec_words::specs::Found::found, crate::specs::Names::free_marks))]
+#[tactic(auto, unfolding(crate::specs::Names::free_marks))]
 fn linked_by(m: &[u32], q: u32, s: u32) -> Option<u32>
     ensures { result ≡ found (segments_of m.now q) (linked_by (segments_of m.now q) m.now q s 0) }
 {
     let mut d = [0u8; 256];
     mark_free(m, q, &mut d);
-    for y in 0..memory::number(m) {
-        if next_is(m, q, &d, s, y) {
-            return Some(y);
-        }
-    }
-    None
+    (0..memory::number(m)).find(|&y| next_is(m, q, &d, s, y))
 }
 
 // What names segment s names h instead.

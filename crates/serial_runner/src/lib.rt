@@ -36,7 +36,7 @@ pub struct Ran {
 }
 
 // Runs the body of a procedure as task `number`, the last of `depth` tasks, where `left` steps remain and `made` tasks have
-// been made.
+// been made. One by one, as `BodyRuns` names them.
 #[cycle(run_body_run_child)]
 fn run_body(
     job: &[u8],
@@ -139,13 +139,7 @@ pub fn run_serially(job: &[u8], w: &mut [u32], a: &mut [u32]) -> Stopped
     ensures { outcome result.end result.steps (lists w.new) a.new
         ≡ serial_outcome job.now w.old a.old }
 {
-    if w.len() != WORKING {
-        return Stopped {
-            end: End::Refused(Refusal::LengthWrong.number()),
-            steps: 0,
-        };
-    }
-    if a.len() != ANSWERS {
+    if w.len() != WORKING || a.len() != ANSWERS {
         return Stopped {
             end: End::Refused(Refusal::LengthWrong.number()),
             steps: 0,

@@ -212,6 +212,7 @@ fn sharing(w: &[u32], d: u32, r: u32, q: u32) -> u32
     }
 }
 
+// The four queues one by one, as in the definition of the same name.
 fn older_for(w: &[u32], d: u32, r: u32) -> u32
     ensures { result ≡ older_for w.now d r }
 {
@@ -246,6 +247,7 @@ fn finished_on(w: &mut [u32], d: u32, r: u32, t: u32, q: u32)
     raise_if(w, rights::pushes(r, q), queue_at(q, PUSHERS), t);
 }
 
+// The four queues one by one, as in the definition of the same name.
 pub fn child_finished(w: &mut [u32], d: u32, r: u32, t: u32)
     ensures { w.new ≡ child_finished w.old d r t }
 {

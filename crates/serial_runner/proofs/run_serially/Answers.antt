@@ -4,15 +4,16 @@ use Rattle.serial_runner.proofs.Measures.{size_cleared}
 use Rattle.serial_runner.specs.Whole.{wrong_working, wrong_answers, job_refused, job_accepted, job_short, cleared, top_runs}
 use Rattle.spec_serial.specs.Outcome.{turned_down}
 use Rattle.std.proofs.Common.{◌∙◌, arith}
+use Rattle.serial_runner.proofs.run_serially.Goals.{then-w-ne-WORKING-via-then-w-ne-WORKING, then-w-ne-WORKING-via-else-w-ne-WORKING+then-a-ne-ANSWERS}
 use Rattle.serial_runner.proofs.run_serially.Goals as goal
 
 pub returns-then-w-ne-WORKING : goal.returns-then-w-ne-WORKING
 unfolding turned_down
-returns-then-w-ne-WORKING c = rw c.number.ensures (wrong_working _ _ _ c.if-w-ne-WORKING.true)
-
-pub returns-then-a-ne-ANSWERS : goal.returns-then-a-ne-ANSWERS
-unfolding turned_down
-returns-then-a-ne-ANSWERS c = rw c.number-then-a-ne-ANSWERS.ensures (wrong_answers _ _ _ c.if-w-ne-WORKING.false c.if-a-ne-ANSWERS.true)
+returns-then-w-ne-WORKING c =
+    rw c.number.ensures (elim c.then-w-ne-WORKING.branch [
+      | then-w-ne-WORKING-via-then-w-ne-WORKING w ↦ wrong_working _ _ _ w.if-w-ne-WORKING.true
+      | then-w-ne-WORKING-via-else-w-ne-WORKING+then-a-ne-ANSWERS w ↦ wrong_answers _ _ _ w.if-w-ne-WORKING.false w.if-a-ne-ANSWERS.true
+    ])
 
 pub returns-in-Refused : goal.returns-in-Refused
 unfolding turned_down
