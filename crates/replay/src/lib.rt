@@ -18,12 +18,10 @@ ghost use Rattle.replay.specs.Judged.{Stepped, difference, DiffersAt, Compared, 
 
 use answer_numbers::{EMPTY, FINISHED, MOVED, NOT_EMPTY, PUSHED, SPAWNED, TOOK, WAITS};
 use layout::{QUEUES, WORDS};
+use refusals::Refusal;
 use spec_replay::Replayed;
 use spec_trace::Line;
 use trace_line::REFUSED;
-
-// 13: the trace has another form.
-const TRACE_FORM: u32 = 13;
 
 // Where the comparison stands: the bytes that are left, and how many lines were compared.
 #[derive(Clone, Copy)]
@@ -55,7 +53,8 @@ fn printed_number(k: u32, v: u32) -> u32
     }
 }
 
-// Whether a call line behind n lines is that of an answer with number k and value v.
+// Whether a call line behind n lines is that of an answer with number k and value v. Its number, task, word and value are
+// the fields of `Line::Call`, which the theorems of law_trace name.
 fn answer_agrees(n: u32, number: u32, task: u32, word: u32, value: u32, k: u32, v: u32) -> bool
     requires { ValidCall number task word value × (n < 65535) }
     ensures { result ≡ is_same_text (render (Call number task word value)) (line (n + 1) task k v) }
@@ -97,6 +96,7 @@ fn calls<'a>(job: &[u8], trace: &'a [u8], m: &mut [u32], r: &mut [u32]) -> Resul
 {
     let mut rest = trace;
     let mut n: u32 = 0;
+    // A while let: where a line begins is known when the one before is read, so there is no iterator to go along.
     while let Some((line, behind)) = trace_line::read(rest) {
         let Line::Call(number, task, word, value) = line else {
             break;
@@ -222,7 +222,7 @@ pub fn replay(job: &[u8], trace: &[u8], m: &mut [u32], r: &mut [u32]) -> Replaye
         return Replayed::Refused(e.number());
     }
     if !trace_form::has_form(trace) {
-        return Replayed::Refused(TRACE_FORM);
+        return Replayed::Refused(Refusal::TraceForm.number());
     }
     runner_open::open_tested(job, m, r);
     match compare(job, trace, m, r) {

@@ -14,10 +14,7 @@ const LINES: u32 = 65535;
 pub fn is_call(l: Line) -> bool
     ensures { result ≡ is_call l }
 {
-    match l {
-        Line::Call(_, _, _, _) => true,
-        _ => false,
-    }
+    matches!(l, Line::Call(_, _, _, _))
 }
 
 // Whether a trace has the form. No call stands behind a line of the end.

@@ -114,7 +114,7 @@ fn tail(f: &mut [u8; 256], w: &mut [u32; 12], m: &[u32], e: u32) -> bool
 fn marked(w: u32) -> u32
     ensures { result ≡ marked w }
 {
-    if w == NL { 1 } else { 0 }
+    u32::from(w == NL)
 }
 
 // The order of a queue in front of a view with head h and tail e, where it is o behind it.

@@ -16,8 +16,9 @@ returns-in-Err c = rw c.number.ensures (stays_shut _ _ _ _ c.in-Err.ensures (num
 
 pub returns-then-not-has_form : goal.returns-then-not-has_form
 unfolding refusal_number
-returns-then-not-has_form c = other_form _ _ _ _ c.in_default.ensures refl (sym
-    c.has_form.ensures ∙ not-true _ (ap not c.if-not-has_form.true))
+returns-then-not-has_form c =
+    rw c.number-then-not-has_form.ensures (other_form _ _ _ _ c.in_default.ensures refl (sym
+    c.has_form.ensures ∙ not-true _ (ap not c.if-not-has_form.true)))
 
 pub open_tested-requires : goal.open_tested-requires
 unfolding refusal_number
