@@ -13,7 +13,8 @@ ghost use Rattle.job_effect.specs.Made.{gives, found_of, coded};
 use answer_numbers::{EMPTY, FINISHED, MOVED, NOT_EMPTY, PUSHED, SPAWNED, TOOK};
 use operations::Operation;
 
-// What a step gives: its answer as a number, the value, 0 where there is none, the register and the next instruction after it.
+// What a step gives: its answer as a number, as it stands in words that are lent, the value, 0 where there is none, the register
+// and the next instruction after it.
 #[derive(Clone, Copy)]
 pub struct Made {
     pub answer: u32,

@@ -67,7 +67,7 @@ fn spawned(job: &[u8], r: u32, w: u32) -> bool
 }
 
 // The instruction at address a, in a body of n instructions and a procedure with rights r: an arm for each pair of what
-// the two fields have to be.
+// the two fields have to be, by the operation's number with ranges, as document 01's list of forms asks.
 fn instruction_holds(job: &[u8], r: u32, n: u32, a: usize) -> bool
     requires { (head_holds job.now ≡ true) × (a + 6 ≤ length job.now) }
     ensures { result ≡ fitting job.now r n (instruction_from job.now a) }

@@ -1,6 +1,6 @@
 // Reading and writing the fields of the layout. Every function is total: past the end a read gives 0 and a write
-// does nothing. A function named after a word is one call of `header`, `segment` or `task`, so that a caller names words and
-// not their numbers.
+// does nothing. A function named after a word is one call of `header`, `segment`, `task`, `get` or `put`, so that a caller names
+// words and not their numbers.
 #![tactic(auto, unfolding(spec_words::specs::Words::load, spec_words::specs::Words::store, spec_layout::specs::Layout::address, spec_layout::specs::Layout::read, spec_layout::specs::Layout::write))]
 
 ghost use Rattle.std.specs.Prelude.{◌≡◌, [], ◌∷◌, length, replicate, ◌<◌, ◌^◌, ◌+◌, ◌*◌};

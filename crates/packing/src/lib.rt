@@ -14,7 +14,7 @@ pub fn pack(status: u32, value: u32) -> u64
     status as u64 * 4294967296 + value as u64
 }
 
-// The halves of an answer.
+// The halves of an answer, by arithmetic: the library has no method for a half of a word.
 pub fn status(answer: u64) -> u32
     ensures { result ≡ answer / 4294967296 }
 {

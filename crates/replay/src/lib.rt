@@ -30,7 +30,7 @@ struct Place<'a> {
     lines: u32,
 }
 
-// The number of the word of an answer that has number k.
+// The number of the word of an answer that has number k, as `Line` of spec_trace holds it.
 #[tactic(auto, unfolding(spec_job::specs::Numbers::word_numbered, spec_job::specs::Numbers::number_of, spec_words::specs::Words::pick))]
 fn word_number(k: u32) -> u32
     ensures { result ≡ number_of (word_numbered k) }

@@ -82,7 +82,7 @@ fn count(w0: u32, w1: u32, w2: u32, w3: u32) -> u32
     w0.count_ones() + w1.count_ones() + w2.count_ones() + w3.count_ones()
 }
 
-// The lowest set bit of the four words, or none.
+// The lowest set bit of the four words, or NONE, which is no Option since hosts read it as a word of the map.
 fn lowest(w0: u32, w1: u32, w2: u32, w3: u32) -> u32
     ensures { result ≡ lowest_from 0 (w0 ∷ w1 ∷ w2 ∷ w3 ∷ []) }
 {

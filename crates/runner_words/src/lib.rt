@@ -21,7 +21,7 @@ pub const RUNNER_WORDS: usize = 384;
 // The words of a task.
 const RECORD: usize = 3;
 
-// The number of tasks, to be compared with an index.
+// The number of tasks, as a usize.
 const RECORDS: usize = TASKS as usize;
 
 // The procedure of task t.

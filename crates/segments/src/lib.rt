@@ -215,7 +215,8 @@ fn mark(d: &mut [u8], y: u32)
     }
 }
 
-// Marks the free segments.
+// Marks the free segments. The tests of the segments and of the tree mark in their own ways: they take only numbers of segments
+// that are opened, or test a record beside each mark.
 #[tactic(auto, using(crate::proofs::Free::marks_next, crate::proofs::Free::marks_done))]
 fn mark_free(m: &[u32], q: u32, d: &mut [u8])
     ensures { d.new ≡ marking (free_stack m.now q) d.old }

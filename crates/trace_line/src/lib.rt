@@ -118,7 +118,7 @@ fn dash_behind<'a>(bytes: &'a [u8], text: &[u8]) -> Option<(u32, &'a [u8])>
     Some((0, behind(bytes, text)?))
 }
 
-// The word that has number k, and what goes with it.
+// The word that has number k, and what goes with it: a number and no enum, as `Line` of spec_trace holds one.
 #[inline(always)]
 #[tactic(auto, unfolding(spec_trace::specs::Read::value_of, spec_trace::specs::Read::value_at, spec_trace::specs::Read::behind_text, spec_job::specs::Numbers::word_numbered, run_text::specs::Lines::word_row, run_text::specs::Lines::spaced, text::specs::Text::ascii, spec_words::specs::Words::pick))]
 fn value(bytes: &[u8], k: u32) -> Option<(u32, &[u8])>

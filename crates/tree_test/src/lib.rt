@@ -19,7 +19,7 @@ use layout::{
     YOUNGER, YOUNGEST,
 };
 
-// The number of tasks, to be compared with an index.
+// The number of tasks, as a usize.
 const RECORDS: usize = TASKS as usize;
 
 // "L is 1 to 64, segments 4 to 256, and L times segments is at most 8,192"

@@ -16,7 +16,8 @@ ghost use Rattle.walks.specs.Asked.{counts, Tests};
 
 use layout::{CHILDREN, END, MARKS, NL, NONE, RIGHT, TASKS, UNFINISHED};
 
-// Where task p is exited.
+// Where task p is exited. Nowhere is END and no Option, here and below: the tour of the definitions goes on at END, and the clauses
+// of `just_before` and `returned_to` give that number.
 fn exiting(p: u32) -> u32
     ensures { result ≡ exiting p }
 {
