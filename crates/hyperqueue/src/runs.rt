@@ -11,10 +11,10 @@ use spec_runner::StepAnswer;
 pub extern "C" fn hq_job_open(job: &[u8], words: &mut [u32], runner: &mut [u32]) -> u64
     ensures { StepHanded result words.new runner.new (open_outcome job.now words.old runner.old) }
 {
-    packing::pack_step(match runner_open::open(job, words, runner) {
-        Ok(()) => StepAnswer::Moved,
-        Err(e) => StepAnswer::Refused(e.number()),
-    })
+    match runner_open::open(job, words, runner) {
+        Ok(()) => packing::pack_step(StepAnswer::Moved),
+        Err(e) => packing::pack_step(StepAnswer::Refused(e.number())),
+    }
 }
 
 #[unsafe(no_mangle)]

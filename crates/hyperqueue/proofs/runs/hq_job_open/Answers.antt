@@ -1,8 +1,13 @@
+use Rattle.std.proofs.Common.{refl}
+use Rattle.runner_words.specs.Numbers.{refusal_number}
+use Rattle.runner_words.proofs.Numbers.{number_some}
 use Rattle.hyperqueue.specs.Steps.{step_handed}
 use Rattle.hyperqueue.proofs.runs.hq_job_open.Goals as goal
 
-pub returns-then-k-ne0 : goal.returns-then-k-ne0
-returns-then-k-ne0 c = step_handed (c.open-k.ensures.refused c.if-k-ne0.true) c.pack_step.ensures
+pub returns-in-Ok : goal.returns-in-Ok
+unfolding refusal_number
+returns-in-Ok c = step_handed (c.in-Ok.ensures.moved refl) c.pack_step.ensures
 
-pub returns : goal.returns
-returns c = step_handed (c.open-k.ensures.moved c.if-k-ne0.false) c.pack_step-2.ensures
+pub returns-in-Err : goal.returns-in-Err
+unfolding refusal_number
+returns-in-Err c = step_handed (rw c.number.ensures (c.in-Err.ensures.refused (number_some _))) c.pack_step-in-Err.ensures
