@@ -101,7 +101,7 @@ fn print_left<O: Write>(to: &mut O, m: &[u32]) -> Result<(), Error> {
     Ok(())
 }
 
-// Prints how many tasks are unfinished.
+// Prints how many tasks are unfinished. Its three lines stand in each function that prints one block: see serial_program.
 fn print_open<O: Write>(to: &mut O, m: &[u32]) -> Result<(), Error> {
     let mut out = io::large_buffer();
     let n = overlap_text::open_line(&mut out, m);

@@ -1,5 +1,6 @@
 // A LIST OF STEPS IN ONE CALL: the job is tested once and opened afresh, and each step is made behind its tests, since words
-// that only the core wrote pass them.
+// that only the core wrote pass them. `Reached` stays a condition: it speaks of the job and of two memories that a host lends one by one, and
+// a struct of the three would be lent again at each step.
 #![tactic(auto)]
 
 ghost use Rattle.std.specs.Prelude.{◌≡◌, ◌<◌, length};

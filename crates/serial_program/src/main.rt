@@ -13,6 +13,8 @@ use std::io::{Result, Write};
 // The most lines of a block.
 const BLOCK: usize = 1024;
 
+// A buffer, what is put into it, and a write: three lines in each function that prints one block, here and below. One function for all would take
+// the putting as a closure, which would have to promise that it stays within the buffer, and leave each of these with as many lines.
 // Prints the lines of n steps from step `first` on.
 fn print_step_block<O: Write>(to: &mut O, a: &[u32], first: u32, n: u32) -> Result<()>
     requires { (first + n < 2 ^ 32) × (n ≤ 1024) }

@@ -6,7 +6,8 @@ ghost use Rattle.spec_words.specs.Words.{size};
 ghost use Rattle.spec_plain.specs.Machine.{queue};
 ghost use Rattle.spec_serial.specs.Working.{WORKING, lists};
 
-// Working words that a run is lent, and the most values of a queue.
+// Working words that a run is lent, as a slice of any length: that it is this one is tested once, and a condition inside. Then the most
+// values of a queue.
 pub const WORKING: usize = 16392;
 
 pub const VALUES: u32 = 4096;

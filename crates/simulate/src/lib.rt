@@ -240,7 +240,7 @@ fn fall(
 }
 
 // A round: workers choose, the clock goes on, effects fall.
-// Lent one by one: the definitions name each, and a struct of six loans would be lent again at each call.
+// Lent one by one, with `Table ticks` a condition: the definitions name each, and a struct of six loans would be lent again at each call.
 fn round(
     job: &[u8],
     m: &mut [u32],

@@ -43,7 +43,8 @@ const PLACES: usize = 1302;
 
 const PLACE_WORDS: usize = 131072;
 
-// The task that is to make a step: its depth, and its words, read once; and when the last step was done.
+// The task that is to make a step: its depth, and its words, read once; and when the last step was done. That the lent words hold it (`Holds`), and
+// that they are SPAN words, stay conditions: the words are written between, and a value that carries them would be lent again at each write.
 #[derive(Clone, Copy)]
 pub struct Standing {
     pub depth: u32,
