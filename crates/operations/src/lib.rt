@@ -29,6 +29,7 @@ pub enum Operation {
 impl From<u32> for Operation {
     ghost from_gives = { λ k o. named o ≡ operation_at k };
 
+    #[inline(always)]
     fn from(k: u32) -> Operation {
         match k {
             1 => Operation::Push,
