@@ -1,9 +1,9 @@
 -- Words stored one after the other.
-use mathlib.Core.Path.{◌≡◌, ap, sym, ◌∙◌}
+use mathlib.Core.Path.{◌≡◌, refl, ap, sym, ◌∙◌}
 use mathlib.Core.List.{List, [], ◌∷◌}
-use Prim.Native.Nat.{ℕ, ◌+◌, ◌<◌}
+use Prim.Native.Nat.{ℕ, zero, suc, ◌+◌, ◌<◌, ◌≤◌}
 use native.Mathlib.Omega.{arith}
-use Rattle.std.proofs.Common.{length, get_or, take}
+use Rattle.std.proofs.Common.{length, get_or, take, le_of_suc-le-suc}
 use Rattle.std.proofs.lemmas.List.{take_more as take_one_more, length-take-le}
 use Rattle.spec_words.specs.Words.{store}
 use Rattle.spec_words.specs.Blocks.{store_all, store_none, store_more, store_append}
@@ -23,3 +23,10 @@ more m m1 m2 a i ws l e1 e2 =
     ∙ ap (λ (k : ℕ). store_all (store_all m a (take i ws)) (a + k) (get_or ws i 0 ∷ [])) (sym (length-take-le i ws (omega (arith, l))))
     ∙ sym (store_append (take i ws) m a (get_or ws i 0 ∷ []))
     ∙ ap (store_all m a) (sym (take_one_more ws i 0 l))
+
+-- past the end nothing is stored
+pub past_end : (m : List ℕ) (a : ℕ) (ws : List ℕ) → length m ≤ a → m ≡ store_all m a ws
+unfolding store_all
+past_end [] a ws h = refl
+past_end (x ∷ m) zero ws h = let z : ⊥ = omega arith in absurd z
+past_end (x ∷ m) (suc a) ws h = ap (λ (l : List ℕ). x ∷ l) (past_end m a ws (le_of_suc-le-suc h))

@@ -31,9 +31,11 @@ pub fn put(m: &mut [u32], a: usize, v: u32)
 
 // The words ws from address a on.
 pub fn put_all(m: &mut [u32], a: usize, ws: &[u32])
-    requires { a < 2 ^ 48 }
     ensures { m.new ≡ store_all m.old a ws.now }
 {
+    if a >= m.len() {
+        return;
+    }
     for (i, &w) in ws.iter().enumerate() {
         put(m, a + i, w);
     }
