@@ -153,8 +153,8 @@ struct Spot {
 
 // From where task t0 is exited, with i0 marks written: up to where an older sibling is entered, or to the top. The mark where
 // the top is exited is for the caller to write, since it is the last.
-fn climb(m: &[u32], xs: &mut [u32; 256], n: usize, t0: u32, i0: usize) -> Option<Spot>
-    requires { (length m.now ≡ 16384) × (n ≤ 256) × (t0 < 128) }
+fn climb(m: &[u32], xs: &mut [u32], n: usize, t0: u32, i0: usize) -> Option<Spot>
+    requires { (length m.now ≡ 16384) × (length xs.old ≡ 256) × (n ≤ 256) × (t0 < 128) }
     ensures { Led (decode m.now) n (128 + t0) i0 xs.old i0 result xs.new }
 {
     let mut t = t0;
@@ -179,8 +179,8 @@ fn climb(m: &[u32], xs: &mut [u32; 256], n: usize, t0: u32, i0: usize) -> Option
 }
 
 // From where task t is entered, with i marks written: to where the next task is entered or the top is exited.
-fn onward(m: &[u32], xs: &mut [u32; 256], n: usize, t: u32, i: usize) -> Option<Spot>
-    requires { (length m.now ≡ 16384) × (n ≤ 256) × (t < 128) × (i < n) }
+fn onward(m: &[u32], xs: &mut [u32], n: usize, t: u32, i: usize) -> Option<Spot>
+    requires { (length m.now ≡ 16384) × (length xs.old ≡ 256) × (n ≤ 256) × (t < 128) × (i < n) }
     ensures { Led (decode m.now) n t i xs.old (i + 1) result xs.new }
 {
     xs[i] = t;
@@ -195,8 +195,8 @@ fn onward(m: &[u32], xs: &mut [u32; 256], n: usize, t: u32, i: usize) -> Option<
 }
 
 // The tour of the tree has k marks, and each link that it follows is right. The marks are left in xs.
-pub fn tree_ok(m: &[u32], xs: &mut [u32; 256], k: u32) -> bool
-    requires { (length m.now ≡ 16384) × (k ≤ 256) }
+pub fn tree_ok(m: &[u32], xs: &mut [u32], k: u32) -> bool
+    requires { (length m.now ≡ 16384) × (length xs.old ≡ 256) × (k ≤ 256) }
     ensures { (result ≡ tree_test (decode m.now) k 0) × (result ≡ true → take k xs.new ≡ tour k (record_of m.now) 0) }
 {
     let n = k as usize;

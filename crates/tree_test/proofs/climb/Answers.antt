@@ -6,7 +6,7 @@ use Rattle.spec_rules.specs.Contents.{decode}
 use Rattle.tree_test.proofs.climb.Goals as goal
 
 pub loop-i-init : goal.loop-i-init
-loop-i-init c = (c.requires.2, c.told-xs, same_here (decode c.args.m.now) c.args.n _ _ _)
+loop-i-init c = (c.requires.3, c.requires.1, same_here (decode c.args.m.now) c.args.n _ _ _)
 
 pub returns-then-t-eq0 : goal.returns-then-t-eq0
 returns-then-t-eq0 c =
@@ -30,7 +30,7 @@ returns-then-y-lt-TASKS c =
     (same_on d c.args.n c.loop-i.invariant.2
     (same_step d c.args.n c.loop-i.i (128 + c.loop-i.t) c.loop-i-test.true
     (λ e. c.if-t-eq0.false (let z : c.loop-i.t ≡ 0 = omega (arith, e) in z)) _ (a.0 ∙ next_up d c.loop-i.t)
-    c.loop-i.xs (let e = c.loop-i.invariant.1 in omega (arith, e, c.loop-i-test.true, c.requires.1)) (omega (arith, a.0, a.1))))
+    c.loop-i.xs (let e = c.loop-i.invariant.1 in omega (arith, e, c.loop-i-test.true, c.requires.2)) (omega (arith, a.0, a.1))))
 
 pub loop-i-preserved : goal.loop-i-preserved
 loop-i-preserved c =
@@ -43,7 +43,7 @@ loop-i-preserved c =
       same_on d c.args.n c.loop-i.invariant.2
           (same_step d c.args.n c.loop-i.i (128 + c.loop-i.t) c.loop-i-test.true
           (λ e. c.if-t-eq0.false (let z : c.loop-i.t ≡ 0 = omega (arith, e) in z)) (128 + (c.in_ok-y.y - 128)) (z ∙ a.0 ∙ next_up d c.loop-i.t)
-          c.loop-i.xs (let e = c.loop-i.invariant.1 in omega (arith, e, c.loop-i-test.true, c.requires.1)) (omega (arith, z, a.1))),
+          c.loop-i.xs (let e = c.loop-i.invariant.1 in omega (arith, e, c.loop-i-test.true, c.requires.2)) (omega (arith, z, a.1))),
     )
 
 pub returns : goal.returns
