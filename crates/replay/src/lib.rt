@@ -97,7 +97,7 @@ fn calls<'a>(job: &[u8], trace: &'a [u8], m: &mut [u32], r: &mut [u32]) -> Resul
     let mut rest = trace;
     let mut n: u32 = 0;
     // A while let: where a line begins is known when the one before is read, so there is no iterator to go along.
-    while let Some((line, behind)) = trace_line::read(rest) {
+    while let Some((line, behind)) = trace_line::whole(rest) {
         let Line::Call(number, task, word, value) = line else {
             break;
         };
@@ -132,7 +132,7 @@ fn queue_end<'a>(m: &[u32], start: Place<'a>, q: u32) -> Result<Place<'a>, u32>
         let Some(v) = overlap_text::left_value(m, q, i as u32) else {
             break;
         };
-        let Some((line, behind)) = trace_line::read(rest) else {
+        let Some((line, behind)) = trace_line::whole(rest) else {
             break;
         };
         if !left_agrees(line, q, v) {
@@ -184,7 +184,7 @@ fn open_end(m: &[u32], start: Place) -> Result<(), u32>
     requires { Room start.rest.now start.lines }
     ensures { DiffersAt result (first_difference start.entry.lines (lines_of start.entry.rest.now) (open_line (unfinished_in m.now) ∷ [])) }
 {
-    let Some((line, rest)) = trace_line::read(start.rest) else {
+    let Some((line, rest)) = trace_line::whole(start.rest) else {
         return Ok(());
     };
     let lines = start.lines + 1;

@@ -27,7 +27,7 @@ pub fn has_form(trace: &[u8]) -> bool
         if rest.is_empty() {
             return true;
         }
-        let Some((line, behind)) = trace_line::read(rest) else {
+        let Some((line, behind)) = trace_line::whole(rest) else {
             return false;
         };
         let call = is_call(line);

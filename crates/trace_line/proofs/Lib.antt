@@ -1,3 +1,4 @@
 pub mod Texts
 pub mod Digits
 pub mod Lines
+pub mod Parts

@@ -19,7 +19,7 @@ use Rattle.spec_trace.specs.declared.Line.{Line}
 use Rattle.spec_trace.specs.declared.Line.TheVariants.{Call, Left, Open}
 use Rattle.spec_trace.specs.Read.{front, behind_byte, behind_text, Numbered, numbered, number_at, below, word_at, value_at, value_of, behind_feed}
 use Rattle.spec_trace.specs.Read.{digit_of, LineRead, call_at, left_at, open_at, line_at}
-use Rattle.trace_line.specs.Reads.{IsRead}
+use Rattle.trace_line.specs.Reads.{IsWhole}
 use Rattle.trace_line.proofs.Digits.{digit_here, digit_far}
 
 pub below_few : (k v : ℕ) (rs : List ℕ) → v < k → below k (numbered v rs) ≡ rs
@@ -203,11 +203,11 @@ no_line bs e = ap (λ (bs : List ℕ). (line_at bs).rest) e ∙ at
     at : (line_at []).rest ≡ none
     at = unfold line_at front digit_of pick open_at ascii behind_text behind_byte number_at behind_feed in refl
 
-read_as : (o : Given (Line × Bor (List ℕ))) {x y : LineRead} → x ≡ y → IsRead o x → IsRead o y
-read_as o e r = subst (IsRead o) e r
+read_as : (o : Given (Line × Bor (List ℕ))) {x y : LineRead} → x ≡ y → IsWhole o x → IsWhole o y
+read_as o e r = subst (IsWhole o) e r
 
 module _ (bs : List ℕ) {b : ℕ} (e : b ≡ front bs) (o : Given (Line × Bor (List ℕ))) where
-  pub as_call : 48 ≤ b → b < 58 → IsRead o (call_at bs) → IsRead o (line_at bs)
+  pub as_call : 48 ≤ b → b < 58 → IsWhole o (call_at bs) → IsWhole o (line_at bs)
   as_call h l r = read_as o (sym at) r
     where
       small : digit_of (front bs) < 10
@@ -219,13 +219,13 @@ module _ (bs : List ℕ) {b : ℕ} (e : b ≡ front bs) (o : Given (Line × Bor 
   large : (b < 48) ⊎ (58 ≤ b) → 10 ≤ digit_of (front bs)
   large h = let f = ap digit_of e in let g = digit_far b h in omega (arith, f, g)
 
-  pub as_left : b ≡ 108 → IsRead o (left_at bs) → IsRead o (line_at bs)
+  pub as_left : b ≡ 108 → IsWhole o (left_at bs) → IsWhole o (line_at bs)
   as_left f r = read_as o (sym at) r
     where
       at : line_at bs ≡ left_at bs
       at = unfold line_at in pass _ (le-ltb (digit_of (front bs)) 10 (large (inr (omega (arith, f))))) (halt _ _ (eq-eqb (front bs) 108 (sym e ∙ f)))
 
-  pub as_open : (b < 48) ⊎ (58 ≤ b) → (b ≡ 108 → ⊥) → IsRead o (open_at bs) → IsRead o (line_at bs)
+  pub as_open : (b < 48) ⊎ (58 ≤ b) → (b ≡ 108 → ⊥) → IsWhole o (open_at bs) → IsWhole o (line_at bs)
   as_open h n r = read_as o (sym at) r
     where
       at : line_at bs ≡ open_at bs

@@ -1,5 +1,5 @@
 -- What the code reads at the front of bytes, in the words of the definition.
-use Rattle.std.specs.Prelude.{◌≡◌, List, [], ℕ, ◌<◌, ◌≤◌, Option, Some as known, None as unknown, MatchOption, drop}
+use Rattle.std.specs.Prelude.{◌≡◌, List, [], ℕ, ◌<◌, ◌≤◌, Option, Some as known, None as unknown, Result as Checked, MatchOption, MatchResult, drop}
 use Rattle.std.proofs.Math.Option.{Option as Left, none, some}
 use Rattle.std.proofs.Common.{Bor}
 use Rattle.spec_trace.specs.declared.Line.{Line}
@@ -28,6 +28,10 @@ number_of (known x) = numbered x.0 x.1.now
 abbrev pub Below : ℕ → Numbered → Option (ℕ × Bor (List ℕ)) → Type 0
 Below k x o = MatchOption o (below k x ≡ []) (λ r. (r.0 < k) × (numbered r.0 r.1.now ≡ x))
 
--- a line, and what stands behind it
-abbrev pub IsRead : Option (Line × Bor (List ℕ)) → LineRead → Type 0
-IsRead o x = MatchOption o (x.rest ≡ none) (λ r. (r.0 ≡ x.line) × (some r.1.now ≡ x.rest))
+-- a line, and what stands behind it, if it is whole
+abbrev pub IsWhole : Option (Line × Bor (List ℕ)) → LineRead → Type 0
+IsWhole o x = MatchOption o (x.rest ≡ none) (λ r. (r.0 ≡ x.line) × (some r.1.now ≡ x.rest))
+
+-- a line, and what stands behind it; where there is none, as much of it as was read
+abbrev pub IsRead : Checked (Line × Bor (List ℕ)) Line → LineRead → Type 0
+IsRead o x = MatchResult o (λ r. (r.0 ≡ x.line) × (some r.1.now ≡ x.rest)) (λ l. (l ≡ x.line) × (x.rest ≡ none))

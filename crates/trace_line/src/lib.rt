@@ -2,16 +2,23 @@
 // are of another form.
 #![tactic(auto, unfolding(crate::specs::Reads::rest_of, crate::specs::Reads::left_behind, crate::specs::Reads::number_of))]
 
+mod part;
+
 ghost use Rattle.std.specs.Prelude.{◌≡◌, ◌<◌};
 ghost use Rattle.spec_job.specs.Numbers.{number_of, word_numbered};
 ghost use Rattle.spec_trace.specs.Read.{behind_text, numbered, more_digits, number_at, word_at, value_of, behind_feed, call_at, left_at, open_at, line_at};
-ghost use Rattle.trace_line.specs.Reads.{Digit, rest_of, left_behind, number_of as read_number, Below, IsRead};
+ghost use Rattle.trace_line.specs.Reads.{Digit, rest_of, left_behind, number_of as read_number, Below, IsWhole, IsRead};
 
 use answer_numbers::{EMPTY, FINISHED, MOVED, NOT_EMPTY, PUSHED, SPAWNED, TOOK, WAITS};
 use spec_trace::Line;
 
 // The number of the word "refused", which is that of no answer.
 pub const REFUSED: u32 = 0;
+
+// A line has a task up to 255, and a queue up to 3.
+const TASKS: u32 = 256;
+
+const QUEUES: u32 = 4;
 
 // The bytes behind a text.
 #[inline(always)]
@@ -140,10 +147,10 @@ fn value(bytes: &[u8], k: u32) -> Option<(u32, &[u8])>
 // A call line.
 #[inline(always)]
 fn call(bytes: &[u8]) -> Option<(Line, &[u8])>
-    ensures { IsRead result (call_at bytes.now) }
+    ensures { IsWhole result (call_at bytes.now) }
 {
     let (n, rest) = number(bytes)?;
-    let (t, rest) = number_below(rest, b" ", 256)?;
+    let (t, rest) = number_below(rest, b" ", TASKS)?;
     let rest = behind(rest, b" ")?;
     let k = word_at(*rest.first()?);
     let (v, rest) = value(rest, k)?;
@@ -153,9 +160,9 @@ fn call(bytes: &[u8]) -> Option<(Line, &[u8])>
 // A line of a value left.
 #[inline(always)]
 fn left(bytes: &[u8]) -> Option<(Line, &[u8])>
-    ensures { IsRead result (left_at bytes.now) }
+    ensures { IsWhole result (left_at bytes.now) }
 {
-    let (q, rest) = number_below(bytes, b"left ", 4)?;
+    let (q, rest) = number_below(bytes, b"left ", QUEUES)?;
     let (v, rest) = number_behind(rest, b" ")?;
     Some((Line::Left(q, v), behind_feed(rest)?))
 }
@@ -163,7 +170,7 @@ fn left(bytes: &[u8]) -> Option<(Line, &[u8])>
 // The line of a run that is not over.
 #[inline(always)]
 fn open(bytes: &[u8]) -> Option<(Line, &[u8])>
-    ensures { IsRead result (open_at bytes.now) }
+    ensures { IsWhole result (open_at bytes.now) }
 {
     let (n, rest) = number_behind(bytes, b"open ")?;
     Some((Line::Open(n), behind_feed(rest)?))
@@ -171,12 +178,22 @@ fn open(bytes: &[u8]) -> Option<(Line, &[u8])>
 
 // The line at the front of the bytes, and the bytes behind it.
 #[inline(always)]
-pub fn read(bytes: &[u8]) -> Option<(Line, &[u8])>
-    ensures { IsRead result (line_at bytes.now) }
+pub fn whole(bytes: &[u8]) -> Option<(Line, &[u8])>
+    ensures { IsWhole result (line_at bytes.now) }
 {
     match *bytes.first()? {
         b'0'..=b'9' => call(bytes),
         b'l' => left(bytes),
         _ => open(bytes),
+    }
+}
+
+// The same. An error is what was read of a line, with 0 for each number that was not.
+pub fn read(bytes: &[u8]) -> Result<(Line, &[u8]), Line>
+    ensures { IsRead result (line_at bytes.now) }
+{
+    match whole(bytes) {
+        Some(line) => Ok(line),
+        None => part::read(bytes),
     }
 }

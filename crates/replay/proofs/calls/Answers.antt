@@ -32,7 +32,7 @@ loop-line-preserved c =
 
 pub returns : goal.returns
 returns c =
-    elim c.match-read.branch [
+    elim c.match-whole.branch [
       | in-Some+in_default-line w ↦ calls_over c.loop-line.invariant (next_line c.loop-line.invariant.room w.in-Some.ensures) w.in_default-line.not-Call
       | in_default w ↦ all_compared c.loop-line.invariant w.in_default.ensures
     ]

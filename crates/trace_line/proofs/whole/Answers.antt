@@ -3,8 +3,8 @@ use native.Mathlib.Omega.{arith}
 use Rattle.std.proofs.Common.{◌≡◌, ◌<◌, ◌≤◌, ◌⊎◌, inl, inr}
 use Rattle.trace_line.proofs.Texts.{first_none, first_is}
 use Rattle.trace_line.proofs.Lines.{no_line, as_call, as_left, as_open}
-use Rattle.trace_line.proofs.read.Goals as goal
-use Rattle.trace_line.proofs.read.Goals.{in_default-via-then-branch-lt48, in_default-via-else-branch-lt48+else-branch-lt58}
+use Rattle.trace_line.proofs.whole.Goals as goal
+use Rattle.trace_line.proofs.whole.Goals.{in_default-via-then-branch-lt48, in_default-via-else-branch-lt48+else-branch-lt58}
 
 pub returns-in_err-first : goal.returns-in_err-first
 returns-in_err-first c = rw c.from_residual.ensures (no_line _ (first_none _ c.in_err-first.ensures.value))
