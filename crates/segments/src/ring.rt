@@ -20,9 +20,18 @@ pub(crate) fn place(l: u32, f: u32, k: u32) -> u32
     0
 }
 
+// By a loop, and not by the library's copy_from_slice, which would have a host's linker look for one name more, memmove.
+fn copy(to: &mut [u32], from: &[u32])
+    requires { length to.old ≡ length from.now }
+    ensures { to.new ≡ from.now }
+{
+    for i in 0..from.len() {
+        to[i] = from[i];
+    }
+}
+
 // Stores the run vs from place p on; what is left behind the last place goes to the first places. It is lent the values of
 // one segment.
-#[tactic(auto, using(crate::proofs::Rings::one_part, crate::proofs::Rings::two_parts))]
 pub(crate) fn fill(values: &mut [u32], p: usize, vs: &[u32])
     requires { (p < length values.old) × (length vs.now ≤ length values.old) }
     ensures { values.new ≡ store_ring values.old 0 (length values.old) p vs.now }
@@ -32,10 +41,10 @@ pub(crate) fn fill(values: &mut [u32], p: usize, vs: &[u32])
     let x = l - p;
     if k <= x {
         let e = p + k;
-        values[p..e].copy_from_slice(vs);
+        copy(&mut values[p..e], vs);
         return;
     }
     let y = k - x;
-    values[p..l].copy_from_slice(&vs[0..x]);
-    values[0..y].copy_from_slice(&vs[x..k]);
+    copy(&mut values[p..l], &vs[0..x]);
+    copy(&mut values[0..y], &vs[x..k]);
 }
