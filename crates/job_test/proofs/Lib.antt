@@ -1,3 +1,4 @@
 pub mod Loops
+pub mod Rows
 pub mod Fields
 pub mod Inside

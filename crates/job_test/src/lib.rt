@@ -62,8 +62,12 @@ fn spawned(job: &[u8], r: u32, w: u32) -> bool
     requires { head_holds job.now ≡ true }
     ensures { result ≡ both (ltb w (procedures job.now)) (subset (rights job.now w) r) }
 {
-    let s = job_fields::rights(job, w);
-    w < job_fields::procedures(job) && rights::subset(s, r)
+    if job_fields::procedures(job) <= w {
+        return false;
+    }
+    let e = job_fields::procedure_at(job, w);
+    let s = e.rights;
+    rights::subset(s, r)
 }
 
 // The instruction at address a, in a body of n instructions and a procedure with rights r: an arm for each pair of what
@@ -77,11 +81,11 @@ fn instruction_holds(job: &[u8], r: u32, n: u32, a: usize) -> bool
     let w = s.which;
     let v = s.operand;
     match k {
-        0 | 9 => w == 0 && v == 0,
+        0 | 9 => (w == 0) & (v == 0),
         1..=2 => w < 4 && rights::pushes(r, w),
         3 => w < 4 && rights::pops(r, w) && v == 0,
         4 | 10 => w < 4 && rights::pops(r, w) && v < n,
-        5..=6 => w == 0 && v < n,
+        5..=6 => (w == 0) & (v < n),
         7 => w == 0,
         8 => spawned(job, r, w),
         _ => false,
@@ -108,7 +112,10 @@ fn body_holds(job: &[u8], p: u32) -> bool
     let o = e.offset as usize;
     let n = e.count;
     let r = e.rights;
-    last_holds(job, p) && (0..n).all(|i| instruction_holds(job, r, n, o + i as usize * INSTRUCTION))
+    // The last one is named, so that a wrong program that goes on to the one behind it differs by one operand.
+    let last = n - 1;
+    last_holds(job, p)
+        && (0..last + 1).all(|i| instruction_holds(job, r, n, o + i as usize * INSTRUCTION))
 }
 
 fn bodies_hold(job: &[u8]) -> bool
