@@ -53,7 +53,15 @@ fn at_hand(m: &[u32], q: u32, t: u32) -> Option<u32>
     if c < TASKS {
         return entered(m, q, c);
     }
-    if t == 0 || !View::of(m, q, t, CHILDREN).is_empty() {
+    if t == 0 {
+        return None;
+    }
+    // Word by word, and not by View::of: a wrong program that asks for one word of another view differs by one operand.
+    let children = View {
+        head: memory::head(m, CHILDREN, t, q),
+        tail: memory::tail(m, CHILDREN, t, q),
+    };
+    if !children.is_empty() {
         return None;
     }
     entered(m, q, memory::older(m, t))

@@ -40,13 +40,13 @@ fn gives(answer: u32, value: u32, register: u32, next: u32) -> Made
     }
 }
 
-// A take that leaves `taken` in the register: it goes to instruction x where nothing was found.
-fn take_effect(x: u32, taken: u32, next: u32, found: Option<u32>) -> Made
-    ensures { result ≡ option_map_or (λ _. gives TOOK taken taken next) found (gives EMPTY 0 taken x) }
+// Takes what was found, which is `taken`, or goes to instruction x where nothing was found.
+fn take_effect(x: u32, r: u32, taken: u32, next: u32, found: Option<u32>) -> Made
+    ensures { result ≡ option_map_or (λ _. gives TOOK taken taken next) found (gives EMPTY 0 r x) }
 {
     match found {
         Some(_) => gives(TOOK, taken, taken, next),
-        None => gives(EMPTY, 0, taken, x),
+        None => gives(EMPTY, 0, r, x),
     }
 }
 
@@ -83,13 +83,13 @@ pub fn effect(operation: Operation, x: u32, i: u32, r: u32, found: Option<u32>) 
         Operation::Return => gives(FINISHED, 0, r, i),
         Operation::Push => gives(PUSHED, x, r, next),
         Operation::PushSum => gives(PUSHED, sum, r, next),
-        Operation::Pop => take_effect(next, taken, next, found),
+        Operation::Pop => take_effect(next, r, taken, next, found),
         Operation::GoIfEmpty => test_effect(x, r, next, found),
         Operation::Go => gives(MOVED, 0, r, x),
         Operation::GoIfZero => zero_effect(x, r, next),
         Operation::Add => gives(MOVED, 0, sum, next),
         Operation::Spawn => gives(SPAWNED, 0, r, next),
         Operation::Sync => gives(MOVED, 0, r, next),
-        Operation::TakeOrGo => take_effect(x, taken, next, found),
+        Operation::TakeOrGo => take_effect(x, r, taken, next, found),
     }
 }
