@@ -3,7 +3,7 @@ use mathlib.Core.Path.{◌≡◌, refl, ap, ap₂, sym, ◌∙◌, subst}
 use mathlib.Core.Bool.{true, false}
 use mathlib.Core.List.{List}
 use mathlib.Core.Option.{Option}
-use Prim.Native.Nat.{ℕ, zero, suc, ◌+◌, max}
+use Prim.Native.Nat.{ℕ, zero, suc, ◌+◌, ◌≤◌, max}
 use Rattle.std.proofs.lemmas.Bool.Decides.{nat_tests}
 use native.Mathlib.Omega.{arith}
 use lib.ListN.{length}
@@ -15,13 +15,14 @@ use Rattle.spec_job.specs.Effects.{sum, effect}
 use Rattle.spec_simulate.specs.Ticks.{ticks_for}
 use Rattle.spec_span.specs.Kinds.{awaits_children, looks_in}
 use Rattle.spec_span.specs.Pass.{task_at, POSITION, REGISTER, OWN, POPPING, front_of, front_time, ready_at, gone_on, queued}
+use Rattle.spec_span.specs.Pass.{Stood}
 use Rattle.spec_span.specs.Pass.Stood.{stood}
 use Rattle.job_effect.specs.declared.Made.{Made}
 use Rattle.job_effect.specs.Made.{found_of, coded}
 use Rattle.span_words.specs.declared.Seen.{Seen}
 use Rattle.span_words.specs.declared.Standing.{Standing}
 use Rattle.span_words.specs.Words.{Looks, Holds}
-use Rattle.span_pass.specs.Steps.{Went, Unlooked, Looking, own_time, joined_time, effect_of, done_at, step_with, same, takes, Steps}
+use Rattle.span_pass.specs.Steps.{Went, Unlooked, Looking, own_time, joined_time, effect_of, done_at, step_with, same, takes, Steps, spawn_with}
 use Rattle.span_pass.proofs.Held.{holds_gone, holds_queued, holds_unqueued}
 
 pub gone : (table w : List ℕ) (h : Standing) (o : Operation) (e : Made) (ready : ℕ) {a t : ℕ} {w1 w2 w3 : List ℕ} → Holds w h
@@ -175,3 +176,15 @@ spawns_alone =
       blind = unfold looks_in in refl;
       ignores = λ i r x f g. unfold effect in refl;
     }
+
+-- A task that would be too deep is not made: what was read anew of the task at depth d, at time t
+pub at_task : {w : List ℕ} {n : Standing} {d t : ℕ} {S : Stood} → Holds w n × (n.depth ≡ d) × (n.time ≡ t) → stood w d t ≡ S → Steps w n S
+at_task {w} a e = record { here = ap₂ (λ (k u : ℕ). stood w k u) a.1 a.2 ∙ e; holds = a.0 }
+
+pub too_deep_lem : (j table w : List ℕ) (h : Standing) (p x : ℕ) {b a t : ℕ} → 128 ≤ h.depth → Holds w h → b ≡ max h.own h.older
+    → a ≡ ticks_for table spawn → t ≡ sum b a → stood w 0 t ≡ spawn_with j table w h p x
+too_deep_lem j table w h p x {b} {a} {t} deep held eb ea et =
+    unfold spawn_with in ap (λ (t : ℕ). stood w 0 t) time ∙ sym (pass _ (le-ltb h.depth 128 deep) refl)
+  where
+    time : t ≡ done_at table w h spawn p
+    time = et ∙ ap₂ sum (own_is w h held (max_later _ _ b eb) ∙ ready_alone w h.depth spawn p spawns_alone.alone spawns_alone.blind) ea
